@@ -1,0 +1,4 @@
+pub mod Faults
+pub mod Gensym
+pub mod Ids
+pub mod Lending

@@ -1,0 +1,40 @@
+//! Instructions of the text format.
+
+use crate::ids::Index;
+use crate::seq::Seq;
+
+/// An instruction. Each variant has the name of its text, with `_` for `.`.
+#[allow(non_camel_case_types)]
+#[derive(Debug, Drop)]
+pub enum Instruction<'a> {
+    /// `call $f`
+    call(Index<'a>),
+}
+
+/// A branch hint: `(@metadata.code.branch_hint "\01")`.
+#[derive(Clone, Copy, Debug, PartialEq, Eq)]
+pub struct BranchHint {
+    /// The number of the instruction that it stands before, counted from 0.
+    pub instr_index: usize,
+    /// Its value: 1 where the branch is likely taken, and 0 where it is not.
+    pub value: u32,
+}
+
+/// A flat list of instructions, without the `end` that closes it.
+#[derive(Debug, Drop)]
+pub struct Expression<'a> {
+    /// The instructions, in the order of the text.
+    pub instrs: Seq<Instruction<'a>>,
+    /// The branch hints, in the order of the text.
+    pub branch_hints: Seq<BranchHint>,
+}
+
+/// Lets an instruction go.
+pub fn discard_instruction(instruction: Instruction<'_>) {
+    drop(instruction);
+}
+
+/// Lets an expression go.
+pub fn discard_expression(expression: Expression<'_>) {
+    drop(expression);
+}
