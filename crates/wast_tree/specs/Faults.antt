@@ -1,5 +1,5 @@
 -- Faults, without where their texts lie in memory.
-use Rattle.std.specs.Prelude.{◌≡◌, ℕ, Bool, true, false, List, ◌++◌, codes, Option, Some, None}
+use Rattle.std.specs.Prelude.{ℕ, Bool, true, false, List, ◌++◌, codes, Option, Some, None}
 use Rattle.std.specs.Fmt.{decimal}
 use Rattle.wast_tree.specs.declared.ids.Span.{Span}
 use Rattle.wast_tree.specs.declared.faults.Form.{Form}

@@ -1,5 +1,5 @@
 -- Ids and indices, without where their texts lie in memory (text format: identifiers, indices).
-use Rattle.std.specs.Prelude.{ℕ, ◌==◌, ◌&&◌, Bool, true, false, List, codes, Option, option_map}
+use Rattle.std.specs.Prelude.{ℕ, ◌==◌, Bool, true, false, List, codes, Option, option_map}
 use lib.Pointwise.{pointwise}
 use Rattle.std.specs.Borrow.{Bor}
 use Rattle.wast_tree.specs.declared.ids.Span.{Span}

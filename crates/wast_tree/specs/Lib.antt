@@ -1,4 +1,9 @@
 pub mod Faults
+pub mod Generations
 pub mod Gensym
 pub mod Ids
+pub mod Known
 pub mod Lending
+pub mod Occurrences
+pub mod Spaces
+pub mod WellFormed

@@ -13,7 +13,9 @@ mod types;
 
 pub use boxed::Boxed;
 pub use faults::{Error, Fault, Form};
-pub use fields::{Export, ExportKind, Func, FuncKind, InlineExport, Local, ModuleField, discard_fields};
+pub use fields::{
+    Export, ExportKind, Func, FuncKind, InlineExport, Local, ModuleField, discard_fields,
+};
 pub use gensym::Gensym;
 pub use ids::{Id, Index, NameAnnotation, Span};
 pub use instrs::{BranchHint, Expression, Instruction, discard_expression, discard_instruction};
