@@ -1,0 +1,118 @@
+-- The spellings of the instructions of the table show their value.
+use Rattle.std.proofs.Common.{◌≡◌, ◌<◌, ℕ, Bool, true, false, eqb, List, [], ◌∷◌, ◌++◌, length, Option, Some, None, refl, sym, ap, ◌∙◌, subst, append_assoc, arith, inl, inr, ◌⊎◌, ◌&&◌}
+use Rattle.std.proofs.lemmas.Bool.{eqb-true, ltb-true, lt-ltb}
+use Rattle.wasm_ops.specs.Codes.{IsCode}
+use Rattle.wasm_ops.specs.Leb128.{unsigned}
+use Rattle.wasm_ops.specs.Table.{Key, Byte, Prefixed, Kind, Index, Row, Field, field, InRangeField, Fields, fields, InRangeFields, Instr, key_bytes, instr, table, same_key, kinds_of, ascends, is_apart, all_apart, IsInstr}
+use Rattle.wasm_ops.proofs.Numbers.{unsigned_begins}
+use Rattle.wasm_ops.proofs.Codes.{number_code, pair_code}
+
+-- ---- the table, computed
+
+pub table_ascends : ascends 0 table ≡ true
+unfolding ascends table
+table_ascends = refl
+
+pub table_apart : all_apart table ≡ true
+unfolding all_apart table
+table_apart = refl
+
+-- ---- immediates
+
+pub field_code : (kind : Kind) → IsCode (Field kind) (InRangeField kind) (field kind)
+field_code Index = number_code
+
+pub fields_code : (kinds : List Kind) → IsCode (Fields kinds) (InRangeFields kinds) (fields kinds)
+fields_code [] = record { begins = λ x y r s p q e. (refl, e) }
+fields_code (kind ∷ kinds) = pair_code (field_code kind) (fields_code kinds)
+
+-- ---- keys
+
+both_true : (b c : Bool) → elim b as (λ v. Bool) [ true ↦ c | false ↦ false ] ≡ true → (b ≡ true) × (c ≡ true)
+both_true true c e = (refl, e)
+both_true false c e = absurd cc
+
+which : {A : Type 0} (b : Bool) (x y z : A) → elim b as (λ v. A) [ true ↦ x | false ↦ y ] ≡ z → ((b ≡ true) × (x ≡ z)) ⊎ ((b ≡ false) × (y ≡ z))
+which true x y z e = inl (refl, e)
+which false x y z e = inr (refl, e)
+
+and_true : (b c : Bool) → (b && c) ≡ true → (b ≡ true) × (c ≡ true)
+and_true true c e = (refl, e)
+and_true false c e = absurd cc
+
+same_key_is : (k l : Key) → same_key k l ≡ true → k ≡ l
+same_key_is (Byte a) (Byte b) e = ap Byte (eqb-true a b e)
+same_key_is (Byte a) (Prefixed q n) e = absurd cc
+same_key_is (Prefixed p m) (Byte b) e = absurd cc
+same_key_is (Prefixed p m) (Prefixed q n) e = let h = and_true (eqb p q) (eqb m n) e in let a = eqb-true p q h.0 in let b = eqb-true m n h.1 in cc
+
+-- what holds of each key in a table in which no key of one byte is a prefix
+apart_at : (k : Key) (rows : List Row) (kinds : List Kind) → all_apart rows ≡ true → kinds_of k rows ≡ Some kinds → is_apart k ≡ true
+unfolding all_apart kinds_of
+apart_at k [] kinds a h = absurd cc
+apart_at k (r ∷ rs) kinds a h =
+    let both = both_true (is_apart r.key) (all_apart rs) a in
+    elim (which (same_key r.key k) (Some r.kinds) (kinds_of k rs) (Some kinds) h) [
+      | inl w ↦ subst (λ l. is_apart l ≡ true) (same_key_is r.key k w.0) both.0
+      | inr w ↦ apart_at k rs kinds both.1 w.1
+    ]
+
+key_begins : (k l : Key) (r s : List ℕ) → is_apart k ≡ true → is_apart l ≡ true → key_bytes k ++ r ≡ key_bytes l ++ s → (k ≡ l) × (r ≡ s)
+key_begins (Byte a) (Byte b) r s p q e = let h : a ≡ b = cc in (ap Byte h, cc)
+key_begins (Byte a) (Prefixed b n) r s p q e = let h : a ≡ b = cc in absurd (omega (arith, ltb-true a 0xfb p, ltb-true 0xfa b q))
+key_begins (Prefixed b n) (Byte a) r s p q e = let h : b ≡ a = cc in absurd (omega (arith, ltb-true a 0xfb q, ltb-true 0xfa b p))
+key_begins (Prefixed a m) (Prefixed b n) r s p q e =
+    let h : a ≡ b = cc in
+    let t : unsigned m ++ r ≡ unsigned n ++ s = cc in
+    let one = unsigned_begins m n r s t in
+    let k = one.0 in
+    (cc, one.1)
+
+-- ---- instructions
+
+abbrev instruction : (row : Row) → Fields row.kinds → Instr
+instruction row numbers = record { row = row; numbers = numbers }
+
+-- numbers of two rows that are one
+numbers_begin : (i j : Row) (x : Fields i.kinds) (y : Fields j.kinds) (r s : List ℕ) → i ≡ j → InRangeFields i.kinds x → InRangeFields j.kinds y → fields i.kinds x ++ r ≡ fields j.kinds y ++ s
+    → (instruction i x ≡ instruction j y) × (r ≡ s)
+numbers_begin i j x y r s e p q h =
+    let Motive : Row → Type 0 = λ l. (z : Fields l.kinds) → InRangeFields l.kinds z → fields i.kinds x ++ r ≡ fields l.kinds z ++ s → (instruction i x ≡ instruction l z) × (r ≡ s) in
+    let here : Motive i = λ z t f. let one = (fields_code i.kinds).begins x z r s p t f in (ap (instruction i) one.0, one.1) in
+    subst Motive e here y q h
+
+abbrev some : {A : Type 0} → A → Option A
+some x = Some x
+
+some_is : {A : Type 0} (x y : A) → some x ≡ some y → x ≡ y
+some_is x y e = cc
+
+pub instr_code : IsCode Instr IsInstr instr
+instr_code = record {
+  begins = λ x y r s p q e.
+      let xs = fields x.row.kinds x.numbers in
+      let ys = fields y.row.kinds y.numbers in
+      let one = key_begins x.row.key y.row.key (xs ++ r) (ys ++ s) (apart_at x.row.key table x.row.kinds table_apart p.row) (apart_at y.row.key table y.row.kinds table_apart q.row) (sym (append_assoc (key_bytes x.row.key) xs r) ∙ e ∙ append_assoc (key_bytes y.row.key) ys s) in
+      let kinds : x.row.kinds ≡ y.row.kinds = some_is x.row.kinds y.row.kinds (sym p.row ∙ ap (λ k. kinds_of k table) one.0 ∙ q.row) in
+      let f : Key → Row = λ k. record { key = k; kinds = x.row.kinds } in
+      let g : List Kind → Row = λ ks. record { key = y.row.key; kinds = ks } in
+      let row : x.row ≡ y.row = ap f one.0 ∙ ap g kinds in
+      numbers_begin x.row y.row x.numbers y.numbers r s row p.numbers q.numbers one.1;
+}
+
+-- an instruction begins with no byte that is a key of no row
+pub instr_apart : {A : Type 0} (i : Instr) (b : ℕ) (r s : List ℕ) → IsInstr i → b < 0xfb → kinds_of (Byte b) table ≡ None → instr i ++ r ≡ b ∷ s → A
+instr_apart {A} i b r s p lt missing e =
+    let xs = fields i.row.kinds i.numbers in
+    let small : is_apart (Byte b) ≡ true = lt-ltb b 0xfb lt in
+    let one = key_begins i.row.key (Byte b) (xs ++ r) s (apart_at i.row.key table i.row.kinds table_apart p.row) small (sym (append_assoc (key_bytes i.row.key) xs r) ∙ e) in
+    let no : None ≡ Some i.row.kinds = sym missing ∙ sym (ap (λ k. kinds_of k table) one.0) ∙ p.row in
+    absurd cc
+
+-- the key has a byte or more
+key_nonempty : (k : Key) (xs : List ℕ) → 0 < length (key_bytes k ++ xs)
+key_nonempty (Byte b) xs = omega arith
+key_nonempty (Prefixed p n) xs = omega arith
+
+pub instr-nonempty : (i : Instr) → 0 < length (instr i)
+instr-nonempty i = key_nonempty i.row.key (fields i.row.kinds i.numbers)

@@ -1,0 +1,116 @@
+-- The spellings of types show their value.
+use Rattle.std.proofs.Common.{◌≡◌, ◌&&◌, ℕ, Bool, true, false, Option, Some, None, List, [], ◌∷◌, ◌++◌, refl, sym, ap, ◌∙◌, arith}
+use Rattle.std.specs.Prelude.{IsTrue, not, is_none}
+use Rattle.wasm_ops.specs.Codes.{IsCode}
+use Rattle.wasm_ops.specs.Leb128.{unsigned}
+use Rattle.wasm_ops.specs.Covered.{is_covered_composite_type, is_covered_sub_type}
+use Rattle.wasm_ops.specs.Spelling.{Any, InRangeU32, vec, InRangeVec, val_type, export_kind, func_type, InRangeFuncType, composite_inner_type, InRangeCompositeInnerType, composite_type, InRangeCompositeType, sub_bytes, sub_type, InRangeSubType}
+use Rattle.wasm_ops.specs.declared.types.ValType.{ValType}
+use Rattle.wasm_ops.specs.declared.types.ValType.TheVariants as val
+use Rattle.wasm_ops.specs.declared.types.ExportKind.{ExportKind}
+use Rattle.wasm_ops.specs.declared.types.ExportKind.TheVariants as kind
+use Rattle.wasm_ops.specs.declared.types.FuncType.{FuncType}
+use Rattle.wasm_ops.specs.declared.types.CompositeInnerType.{CompositeInnerType}
+use Rattle.wasm_ops.specs.declared.types.CompositeInnerType.TheVariants as inner
+use Rattle.wasm_ops.specs.declared.types.CompositeType.{CompositeType}
+use Rattle.wasm_ops.specs.declared.types.SubType.{SubType}
+use Rattle.wasm_ops.proofs.Codes.{index_code, pair_code, code_by, after_byte, vec_code}
+
+-- the first byte
+abbrev pub front : List ℕ → ℕ
+front [] = 0
+front (b ∷ bs) = b
+
+val_begins : (x y : ValType) (r s : List ℕ) → Any x → Any y → val_type x ++ r ≡ val_type y ++ s → (x ≡ y) × (r ≡ s)
+val_begins val.I32 val.I32 r s p q e = (refl, cc)
+val_begins val.I64 val.I64 r s p q e = (refl, cc)
+val_begins val.F32 val.F32 r s p q e = (refl, cc)
+val_begins val.F64 val.F64 r s p q e = (refl, cc)
+val_begins val.V128 val.V128 r s p q e = (refl, cc)
+val_begins x y r s p q e = absurd (omega (arith, ap front e))
+
+pub val_type_code : IsCode ValType Any val_type
+val_type_code = record { begins = val_begins }
+
+kind_begins : (x y : ExportKind) (r s : List ℕ) → Any x → Any y → export_kind x ++ r ≡ export_kind y ++ s → (x ≡ y) × (r ≡ s)
+kind_begins kind.Func kind.Func r s p q e = (refl, cc)
+kind_begins kind.Table kind.Table r s p q e = (refl, cc)
+kind_begins kind.Memory kind.Memory r s p q e = (refl, cc)
+kind_begins kind.Global kind.Global r s p q e = (refl, cc)
+kind_begins kind.Tag kind.Tag r s p q e = (refl, cc)
+kind_begins x y r s p q e = absurd (omega (arith, ap front e))
+
+pub export_kind_code : IsCode ExportKind Any export_kind
+export_kind_code = record { begins = kind_begins }
+
+pub func_type_code : IsCode FuncType InRangeFuncType func_type
+func_type_code = code_by (λ f. (f.params, f.results)) (λ p. record { params = p.0; results = p.1 }) (λ x. refl) (after_byte 0x60 (pair_code (vec_code val_type_code) (vec_code val_type_code)))
+
+inner_begins : (x y : CompositeInnerType) (r s : List ℕ) → InRangeCompositeInnerType x → InRangeCompositeInnerType y → composite_inner_type x ++ r ≡ composite_inner_type y ++ s → (x ≡ y) × (r ≡ s)
+inner_begins (inner.Func f) (inner.Func g) r s p q e = let one = func_type_code.begins f g r s p q e in (ap inner.Func one.0, one.1)
+
+pub composite_inner_type_code : IsCode CompositeInnerType InRangeCompositeInnerType composite_inner_type
+composite_inner_type_code = record { begins = inner_begins }
+
+-- a composite type that is covered is what it is made of
+abbrev plain : CompositeInnerType → CompositeType
+plain i = record { inner = i; shared = false; descriptor = None; describes = None }
+
+plain_by : (i : CompositeInnerType) (shared : Bool) (descriptor describes : Option ℕ) → (not shared && (is_none descriptor && is_none describes)) ≡ true → record { inner = i; shared = shared; descriptor = descriptor; describes = describes } ≡ plain i
+plain_by i false None None e = refl
+plain_by i true descriptor describes e = absurd cc
+plain_by i false (Some n) describes e = absurd cc
+plain_by i false None (Some n) e = absurd cc
+
+is_plain : (x : CompositeType) → IsTrue (is_covered_composite_type x) → x ≡ plain x.inner
+is_plain x e = plain_by x.inner x.shared x.descriptor x.describes e
+
+pub composite_type_code : IsCode CompositeType (λ x. IsTrue (is_covered_composite_type x) × InRangeCompositeType x) composite_type
+composite_type_code = record {
+  begins = λ x y r s p q e.
+      let one = inner_begins x.inner y.inner r s p.1 q.1 e in
+      (is_plain x p.0 ∙ ap plain one.0 ∙ sym (is_plain y q.0), one.1);
+}
+
+composite_front : (i : CompositeInnerType) (r : List ℕ) → front (composite_inner_type i ++ r) ≡ 0x60
+composite_front (inner.Func f) r = refl
+
+-- the types above it and the composite type, behind a byte
+abbrev Below : Type 0
+Below = List ℕ × CompositeType
+
+abbrev below : List ℕ → CompositeType → Below
+below ps c = (ps, c)
+
+below_code : IsCode Below (λ p. InRangeVec InRangeU32 p.0 × (IsTrue (is_covered_composite_type p.1) × InRangeCompositeType p.1)) (λ p. vec unsigned p.0 ++ composite_type p.1)
+below_code = pair_code (vec_code index_code) composite_type_code
+
+abbrev Fine : List ℕ → CompositeType → Type 0
+Fine ps c = InRangeVec InRangeU32 ps × (IsTrue (is_covered_composite_type c) × InRangeCompositeType c)
+
+sub_begins : (m n : Bool) (ps qs : List ℕ) (c d : CompositeType) (r s : List ℕ) → Fine ps c → Fine qs d → sub_bytes m ps (composite_type c) ++ r ≡ sub_bytes n qs (composite_type d) ++ s → (m ≡ n) × (below ps c ≡ below qs d) × (r ≡ s)
+sub_begins true true [] [] c d r s p q e =
+    let one = composite_type_code.begins c d r s p.1 q.1 e in
+    let f : CompositeType → Below = λ t. ([], t) in
+    (refl, ap f one.0, one.1)
+sub_begins true true [] (y ∷ ys) c d r s p q e = absurd (omega (arith, ap front e, composite_front c.inner r))
+sub_begins true true (x ∷ xs) [] c d r s p q e = absurd (omega (arith, ap front e, composite_front d.inner s))
+sub_begins true true (x ∷ xs) (y ∷ ys) c d r s p q e =
+    let one = (after_byte 0x4f below_code).begins (x ∷ xs, c) (y ∷ ys, d) r s p q e in
+    (refl, one.0, one.1)
+sub_begins false false ps qs c d r s p q e =
+    let one = (after_byte 0x50 below_code).begins (ps, c) (qs, d) r s p q e in
+    (refl, one.0, one.1)
+sub_begins true false [] qs c d r s p q e = absurd (omega (arith, ap front e, composite_front c.inner r))
+sub_begins true false (x ∷ xs) qs c d r s p q e = absurd (omega (arith, ap front e))
+sub_begins false true ps [] c d r s p q e = absurd (omega (arith, ap front e, composite_front d.inner s))
+sub_begins false true ps (y ∷ ys) c d r s p q e = absurd (omega (arith, ap front e))
+
+pub sub_type_code : IsCode SubType (λ x. IsTrue (is_covered_sub_type x) × InRangeSubType x) sub_type
+sub_type_code = record {
+  begins = λ x y r s p q e.
+      let one = sub_begins x.is_final y.is_final x.supertype_idxs y.supertype_idxs x.composite_type y.composite_type r s (p.1.0, (p.0, p.1.1)) (q.1.0, (q.0, q.1.1)) e in
+      let f : Bool → SubType = λ b. record { is_final = b; supertype_idxs = x.supertype_idxs; composite_type = x.composite_type } in
+      let g : Below → SubType = λ p. record { is_final = y.is_final; supertype_idxs = p.0; composite_type = p.1 } in
+      (ap f one.0 ∙ ap g one.1, one.2);
+}

@@ -1,0 +1,11 @@
+use Rattle.wasm_ops.proofs.InstrCodes.{table_ascends, table_apart, instr_code}
+use Rattle.wasm_ops.proofs.laws.instruction_law.Goals as goal
+
+pub returns-clause-distinct : goal.returns-clause-distinct
+returns-clause-distinct c = table_ascends
+
+pub returns-clause-apart : goal.returns-clause-apart
+returns-clause-apart c = table_apart
+
+pub returns-clause-instructions : goal.returns-clause-instructions
+returns-clause-instructions c = instr_code

@@ -1,0 +1,21 @@
+use Rattle.wasm_ops.proofs.Codes.{name_code}
+use Rattle.wasm_ops.proofs.TypeCodes.{val_type_code, export_kind_code, func_type_code, composite_type_code, sub_type_code}
+use Rattle.wasm_ops.proofs.laws.type_spelling_law.Goals as goal
+
+pub returns-clause-names : goal.returns-clause-names
+returns-clause-names c = name_code
+
+pub returns-clause-val_types : goal.returns-clause-val_types
+returns-clause-val_types c = val_type_code
+
+pub returns-clause-export_kinds : goal.returns-clause-export_kinds
+returns-clause-export_kinds c = export_kind_code
+
+pub returns-clause-func_types : goal.returns-clause-func_types
+returns-clause-func_types c = func_type_code
+
+pub returns-clause-composite_types : goal.returns-clause-composite_types
+returns-clause-composite_types c = composite_type_code
+
+pub returns-clause-sub_types : goal.returns-clause-sub_types
+returns-clause-sub_types c = sub_type_code

@@ -1,0 +1,8 @@
+pub mod Codes
+pub mod Covered
+pub mod Leb128
+pub mod Rows
+pub mod SinkLaws
+pub mod Sinks
+pub mod Spelling
+pub mod Table

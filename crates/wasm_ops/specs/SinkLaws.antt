@@ -1,0 +1,32 @@
+-- The laws that `Vec<u8>` and `Length` meet as sinks, over lists and counts.
+use Rattle.std.proofs.Common.{◌≡◌, ◌≤◌, ◌<◌, ◌+◌, ◌-◌, ◌^◌, ℕ, List, [], ◌++◌, take, length, refl, sym, ap, ◌∙◌, append_assoc, arith, length-append}
+use Rattle.std.proofs.lemmas.List.{append-nil, take_at}
+
+-- a list of bytes
+pub none : (a : List ℕ) → a ≡ a ++ []
+none a = sym (append-nil a)
+
+pub grows : (a b x : List ℕ) → b ≡ a ++ x → length b ≡ length a + length x
+grows a b x e = ap length e ∙ length-append a x
+
+pub joins : (a b c x y : List ℕ) → b ≡ a ++ x → c ≡ b ++ y → c ≡ a ++ (x ++ y)
+joins a b c x y e f = f ∙ ap (λ l. l ++ y) e ∙ append_assoc a x y
+
+pub cuts_back : (a b c x : List ℕ) → b ≡ a ++ x → c ≡ take (length a) b → c ≡ a ++ []
+cuts_back a b c x e f = f ∙ ap (take (length a)) e ∙ take_at a x (length a) refl ∙ none a
+
+-- a count of bytes
+pub count_none : (a : ℕ) → a ≡ a + 0
+count_none a = omega arith
+
+pub count_joins : (a b c : ℕ) (x y : List ℕ) → b ≡ a + length x → c ≡ b + length y → c ≡ a + length (x ++ y)
+count_joins a b c x y e f = omega (arith, length-append x y)
+
+pub count_cuts : (a c : ℕ) → c ≡ a → c ≡ a + 0
+count_cuts a c e = omega arith
+
+pub count_less : (a m n : ℕ) → m ≤ n → a + n < 2 ^ 64 → a + m < 2 ^ 64
+count_less a m n le h = omega arith
+
+pub count_rest : (a b : ℕ) (x : List ℕ) (n : ℕ) → length x ≤ n → a + n < 2 ^ 64 → b ≡ a + length x → b + (n - length x) < 2 ^ 64
+count_rest a b x n le h e = omega arith

@@ -1,0 +1,54 @@
+//! Instructions of the binary format.
+
+ghost use Rattle.std.specs.Prelude.{◌≡◌};
+ghost use Rattle.wasm_ops.specs.Rows.{index_byte, index_instr};
+ghost use Rattle.wasm_ops.specs.Sinks.{Puts};
+ghost use Rattle.wasm_ops.specs.Table.{instr, IsInstr};
+
+use crate::encode::Encode;
+use crate::sink::Sink;
+use wast_tree::Error;
+
+/// An instruction whose one immediate is an index (binary format, instructions).
+#[derive(Clone, Copy, Debug, PartialEq, Eq)]
+pub enum IndexOp {
+    /// `call`
+    Call = 0x10,
+}
+
+impl IndexOp {
+    /// The byte that stands before the index.
+    pub fn byte(self) -> u8
+        ensures { result ≡ index_byte self }
+    {
+        self as u8
+    }
+}
+
+/// Appends instructions to a sink.
+#[derive(Drop)]
+pub struct InstructionSink<'s, S> {
+    /// Where the instructions are appended.
+    pub out: &'s mut S,
+}
+
+impl<'s, S: Sink> InstructionSink<'s, S> {
+    /// What appends instructions to this sink. It changes nothing yet.
+    pub fn new(out: &'s mut S) -> InstructionSink<'s, S>
+        ensures same { result.out.ghost_name ≡ out.entry.ghost_name }
+        ensures unchanged { result.out.now ≡ out.old }
+    {
+        InstructionSink { out }
+    }
+
+    /// Appends an instruction with an index: `call 3` (binary format, instructions).
+    ///
+    /// It appends the spelling of that row of the table. The only error is the sink's refusal; then nothing was
+    /// appended.
+    pub fn index<'e>(&mut self, op: IndexOp, index: u32) -> Result<(), Error<'e>>
+        ensures appended { Puts S.appended S.fits S.refusal (IsInstr (index_instr op index)) self.old.out.now self.new.out.now (instr (index_instr op index)) result }
+        ensures same { self.new.out.ghost_name ≡ self.old.out.ghost_name }
+    {
+        (op.byte(), index).encode(self.out)
+    }
+}

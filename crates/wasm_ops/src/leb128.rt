@@ -1,0 +1,118 @@
+//! Numbers as bytes: LEB128, unsigned and signed.
+
+ghost use Rattle.std.specs.Prelude.{◌≡◌, ◌≤◌, ◌<◌, ◌^◌, ◌≤ℤ◌, pos, negsuc, take};
+ghost use Rattle.wasm_ops.specs.Leb128.{unsigned, signed, digits, turned};
+ghost use Rattle.wasm_ops.specs.Sinks.{Puts};
+
+use crate::sink::Sink;
+use wast_tree::Error;
+
+/// The bytes of a number, and how many they are.
+fn unsigned_bytes(n: u64) -> ([u8; 10], usize)
+    ensures within { result.1 ≤ 10 }
+    ensures bytes { take result.1 result.0 ≡ unsigned n }
+{
+    let mut bytes = [0; 10];
+    let mut len = 0;
+    let mut rest = n;
+    'digits: while rest >= 128 {
+        bytes[len] = 128 + (rest % 128) as u8;
+        rest /= 128;
+        len += 1;
+    }
+    bytes[len] = rest as u8;
+    (bytes, len + 1)
+}
+
+/// Appends an unsigned number (binary format, integers: `u64`).
+///
+/// It appends the one spelling of the number, the shortest. The only error is the sink's refusal; then nothing was
+/// appended.
+pub fn write_u64<'e, S: Sink>(out: &mut S, n: u64) -> Result<(), Error<'e>>
+    ensures { Puts S.appended S.fits S.refusal (Unit {0}) out.old out.new (unsigned n) result }
+{
+    let (bytes, len) = unsigned_bytes(n);
+    out.put(&bytes[..len])
+}
+
+/// Appends an unsigned number (binary format, integers: `u32`).
+///
+/// It appends the one spelling of the number, the shortest. The only error is the sink's refusal; then nothing was
+/// appended.
+pub fn write_u32<'e, S: Sink>(out: &mut S, n: u32) -> Result<(), Error<'e>>
+    ensures { Puts S.appended S.fits S.refusal (Unit {0}) out.old out.new (unsigned n) result }
+{
+    write_u64(out, u64::from(n))
+}
+
+/// Seven bits of a number, or of its complement.
+fn turn(negative: bool, digit: u8) -> u8
+    requires { digit < 128 }
+    ensures { result ≡ turned negative digit }
+{
+    if negative { 127 - digit } else { digit }
+}
+
+/// The signed bytes of a number, or of its complement, and how many they are.
+fn signed_digits(negative: bool, n: u64) -> ([u8; 10], usize)
+    requires { n < 2 ^ 63 }
+    ensures within { result.1 ≤ 10 }
+    ensures bytes { take result.1 result.0 ≡ digits negative n }
+{
+    let mut bytes = [0; 10];
+    let mut len = 0;
+    let mut rest = n;
+    'digits: while rest >= 64 {
+        bytes[len] = 128 + turn(negative, (rest % 128) as u8);
+        rest /= 128;
+        len += 1;
+    }
+    bytes[len] = turn(negative, rest as u8);
+    (bytes, len + 1)
+}
+
+/// The bytes of a signed number, and how many they are.
+fn signed_bytes(n: i64) -> ([u8; 10], usize)
+    ensures within { result.1 ≤ 10 }
+    ensures bytes { take result.1 result.0 ≡ signed n }
+{
+    let magnitude = n.unsigned_abs();
+    if n.is_negative() {
+        signed_digits(true, magnitude - 1)
+    } else {
+        signed_digits(false, magnitude)
+    }
+}
+
+/// Appends a signed number (binary format, integers: `s64`).
+///
+/// It appends the one spelling of the number, the shortest. The only error is the sink's refusal; then nothing was
+/// appended.
+pub fn write_s64<'e, S: Sink>(out: &mut S, n: i64) -> Result<(), Error<'e>>
+    ensures { Puts S.appended S.fits S.refusal (Unit {0}) out.old out.new (signed n) result }
+{
+    let (bytes, len) = signed_bytes(n);
+    out.put(&bytes[..len])
+}
+
+/// Appends a signed number (binary format, integers: `s32`).
+///
+/// It appends the one spelling of the number, the shortest. The only error is the sink's refusal; then nothing was
+/// appended.
+pub fn write_s32<'e, S: Sink>(out: &mut S, n: i32) -> Result<(), Error<'e>>
+    ensures { Puts S.appended S.fits S.refusal (Unit {0}) out.old out.new (signed n) result }
+{
+    write_s64(out, i64::from(n))
+}
+
+/// Appends a signed number of 33 bits (binary format, integers: `s33`). It needs a number from -2^32 to 2^32 - 1.
+///
+/// It appends the one spelling of the number, the shortest. The only error is the sink's refusal; then nothing was
+/// appended.
+pub fn write_s33<'e, S: Sink>(out: &mut S, n: i64) -> Result<(), Error<'e>>
+    requires low { negsuc 4294967295 ≤ℤ n }
+    requires high { n ≤ℤ pos 4294967295 }
+    ensures { Puts S.appended S.fits S.refusal (Unit {0}) out.old out.new (signed n) result }
+{
+    write_s64(out, n)
+}
