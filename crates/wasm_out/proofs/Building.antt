@@ -1,0 +1,23 @@
+-- What is built item by item is the list of the items, and what is put together is a body.
+use Rattle.std.proofs.Common.{◌≡◌, ℕ, List, [], ◌∷◌, ◌++◌, length, sym, ap, ◌∙◌, append_assoc, append-nil, length-append}
+use Rattle.std.specs.List.{flat_map}
+use Rattle.std.proofs.lemmas.List.{flat_map_more}
+use Rattle.std.proofs.lemmas.List.Elements.{All-nil, All-cons}
+use Rattle.wasm_ops.specs.Table.{Instr, instr, instrs, IsInstr}
+use Rattle.wasm_out.specs.Bodies.{Body, locals, InRangeContent, SpellsInstrs, SpellsBody}
+use Rattle.wasm_out.specs.Built.{Built, with_item, built}
+
+-- one item more
+pub with_item-built : {A : Type 0} (spell : A → List ℕ) (items : List A) (item : A) → with_item (built spell items) (spell item) ≡ built spell (items ++ (item ∷ []))
+with_item-built spell items item =
+    let f : ℕ → Built = λ n. record { count = n; bytes = flat_map spell items ++ spell item } in
+    let g : List ℕ → Built = λ bs. record { count = length (items ++ (item ∷ [])); bytes = bs } in
+    ap f (sym (length-append items (item ∷ []))) ∙ ap g (flat_map_more spell [] items item)
+
+-- one instruction
+pub spells_instr : (i : Instr) → IsInstr i → SpellsInstrs (instr i)
+spells_instr i p = record { list = i ∷ []; in_range = All-cons IsInstr i [] p (All-nil IsInstr); spelled = sym (append-nil (instr i)) }
+
+-- locals, instructions and an end
+pub spells_body : (b : Body) (bytes : List ℕ) → InRangeContent b → bytes ≡ (locals b.locals ++ instrs b.instrs) ++ (0x0b ∷ []) → SpellsBody bytes
+spells_body b bytes p e = record { body = b; in_range = p; spelled = e ∙ append_assoc (locals b.locals) (instrs b.instrs) (0x0b ∷ []) }

@@ -1,0 +1,4 @@
+pub mod Building
+pub mod LocalRuns
+pub mod PartCodes
+pub mod Refusals

@@ -1,0 +1,118 @@
+-- The parts of a module show their value: bytes are read as one module.
+use Rattle.std.proofs.Common.{◌≡◌, ◌≢◌, ◌<◌, ℕ, List, [], ◌∷◌, ◌++◌, length, refl, sym, ap, ◌∙◌, subst, arith}
+use Rattle.std.specs.Prelude.{All}
+use Rattle.std.specs.List.{flat_map}
+use Rattle.std.proofs.lemmas.List.{append_cancel_right}
+use Rattle.wasm_ops.specs.declared.types.ValType.{ValType}
+use Rattle.wasm_ops.specs.Codes.{IsCode, IsWhole}
+use Rattle.wasm_ops.specs.Spelling.{Any, InRangeU32, sized, InRangeSized}
+use Rattle.wasm_ops.specs.Table.{Instr, instrs, IsInstr}
+use Rattle.wasm_ops.proofs.Codes.{index_code, code_within, code_whole, whole_within, pair_code, pair_whole, code_by, whole_by, vec_code, sized_code, filled_whole, name_code}
+use Rattle.wasm_ops.proofs.TypeCodes.{val_type_code, export_kind_code, sub_type_code}
+use Rattle.wasm_ops.proofs.InstrCodes.{instr_code, instr-nonempty}
+use Rattle.wasm_out.specs.Bodies.{Body, Run, run, runs, locals, content, InRangeContent}
+use Rattle.wasm_out.specs.Parts.{SectionKind, Types, Functions, Exports, Code, TypeEntry, Single, ExportEntry, Entry, type_entry, export_entry, entry, InRangeTypeEntry, InRangeExport, InRangeEntry, PartKind, Custom, Start, Listed, CustomPart, Items, custom, payload, InRangeItems, section_id, part_id, Part, part, InRangePart}
+use Rattle.wasm_out.specs.Reads.{header, Reads}
+use Rattle.wasm_out.proofs.LocalRuns.{expanded, expanded-runs, runs_in_range}
+
+-- ---- bodies
+
+run_code : IsCode Run (λ (r : Run). InRangeU32 r.0 × Any r.1) run
+run_code = pair_code index_code val_type_code
+
+locals_code : IsCode (List ValType) (λ ts. InRangeU32 (length ts)) locals
+locals_code = code_within runs_in_range (code_by runs expanded expanded-runs (vec_code run_code))
+
+instrs_whole : IsWhole (List Instr) (All IsInstr) instrs
+instrs_whole = filled_whole (λ i p. instr-nonempty i) instr_code
+
+ended_whole : IsWhole (List Instr) (All IsInstr) (λ is. instrs is ++ (0x0b ∷ []))
+ended_whole = record { same = λ x y p q e. instrs_whole.same x y p q (append_cancel_right (instrs x) (instrs y) (0x0b ∷ []) e) }
+
+content_whole : IsWhole Body InRangeContent content
+content_whole = whole_within (λ b p. (p.locals, p.instrs)) (whole_by (λ (b : Body). (b.locals, b.instrs)) (λ p. record { locals = p.0; instrs = p.1 }) (λ b. refl) (pair_whole locals_code ended_whole))
+
+-- ---- entries
+
+type_entry_code : IsCode TypeEntry InRangeTypeEntry type_entry
+type_entry_code = record { begins = type_begins }
+  where
+    type_begins : (x y : TypeEntry) (r s : List ℕ) → InRangeTypeEntry x → InRangeTypeEntry y → type_entry x ++ r ≡ type_entry y ++ s → (x ≡ y) × (r ≡ s)
+    type_begins (Single x) (Single y) r s p q e = let one = sub_type_code.begins x y r s p q e in (ap Single one.0, one.1)
+
+export_entry_code : IsCode ExportEntry InRangeExport export_entry
+export_entry_code = code_within (λ e p. (p.0, (tt, p.1))) (code_by (λ (e : ExportEntry). (e.name, (e.kind, e.index))) (λ p. record { name = p.0; kind = p.1.0; index = p.1.1 }) (λ e. refl) (pair_code name_code (pair_code export_kind_code index_code)))
+
+pub entry_code : (kind : SectionKind) → IsCode (Entry kind) (InRangeEntry kind) (entry kind)
+entry_code Types = type_entry_code
+entry_code Functions = index_code
+entry_code Exports = export_entry_code
+entry_code Code = sized_code content_whole
+
+-- ---- parts
+
+bytes_whole : IsWhole (List ℕ) Any (λ bytes. bytes)
+bytes_whole = record { same = λ x y p q e. e }
+
+custom_whole : IsWhole CustomPart (InRangeItems Custom) custom
+custom_whole = whole_within (λ c p. (p, tt)) (whole_by (λ (c : CustomPart). (c.name, c.bytes)) (λ p. record { name = p.0; bytes = p.1 }) (λ c. refl) (pair_whole name_code bytes_whole))
+
+pub payload_whole : (kind : PartKind) → IsWhole (Items kind) (InRangeItems kind) (payload kind)
+payload_whole Custom = custom_whole
+payload_whole Start = code_whole index_code
+payload_whole (Listed kind) = code_whole (vec_code (entry_code kind))
+
+section_shows : (k l : SectionKind) → section_id k ≡ section_id l → k ≡ l
+section_shows Types Types e = refl
+section_shows Functions Functions e = refl
+section_shows Exports Exports e = refl
+section_shows Code Code e = refl
+section_shows k l e = absurd (omega arith)
+
+-- a section with a list is no custom section and no start section
+listed_apart : (k : SectionKind) → (0 < section_id k) × (section_id k ≢ 8)
+listed_apart Types = (omega arith, omega arith)
+listed_apart k = (omega arith, omega arith)
+
+id_shows : (k l : PartKind) → part_id k ≡ part_id l → k ≡ l
+id_shows Custom Custom e = refl
+id_shows Start Start e = refl
+id_shows (Listed k) (Listed l) e = ap Listed (section_shows k l e)
+id_shows Custom Start e = absurd (omega arith)
+id_shows Start Custom e = absurd (omega arith)
+id_shows (Listed k) Custom e = absurd (omega (arith, (listed_apart k).0, e))
+id_shows Custom (Listed l) e = absurd (omega (arith, (listed_apart l).0, e))
+id_shows (Listed k) Start e = absurd ((listed_apart k).1 e)
+id_shows Start (Listed l) e = absurd ((listed_apart l).1 (sym e))
+
+abbrev part_of : (kind : PartKind) → Items kind → Part
+part_of kind items = record { kind = kind; items = items }
+
+abbrev InRangePayload : (kind : PartKind) → Items kind → Type 0
+InRangePayload kind items = InRangeSized (InRangeItems kind) (payload kind) items
+
+-- items of two kinds that are one
+items_begin : (k l : PartKind) (x : Items k) (y : Items l) (r s : List ℕ) → k ≡ l → InRangePayload k x → InRangePayload l y → sized (payload k) x ++ r ≡ sized (payload l) y ++ s → (part_of k x ≡ part_of l y) × (r ≡ s)
+items_begin k l x y r s e p q h =
+    let Motive : PartKind → Type 0 = λ m. (z : Items m) → InRangePayload m z → sized (payload k) x ++ r ≡ sized (payload m) z ++ s → (part_of k x ≡ part_of m z) × (r ≡ s) in
+    let here : Motive k = λ z t f. let one = (sized_code (payload_whole k)).begins x z r s p t f in (ap (part_of k) one.0, one.1) in
+    subst Motive e here y q h
+
+pub part_code : IsCode Part InRangePart part
+part_code = record {
+  begins = λ x y r s p q e.
+      let h : part_id x.kind ≡ part_id y.kind = cc in
+      let t : sized (payload x.kind) x.items ++ r ≡ sized (payload y.kind) y.items ++ s = cc in
+      items_begin x.kind y.kind x.items y.items r s (id_shows x.kind y.kind h) p q t;
+}
+
+-- ---- modules
+
+pub one_module : (bytes : List ℕ) (p q : List Part) → Reads bytes p → Reads bytes q → p ≡ q
+one_module bytes p q a b =
+    let e : header ++ flat_map part p ≡ header ++ flat_map part q = sym a.spelled ∙ b.spelled in
+    let f : flat_map part p ≡ flat_map part q = cc in
+    (filled_whole (λ x h. omega arith) part_code).same p q a.each b.each f
+
+pub one_spelling : (b c : List ℕ) (p : List Part) → Reads b p → Reads c p → b ≡ c
+one_spelling b c p x y = x.spelled ∙ sym y.spelled

@@ -1,0 +1,60 @@
+-- The body of a function: its locals as maximal runs of equal types, its instructions and an end (binary format, code section).
+use Rattle.std.specs.Prelude.{◌≡◌, ◌+◌, ℕ, nat_eq, Bool, true, false, List, [], ◌∷◌, ◌++◌, length, All}
+use Rattle.std.specs.Cmp.Lexicographic.{pointwise}
+use Rattle.wasm_ops.specs.Leb128.{unsigned}
+use Rattle.wasm_ops.specs.declared.types.ValType.{ValType}
+use Rattle.wasm_ops.specs.Spelling.{InRangeU32, vec, val_type}
+use Rattle.wasm_ops.specs.Table.{Instr, instrs, IsInstr}
+
+-- locals and instructions, one by one
+pub record Body : Type 0 where
+  pub locals : List ValType
+  pub instrs : List Instr
+
+-- so many locals of one type
+abbrev pub Run : Type 0
+Run = ℕ × ValType
+
+abbrev pub is_same_type : ValType → ValType → Bool
+is_same_type t u = pointwise nat_eq (val_type t) (val_type u)
+
+-- one local more in front of a run and others: whether it is of the run's type
+abbrev pub in_front : Bool → ValType → Run → List Run → List Run
+in_front true t r rs = (r.0 + 1, t) ∷ rs
+in_front false t r rs = (1, t) ∷ (r ∷ rs)
+
+abbrev pub with_local : ValType → List Run → List Run
+with_local t [] = (1, t) ∷ []
+with_local t (r ∷ rs) = in_front (is_same_type t r.1) t r rs
+
+-- maximal runs of equal types
+abbrev pub runs : List ValType → List Run
+runs [] = []
+runs (t ∷ ts) = with_local t (runs ts)
+
+abbrev pub run : Run → List ℕ
+run r = unsigned r.0 ++ val_type r.1
+
+abbrev pub locals : List ValType → List ℕ
+locals types = vec run (runs types)
+
+-- what stands behind the length of a body
+abbrev pub content : Body → List ℕ
+content b = locals b.locals ++ (instrs b.instrs ++ 0x0b ∷ [])
+
+-- there are less than 2^32 locals, and the instructions stand in the table with numbers in range
+pub record InRangeContent (b : Body) : Type 0 where
+  pub locals : InRangeU32 (length b.locals)
+  pub instrs : All IsInstr b.instrs
+
+-- the bytes spell a list of instructions
+pub record SpellsInstrs (bytes : List ℕ) : Type 0 where
+  pub list : List Instr
+  pub in_range : All IsInstr list
+  pub spelled : bytes ≡ instrs list
+
+-- the bytes spell a body
+pub record SpellsBody (bytes : List ℕ) : Type 0 where
+  pub body : Body
+  pub in_range : InRangeContent body
+  pub spelled : bytes ≡ content body

@@ -1,0 +1,40 @@
+-- Worked examples of the definitions, which compute.
+use Rattle.std.specs.Prelude.{◌≡◌, ℕ, true, false, List, [], ◌∷◌, ◌++◌, None, codes}
+use Rattle.std.proofs.Common.{refl}
+use Rattle.std.specs.List.{flat_map}
+use Rattle.wasm_ops.specs.Leb128.{unsigned, unsigned_in}
+use Rattle.wasm_ops.specs.declared.types.ValType.TheVariants as val
+use Rattle.wasm_ops.specs.declared.types.ExportKind.TheVariants as kind
+use Rattle.wasm_ops.specs.declared.types.CompositeInnerType.TheVariants as inner
+use Rattle.wasm_ops.specs.declared.instrs.IndexOp.TheVariants as op
+use Rattle.wasm_ops.specs.Rows.{index_instr}
+use Rattle.wasm_out.specs.Bodies.{locals}
+use Rattle.wasm_out.specs.Parts.{Types, Functions, Exports, Code, Single, Custom, Listed, Part, part}
+use Rattle.wasm_out.specs.Reads.{header}
+
+-- runs of locals: two of i32, one of i64
+runs_of_locals : locals (val.I32 ∷ val.I32 ∷ val.I64 ∷ []) ≡ 0x02 ∷ 0x02 ∷ 0x7f ∷ 0x01 ∷ 0x7e ∷ []
+unfolding unsigned unsigned_in
+runs_of_locals = refl
+
+-- (module (func $f (export "a") (call $f))), with the name of the function and of its type
+abbrev pub parts : List Part
+parts =
+    record { kind = Listed Types; items = Single (record { composite_type = record { inner = inner.Func (record { params = []; results = [] }); shared = false; descriptor = None; describes = None }; is_final = true; supertype_idxs = [] }) ∷ [] }
+    ∷ record { kind = Listed Functions; items = 0 ∷ [] }
+    ∷ record { kind = Listed Exports; items = record { name = codes "a"; kind = kind.Func; index = 0 } ∷ [] }
+    ∷ record { kind = Listed Code; items = record { locals = []; instrs = index_instr op.Call 0 ∷ [] } ∷ [] }
+    ∷ record { kind = Custom; items = record { name = codes "name"; bytes = 0x01 ∷ 0x04 ∷ 0x01 ∷ 0x00 ∷ 0x01 ∷ 0x66 ∷ 0x04 ∷ 0x04 ∷ 0x01 ∷ 0x00 ∷ 0x01 ∷ 0x74 ∷ [] } }
+    ∷ []
+
+abbrev pub bytes : List ℕ
+bytes = 0x00 ∷ 0x61 ∷ 0x73 ∷ 0x6d ∷ 0x01 ∷ 0x00 ∷ 0x00 ∷ 0x00
+    ∷ 0x01 ∷ 0x04 ∷ 0x01 ∷ 0x60 ∷ 0x00 ∷ 0x00
+    ∷ 0x03 ∷ 0x02 ∷ 0x01 ∷ 0x00
+    ∷ 0x07 ∷ 0x05 ∷ 0x01 ∷ 0x01 ∷ 0x61 ∷ 0x00 ∷ 0x00
+    ∷ 0x0a ∷ 0x06 ∷ 0x01 ∷ 0x04 ∷ 0x00 ∷ 0x10 ∷ 0x00 ∷ 0x0b
+    ∷ 0x00 ∷ 0x11 ∷ 0x04 ∷ 0x6e ∷ 0x61 ∷ 0x6d ∷ 0x65 ∷ 0x01 ∷ 0x04 ∷ 0x01 ∷ 0x00 ∷ 0x01 ∷ 0x66 ∷ 0x04 ∷ 0x04 ∷ 0x01 ∷ 0x00 ∷ 0x01 ∷ 0x74 ∷ []
+
+pub spelled : header ++ flat_map part parts ≡ bytes
+unfolding unsigned unsigned_in
+spelled = refl

@@ -1,0 +1,56 @@
+-- The name section: a custom section called name, of subsections behind an id and a length (custom sections, name section).
+use Rattle.std.specs.Prelude.{ℕ, List, ◌∷◌, ◌++◌, length, codes, Result}
+use Rattle.wast_tree.specs.declared.faults.Error.{Error}
+use Rattle.wasm_ops.specs.Leb128.{unsigned}
+use Rattle.wasm_ops.specs.Spelling.{InRangeU32, name}
+use Rattle.wasm_out.specs.Built.{Built, counted, Appends}
+
+-- what the names are names of
+pub data Named : Type 0 where
+  Whole : Named
+  Functions : Named
+  Locals : Named
+  Labels : Named
+  Types : Named
+  Tables : Named
+  Memories : Named
+  Globals : Named
+  Elements : Named
+  DataSegments : Named
+  Fields : Named
+  Tags : Named
+  Parameters : Named
+  TagParameters : Named
+
+-- the ids of the standard and of its proposals; 12 and 13 are this encoder's own
+abbrev pub subsection_id : Named → ℕ
+subsection_id Whole = 0
+subsection_id Functions = 1
+subsection_id Locals = 2
+subsection_id Labels = 3
+subsection_id Types = 4
+subsection_id Tables = 5
+subsection_id Memories = 6
+subsection_id Globals = 7
+subsection_id Elements = 8
+subsection_id DataSegments = 9
+subsection_id Fields = 10
+subsection_id Tags = 11
+subsection_id Parameters = 12
+subsection_id TagParameters = 13
+
+-- the id, the length of the content, and the content
+abbrev pub subsection : Named → List ℕ → List ℕ
+subsection named content = subsection_id named ∷ (unsigned (length content) ++ content)
+
+-- a map of names was appended as a subsection, and its length is in range; or the bytes stay
+abbrev pub AppendsNames : {A : Type 0} → Named → Built → List ℕ → List ℕ → Result A Error → Type 0
+AppendsNames named names old new result = Appends (InRangeU32 (length (counted names))) old new (subsection named (counted names)) result
+
+-- a name map's entry: an index and a name
+abbrev pub name_entry : ℕ × List ℕ → List ℕ
+name_entry e = unsigned e.0 ++ name e.1
+
+-- the payload of the name section, of its subsections
+abbrev pub name_payload : List ℕ → List ℕ
+name_payload subsections = name (codes "name") ++ subsections

@@ -1,0 +1,262 @@
+//! The sections that are lists: types, functions, exports and code.
+
+ghost use Rattle.std.specs.Prelude.{◌≡◌, ◌+◌, ◌++◌, length, refl, IsTrue};
+ghost use Rattle.wasm_ops.specs.Covered.{is_covered_sub_type};
+ghost use Rattle.wasm_ops.specs.Leb128.{unsigned};
+ghost use Rattle.wasm_ops.specs.Spelling.{InRangeU32, InRangeName, InRangeSubType, sub_type};
+ghost use Rattle.wasm_out.specs.Built.{Adds, counted};
+ghost use Rattle.wasm_out.specs.Bodies.{SpellsBody};
+ghost use Rattle.wasm_out.specs.Parts.{export_entry};
+
+use crate::bodies::Function;
+use crate::items::Items;
+use crate::sections::{Build, Section};
+use std::alloc::Global;
+use std::marker::Model;
+use wasm_ops::{Encode, ExportKind, Raw, Sized, SubType};
+use wast_tree::Error;
+
+/// The type section (binary format, type section). Contracts see it as its items.
+#[derive(Debug, Drop)]
+pub struct TypeSection {
+    items: Items,
+}
+
+impl Model for TypeSection {
+    ghost use Rattle.wasm_out.specs.Built.{Built};
+
+    ghost Value = { Built };
+
+    ghost view = { λ s. s.items };
+}
+
+impl TypeSection {
+    /// Adds a type on its own. It needs a covered one.
+    ///
+    /// E10 comes only where there would be 2^32 types, or where a list in the type has 2^32 items or more; E12 where
+    /// memory is refused. Then the section stays as it was.
+    pub fn subtype<'e>(&mut self, ty: &SubType) -> Result<(), Error<'e>>
+        requires { IsTrue (is_covered_sub_type ty.now) }
+        ensures { Adds (InRangeU32 (self.old.count + 1) × InRangeSubType ty.now) self.old self.new (sub_type ty.now) result }
+    {
+        self.items.push(ty)
+    }
+}
+
+impl Section for TypeSection {
+    ghost number = { λ _. 1 };
+
+    ghost payload = { counted };
+
+    ghost in_range = { λ _. Unit {0} };
+
+    fn id(&self) -> u8 {
+        1
+    }
+
+    fn append_to<'e>(&self, out: &mut Vec<u8>) -> Result<(), Error<'e>> {
+        self.items.encode(out)
+    }
+}
+
+impl Build for TypeSection {
+    ghost built = { λ s. s };
+
+    fn new(alloc: Global) -> Self {
+        TypeSection {
+            items: Items::new(alloc),
+        }
+    }
+
+    fn is_empty(&self) -> bool {
+        self.items.is_empty()
+    }
+
+    ghost is_list = { λ s. refl };
+}
+
+/// The function section: the type of each function (binary format, function section). Contracts see it as its items.
+#[derive(Debug, Drop)]
+pub struct FunctionSection {
+    items: Items,
+}
+
+impl Model for FunctionSection {
+    ghost use Rattle.wasm_out.specs.Built.{Built};
+
+    ghost Value = { Built };
+
+    ghost view = { λ s. s.items };
+}
+
+impl FunctionSection {
+    /// Adds a function of the type at an index.
+    ///
+    /// E10 comes only where there would be 2^32 functions, E12 where memory is refused. Then the section stays as it
+    /// was.
+    pub fn function<'e>(&mut self, type_index: u32) -> Result<(), Error<'e>>
+        ensures { Adds (InRangeU32 (self.old.count + 1)) self.old self.new (unsigned type_index) result }
+    {
+        self.items.push(&type_index)
+    }
+}
+
+impl Section for FunctionSection {
+    ghost number = { λ _. 3 };
+
+    ghost payload = { counted };
+
+    ghost in_range = { λ _. Unit {0} };
+
+    fn id(&self) -> u8 {
+        3
+    }
+
+    fn append_to<'e>(&self, out: &mut Vec<u8>) -> Result<(), Error<'e>> {
+        self.items.encode(out)
+    }
+}
+
+impl Build for FunctionSection {
+    ghost built = { λ s. s };
+
+    fn new(alloc: Global) -> Self {
+        FunctionSection {
+            items: Items::new(alloc),
+        }
+    }
+
+    fn is_empty(&self) -> bool {
+        self.items.is_empty()
+    }
+
+    ghost is_list = { λ s. refl };
+}
+
+/// The export section (binary format, export section). Contracts see it as its items.
+#[derive(Debug, Drop)]
+pub struct ExportSection {
+    items: Items,
+}
+
+impl Model for ExportSection {
+    ghost use Rattle.wasm_out.specs.Built.{Built};
+
+    ghost Value = { Built };
+
+    ghost view = { λ s. s.items };
+}
+
+impl ExportSection {
+    /// Adds an export: a name, and the item of a kind at an index.
+    ///
+    /// E10 comes only where there would be 2^32 exports, or where the name has 2^32 bytes or more; E12 where memory is
+    /// refused. Then the section stays as it was.
+    pub fn export<'e>(&mut self, text: &str, kind: ExportKind, index: u32) -> Result<(), Error<'e>>
+        ensures { Adds (InRangeU32 (self.old.count + 1) × InRangeName text.now) self.old self.new
+            (export_entry (record { name = text.now; kind = kind; index = index })) result }
+    {
+        self.items
+            .push(&(Sized(Raw(text.as_bytes())), (kind, index)))
+    }
+}
+
+impl Section for ExportSection {
+    ghost number = { λ _. 7 };
+
+    ghost payload = { counted };
+
+    ghost in_range = { λ _. Unit {0} };
+
+    fn id(&self) -> u8 {
+        7
+    }
+
+    fn append_to<'e>(&self, out: &mut Vec<u8>) -> Result<(), Error<'e>> {
+        self.items.encode(out)
+    }
+}
+
+impl Build for ExportSection {
+    ghost built = { λ s. s };
+
+    fn new(alloc: Global) -> Self {
+        ExportSection {
+            items: Items::new(alloc),
+        }
+    }
+
+    fn is_empty(&self) -> bool {
+        self.items.is_empty()
+    }
+
+    ghost is_list = { λ s. refl };
+}
+
+/// The code section: the body of each function (binary format, code section). Contracts see it as its items.
+#[derive(Debug, Drop)]
+pub struct CodeSection {
+    items: Items,
+}
+
+impl Model for CodeSection {
+    ghost use Rattle.wasm_out.specs.Built.{Built};
+
+    ghost Value = { Built };
+
+    ghost view = { λ s. s.items };
+}
+
+impl CodeSection {
+    /// Adds a body, behind the number of its bytes. It needs a function that spells a body: locals, a list of
+    /// instructions and an end.
+    ///
+    /// E10 comes only where there would be 2^32 bodies, or where the body has 2^32 bytes or more; E12 where memory is
+    /// refused. Then the section stays as it was.
+    pub fn function<'e>(&mut self, function: &Function) -> Result<(), Error<'e>>
+        requires { SpellsBody function.now }
+        ensures { Adds (InRangeU32 (self.old.count + 1) × InRangeU32 (length function.now)) self.old self.new
+            (unsigned (length function.now) ++ function.now) result }
+    {
+        self.items.push(&Sized(Raw(function.as_bytes())))
+    }
+
+    /// How many bytes were added, behind the number of the bodies.
+    pub fn byte_len(&self) -> usize
+        ensures { result ≡ length self.now.bytes }
+    {
+        self.items.byte_len()
+    }
+}
+
+impl Section for CodeSection {
+    ghost number = { λ _. 10 };
+
+    ghost payload = { counted };
+
+    ghost in_range = { λ _. Unit {0} };
+
+    fn id(&self) -> u8 {
+        10
+    }
+
+    fn append_to<'e>(&self, out: &mut Vec<u8>) -> Result<(), Error<'e>> {
+        self.items.encode(out)
+    }
+}
+
+impl Build for CodeSection {
+    ghost built = { λ s. s };
+
+    fn new(alloc: Global) -> Self {
+        CodeSection {
+            items: Items::new(alloc),
+        }
+    }
+
+    fn is_empty(&self) -> bool {
+        self.items.is_empty()
+    }
+
+    ghost is_list = { λ s. refl };
+}

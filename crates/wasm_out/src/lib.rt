@@ -1,0 +1,19 @@
+//! Sections, function bodies, maps of names and whole modules of the binary format of WebAssembly, as bytes.
+#![tactic(auto)]
+
+mod bodies;
+mod builders;
+mod items;
+mod laws;
+mod modules;
+mod names;
+mod sections;
+#[cfg(test)]
+mod tests;
+
+pub use bodies::Function;
+pub use builders::{CodeSection, ExportSection, FunctionSection, TypeSection};
+pub use laws::{building_law, part_spelling_law, reading_laws};
+pub use modules::Module;
+pub use names::{IndirectNameMap, NameMap, NameSection};
+pub use sections::{Build, CustomSection, Section, StartSection};

@@ -1,0 +1,260 @@
+//! Maps of names, and the name section.
+
+ghost use Rattle.std.specs.Prelude.{◌≡◌, ◌+◌, ◌==◌, ◌++◌, [], length, IsTrue};
+ghost use Rattle.wasm_ops.specs.Leb128.{unsigned};
+ghost use Rattle.wasm_ops.specs.Spelling.{InRangeU32, name, InRangeName};
+ghost use Rattle.wasm_out.specs.Built.{Adds, Appends, counted, empty};
+ghost use Rattle.wasm_out.specs.NameSubsections.{AppendsNames, name_entry, subsection, name_payload};
+ghost use Rattle.wasm_out.specs.Parts.{section};
+ghost use Rattle.wasm_out.specs.NameSubsections as named;
+
+use crate::items::Items;
+use crate::sections::Section;
+use std::alloc::Global;
+use std::marker::Model;
+use wasm_ops::{Encode, Raw, Sink, Sized};
+use wast_tree::Error;
+
+/// Names by index (custom sections, name maps). Contracts see it as its items.
+#[derive(Debug, Drop)]
+pub struct NameMap {
+    items: Items,
+}
+
+impl Model for NameMap {
+    ghost use Rattle.wasm_out.specs.Built.{Built};
+
+    ghost Value = { Built };
+
+    ghost view = { λ s. s.items };
+}
+
+impl NameMap {
+    /// No names. It takes no memory.
+    pub fn new(alloc: Global) -> Self
+        ensures { result ≡ empty }
+    {
+        NameMap {
+            items: Items::new(alloc),
+        }
+    }
+
+    /// Whether there are no names.
+    pub fn is_empty(&self) -> bool
+        ensures { result ≡ (self.now.count == 0) }
+    {
+        self.items.is_empty()
+    }
+
+    /// Adds the name of what stands at an index.
+    ///
+    /// E10 comes only where there would be 2^32 names, or where the name has 2^32 bytes or more; E12 where memory is
+    /// refused. Then the map stays as it was.
+    pub fn append<'e>(&mut self, index: u32, text: &str) -> Result<(), Error<'e>>
+        ensures { Adds (InRangeU32 (self.old.count + 1) × InRangeName text.now) self.old self.new
+            (name_entry (index, text.now)) result }
+    {
+        self.items.push(&(index, Sized(Raw(text.as_bytes()))))
+    }
+}
+
+/// Name maps by index (custom sections, indirect name maps). Contracts see it as its items.
+#[derive(Debug, Drop)]
+pub struct IndirectNameMap {
+    items: Items,
+}
+
+impl Model for IndirectNameMap {
+    ghost use Rattle.wasm_out.specs.Built.{Built};
+
+    ghost Value = { Built };
+
+    ghost view = { λ s. s.items };
+}
+
+impl IndirectNameMap {
+    /// No maps. It takes no memory.
+    pub fn new(alloc: Global) -> Self
+        ensures { result ≡ empty }
+    {
+        IndirectNameMap {
+            items: Items::new(alloc),
+        }
+    }
+
+    /// Whether there are no maps.
+    pub fn is_empty(&self) -> bool
+        ensures { result ≡ (self.now.count == 0) }
+    {
+        self.items.is_empty()
+    }
+
+    /// Adds the names that belong to what stands at an index.
+    ///
+    /// E10 comes only where there would be 2^32 maps, E12 where memory is refused. Then the map stays as it was.
+    pub fn append<'e>(&mut self, index: u32, names: &NameMap) -> Result<(), Error<'e>>
+        ensures { Adds (InRangeU32 (self.old.count + 1)) self.old self.new (unsigned index ++ counted names.now) result }
+    {
+        self.items.push(&(index, &names.items))
+    }
+}
+
+/// The name section: a custom section called `name` (custom sections, name section). Contracts see it as the bytes of
+/// its subsections.
+///
+/// Each call appends a subsection behind its id and length. E10 comes only where that length is 2^32 or more, E12
+/// where memory is refused; then the section stays as it was.
+#[derive(Debug, Drop)]
+pub struct NameSection {
+    bytes: Vec<u8>,
+}
+
+impl Model for NameSection {
+    ghost use Rattle.std.specs.Prelude.{ℕ, List};
+
+    ghost Value = { List ℕ };
+
+    ghost view = { λ s. s.bytes.items };
+}
+
+impl NameSection {
+    /// No subsections. It takes no memory.
+    pub fn new(alloc: Global) -> Self
+        ensures { result ≡ [] }
+    {
+        NameSection {
+            bytes: Vec::new(alloc),
+        }
+    }
+
+    /// Whether there are no subsections.
+    pub fn is_empty(&self) -> bool
+        ensures { result ≡ (length self.now == 0) }
+    {
+        self.bytes.is_empty()
+    }
+
+    /// Appends a subsection: its id, the length of its content, and its content.
+    fn subsection<'e, T: Encode>(&mut self, id: u8, content: &T) -> Result<(), Error<'e>>
+        requires { IsTrue (T.is_covered content.now) }
+        ensures { Appends (InRangeU32 (length (T.spelling content.now)) × T.in_range content.now) self.old self.new
+            (section id (T.spelling content.now)) result }
+    {
+        (id, Sized(content)).encode(&mut self.bytes)
+    }
+
+    /// Appends the name of the module. E10 comes also where the name has 2^32 bytes or more.
+    pub fn module<'e>(&mut self, text: &str) -> Result<(), Error<'e>>
+        ensures { Appends (InRangeU32 (length (name text.now)) × InRangeName text.now) self.old self.new
+            (subsection named.Whole (name text.now)) result }
+    {
+        self.subsection(0, &Sized(Raw(text.as_bytes())))
+    }
+
+    /// Appends the names of functions.
+    pub fn functions<'e>(&mut self, names: &NameMap) -> Result<(), Error<'e>>
+        ensures { AppendsNames named.Functions names.now self.old self.new result }
+    {
+        self.subsection(1, &names.items)
+    }
+
+    /// Appends the names of locals, by function.
+    pub fn locals<'e>(&mut self, names: &IndirectNameMap) -> Result<(), Error<'e>>
+        ensures { AppendsNames named.Locals names.now self.old self.new result }
+    {
+        self.subsection(2, &names.items)
+    }
+
+    /// Appends the names of labels, by function.
+    pub fn labels<'e>(&mut self, names: &IndirectNameMap) -> Result<(), Error<'e>>
+        ensures { AppendsNames named.Labels names.now self.old self.new result }
+    {
+        self.subsection(3, &names.items)
+    }
+
+    /// Appends the names of types.
+    pub fn types<'e>(&mut self, names: &NameMap) -> Result<(), Error<'e>>
+        ensures { AppendsNames named.Types names.now self.old self.new result }
+    {
+        self.subsection(4, &names.items)
+    }
+
+    /// Appends the names of tables.
+    pub fn tables<'e>(&mut self, names: &NameMap) -> Result<(), Error<'e>>
+        ensures { AppendsNames named.Tables names.now self.old self.new result }
+    {
+        self.subsection(5, &names.items)
+    }
+
+    /// Appends the names of memories.
+    pub fn memories<'e>(&mut self, names: &NameMap) -> Result<(), Error<'e>>
+        ensures { AppendsNames named.Memories names.now self.old self.new result }
+    {
+        self.subsection(6, &names.items)
+    }
+
+    /// Appends the names of globals.
+    pub fn globals<'e>(&mut self, names: &NameMap) -> Result<(), Error<'e>>
+        ensures { AppendsNames named.Globals names.now self.old self.new result }
+    {
+        self.subsection(7, &names.items)
+    }
+
+    /// Appends the names of element segments.
+    pub fn elements<'e>(&mut self, names: &NameMap) -> Result<(), Error<'e>>
+        ensures { AppendsNames named.Elements names.now self.old self.new result }
+    {
+        self.subsection(8, &names.items)
+    }
+
+    /// Appends the names of data segments.
+    pub fn data_segments<'e>(&mut self, names: &NameMap) -> Result<(), Error<'e>>
+        ensures { AppendsNames named.DataSegments names.now self.old self.new result }
+    {
+        self.subsection(9, &names.items)
+    }
+
+    /// Appends the names of fields, by type.
+    pub fn fields<'e>(&mut self, names: &IndirectNameMap) -> Result<(), Error<'e>>
+        ensures { AppendsNames named.Fields names.now self.old self.new result }
+    {
+        self.subsection(10, &names.items)
+    }
+
+    /// Appends the names of tags.
+    pub fn tags<'e>(&mut self, names: &NameMap) -> Result<(), Error<'e>>
+        ensures { AppendsNames named.Tags names.now self.old self.new result }
+    {
+        self.subsection(11, &names.items)
+    }
+
+    /// Appends the names of parameters of function types, by type.
+    pub fn parameters<'e>(&mut self, names: &IndirectNameMap) -> Result<(), Error<'e>>
+        ensures { AppendsNames named.Parameters names.now self.old self.new result }
+    {
+        self.subsection(12, &names.items)
+    }
+
+    /// Appends the names of parameters of tags, by tag.
+    pub fn tag_parameters<'e>(&mut self, names: &IndirectNameMap) -> Result<(), Error<'e>>
+        ensures { AppendsNames named.TagParameters names.now self.old self.new result }
+    {
+        self.subsection(13, &names.items)
+    }
+}
+
+impl Section for NameSection {
+    ghost number = { λ _. 0 };
+
+    ghost payload = { name_payload };
+
+    ghost in_range = { λ _. Unit {0} };
+
+    fn id(&self) -> u8 {
+        0
+    }
+
+    fn append_to<'e>(&self, out: &mut Vec<u8>) -> Result<(), Error<'e>> {
+        (Sized(Raw(b"name")), Raw(&self.bytes)).encode(out)
+    }
+}

@@ -1,0 +1,98 @@
+//! What a section is, and the two that are no lists.
+
+ghost use Rattle.std.specs.Prelude.{◌≡◌, ◌==◌, ◌++◌, ℕ, List};
+ghost use Rattle.wasm_ops.specs.Leb128.{unsigned};
+ghost use Rattle.wasm_ops.specs.Spelling.{InRangeU32, name, InRangeName};
+ghost use Rattle.wasm_out.specs.Built.{Built, Appends, counted, empty};
+
+use std::alloc::Global;
+use wasm_ops::{Encode, Raw, Sized};
+use wast_tree::Error;
+
+/// A section of a module: an id, and what stands behind the section's length (binary format, sections).
+pub trait Section {
+    /// The id.
+    ghost number: { Self → ℕ };
+
+    /// The bytes behind the length.
+    ghost payload: { Self → List ℕ };
+
+    /// Its numbers, counts and lengths are in the range that the binary format gives them.
+    ghost in_range: { Self → Type 0 };
+
+    /// The id of the section.
+    fn id(&self) -> u8
+        ensures { result ≡ number self.now };
+
+    /// Appends the bytes that stand behind the section's length.
+    ///
+    /// E10 comes only where a count or length is 2^32 or more, E12 where memory is refused; then the bytes stay as
+    /// they were.
+    fn append_to<'e>(&self, out: &mut Vec<u8>) -> Result<(), Error<'e>>
+        ensures { Appends (in_range self.now) out.old.items out.new.items (payload self.now) result };
+}
+
+/// A section that is made empty, and filled item by item.
+pub trait Build: Section {
+    /// Its items.
+    ghost built: { Self → Built };
+
+    /// The section without items. It takes no memory.
+    fn new(alloc: Global) -> Self
+        ensures { built result ≡ empty };
+
+    /// Whether the section has no items.
+    fn is_empty(&self) -> bool
+        ensures { result ≡ ((built self.now).count == 0) };
+
+    /// The payload is the number of the items, and the items.
+    ghost is_list: { (s : Self) → Self.payload s ≡ counted (built s) };
+}
+
+/// The start section, which names the function that runs first (binary format, start section).
+#[derive(Clone, Copy, Debug, PartialEq, Eq)]
+pub struct StartSection {
+    /// The function.
+    pub function_index: u32,
+}
+
+impl Section for StartSection {
+    ghost number = { λ _. 8 };
+
+    ghost payload = { λ s. unsigned s.function_index };
+
+    ghost in_range = { λ s. InRangeU32 s.function_index };
+
+    fn id(&self) -> u8 {
+        8
+    }
+
+    fn append_to<'e>(&self, out: &mut Vec<u8>) -> Result<(), Error<'e>> {
+        self.function_index.encode(out)
+    }
+}
+
+/// A custom section, which has a name and any bytes (binary format, custom section).
+#[derive(Debug, Drop)]
+pub struct CustomSection<'a> {
+    /// The name of the section.
+    pub name: &'a str,
+    /// What stands behind the name.
+    pub bytes: Vec<u8>,
+}
+
+impl<'a> Section for CustomSection<'a> {
+    ghost number = { λ _. 0 };
+
+    ghost payload = { λ s. name s.name.now ++ s.bytes.items };
+
+    ghost in_range = { λ s. InRangeName s.name.now };
+
+    fn id(&self) -> u8 {
+        0
+    }
+
+    fn append_to<'e>(&self, out: &mut Vec<u8>) -> Result<(), Error<'e>> {
+        (Sized(Raw(self.name.as_bytes())), Raw(&self.bytes)).encode(out)
+    }
+}
