@@ -1,0 +1,11 @@
+pub mod Anyway
+pub mod BothPasses
+pub mod Each
+pub mod Fields
+pub mod Indices
+pub mod Keys
+pub mod Parts
+pub mod Positions
+pub mod Registers
+pub mod Unmet
+pub mod Worked

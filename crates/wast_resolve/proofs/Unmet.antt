@@ -1,0 +1,47 @@
+-- The first unmet demand of demands one after the other, and what an error answers of it.
+use Rattle.std.proofs.Common.{◌≡◌, refl, ◌∙◌, List, [], ◌∷◌, ◌++◌, Option, Some, None, Bool, true, false, cond}
+use Rattle.wast_tree.specs.declared.ids.Span.{Span}
+use Rattle.wast_tree.specs.Faults.{Refusal, ImportAfter, Duplicate, DuplicateField, Unknown, NotFunc, OutOfBounds, NoMatch, Labels, NoNamedFields, TooLarge, Uncovered, Memory, Component, Told, At, Nowhere}
+use Rattle.wast_resolve.specs.Demands.{Demand, first_unmet, Answers}
+
+more_unmet : (b : Bool) (f : Refusal × Span) (r s t : Option (Refusal × Span)) → (r ≡ None → s ≡ t) → cond b r (Some f) ≡ None → cond b s (Some f) ≡ t
+more_unmet true f r s t h e = h e
+more_unmet false f r s t h e = cc
+
+-- demands that are met leave what comes after them
+pub first_unmet-append : (ds es : List Demand) → first_unmet ds ≡ None → first_unmet (ds ++ es) ≡ first_unmet es
+first_unmet-append [] es h = refl
+first_unmet-append (d ∷ ds) es h = more_unmet d.met (d.fault, d.place) (first_unmet ds) (first_unmet (ds ++ es)) (first_unmet es) (first_unmet-append ds es) h
+
+still_unmet : (b : Bool) (f g : Refusal × Span) (r s : Option (Refusal × Span)) → (r ≡ Some g → s ≡ Some g) → cond b r (Some f) ≡ Some g → cond b s (Some f) ≡ Some g
+still_unmet true f g r s h e = h e
+still_unmet false f g r s h e = e
+
+-- a demand that is not met hides what comes after it
+unmet_append : (ds es : List Demand) (f : Refusal × Span) → first_unmet ds ≡ Some f → first_unmet (ds ++ es) ≡ Some f
+unmet_append [] es f h = cc
+unmet_append (d ∷ ds) es f h = still_unmet d.met (d.fault, d.place) f (first_unmet ds) (first_unmet (ds ++ es)) (unmet_append ds es f) h
+
+-- what is answered of some demands, under less, is answered of others, under more
+pub answers_more : {K L M N : Type 0} (t : Told) (o p : Option (Refusal × Span)) → (K → L) → (M → N) → ((f : Refusal × Span) → o ≡ Some f → p ≡ Some f) → Answers K M t o → Answers L N t p
+answers_more (At fault place) o p l m h a = h (fault, place) a
+answers_more (Nowhere Memory) o p l m h a = l a
+answers_more (Nowhere TooLarge) o p l m h a = m a
+answers_more (Nowhere (ImportAfter k)) o p l m h a = absurd a
+answers_more (Nowhere (Duplicate k)) o p l m h a = absurd a
+answers_more (Nowhere (DuplicateField k n)) o p l m h a = absurd a
+answers_more (Nowhere (Unknown k n)) o p l m h a = absurd a
+answers_more (Nowhere NotFunc) o p l m h a = absurd a
+answers_more (Nowhere OutOfBounds) o p l m h a = absurd a
+answers_more (Nowhere NoMatch) o p l m h a = absurd a
+answers_more (Nowhere Labels) o p l m h a = absurd a
+answers_more (Nowhere (NoNamedFields n i)) o p l m h a = absurd a
+answers_more (Nowhere (Uncovered form)) o p l m h a = absurd a
+answers_more (Nowhere Component) o p l m h a = absurd a
+
+module _ {K L M N : Type 0} (t : Told) (ds es : List Demand) (l : K → L) (m : M → N) where
+  pub answers_first : Answers K M t (first_unmet ds) → Answers L N t (first_unmet (ds ++ es))
+  answers_first a = answers_more t (first_unmet ds) (first_unmet (ds ++ es)) l m (λ f h. unmet_append ds es f h) a
+
+  pub answers_after : first_unmet ds ≡ None → Answers K M t (first_unmet es) → Answers L N t (first_unmet (ds ++ es))
+  answers_after met a = answers_more t (first_unmet es) (first_unmet (ds ++ es)) l m (λ f h. first_unmet-append ds es met ∙ h) a
