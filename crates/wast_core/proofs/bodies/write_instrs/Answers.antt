@@ -1,0 +1,23 @@
+use Rattle.std.proofs.Common.{sym, subst, ◌∙◌}
+use Rattle.wasm_ops.specs.Table.{IsInstr}
+use Rattle.wast_tree.specs.Occurrences.{in_instr}
+use Rattle.wast_core.specs.Encodable.{is_item, is_resolved}
+use Rattle.wast_core.specs.Meaning as meaning
+use Rattle.wast_core.specs.Writing.{IsWritten}
+use Rattle.wast_core.proofs.Passes.{item_passes, each_passes}
+use Rattle.wast_core.proofs.Written.{written_none, written_more, one_more, refused_item}
+use Rattle.wast_core.proofs.bodies.write_instrs.Goals as goal
+
+pub loop-instruction-init : goal.loop-instruction-init
+loop-instruction-init c = written_none c.args.out.now.items
+
+pub loop-instruction-preserved : goal.loop-instruction-preserved
+loop-instruction-preserved c =
+    subst (IsWritten c.args.out.now.items c.write_instr.new.out.items) (sym (one_more meaning.instr c.args.instructions.now c.loop-instruction.instruction-index _ c.loop-instruction-test.true))
+    (written_more c.args.out.now.items c.loop-instruction.out.items c.write_instr.new.out.items _ _ c.loop-instruction.invariant c.in-Ok.ensures.ok)
+
+pub returns-in-Err-clause-refusal : goal.returns-in-Err-clause-refusal
+returns-in-Err-clause-refusal c = refused_item IsInstr meaning.instr c.args.instructions.now c.loop-instruction.instruction-index _ c.in-Err.error c.loop-instruction-test.true c.in-Err.ensures.refusal
+
+pub write_instr-requires : goal.write_instr-requires
+write_instr-requires c = item_passes (λ i. is_resolved (in_instr i)) c.args.instructions.now c.loop-instruction.instruction-index _ c.loop-instruction-test.true (sym (each_passes is_item in_instr c.args.instructions.now) ∙ c.requires)

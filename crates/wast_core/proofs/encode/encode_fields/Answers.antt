@@ -1,0 +1,21 @@
+use Rattle.std.proofs.Common.{◌∙◌, ◌<◌, arith}
+use Rattle.std.specs.Prelude.{All}
+use Rattle.wast_core.specs.Meaning.{names_part}
+use Rattle.wast_core.specs.Names.{text_seen}
+use Rattle.wast_core.specs.NamesPayload.{names_payload}
+use Rattle.wast_core.specs.Writing.{IsAppended}
+use Rattle.wast_core.proofs.Whole.{reads_parts, sections_refused, names_refused}
+use Rattle.wast_core.proofs.encode.encode_fields.Goals as goal
+
+pub returns-in-Err-clause-refusal : goal.returns-in-Err-clause-refusal
+returns-in-Err-clause-refusal c = sections_refused (text_seen c.args.name) c.args.fields.now c.in-Err.error c.in-Err.ensures
+
+pub returns-in-Err-append_names-clause-refusal : goal.returns-in-Err-append_names-clause-refusal
+returns-in-Err-append_names-clause-refusal c = names_refused (text_seen c.args.name) c.args.fields.now c.in-Err-append_names.error c.in-Err-append_names.ensures.refusal
+
+pub returns-clause-bytes : goal.returns-clause-bytes
+returns-clause-bytes c =
+    let names : IsAppended c.append_sections.new.module c.finish-bytes.result.items (names_part (names_payload (text_seen c.args.name) c.args.fields.now)) =
+    record { bytes = c.finish-bytes.ensures ∙ c.in-Ok-append_names.ensures.bytes; in_range = c.in-Ok-append_names.ensures.in_range.1 } in
+    let small : All (λ x. x < 256) c.finish-bytes.result.items = λ k d lt. omega arith in
+    reads_parts (text_seen c.args.name) c.args.fields.now c.in_ok-module.module c.append_sections.new.module c.finish-bytes.result.items c.in_ok-module.ensures.0 c.in-Ok.ensures names small

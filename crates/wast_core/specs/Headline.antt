@@ -1,0 +1,64 @@
+-- What resolving and encoding a module answer, and what they leave.
+use Rattle.std.specs.Prelude.{◌≡◌, ⊤, ℕ, List, Option, None, Result, Ok, Err, ◌⊎◌}
+use Rattle.std.specs.List.{flat_map}
+use Rattle.std.specs.Borrow.{Bor}
+use Rattle.std.specs.Global.{Vec}
+use Rattle.wast_tree.specs.declared.faults.Error.{Error}
+use Rattle.wast_tree.specs.declared.fields.ModuleField.{ModuleField}
+use Rattle.wast_tree.specs.Faults.{told, too_large, out_of_memory}
+use Rattle.wast_tree.specs.Known.{known}
+use Rattle.wast_tree.specs.Occurrences.{in_module}
+use Rattle.wasm_out.specs.Reads.{Reads}
+use Rattle.wast_resolve.specs.Demands.{demands, first_unmet, IsCrowded, Answers}
+use Rattle.wast_resolve.specs.Resolved.{resolved}
+use Rattle.wast_resolve.specs.Resolvers.{NameSpaces, no_names, known_of}
+use Rattle.wast_core.specs.declared.module.Module.{Module}
+use Rattle.wast_core.specs.declared.module.ModuleKind.{ModuleKind}
+use Rattle.wast_core.specs.declared.module.ModuleKind.TheVariants as kind
+use Rattle.wast_core.specs.NamesPayload.{given_name}
+use Rattle.wast_core.specs.Meaning.{meaning}
+use Rattle.wast_core.specs.Bounded.{IsBounded}
+
+-- each demand of the fields is met
+abbrev pub IsMet : List ModuleField → Type 0
+IsMet fields = first_unmet (demands fields) ≡ None
+
+-- Resolving the fields is refused by the first unmet demand, at its place; or memory was, or a space is crowded.
+abbrev pub IsUnresolved : List ModuleField → Error → Type 0
+IsUnresolved fields e = Answers ⊤ (IsCrowded (in_module fields)) (told e) (first_unmet (demands fields))
+
+-- A text module is resolved exactly where each demand is met; a refusal is kept, and answered from then on.
+abbrev pub Resolves : ModuleKind → Result NameSpaces Error → ModuleKind → Type 0
+Resolves (kind.Text fields) (Ok names) new = IsMet fields × (new ≡ kind.Text (resolved fields)) × (known_of names ≡ known (in_module fields))
+Resolves (kind.Text fields) (Err e) new = IsUnresolved fields e × (new ≡ kind.Refused e)
+Resolves (kind.Binary pieces) (Ok names) new = (names ≡ no_names) × (new ≡ kind.Binary pieces)
+Resolves (kind.Binary pieces) (Err e) new = ⊥
+Resolves (kind.Refused e) (Ok names) new = ⊥
+Resolves (kind.Refused e) (Err d) new = (d ≡ e) × (new ≡ kind.Refused e)
+
+-- the name that the name section gives the module
+abbrev pub name_of_module : Module → Option (List ℕ)
+name_of_module m = given_name m.name m.id
+
+-- the bytes of the pieces, one after another
+abbrev pub joined : List (Bor (List ℕ)) → List ℕ
+joined pieces = flat_map (λ p. p.now) pieces
+
+-- Why a text module gives no bytes: it is not resolved, and keeps why; or it is resolved, and memory was refused or it is too large.
+abbrev pub IsRefused : Option (List ℕ) → List ModuleField → Error → ModuleKind → Type 0
+IsRefused name fields e new =
+    (IsUnresolved fields e × (new ≡ kind.Refused e))
+    ⊎ (IsMet fields × ((e ≡ out_of_memory) ⊎ ((e ≡ too_large) × (IsBounded name fields → ⊥))) × (new ≡ kind.Text (resolved fields)))
+
+-- A text module gives bytes only where each demand is met, and then bytes that are read as what it means.
+abbrev pub EncodesKind : Option (List ℕ) → ModuleKind → Result (Vec ℕ) Error → ModuleKind → Type 0
+EncodesKind name (kind.Text fields) (Ok bytes) new = IsMet fields × Reads bytes.items (meaning name fields) × (new ≡ kind.Text (resolved fields))
+EncodesKind name (kind.Text fields) (Err e) new = IsRefused name fields e new
+EncodesKind name (kind.Binary pieces) (Ok bytes) new = (bytes.items ≡ joined pieces) × (new ≡ kind.Binary pieces)
+EncodesKind name (kind.Binary pieces) (Err e) new = (e ≡ out_of_memory) × (new ≡ kind.Binary pieces)
+EncodesKind name (kind.Refused e) (Ok bytes) new = ⊥
+EncodesKind name (kind.Refused e) (Err d) new = (d ≡ e) × (new ≡ kind.Refused e)
+
+-- encoding a module, before and after
+abbrev pub Encodes : Module → Result (Vec ℕ) Error → Module → Type 0
+Encodes old result new = EncodesKind (name_of_module old) old.kind result new.kind

@@ -1,0 +1,10 @@
+pub mod Encodable
+pub mod Filling
+pub mod Bounded
+pub mod Headline
+pub mod Items
+pub mod Meaning
+pub mod Modules
+pub mod Names
+pub mod NamesPayload
+pub mod Writing

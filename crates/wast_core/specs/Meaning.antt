@@ -1,0 +1,118 @@
+-- What a text module means: its parts, in the order of the sections, with the numbers of its resolved list (binary format, modules).
+use Rattle.std.specs.Prelude.{ℕ, List, [], ◌∷◌, ◌++◌, map, Option, unwrap_or, option_map, codes}
+use Rattle.std.specs.List.{flat_map}
+use Rattle.wast_tree.specs.declared.ids.Index.{Index}
+use Rattle.wast_tree.specs.declared.ids.Index.TheVariants as index
+use Rattle.wast_tree.specs.declared.types.ValType as tree
+use Rattle.wast_tree.specs.declared.types.ValType.TheVariants as val
+use Rattle.wast_tree.specs.declared.types.FunctionType.{FunctionType}
+use Rattle.wast_tree.specs.declared.types.TypeUse.{TypeUse}
+use Rattle.wast_tree.specs.declared.types.InnerTypeKind.{InnerTypeKind}
+use Rattle.wast_tree.specs.declared.types.InnerTypeKind.TheVariants as inner
+use Rattle.wast_tree.specs.declared.types.TypeDef.{TypeDef}
+use Rattle.wast_tree.specs.declared.instrs.Instruction.{Instruction}
+use Rattle.wast_tree.specs.declared.instrs.Instruction.TheVariants as instruction
+use Rattle.wast_tree.specs.declared.fields.FuncKind.{FuncKind}
+use Rattle.wast_tree.specs.declared.fields.FuncKind.TheVariants as func
+use Rattle.wast_tree.specs.declared.fields.ExportKind as tree_export
+use Rattle.wast_tree.specs.declared.fields.ExportKind.TheVariants as export
+use Rattle.wast_tree.specs.declared.fields.Export.{Export}
+use Rattle.wast_tree.specs.declared.fields.ModuleField.{ModuleField}
+use Rattle.wast_tree.specs.declared.fields.ModuleField.TheVariants as field
+use Rattle.wast_tree.specs.WellFormed.{is_final}
+use Rattle.wasm_ops.specs.declared.types.ValType.{ValType}
+use Rattle.wasm_ops.specs.declared.types.ValType.TheVariants as out
+use Rattle.wasm_ops.specs.declared.types.FuncType.{FuncType}
+use Rattle.wasm_ops.specs.declared.types.CompositeInnerType.{CompositeInnerType}
+use Rattle.wasm_ops.specs.declared.types.CompositeInnerType.TheVariants as composite
+use Rattle.wasm_ops.specs.declared.types.SubType.{SubType}
+use Rattle.wasm_ops.specs.declared.types.ExportKind.{ExportKind}
+use Rattle.wasm_ops.specs.declared.types.ExportKind.TheVariants as kind
+use Rattle.wasm_ops.specs.declared.instrs.IndexOp.TheVariants.{Call}
+use Rattle.wasm_ops.specs.Rows.{index_instr}
+use Rattle.wasm_ops.specs.Table.{Instr}
+use Rattle.wasm_out.specs.Bodies.{Body}
+use Rattle.wasm_out.specs.Parts.{SectionKind, Types, Functions, Exports, Code, Entry, Single, ExportEntry, Custom, Listed, Part}
+use Rattle.wast_resolve.specs.Resolved.{resolved}
+use Rattle.wast_core.specs.NamesPayload.{names_payload}
+
+-- the number of an index; a resolved list has no ids left, and one would read 0
+abbrev pub number : Index → ℕ
+number (index.Num n span) = n
+number (index.Id id) = 0
+
+-- Each part of the tree with its numbers.
+abbrev pub val_type : tree.ValType → ValType
+val_type val.I32 = out.I32
+val_type val.I64 = out.I64
+val_type val.F32 = out.F32
+val_type val.F64 = out.F64
+val_type val.V128 = out.V128
+
+abbrev pub func_type : FunctionType → FuncType
+func_type t = record { params = map (λ p. val_type p.2) t.params; results = map val_type t.results }
+
+abbrev pub inner_type : InnerTypeKind → CompositeInnerType
+inner_type (inner.Func t) = composite.Func (func_type t)
+
+abbrev pub sub_type : TypeDef → SubType
+sub_type d = record {
+  composite_type = record { inner = inner_type d.kind; shared = d.shared; descriptor = option_map number d.descriptor; describes = option_map number d.describes };
+  is_final = is_final d.final_type;
+  supertype_idxs = map number d.parents;
+}
+
+-- the type index of a type use
+abbrev pub type_index : TypeUse FunctionType → ℕ
+type_index u = unwrap_or (option_map number u.index) 0
+
+abbrev pub instr : Instruction → Instr
+instr (instruction.call f) = index_instr Call (number f)
+
+abbrev pub body : FuncKind → Body
+body (func.Inline locals e) = record { locals = map (λ l. val_type l.ty) locals; instrs = map instr e.instrs }
+
+abbrev pub export_kind : tree_export.ExportKind → ExportKind
+export_kind export.Func = kind.Func
+
+abbrev pub export_entry : Export → ExportEntry
+export_entry e = record { name = e.name.now; kind = export_kind e.kind; index = number e.item }
+
+-- what a field puts into a section
+abbrev pub entries_in : (kind : SectionKind) → ModuleField → List (Entry kind)
+entries_in Types (field.Ty t) = Single (sub_type t.def) ∷ []
+entries_in Types (field.Func f) = []
+entries_in Types (field.Export e) = []
+entries_in Functions (field.Ty t) = []
+entries_in Functions (field.Func f) = type_index f.ty ∷ []
+entries_in Functions (field.Export e) = []
+entries_in Exports (field.Ty t) = []
+entries_in Exports (field.Func f) = []
+entries_in Exports (field.Export e) = export_entry e ∷ []
+entries_in Code (field.Ty t) = []
+entries_in Code (field.Func f) = body f.kind ∷ []
+entries_in Code (field.Export e) = []
+
+abbrev pub entries : (kind : SectionKind) → List ModuleField → List (Entry kind)
+entries kind fields = flat_map (entries_in kind) fields
+
+-- a kind without items gives no part
+abbrev pub listed : (kind : SectionKind) → List (Entry kind) → List Part
+listed kind [] = []
+listed kind (item ∷ items) = record { kind = Listed kind; items = item ∷ items } ∷ []
+
+abbrev pub sections : List ModuleField → List Part
+sections fields = listed Types (entries Types fields) ++ (listed Functions (entries Functions fields) ++ (listed Exports (entries Exports fields) ++ listed Code (entries Code fields)))
+
+-- the name section, left out where its payload is empty
+abbrev pub names_part : List ℕ → List Part
+names_part [] = []
+names_part (b ∷ bs) = record { kind = Custom; items = record { name = codes "name"; bytes = b ∷ bs } } ∷ []
+
+-- the parts of a resolved list, of a module with this name
+abbrev pub parts : Option (List ℕ) → List ModuleField → List Part
+parts name fields = sections fields ++ names_part (names_payload name fields)
+
+-- what a text module means
+abbrev pub meaning : Option (List ℕ) → List ModuleField → List Part
+meaning name fields = parts name (resolved fields)

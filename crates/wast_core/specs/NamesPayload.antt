@@ -1,0 +1,69 @@
+-- The payload of the name section: the names of the module and of the items of each space (custom sections, name section).
+use Rattle.std.specs.Prelude.{ℕ, ◌+◌, List, [], ◌∷◌, ◌++◌, Option, Some, None}
+use Rattle.std.specs.List.{flat_map}
+use Rattle.wast_tree.specs.declared.ids.Id.{Id}
+use Rattle.wast_tree.specs.declared.ids.NameAnnotation.{NameAnnotation}
+use Rattle.wast_tree.specs.declared.fields.ModuleField.{ModuleField}
+use Rattle.wast_tree.specs.declared.fields.ModuleField.TheVariants as field
+use Rattle.wast_tree.specs.Ids.{Name, Written, Generated, name_of}
+use Rattle.wast_tree.specs.Spaces.{Space, Funcs, Types}
+use Rattle.wasm_ops.specs.Spelling.{InRangeU32, vec, InRangeVec, InRangeSized, name, InRangeName}
+use Rattle.wasm_out.specs.NameSubsections.{Named, Whole, Functions, subsection, name_entry}
+use Rattle.wasm_out.specs.NameSubsections as named
+
+-- a name is the annotation, else a written id, never a generated one
+abbrev pub written_text : Name → Option (List ℕ)
+written_text (Written text) = Some text
+written_text (Generated n) = None
+
+abbrev pub id_text : Option Id → Option (List ℕ)
+id_text None = None
+id_text (Some id) = written_text (name_of id)
+
+abbrev pub given_name : Option NameAnnotation → Option Id → Option (List ℕ)
+given_name (Some annotation) id = Some annotation.name.now
+given_name None id = id_text id
+
+-- the names of the items of a space in a field
+abbrev pub names_given : Space → ModuleField → List (Option (List ℕ))
+names_given Types (field.Ty t) = given_name t.name t.id ∷ []
+names_given Funcs (field.Func f) = given_name f.name f.id ∷ []
+names_given s f = []
+
+-- those items that have a name, each with its position, counted from this one on
+abbrev pub named_from : ℕ → List (Option (List ℕ)) → List (ℕ × List ℕ)
+named_from n [] = []
+named_from n (None ∷ names) = named_from (n + 1) names
+named_from n (Some text ∷ names) = (n, text) ∷ named_from (n + 1) names
+
+abbrev pub named_items : Space → List ModuleField → List (ℕ × List ℕ)
+named_items s fields = named_from 0 (flat_map (names_given s) fields)
+
+-- a subsection of names stands only where there is one
+abbrev pub name_map : Named → List (ℕ × List ℕ) → List ℕ
+name_map of [] = []
+name_map of (e ∷ es) = subsection of (vec name_entry (e ∷ es))
+
+abbrev pub module_name : Option (List ℕ) → List ℕ
+module_name None = []
+module_name (Some text) = subsection Whole (name text)
+
+abbrev pub names_payload : Option (List ℕ) → List ModuleField → List ℕ
+names_payload text fields = module_name text ++ (name_map Functions (named_items Funcs fields) ++ name_map named.Types (named_items Types fields))
+
+-- The numbers, counts and lengths in it are in range.
+abbrev pub InRangeNameEntry : ℕ × List ℕ → Type 0
+InRangeNameEntry e = InRangeU32 e.0 × InRangeName e.1
+
+abbrev pub InRangeNameMap : List (ℕ × List ℕ) → Type 0
+InRangeNameMap [] = Unit {0}
+InRangeNameMap (e ∷ es) = InRangeSized (InRangeVec InRangeNameEntry) (vec name_entry) (e ∷ es)
+
+abbrev pub InRangeModuleName : Option (List ℕ) → Type 0
+InRangeModuleName None = Unit {0}
+InRangeModuleName (Some text) = InRangeSized InRangeName name text
+
+pub record InRangeNames (text : Option (List ℕ)) (fields : List ModuleField) : Type 0 where
+  pub whole : InRangeModuleName text
+  pub functions : InRangeNameMap (named_items Funcs fields)
+  pub types : InRangeNameMap (named_items Types fields)

@@ -1,0 +1,94 @@
+//! The encoder.
+
+ghost use Rattle.std.specs.Prelude.{◌≡◌, ◌<◌, ◌++◌, IfOk, IfErr, OnOk, IsTrue};
+ghost use Rattle.std.specs.List.{list_all, flat_map};
+ghost use Rattle.wast_tree.specs.Faults.{out_of_memory};
+ghost use Rattle.wasm_out.specs.Built.{IsRefused};
+ghost use Rattle.wasm_out.specs.Reads.{Reads};
+ghost use Rattle.wast_core.specs.Bounded.{IsWritable};
+ghost use Rattle.wast_core.specs.Encodable.{is_encodable_field};
+ghost use Rattle.wast_core.specs.Headline.{Encodes, joined};
+ghost use Rattle.wast_core.specs.Meaning.{parts};
+ghost use Rattle.wast_core.specs.Modules.{is_well_formed, generation_bound};
+ghost use Rattle.wast_core.specs.Names.{text_seen};
+
+use crate::module::{Module, ModuleKind};
+use crate::names_payload::{append_names, given_name};
+use crate::sections::append_sections;
+use std::alloc::Global;
+use wast_tree::{Error, Gensym, ModuleField};
+
+/// The bytes of a module with these resolved fields.
+fn encode_fields<'e>(
+    alloc: Global,
+    name: Option<&str>,
+    fields: &[ModuleField],
+) -> Result<Vec<u8>, Error<'e>>
+    requires { IsTrue (list_all is_encodable_field fields.now) }
+    ensures bytes { IfOk result (λ v. Reads v.items (parts (text_seen name.entry) fields.now)) }
+    ensures refusal { IfErr result (IsRefused (IsWritable (text_seen name.entry) fields.now)) }
+{
+    let mut module = wasm_out::Module::new(alloc)?;
+    match append_sections(alloc, &mut module, fields) {
+        Ok(()) => {}
+        Err(error) => return Err(error),
+    }
+    match append_names(alloc, &mut module, name, fields) {
+        Ok(()) => {}
+        Err(error) => return Err(error),
+    }
+    let bytes = module.finish();
+    Ok(bytes)
+}
+
+/// The pieces of a binary module, one after another.
+fn join<'e>(alloc: Global, pieces: &[&[u8]]) -> Result<Vec<u8>, Error<'e>>
+    ensures bytes { IfOk result (λ v. v.items ≡ joined pieces.now) }
+    ensures refusal { IfErr result (λ e. e ≡ out_of_memory) }
+{
+    let mut out = Vec::new(alloc);
+    for piece in pieces {
+        out.extend_from_slice(piece)?;
+    }
+    Ok(out)
+}
+
+/// How modules are encoded: there is one way.
+#[derive(Clone, Copy, Debug)]
+pub struct EncodeOptions {}
+
+impl EncodeOptions {
+    /// The options as they are.
+    pub fn new() -> Self {
+        EncodeOptions {}
+    }
+
+    /// Resolves the module, and gives its bytes (binary format, modules).
+    ///
+    /// It needs what [`Module::resolve`] needs. The bytes of a text module are read as what its fields mean. A refusal
+    /// of resolving is answered and kept; a refusal of encoding leaves the module resolved: E10 where a count, length
+    /// or position is 2^32 or more, E12 where memory is refused. A binary module gives its pieces, one after another,
+    /// and stays as it is.
+    pub fn encode_module<'a>(
+        &self,
+        alloc: Global,
+        module: &mut Module<'a>,
+        gensym: &mut Gensym,
+    ) -> Result<Vec<u8>, Error<'a>>
+        requires well_formed { IsTrue (is_well_formed «module».old) }
+        requires above { generation_bound «module».old < gensym.old }
+        ensures answer { Encodes «module».old result «module».new }
+        ensures stays { «module».new ≡ record «module».old { kind = «module».new.kind } }
+        ensures counter { gensym.new ≡ gensym.old }
+        ensures well_formed { IsTrue (is_well_formed «module».new) }
+        ensures above { generation_bound «module».new < gensym.new }
+    {
+        module.resolve(alloc, gensym)?;
+        let name = given_name(&module.name, &module.id);
+        match &module.kind {
+            ModuleKind::Text(fields) => Ok(encode_fields(alloc, name, fields.as_slice())?),
+            ModuleKind::Binary(pieces) => Ok(join(alloc, pieces.as_slice())?),
+            ModuleKind::Refused(error) => Err(*error),
+        }
+    }
+}

@@ -1,0 +1,16 @@
+//! Modules of the text format, and their encoding as binary modules.
+#![tactic(auto)]
+
+mod bodies;
+mod check;
+pub mod conv;
+mod encode;
+mod generations;
+mod items;
+mod module;
+mod names_payload;
+mod sections;
+
+pub use encode::EncodeOptions;
+pub use items::{FuncSectionTy, RecOrType, SectionItem};
+pub use module::{Module, ModuleKind};

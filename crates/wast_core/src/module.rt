@@ -1,0 +1,104 @@
+//! Modules of the text format.
+
+ghost use Rattle.std.specs.Prelude.{◌≡◌, ◌<◌, IsTrue};
+ghost use Rattle.wast_core.specs.Modules.{is_well_formed, generation_bound};
+ghost use Rattle.wast_core.specs.Headline.{Resolves};
+
+use crate::check::are_well_formed;
+use crate::generations::HasIds;
+use std::alloc::Global;
+use std::mem;
+use wast_resolve::Names;
+use wast_tree::{Error, Fault, Gensym, Id, ModuleField, NameAnnotation, Seq, Span};
+
+/// What a module holds.
+#[derive(Debug, Drop)]
+pub enum ModuleKind<'a> {
+    /// Fields in the text format.
+    Text(Seq<ModuleField<'a>>),
+    /// A binary module, as pieces of its bytes: `(module binary "..")`.
+    Binary(Seq<&'a [u8]>),
+    /// Nothing any more: resolving refused the fields, and this is why.
+    Refused(Error<'a>),
+}
+
+/// A module: `(module $m ..)`.
+#[derive(Debug, Drop)]
+pub struct Module<'a> {
+    /// Where it begins.
+    pub span: Span,
+    /// Its id.
+    pub id: Option<Id<'a>>,
+    /// Its name annotation.
+    pub name: Option<NameAnnotation<'a>>,
+    /// What it holds.
+    pub kind: ModuleKind<'a>,
+}
+
+impl<'a> Module<'a> {
+    /// Whether the module can be resolved and encoded. It takes no memory.
+    ///
+    /// Binary and refused modules are well formed. Fields are, where each generated id that stands for an index is
+    /// borne by an item of its space, and where they keep to what this stage covers: every type use has an index and
+    /// no inline type; functions have no locals, hints or exports of their own; types are final, not shared, without
+    /// parents, descriptor and describes, and their parameters have no ids and annotations.
+    pub fn well_formed(&self) -> bool
+        ensures { result ≡ is_well_formed self.now }
+    {
+        match &self.kind {
+            ModuleKind::Text(fields) => are_well_formed(fields.as_slice()),
+            ModuleKind::Binary(_) | ModuleKind::Refused(_) => true,
+        }
+    }
+
+    /// The greatest generation of an id in the module, and 0 where no id is generated. It takes no memory.
+    pub fn gensym_bound(&self) -> u64
+        ensures { result ≡ generation_bound self.now }
+    {
+        let held = match &self.kind {
+            ModuleKind::Text(fields) => fields.bound(),
+            ModuleKind::Binary(_) | ModuleKind::Refused(_) => 0,
+        };
+        self.id.bound().max(held)
+    }
+
+    /// Gives each index the number of what it names, and answers what the names of the module denote (text format,
+    /// identifiers and indices).
+    ///
+    /// It needs a well formed module and a counter above its generated ids, and leaves both so. A text module is
+    /// resolved where each id that it bears is new in its space and each id that stands for an index denotes an item.
+    /// Else the answer is the first that is not so, with its place: E2 where an id is borne twice, and after all of
+    /// these E4 where one denotes nothing; E10 where a space has 2^32 items or more, E12 where memory is refused. The
+    /// module keeps a refusal, and answers it from then on. A binary module stays as it is, and binds no names.
+    pub fn resolve(&mut self, alloc: Global, gensym: &mut Gensym) -> Result<Names<'a>, Error<'a>>
+        requires well_formed { IsTrue (is_well_formed self.old) }
+        requires above { generation_bound self.old < gensym.old }
+        ensures answer { Resolves self.old.kind result self.new.kind }
+        ensures stays { self.new ≡ record self.old { kind = self.new.kind } }
+        ensures counter { gensym.new ≡ gensym.old }
+        ensures well_formed { IsTrue (is_well_formed self.new) }
+        ensures above { generation_bound self.new < gensym.new }
+    {
+        let taken = ModuleKind::Refused(Error::refusal(Fault::Memory));
+        match mem::replace(&mut self.kind, taken) {
+            ModuleKind::Text(fields) => match wast_resolve::resolve(alloc, fields, gensym) {
+                Ok((fields, names)) => {
+                    self.kind = ModuleKind::Text(fields);
+                    Ok(names)
+                }
+                Err(error) => {
+                    self.kind = ModuleKind::Refused(error);
+                    Err(error)
+                }
+            },
+            ModuleKind::Binary(pieces) => {
+                self.kind = ModuleKind::Binary(pieces);
+                Ok(Names::empty(alloc))
+            }
+            ModuleKind::Refused(error) => {
+                self.kind = ModuleKind::Refused(error);
+                Err(error)
+            }
+        }
+    }
+}
