@@ -10,5 +10,6 @@ pub mod Passes
 pub mod Settled
 pub mod StillBelow
 pub mod StillWellFormed
+pub mod Worked
 pub mod Written
 pub mod Whole

@@ -8,3 +8,5 @@ pub mod Modules
 pub mod Names
 pub mod NamesPayload
 pub mod Writing
+pub mod Rows
+pub mod Wats

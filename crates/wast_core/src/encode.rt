@@ -92,3 +92,18 @@ impl EncodeOptions {
         }
     }
 }
+
+impl<'a> Module<'a> {
+    /// [`EncodeOptions::encode_module`] of the options as they are.
+    pub fn encode(&mut self, alloc: Global, gensym: &mut Gensym) -> Result<Vec<u8>, Error<'a>>
+        requires well_formed { IsTrue (is_well_formed self.old) }
+        requires above { generation_bound self.old < gensym.old }
+        ensures answer { Encodes self.old result self.new }
+        ensures stays { self.new ≡ record self.old { kind = self.new.kind } }
+        ensures counter { gensym.new ≡ gensym.old }
+        ensures well_formed { IsTrue (is_well_formed self.new) }
+        ensures above { generation_bound self.new < gensym.new }
+    {
+        EncodeOptions::new().encode_module(alloc, self, gensym)
+    }
+}

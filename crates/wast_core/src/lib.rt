@@ -9,8 +9,11 @@ mod generations;
 mod items;
 mod module;
 mod names_payload;
+mod rows;
 mod sections;
+mod wat;
 
 pub use encode::EncodeOptions;
 pub use items::{FuncSectionTy, RecOrType, SectionItem};
 pub use module::{Module, ModuleKind};
+pub use wat::Wat;
