@@ -64,6 +64,7 @@ fn each_call_has_its_bytes(rt: HostRuntime) {
         params: Seq::from_vec(params),
         results: Seq::from_vec(results),
     };
+    assert!(rt; ty.is_covered());
     assert!(rt; ty.encode(&mut out).is_ok());
     assert!(rt; out.as_slice() == [0x60, 0x01, 0x7f, 0x01, 0x7e].as_slice());
     out.clear();
@@ -77,7 +78,8 @@ fn each_call_has_its_bytes(rt: HostRuntime) {
         is_final: false,
         supertype_idxs: Seq::new(alloc),
     };
-    assert!(rt; open.is_covered());
+    assert!(rt; open.is_covered() && open.composite_type.is_covered());
+    assert!(rt; open.composite_type.inner.is_covered() && ValType::I32.is_covered());
     assert!(rt; open.encode(&mut out).is_ok());
     assert!(rt; out.as_slice() == [0x50, 0x00, 0x60, 0x01, 0x7f, 0x01, 0x7e].as_slice());
     out.clear();

@@ -23,6 +23,15 @@ pub enum ValType {
     V128,
 }
 
+impl ValType {
+    /// Whether the encoder covers it. It covers each one of today.
+    pub fn is_covered(&self) -> bool
+        ensures { result ≡ true }
+    {
+        true
+    }
+}
+
 impl Encode for ValType {
     ghost spelling = { val_type };
 
@@ -77,6 +86,15 @@ pub struct FuncType {
     pub results: Seq<ValType>,
 }
 
+impl FuncType {
+    /// Whether the encoder covers it. It covers each one of today.
+    pub fn is_covered(&self) -> bool
+        ensures { result ≡ true }
+    {
+        true
+    }
+}
+
 impl Encode for FuncType {
     ghost spelling = { func_type };
 
@@ -96,6 +114,15 @@ impl Encode for FuncType {
 pub enum CompositeInnerType {
     /// A function type.
     Func(FuncType),
+}
+
+impl CompositeInnerType {
+    /// Whether the encoder covers it. It covers each one of today.
+    pub fn is_covered(&self) -> bool
+        ensures { result ≡ true }
+    {
+        true
+    }
 }
 
 impl Encode for CompositeInnerType {
