@@ -1,12 +1,17 @@
 -- Small modules and what they mean, computed. A text may lie anywhere in memory.
-use Rattle.std.specs.Prelude.{◌≡◌, List, ◌++◌, None, true, codes}
+use Rattle.std.specs.Prelude.{◌≡◌, List, [], ◌++◌, None, true, codes}
 use Rattle.std.specs.List.{flat_map}
 use Rattle.wast_tree.specs.WellFormed.{is_well_formed}
 use Rattle.wasm_out.specs.Examples as out
 use Rattle.wasm_out.specs.Parts.{part}
 use Rattle.wasm_out.specs.Reads.{header}
 use Rattle.wast_resolve.specs.Rows.{Address, by_id, row27_with}
+use Rattle.wast_core.specs.Bounded.{IsBounded}
 use Rattle.wast_core.specs.Meaning.{meaning}
+
+-- `(module)`: small enough, and read from the header alone
+abbrev pub Row1 : Type 0
+Row1 = IsBounded None [] × (header ++ flat_map part (meaning None []) ≡ header)
 
 -- `(module (type $t (func)) (func $f (type $t) call $f) (export "a" (func $f)))`: well formed, and read from the bytes of row 27
 abbrev pub Row27 : Type 0
