@@ -39,6 +39,13 @@ refusal_of (fault.Uncovered f) = Uncovered f
 refusal_of fault.Memory = Memory
 refusal_of fault.Component = Component
 
+-- what an error says, and where
+abbrev pub fault_of : Error → Fault
+fault_of e = e.fault
+
+abbrev pub span_of : Error → Option Span
+span_of e = e.span
+
 abbrev pub fault_number : Fault → ℕ
 fault_number (fault.ImportAfter kind) = 1
 fault_number (fault.Duplicate kind) = 2

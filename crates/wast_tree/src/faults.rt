@@ -1,7 +1,7 @@
 //! Why a module is refused.
 
 ghost use Rattle.std.specs.Prelude.{◌≡◌, ◌<◌, ◌≤◌, Some};
-ghost use Rattle.wast_tree.specs.Faults.{fault_number, is_placed, fault_text, form_text, unknown_text, unnamed_text, placed, refused, out_of_memory};
+ghost use Rattle.wast_tree.specs.Faults.{fault_of, span_of, fault_number, is_placed, fault_text, form_text, unknown_text, unnamed_text, placed, refused, out_of_memory};
 ghost use Rattle.std.specs.Prelude.{IsTrue, not};
 
 use crate::ids::Span;
@@ -91,21 +91,21 @@ impl<'a> Error<'a> {
 
     /// What is wrong.
     pub fn fault(&self) -> Fault<'a>
-        ensures { result ≡ self.now.fault }
+        ensures { result ≡ fault_of self.now }
     {
         self.fault
     }
 
     /// The place of the fault, where it has one.
     pub fn span(&self) -> Option<Span>
-        ensures { result ≡ self.now.span }
+        ensures { result ≡ span_of self.now }
     {
         self.span
     }
 
     /// The number of the fault: 1 for E1, and so on to 13.
     pub fn number(&self) -> u32
-        ensures { result ≡ fault_number self.now.fault }
+        ensures { result ≡ fault_number (fault_of self.now) }
     {
         match self.fault {
             Fault::ImportAfter(_) => 1,
@@ -172,7 +172,7 @@ impl fmt::Display for Unnamed {
 }
 
 impl fmt::Display for Error<'_> {
-    ghost output = { λ e. Some (fault_text e.fault) };
+    ghost output = { λ e. Some (fault_text (fault_of e)) };
 
     fn fmt<W: fmt::Write>(&self, f: &mut fmt::Formatter<W>) -> fmt::Result {
         match self.fault {
