@@ -6,29 +6,89 @@ ghost use Rattle.wasm_ops.specs.Leb128.{unsigned};
 ghost use Rattle.wasm_ops.specs.Spelling.{InRangeU32, InRangeName, InRangeSubType, sub_type};
 ghost use Rattle.wasm_out.specs.Built.{Adds, counted};
 ghost use Rattle.wasm_out.specs.Bodies.{SpellsBody};
-ghost use Rattle.wasm_out.specs.Parts.{export_entry};
+ghost use Rattle.wasm_out.specs.Parts.{SectionKind, section_id, export_entry};
+ghost use Rattle.wasm_out.specs.Parts as parts;
 
 use crate::bodies::Function;
 use crate::items::Items;
 use crate::sections::{Build, Section};
 use std::alloc::Global;
-use std::marker::Model;
+use std::marker::{Model, PhantomData};
 use wasm_ops::{Encode, ExportKind, Raw, Sized, SubType};
 use wast_tree::Error;
 
-/// The type section (binary format, type section). Contracts see it as its items.
-#[derive(Debug, Drop)]
-pub struct TypeSection {
-    items: Items,
+/// A kind of sections whose content is a list.
+pub trait ListKind {
+    /// The kind, as definitions name it.
+    ghost kind: { SectionKind };
+
+    /// The id of such a section (binary format, sections).
+    fn id() -> u8
+        ensures { result ≡ section_id kind };
 }
 
-impl Model for TypeSection {
+/// A section whose content is a list (binary format, sections). Contracts see it as its items.
+#[derive(Debug, Drop)]
+pub struct ListSection<K: ListKind> {
+    items: Items,
+    kind: PhantomData<K>,
+}
+
+impl<K: ListKind> Model for ListSection<K> {
     ghost use Rattle.wasm_out.specs.Built.{Built};
 
     ghost Value = { Built };
 
     ghost view = { λ s. s.items };
 }
+
+impl<K: ListKind> Section for ListSection<K> {
+    ghost number = { λ _. section_id K.kind };
+
+    ghost payload = { counted };
+
+    ghost in_range = { λ _. Unit {0} };
+
+    fn id(&self) -> u8 {
+        K::id()
+    }
+
+    fn append_to<'e>(&self, out: &mut Vec<u8>) -> Result<(), Error<'e>> {
+        self.items.encode(out)
+    }
+}
+
+impl<K: ListKind> Build for ListSection<K> {
+    ghost built = { λ s. s };
+
+    fn new(alloc: Global) -> Self {
+        ListSection {
+            items: Items::new(alloc),
+            kind: PhantomData,
+        }
+    }
+
+    fn is_empty(&self) -> bool {
+        self.items.is_empty()
+    }
+
+    ghost is_list = { λ s. refl };
+}
+
+/// The kind of type sections.
+#[derive(Clone, Copy, Debug)]
+pub struct Types;
+
+impl ListKind for Types {
+    ghost kind = { parts.Types };
+
+    fn id() -> u8 {
+        1
+    }
+}
+
+/// The type section (binary format, type section). Contracts see it as its items.
+pub type TypeSection = ListSection<Types>;
 
 impl TypeSection {
     /// Adds a type on its own. It needs a covered one.
@@ -43,51 +103,20 @@ impl TypeSection {
     }
 }
 
-impl Section for TypeSection {
-    ghost number = { λ _. 1 };
+/// The kind of function sections.
+#[derive(Clone, Copy, Debug)]
+pub struct Functions;
 
-    ghost payload = { counted };
+impl ListKind for Functions {
+    ghost kind = { parts.Functions };
 
-    ghost in_range = { λ _. Unit {0} };
-
-    fn id(&self) -> u8 {
-        1
+    fn id() -> u8 {
+        3
     }
-
-    fn append_to<'e>(&self, out: &mut Vec<u8>) -> Result<(), Error<'e>> {
-        self.items.encode(out)
-    }
-}
-
-impl Build for TypeSection {
-    ghost built = { λ s. s };
-
-    fn new(alloc: Global) -> Self {
-        TypeSection {
-            items: Items::new(alloc),
-        }
-    }
-
-    fn is_empty(&self) -> bool {
-        self.items.is_empty()
-    }
-
-    ghost is_list = { λ s. refl };
 }
 
 /// The function section: the type of each function (binary format, function section). Contracts see it as its items.
-#[derive(Debug, Drop)]
-pub struct FunctionSection {
-    items: Items,
-}
-
-impl Model for FunctionSection {
-    ghost use Rattle.wasm_out.specs.Built.{Built};
-
-    ghost Value = { Built };
-
-    ghost view = { λ s. s.items };
-}
+pub type FunctionSection = ListSection<Functions>;
 
 impl FunctionSection {
     /// Adds a function of the type at an index.
@@ -101,51 +130,20 @@ impl FunctionSection {
     }
 }
 
-impl Section for FunctionSection {
-    ghost number = { λ _. 3 };
+/// The kind of export sections.
+#[derive(Clone, Copy, Debug)]
+pub struct Exports;
 
-    ghost payload = { counted };
+impl ListKind for Exports {
+    ghost kind = { parts.Exports };
 
-    ghost in_range = { λ _. Unit {0} };
-
-    fn id(&self) -> u8 {
-        3
+    fn id() -> u8 {
+        7
     }
-
-    fn append_to<'e>(&self, out: &mut Vec<u8>) -> Result<(), Error<'e>> {
-        self.items.encode(out)
-    }
-}
-
-impl Build for FunctionSection {
-    ghost built = { λ s. s };
-
-    fn new(alloc: Global) -> Self {
-        FunctionSection {
-            items: Items::new(alloc),
-        }
-    }
-
-    fn is_empty(&self) -> bool {
-        self.items.is_empty()
-    }
-
-    ghost is_list = { λ s. refl };
 }
 
 /// The export section (binary format, export section). Contracts see it as its items.
-#[derive(Debug, Drop)]
-pub struct ExportSection {
-    items: Items,
-}
-
-impl Model for ExportSection {
-    ghost use Rattle.wasm_out.specs.Built.{Built};
-
-    ghost Value = { Built };
-
-    ghost view = { λ s. s.items };
-}
+pub type ExportSection = ListSection<Exports>;
 
 impl ExportSection {
     /// Adds an export: a name, and the item of a kind at an index.
@@ -161,51 +159,20 @@ impl ExportSection {
     }
 }
 
-impl Section for ExportSection {
-    ghost number = { λ _. 7 };
+/// The kind of code sections.
+#[derive(Clone, Copy, Debug)]
+pub struct Code;
 
-    ghost payload = { counted };
+impl ListKind for Code {
+    ghost kind = { parts.Code };
 
-    ghost in_range = { λ _. Unit {0} };
-
-    fn id(&self) -> u8 {
-        7
+    fn id() -> u8 {
+        10
     }
-
-    fn append_to<'e>(&self, out: &mut Vec<u8>) -> Result<(), Error<'e>> {
-        self.items.encode(out)
-    }
-}
-
-impl Build for ExportSection {
-    ghost built = { λ s. s };
-
-    fn new(alloc: Global) -> Self {
-        ExportSection {
-            items: Items::new(alloc),
-        }
-    }
-
-    fn is_empty(&self) -> bool {
-        self.items.is_empty()
-    }
-
-    ghost is_list = { λ s. refl };
 }
 
 /// The code section: the body of each function (binary format, code section). Contracts see it as its items.
-#[derive(Debug, Drop)]
-pub struct CodeSection {
-    items: Items,
-}
-
-impl Model for CodeSection {
-    ghost use Rattle.wasm_out.specs.Built.{Built};
-
-    ghost Value = { Built };
-
-    ghost view = { λ s. s.items };
-}
+pub type CodeSection = ListSection<Code>;
 
 impl CodeSection {
     /// Adds a body, behind the number of its bytes. It needs a function that spells a body: locals, a list of
@@ -227,36 +194,4 @@ impl CodeSection {
     {
         self.items.byte_len()
     }
-}
-
-impl Section for CodeSection {
-    ghost number = { λ _. 10 };
-
-    ghost payload = { counted };
-
-    ghost in_range = { λ _. Unit {0} };
-
-    fn id(&self) -> u8 {
-        10
-    }
-
-    fn append_to<'e>(&self, out: &mut Vec<u8>) -> Result<(), Error<'e>> {
-        self.items.encode(out)
-    }
-}
-
-impl Build for CodeSection {
-    ghost built = { λ s. s };
-
-    fn new(alloc: Global) -> Self {
-        CodeSection {
-            items: Items::new(alloc),
-        }
-    }
-
-    fn is_empty(&self) -> bool {
-        self.items.is_empty()
-    }
-
-    ghost is_list = { λ s. refl };
 }

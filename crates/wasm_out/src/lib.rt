@@ -12,7 +12,10 @@ mod sections;
 mod tests;
 
 pub use bodies::Function;
-pub use builders::{CodeSection, ExportSection, FunctionSection, TypeSection};
+pub use builders::{
+    Code, CodeSection, ExportSection, Exports, FunctionSection, Functions, ListKind, ListSection,
+    TypeSection, Types,
+};
 pub use laws::{building_law, part_spelling_law, reading_laws};
 pub use modules::Module;
 pub use names::{IndirectNameMap, NameMap, NameSection};

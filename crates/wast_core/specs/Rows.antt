@@ -1,11 +1,11 @@
 -- Small modules and what they mean, computed. A text may lie anywhere in memory.
-use Rattle.std.specs.Prelude.{◌≡◌, List, [], ◌++◌, None, true, codes}
+use Rattle.std.specs.Prelude.{◌≡◌, List, [], ◌++◌, None, true}
 use Rattle.std.specs.List.{flat_map}
 use Rattle.wast_tree.specs.WellFormed.{is_well_formed}
 use Rattle.wasm_out.specs.Examples as out
 use Rattle.wasm_out.specs.Parts.{part}
 use Rattle.wasm_out.specs.Reads.{header}
-use Rattle.wast_resolve.specs.Rows.{Address, by_id, row27_with}
+use Rattle.wast_tree.specs.Rows.{Address, row27}
 use Rattle.wast_core.specs.Bounded.{IsBounded}
 use Rattle.wast_core.specs.Meaning.{meaning}
 
@@ -16,5 +16,5 @@ Row1 = IsBounded None [] × (header ++ flat_map part (meaning None []) ≡ heade
 -- `(module (type $t (func)) (func $f (type $t) call $f) (export "a" (func $f)))`: well formed, and read from the bytes of row 27
 abbrev pub Row27 : Type 0
 Row27 = (a b c d e f : Address) →
-    let fields = row27_with a b c (by_id d (codes "t") 40) (by_id e (codes "f") 49) (by_id f (codes "f") 71) in
+    let fields = row27 a b c d e f in
     (is_well_formed fields ≡ true) × (meaning None fields ≡ out.parts) × (header ++ flat_map part (meaning None fields) ≡ out.bytes)

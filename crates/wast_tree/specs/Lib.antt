@@ -1,3 +1,4 @@
+pub mod Examples
 pub mod Faults
 pub mod Generations
 pub mod Gensym
@@ -5,5 +6,6 @@ pub mod Ids
 pub mod Known
 pub mod Lending
 pub mod Occurrences
+pub mod Rows
 pub mod Spaces
 pub mod WellFormed

@@ -8,6 +8,7 @@ mod fields;
 mod gensym;
 mod ids;
 mod instrs;
+mod rows;
 mod seq;
 mod types;
 
@@ -21,3 +22,6 @@ pub use ids::{Id, Index, NameAnnotation, Span};
 pub use instrs::{BranchHint, Expression, Instruction, discard_expression, discard_instruction};
 pub use seq::{IntoIter, Seq};
 pub use types::{FunctionType, InnerTypeKind, Type, TypeDef, TypeUse, ValType};
+
+#[cfg(test)]
+mod tests;

@@ -1,0 +1,5 @@
+pub mod Feeding
+pub mod Numerals
+pub mod Running
+pub mod Telling
+pub mod Writing

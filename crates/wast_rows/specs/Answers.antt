@@ -1,0 +1,60 @@
+-- The line that answers a line.
+use Rattle.std.specs.Prelude.{◌≡◌, ◌≢◌, ℕ, ◌==◌, ◌&&◌, Bool, true, false, List, ◌++◌, codes, Option, Some, None, Result, Ok, Err}
+use Rattle.std.specs.Fmt.{decimal}
+use Rattle.std.specs.Global.{Vec}
+use Rattle.hex.specs.Hex.{encode_lower}
+use Rattle.wast_tree.specs.declared.ids.Span.{Span}
+use Rattle.wast_tree.specs.declared.faults.Error.{Error}
+use Rattle.wast_tree.specs.declared.faults.Fault.TheVariants as fault
+use Rattle.wast_tree.specs.Faults.{fault_of, span_of, fault_text}
+use Rattle.wast_core.specs.declared.module.Module.{Module}
+use Rattle.wast_core.specs.Headline.{Encodes}
+use Rattle.wast_core.specs.Modules.{is_well_formed, generation_bound}
+use Rattle.wast_rows.specs.Numerals.{IsNumber, IsNoNumber}
+
+-- the texts of the lines that tell no bytes
+abbrev pub no_row_text : List ℕ
+no_row_text = codes "no row"
+
+abbrev pub ill_formed_text : List ℕ
+ill_formed_text = codes "ill formed"
+
+-- a fault at its place, or a refusal, which has none
+abbrev pub refusal_text_at : Option Span → List ℕ → List ℕ
+refusal_text_at (Some span) text = codes "fault at " ++ (decimal span.offset ++ (codes ": " ++ text))
+refusal_text_at None text = codes "refused: " ++ text
+
+abbrev pub refusal_text : Error → List ℕ
+refusal_text e = refusal_text_at (span_of e) (fault_text (fault_of e))
+
+-- the line tells what encoding answered, which is not want of memory
+abbrev pub Tells : Result (Vec ℕ) Error → List ℕ → Type 0
+Tells (Ok bytes) line = line ≡ encode_lower bytes.items
+Tells (Err e) line = (fault_of e ≢ fault.Memory) × (line ≡ refusal_text e)
+
+-- whether the module is well formed and holds no generated id
+abbrev pub is_encodable : Module → Bool
+is_encodable m = is_well_formed m && (generation_bound m == 0)
+
+-- the line tells some answer that encoding may give for the module
+pub record TellsModule (m : Module) (line : List ℕ) : Type 0 where
+  pub answer : Result (Vec ℕ) Error
+  pub after : Module
+  pub encodes : Encodes m answer after
+  pub tells : Tells answer line
+
+-- the line of a module that can be encoded, and of one that can not
+abbrev pub TellsIf : Bool → Module → List ℕ → Type 0
+TellsIf true m line = TellsModule m line
+TellsIf false m line = line ≡ ill_formed_text
+
+-- the line of a row, which has no module where there is no such row
+abbrev pub TellsRow : Option (Result Module Error) → List ℕ → Type 0
+TellsRow None line = line ≡ no_row_text
+TellsRow (Some (Err e)) line = ⊥
+TellsRow (Some (Ok m)) line = TellsIf (is_encodable m) m line
+
+-- the line answers what was asked, where gives relates the number of a row to its module
+pub data Answers (gives : ℕ → Option (Result Module Error) → Type 0) (asked line : List ℕ) : Type 0 where
+  row : (n : ℕ) (sample : Option (Result Module Error)) → IsNumber asked n → gives n sample → TellsRow sample line → Answers gives asked line
+  no_number : IsNoNumber asked → line ≡ no_row_text → Answers gives asked line

@@ -1,0 +1,6 @@
+pub mod Answers
+pub mod Errors
+pub mod Lines
+pub mod Numerals
+pub mod Rows
+pub mod Runs

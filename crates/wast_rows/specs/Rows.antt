@@ -1,0 +1,5 @@
+-- The numbers of the worked rows.
+use Rattle.std.specs.Prelude.{ℕ, List, [], ◌∷◌}
+
+abbrev pub row_numbers : List ℕ
+row_numbers = 1 ∷ 27 ∷ 31 ∷ 32 ∷ []

@@ -1,0 +1,105 @@
+//! The line that answers a line.
+
+ghost use Rattle.std.specs.Prelude.{◌≡◌, IfOk, Some, Ok, string_bytes};
+ghost use Rattle.wast_rows.specs.Answers.{Answers, TellsRow, Tells, refusal_text, no_row_text, ill_formed_text};
+
+use crate::errors::RunError;
+use crate::numbers::number;
+use std::alloc::{AllocError, Global};
+use wast_core::{EncodeOptions, Module, ModuleKind};
+use wast_tree::{Error, Fault, Gensym, discard_fields};
+
+/// `no row`
+fn no_row(alloc: Global) -> Result<String, AllocError>
+    ensures { IfOk result (λ line. string_bytes line ≡ no_row_text) }
+{
+    String::from_str(alloc, "no row")
+}
+
+/// `ill formed`
+fn ill_formed(alloc: Global) -> Result<String, AllocError>
+    ensures { IfOk result (λ line. string_bytes line ≡ ill_formed_text) }
+{
+    String::from_str(alloc, "ill formed")
+}
+
+/// A fault at its place, or a refusal, which has none.
+fn refusal(alloc: Global, error: Error<'_>) -> Result<String, AllocError>
+    ensures { IfOk result (λ line. string_bytes line ≡ refusal_text error.entry) }
+{
+    match error.span() {
+        Some(span) => {
+            let offset = span.offset;
+            format!(in alloc; "fault at {offset}: {error}")
+        }
+        None => format!(in alloc; "refused: {error}"),
+    }
+}
+
+/// What encoding answered: bytes in lower case hexadecimal, or why there are none. Want of memory is no answer.
+fn told(alloc: Global, answer: Result<Vec<u8>, Error<'_>>) -> Result<String, RunError>
+    ensures { IfOk result (λ line. Tells answer.entry (string_bytes line)) }
+{
+    match answer {
+        Ok(bytes) => Ok(hex::encode(alloc, bytes.as_slice())?),
+        Err(error) => {
+            if matches!(error.fault(), Fault::Memory) {
+                return Err(RunError::Memory);
+            }
+            Ok(refusal(alloc, error)?)
+        }
+    }
+}
+
+/// The line of a module, which is encoded where it is well formed and holds no generated id.
+fn line_of_module(alloc: Global, module: &mut Module<'_>) -> Result<String, RunError>
+    ensures { IfOk result (λ line. TellsRow (Some (Ok «module».old)) (string_bytes line)) }
+{
+    if !module.well_formed() || module.gensym_bound() > 0 {
+        return Ok(ill_formed(alloc)?);
+    }
+    let mut gensym = Gensym::new(1);
+    let answer = EncodeOptions::new().encode_module(alloc, module, &mut gensym);
+    told(alloc, answer)
+}
+
+/// Lets a module go.
+fn discard(module: Module<'_>) {
+    match module.kind {
+        ModuleKind::Text(fields) => discard_fields(fields),
+        ModuleKind::Binary(_) | ModuleKind::Refused(_) => {}
+    }
+}
+
+/// The line of a row, where there is one.
+fn line_of_row(
+    alloc: Global,
+    row: Option<Result<Module<'_>, Error<'_>>>,
+) -> Result<String, RunError>
+    ensures { IfOk result (λ line. TellsRow row.entry (string_bytes line)) }
+{
+    match row {
+        None => Ok(no_row(alloc)?),
+        Some(Err(_)) => Err(RunError::Memory),
+        Some(Ok(mut module)) => {
+            let line = line_of_module(alloc, &mut module);
+            discard(module);
+            line
+        }
+    }
+}
+
+/// The line that answers a line.
+pub(crate) fn answer<'a, F: Fn(u32) -> Option<Result<Module<'a>, Error<'a>>>>(
+    alloc: Global,
+    line: &[u8],
+    sample: &F,
+) -> Result<String, RunError>
+    requires { F.IsAlwaysCallable sample.now }
+    ensures { IfOk result (λ text. Answers (F.post sample.now) line.now (string_bytes text)) }
+{
+    match number(line) {
+        None => Ok(no_row(alloc)?),
+        Some(n) => line_of_row(alloc, sample(n)),
+    }
+}

@@ -1,0 +1,14 @@
+//! Worked modules by number, and the lines that tell what encoding answers for them.
+#![tactic(auto)]
+
+mod answers;
+mod errors;
+mod numbers;
+mod runs;
+mod samples;
+#[cfg(test)]
+mod tests;
+
+pub use errors::RunError;
+pub use runs::run;
+pub use samples::sample;

@@ -1,0 +1,189 @@
+//! Runs: a line is written for each line that is read.
+
+ghost use Rattle.std.specs.Prelude.{ℕ, ◌<◌, ◌≤◌, List, [], ◌∷◌, ◌++◌, length, take, OnOk, OnErr, IfOk, IfSome, IfNone};
+ghost use Rattle.std.specs.Io.KnownBytes.{Appends, Consumes, IsAtEnd, Keeps};
+ghost use Rattle.wast_rows.specs.Answers.{Answers};
+ghost use Rattle.wast_rows.specs.Runs.{IsOpen, Ran, Broke, FeedsWriter, AnswersWriter, BeginsWriter, AnswersLine, BeginsLine, BeginsBytes};
+
+use crate::answers::answer;
+use crate::errors::RunError;
+use std::alloc::Global;
+use std::io::{ErrorKind, Read, Write};
+use wast_core::Module;
+use wast_tree::Error;
+
+/// The most calls of `read` that a run makes.
+const MOST_READS: u32 = 1_000_000;
+
+/// How many bytes a run asks for at once.
+const PIECE_LEN: usize = 4096;
+
+/// Writes all of the bytes. Where that fails, a beginning of them may be written.
+fn write_bytes<W: Write>(writer: &mut W, bytes: &[u8]) -> Result<(), RunError>
+    ensures ok { OnOk result (Appends (W.contents writer.old) (W.contents writer.new) bytes.now) }
+    ensures err { OnErr result (BeginsBytes bytes.now (W.contents writer.old) (W.contents writer.new)) }
+{
+    let mut rest = bytes;
+    for _ in 0..u64::MAX {
+        if rest.is_empty() {
+            return writer.flush().map_err(|_| RunError::Write);
+        }
+        let count = write_some(writer, rest)?;
+        rest = &rest[count..];
+    }
+    Err(RunError::Write)
+}
+
+/// Writes once: how many bytes were taken, none of them where the write was interrupted.
+fn write_some<W: Write>(writer: &mut W, bytes: &[u8]) -> Result<usize, RunError>
+    ensures bound { IfOk result (λ count. count ≤ length bytes.now) }
+    ensures ok { IfOk result (λ count. Appends (W.contents writer.old) (W.contents writer.new) (take count bytes.now)) }
+    ensures err { OnErr result (Keeps (W.contents writer.old) (W.contents writer.new)) }
+{
+    match writer.write(bytes) {
+        Ok(0) => Err(RunError::Write),
+        Ok(count) => Ok(count),
+        Err(error) => {
+            if error.kind() == ErrorKind::Interrupted {
+                Ok(0)
+            } else {
+                Err(RunError::Write)
+            }
+        }
+    }
+}
+
+/// Writes the line that answers a line, and a line feed.
+fn answer_line<'a, W: Write, F: Fn(u32) -> Option<Result<Module<'a>, Error<'a>>>>(
+    alloc: Global,
+    line: &[u8],
+    writer: &mut W,
+    sample: &F,
+) -> Result<(), RunError>
+    requires { F.IsAlwaysCallable sample.now }
+    ensures ok { OnOk result (AnswersLine (Answers (F.post sample.now)) line.now (W.contents writer.old) (W.contents writer.new)) }
+    ensures err { OnErr result (BeginsLine (Answers (F.post sample.now)) line.now (W.contents writer.old) (W.contents writer.new)) }
+{
+    let mut text = answer(alloc, line, sample)?;
+    text.push('\n')?;
+    write_bytes(writer, text.as_bytes())
+}
+
+/// Takes a byte into the pending line, which no line feed has ended yet, or answers that line where the byte ends it.
+fn take_byte<'a, W: Write, F: Fn(u32) -> Option<Result<Module<'a>, Error<'a>>>>(
+    alloc: Global,
+    byte: u8,
+    pending: &mut Vec<u8>,
+    writer: &mut W,
+    sample: &F,
+) -> Result<(), RunError>
+    requires callable { F.IsAlwaysCallable sample.now }
+    requires still_open { IsOpen pending.old.items }
+    ensures ok { OnOk result (FeedsWriter (Answers (F.post sample.now)) pending.old.items (byte ∷ []) pending.new.items (W.contents writer.old) (W.contents writer.new)) }
+    ensures err { OnErr result ((rest : List ℕ) → BeginsWriter (Answers (F.post sample.now)) (pending.old.items ++ (byte ∷ rest)) (W.contents writer.old) (W.contents writer.new)) }
+{
+    if byte != b'\n' {
+        pending.push(byte)?;
+        return Ok(());
+    }
+    answer_line(alloc, pending.as_slice(), writer, sample)?;
+    pending.clear();
+    Ok(())
+}
+
+/// Takes bytes into the pending line, and answers each line that ends in them.
+fn feed<'a, W: Write, F: Fn(u32) -> Option<Result<Module<'a>, Error<'a>>>>(
+    alloc: Global,
+    bytes: &[u8],
+    pending: &mut Vec<u8>,
+    writer: &mut W,
+    sample: &F,
+) -> Result<(), RunError>
+    requires callable { F.IsAlwaysCallable sample.now }
+    requires still_open { IsOpen pending.old.items }
+    ensures ok { OnOk result (FeedsWriter (Answers (F.post sample.now)) pending.old.items bytes.now pending.new.items (W.contents writer.old) (W.contents writer.new)) }
+    ensures err { OnErr result (BeginsWriter (Answers (F.post sample.now)) (pending.old.items ++ bytes.now) (W.contents writer.old) (W.contents writer.new)) }
+{
+    for byte in bytes {
+        take_byte(alloc, *byte, pending, writer, sample)?;
+    }
+    Ok(())
+}
+
+/// Answers the pending line, where it has bytes.
+fn finish<'a, W: Write, F: Fn(u32) -> Option<Result<Module<'a>, Error<'a>>>>(
+    alloc: Global,
+    pending: &[u8],
+    writer: &mut W,
+    sample: &F,
+) -> Result<(), RunError>
+    requires callable { F.IsAlwaysCallable sample.now }
+    requires still_open { IsOpen pending.now }
+    ensures ok { OnOk result (AnswersWriter (Answers (F.post sample.now)) pending.now (W.contents writer.old) (W.contents writer.new)) }
+    ensures err { OnErr result (BeginsWriter (Answers (F.post sample.now)) pending.now (W.contents writer.old) (W.contents writer.new)) }
+{
+    if pending.is_empty() {
+        return Ok(());
+    }
+    answer_line(alloc, pending, writer, sample)
+}
+
+/// Reads once: the bytes that came, none of them where the read was interrupted; `None` at the end.
+fn read_piece<'b, R: Read>(
+    reader: &mut R,
+    buffer: &'b mut [u8],
+) -> Result<Option<&'b [u8]>, RunError>
+    requires { 0 < length buffer.old }
+    ensures piece { IfOk result (λ piece. IfSome piece (λ bytes. Consumes (R.remaining reader.old) (R.remaining reader.new) bytes.now)) }
+    ensures end { IfOk result (λ piece. IfNone piece (IsAtEnd (R.remaining reader.new))) }
+    ensures no_more { IfOk result (λ piece. IfNone piece (Consumes (R.remaining reader.old) (R.remaining reader.new) [])) }
+    ensures err { OnErr result (Keeps (R.remaining reader.old) (R.remaining reader.new)) }
+{
+    match reader.read(buffer) {
+        Ok(0) => Ok(None),
+        Ok(count) => Ok(Some(&buffer[..count])),
+        Err(error) => {
+            if error.kind() == ErrorKind::Interrupted {
+                Ok(Some(&[]))
+            } else {
+                Err(RunError::Read)
+            }
+        }
+    }
+}
+
+/// Reads lines up to the end of the input, and writes one line for each, ended by a line feed.
+///
+/// A line is the bytes before a line feed, or those after the last one where there are any; a carriage return is a byte
+/// of its line. The function handed in gives the module of a row by its number, and has to answer every number. What is
+/// written for a line:
+///
+/// - `no row` where it is no `u32` in decimal form, or has a sign or leading zeros, or where there is no such row;
+/// - `ill formed` where the row's module is not well formed or holds a generated id;
+/// - the module's bytes in lower case hexadecimal, as encoding gives them with a counter at 1;
+/// - `fault at P: text` or `refused: text` where encoding refuses the module with a place P or without one.
+///
+/// It answers `Read` where a read fails, or where a million reads do not meet the end; `Write` where a write fails; and
+/// `Memory` where memory is refused, also while a module is made or encoded, and for every error that the function
+/// handed in gives. A read or a write that is interrupted is made again. Lines that were written before an error stay
+/// written, and a beginning of the next one may stand after them.
+pub fn run<'a, R: Read, W: Write, F: Fn(u32) -> Option<Result<Module<'a>, Error<'a>>>>(
+    alloc: Global,
+    reader: &mut R,
+    writer: &mut W,
+    sample: F,
+) -> Result<(), RunError>
+    requires { F.IsAlwaysCallable sample }
+    ensures ok { OnOk result (Ran (Answers (F.post sample)) (R.remaining reader.old) (R.remaining reader.new) (W.contents writer.old) (W.contents writer.new)) }
+    ensures err { OnErr result (Broke (Answers (F.post sample)) (R.remaining reader.old) (R.remaining reader.new) (W.contents writer.old) (W.contents writer.new)) }
+{
+    let mut buffer = [0u8; PIECE_LEN];
+    let mut pending = Vec::new(alloc);
+    for _ in 0..MOST_READS {
+        let Some(piece) = read_piece(reader, &mut buffer)? else {
+            return finish(alloc, pending.as_slice(), writer, &sample);
+        };
+        feed(alloc, piece, &mut pending, writer, &sample)?;
+    }
+    Err(RunError::Read)
+}

@@ -1,0 +1,218 @@
+use crate::{RunError, run, sample};
+use std::alloc::Global;
+use std::io;
+use std::io::{Read, Write};
+use std::test::Fail;
+use wast_core::{Module, ModuleKind};
+use wast_tree::{
+    Error, Fault, FunctionType, Gensym, Id, InnerTypeKind, ModuleField, Seq, Span, Type, TypeDef,
+};
+
+const FIRST_ROW: &str = "0061736d01000000\n";
+
+fn answers(alloc: Global, mut input: &[u8]) -> Result<Vec<u8>, RunError> {
+    let mut output = Vec::new(alloc);
+    run(alloc, &mut input, &mut output, |n| sample(alloc, n))?;
+    Ok(output)
+}
+
+#[test]
+fn rows_have_their_lines(rt: HostRuntime) -> Result<(), Fail> {
+    let output = answers(rt.alloc(), b"1\n27\n31\n32\n")?;
+    let bytes_of_27 =
+        "0061736d0100000001040160000003020100070501016100000a0601040010000b0011046e616d65010401000166040401000174";
+    let want = format!(in rt.alloc();
+        "{FIRST_ROW}{bytes_of_27}\nfault at 43: unknown func: failed to find name `$g`\nfault at 31: duplicate type identifier\n"
+    )?;
+    assert_eq!(rt; output.as_slice(), want.as_bytes());
+    Ok(())
+}
+
+#[test]
+fn other_lines_are_no_rows(rt: HostRuntime) -> Result<(), Fail> {
+    let none = "no row\n";
+    let row_and_none = "0061736d01000000\nno row\n";
+    for (input, want) in [
+        (&b""[..], ""),
+        (&b"\n"[..], none),
+        (&b"01"[..], none),
+        (&b"+1"[..], none),
+        (&b" 1"[..], none),
+        (&b"1\r\n"[..], none),
+        (&b"4294967296"[..], none),
+        (&b"0"[..], none),
+        (&b"2"[..], none),
+        (&b"\xff\xfe"[..], none),
+        (&b"1"[..], FIRST_ROW),
+        (&b"1\n"[..], FIRST_ROW),
+        (&b"1\n\n"[..], row_and_none),
+    ] {
+        let output = answers(rt.alloc(), input)?;
+        assert_eq!(rt; output.as_slice(), want.as_bytes(), "at {input:?}");
+    }
+    Ok(())
+}
+
+// A module of one type, which is ill formed where it is shared.
+fn type_module<'a>(
+    alloc: Global,
+    id: Option<Id<'a>>,
+    shared: bool,
+) -> Result<Module<'a>, Error<'a>> {
+    let span = Span { offset: 0 };
+    let mut fields = Seq::new(alloc);
+    fields.push(ModuleField::Ty(Type {
+        span,
+        id,
+        name: None,
+        def: TypeDef {
+            kind: InnerTypeKind::Func(FunctionType {
+                params: Seq::new(alloc),
+                results: Seq::new(alloc),
+            }),
+            shared,
+            parents: Seq::new(alloc),
+            descriptor: None,
+            describes: None,
+            final_type: None,
+        },
+    }))?;
+    Ok(kind_module(ModuleKind::Text(fields)))
+}
+
+fn kind_module(kind: ModuleKind<'_>) -> Module<'_> {
+    Module {
+        span: Span { offset: 0 },
+        id: None,
+        name: None,
+        kind,
+    }
+}
+
+fn generated_module<'a>(alloc: Global) -> Result<Module<'a>, Error<'a>> {
+    let id = Gensym::new(1).generate(Span { offset: 0 })?;
+    type_module(alloc, Some(id), false)
+}
+
+// Rows that are no worked ones.
+fn odd_row<'a>(alloc: Global, n: u32) -> Option<Result<Module<'a>, Error<'a>>> {
+    match n {
+        0 => Some(Err(Error::refusal(Fault::Component))),
+        1 => Some(type_module(alloc, None, true)),
+        2 => Some(generated_module(alloc)),
+        3 => Some(Ok(kind_module(ModuleKind::Refused(Error::refusal(Fault::Component))))),
+        4 => Some(Ok(kind_module(ModuleKind::Refused(Error::refusal(Fault::Memory))))),
+        _ => None,
+    }
+}
+
+fn run_odd_rows<R: Read, W: Write>(
+    alloc: Global,
+    reader: &mut R,
+    writer: &mut W,
+) -> Result<(), RunError> {
+    run(alloc, reader, writer, |n| odd_row(alloc, n))
+}
+
+#[test]
+fn handed_in_rows_have_their_lines(rt: HostRuntime) -> Result<(), Fail> {
+    let refused = "refused: components are not encoded\n";
+    let ill_and_refused = "ill formed\nill formed\nrefused: components are not encoded\nno row\n";
+    for (input, ended, want) in [
+        (&b"1\n2\n3\n5\n"[..], Ok(()), ill_and_refused),
+        (&b"3\n0\n3\n"[..], Err(RunError::Memory), refused),
+        (&b"3\n4\n3\n"[..], Err(RunError::Memory), refused),
+    ] {
+        let mut input = input;
+        let mut output = Vec::new(rt.alloc());
+        let result = run_odd_rows(rt.alloc(), &mut input, &mut output);
+        assert_eq!(rt; result, ended, "at {want}");
+        assert_eq!(rt; output.as_slice(), want.as_bytes());
+    }
+    Ok(())
+}
+
+// Gives or takes one byte a call, and fails once, after so many calls.
+#[derive(Drop)]
+struct FailsOnce<'a> {
+    input: &'a [u8],
+    output: Vec<u8>,
+    calls: Option<usize>,
+    kind: io::ErrorKind,
+}
+
+impl FailsOnce<'_> {
+    fn call(&mut self) -> io::Result<()> {
+        if self.calls == Some(0) {
+            self.calls = None;
+            return Err(self.kind.into());
+        }
+        self.calls = self.calls.map(|n| n.saturating_sub(1));
+        Ok(())
+    }
+}
+
+impl Read for FailsOnce<'_> {
+    fn read(&mut self, buf: &mut [u8]) -> io::Result<usize> {
+        self.call()?;
+        if self.input.is_empty() || buf.is_empty() {
+            return Ok(0);
+        }
+        buf[0] = self.input[0];
+        self.input = &self.input[1..];
+        Ok(1)
+    }
+}
+
+impl Write for FailsOnce<'_> {
+    fn write(&mut self, buf: &[u8]) -> io::Result<usize> {
+        self.call()?;
+        if buf.is_empty() {
+            return Ok(0);
+        }
+        self.output.push(buf[0])?;
+        Ok(1)
+    }
+
+    fn flush(&mut self) -> io::Result<()> {
+        Ok(())
+    }
+}
+
+#[test]
+fn what_stands_before_a_fault_is_a_beginning(rt: HostRuntime) -> Result<(), Fail> {
+    let input = &b"3\n5"[..];
+    let whole = b"refused: components are not encoded\nno row\n";
+    for (kind, ends) in [
+        (io::ErrorKind::Other, false),
+        (io::ErrorKind::Interrupted, true),
+    ] {
+        for calls in 0..4 {
+            let mut reader = FailsOnce {
+                input,
+                output: Vec::new(rt.alloc()),
+                calls: Some(calls),
+                kind,
+            };
+            let mut output = Vec::new(rt.alloc());
+            let result = run_odd_rows(rt.alloc(), &mut reader, &mut output);
+            assert_eq!(rt; result, if ends { Ok(()) } else { Err(RunError::Read) });
+            assert!(rt; whole.starts_with(output.as_slice()));
+            assert_eq!(rt; output.len() == whole.len(), ends);
+        }
+        for calls in [0, 20, 36, 42] {
+            let mut reader = input;
+            let mut writer = FailsOnce {
+                input: &[],
+                output: Vec::new(rt.alloc()),
+                calls: Some(calls),
+                kind,
+            };
+            let result = run_odd_rows(rt.alloc(), &mut reader, &mut writer);
+            assert_eq!(rt; result, if ends { Ok(()) } else { Err(RunError::Write) });
+            assert!(rt; whole.starts_with(writer.output.as_slice()));
+            assert_eq!(rt; writer.output.len(), if ends { whole.len() } else { calls });
+        }
+    }
+    Ok(())
+}

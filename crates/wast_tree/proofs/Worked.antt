@@ -1,0 +1,30 @@
+-- What the definitions say of worked modules, computed.
+use Rattle.std.proofs.Common.{refl}
+use Rattle.wast_tree.specs.Examples.{SameIds, StandsInRow27, StandsEverywhere, KnownInRows, WellFormedRows, SettledIndices, WellFormedFuncs, WellFormedTypes, GenerationsOfRows}
+
+pub same_ids : SameIds
+same_ids a b = (refl, refl, refl, refl, refl, refl, refl, refl)
+
+pub stands_in_row27 : StandsInRow27
+stands_in_row27 a b c d e f = refl
+
+pub stands_everywhere : StandsEverywhere
+stands_everywhere a = refl
+
+pub known_in_rows : KnownInRows
+known_in_rows a b c d e f = (refl, refl, refl, refl, refl, refl, refl, refl)
+
+pub well_formed_rows : WellFormedRows
+well_formed_rows a b c d e f = (refl, refl, refl)
+
+pub settled_indices : SettledIndices
+settled_indices a = (refl, refl, refl, refl)
+
+pub well_formed_funcs : WellFormedFuncs
+well_formed_funcs a = (refl, refl, refl, refl, refl, refl, refl)
+
+pub well_formed_types : WellFormedTypes
+well_formed_types a = (refl, refl, refl, refl, refl, refl, refl, refl, refl)
+
+pub generations_of_rows : GenerationsOfRows
+generations_of_rows a b c d e f = (refl, refl, refl, refl, refl)
