@@ -2,6 +2,8 @@
 #![tactic(auto)]
 
 mod answers;
+#[cfg(test)]
+mod core_tests;
 mod errors;
 mod numbers;
 mod runs;
