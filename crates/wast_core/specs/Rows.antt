@@ -1,5 +1,5 @@
 -- Small modules and what they mean, computed. A text may lie anywhere in memory.
-use Rattle.std.specs.Prelude.{◌≡◌, List, [], ◌++◌, None, true}
+use Rattle.std.specs.Prelude.{◌≡◌, [], ◌++◌, None, true}
 use Rattle.std.specs.List.{flat_map}
 use Rattle.wast_tree.specs.WellFormed.{is_well_formed}
 use Rattle.wasm_out.specs.Examples as out

@@ -1,5 +1,5 @@
 -- What encoding a text answers: its module's answer, or that components are not encoded.
-use Rattle.std.specs.Prelude.{◌≡◌, ℕ, Bool, true, Result, Ok, Err}
+use Rattle.std.specs.Prelude.{◌≡◌, ℕ, Bool, true, Result, Err}
 use Rattle.std.specs.Global.{Vec}
 use Rattle.wast_tree.specs.declared.faults.Error.{Error}
 use Rattle.wast_tree.specs.declared.faults.Fault.TheVariants as fault

@@ -1,16 +1,13 @@
 -- Indices bear no names: the names in a field are those of its items.
-use Rattle.std.proofs.Common.{◌≡◌, ℕ, List, [], ◌∷◌, ◌++◌, Option, Some, None, refl, ap, ◌∙◌, append-nil}
-use Rattle.std.specs.Prelude.{flat_map, if◌then◌else◌}
+use Rattle.std.proofs.Common.{◌≡◌, List, [], ◌∷◌, ◌++◌, Option, Some, None, refl, ap, ◌∙◌, append-nil}
+use Rattle.std.specs.Prelude.{flat_map}
 use Rattle.std.proofs.lemmas.Grind.{flat_map-append}
 use Rattle.wast_tree.specs.declared.ids.Index.{Index}
 use Rattle.wast_tree.specs.declared.ids.Index.TheVariants as index
 use Rattle.wast_tree.specs.declared.types.TypeDef.{TypeDef}
 use Rattle.wast_tree.specs.declared.types.Type as ty
-use Rattle.wast_tree.specs.declared.types.TypeUse.{TypeUse}
-use Rattle.wast_tree.specs.declared.types.FunctionType.{FunctionType}
 use Rattle.wast_tree.specs.declared.instrs.Instruction.{Instruction}
 use Rattle.wast_tree.specs.declared.instrs.Instruction.TheVariants as instr
-use Rattle.wast_tree.specs.declared.instrs.Expression.{Expression}
 use Rattle.wast_tree.specs.declared.fields.FuncKind.{FuncKind}
 use Rattle.wast_tree.specs.declared.fields.FuncKind.TheVariants as func
 use Rattle.wast_tree.specs.declared.fields.Func.{Func}

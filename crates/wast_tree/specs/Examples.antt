@@ -17,7 +17,7 @@ use Rattle.wast_tree.specs.Occurrences.{Item, Use, in_module}
 use Rattle.wast_tree.specs.Known.{known}
 use Rattle.wast_tree.specs.WellFormed.{is_well_formed}
 use Rattle.wast_tree.specs.Generations.{greatest, in_fields}
-use Rattle.wast_tree.specs.Rows.{Address, text, place, id_at, by_id, by_number, plain_def, plain_type, plain_func, plain_export, export_field, row27, row31, row32}
+use Rattle.wast_tree.specs.Rows.{Address, text, place, id_at, by_number, plain_def, plain_type, plain_func, export_field, row27, row31, row32}
 
 -- a generated id, alone, as an index and as what it is called at its place
 abbrev pub made : ℕ → Id

@@ -197,6 +197,8 @@ impl fmt::Display for Error<'_> {
     }
 }
 
+impl std::error::Error for Error<'_> {}
+
 impl From<AllocError> for Error<'_> {
     ghost use Rattle.std.specs.Prelude.{◌≡◌};
     ghost use Rattle.wast_tree.specs.Faults.{out_of_memory};
