@@ -1,6 +1,6 @@
 //! What has a spelling, and how spellings are put together: pairs, lists, counts and sizes.
 
-ghost use Rattle.std.specs.Prelude.{◌≡◌, ℕ, Bool, true, ◌&&◌, List, [], ◌∷◌, ◌++◌, IsTrue};
+ghost use Rattle.std.specs.Prelude.{ℕ, Bool, true, ◌&&◌, List, [], ◌∷◌, ◌++◌, IsTrue};
 ghost use Rattle.std.specs.List.{All, flat_map, list_all};
 ghost use Rattle.wasm_ops.specs.Leb128.{unsigned};
 ghost use Rattle.wasm_ops.specs.Sinks.{Puts};

@@ -1,7 +1,7 @@
 //! Bodies of functions.
 
-ghost use Rattle.std.specs.Prelude.{◌≡◌, ◌∷◌, [], map, All, OnOk, OnErr, IfOk, IfErr, IsTrue};
-ghost use Rattle.std.specs.List.{list_all, flat_map};
+ghost use Rattle.std.specs.Prelude.{◌∷◌, [], map, All, OnOk, IfOk, IfErr, IsTrue};
+ghost use Rattle.std.specs.List.{flat_map};
 ghost use Rattle.wast_tree.specs.Ids.{is_number};
 ghost use Rattle.wasm_ops.specs.Rows.{index_instr};
 ghost use Rattle.wast_tree.specs.Occurrences.{in_instr, in_func_kind};

@@ -5,10 +5,10 @@ ghost use Rattle.std.specs.Prelude.{◌≡◌, List};
 ghost use Rattle.std.specs.Prelude.{flat_map};
 ghost use Rattle.std.specs.List.{list_all};
 ghost use Rattle.wast_tree.specs.Ids.{name_of, marked};
-ghost use Rattle.wast_tree.specs.Spaces.{Space, Types, Funcs, same_space, is_borne, is_called, name_if};
-ghost use Rattle.wast_tree.specs.Occurrences.{Occurrence, in_index, in_def, in_type, in_type_use, in_instr, in_expression, in_func_kind, in_func, in_export, in_field, in_module, if_there};
+ghost use Rattle.wast_tree.specs.Spaces.{Types, Funcs, same_space, is_borne, is_called, name_if};
+ghost use Rattle.wast_tree.specs.Occurrences.{Occurrence, in_index, in_def, in_type, in_type_use, in_instr, in_func_kind, in_func, in_export, in_field, in_module, if_there};
 ghost use Rattle.wast_tree.specs.Known.{known, names_in};
-ghost use Rattle.wast_tree.specs.WellFormed.{are_settled, has_settled_indices, is_plain_param, is_plain_inner, is_plain_def, is_plain_type_use, is_plain_expression, is_plain_func_kind, is_plain_func, is_plain_field, is_well_formed};
+ghost use Rattle.wast_tree.specs.WellFormed.{are_settled, is_plain_param, is_plain_inner, is_plain_def, is_plain_type_use, is_plain_func_kind, is_plain_func, is_plain_field, is_well_formed};
 ghost use Rattle.wast_resolve.specs.Resolvers.{space_of};
 
 use wast_resolve::Ns;

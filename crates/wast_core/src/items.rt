@@ -1,6 +1,6 @@
 //! Items of sections, as the encoder writes them.
 
-ghost use Rattle.std.specs.Prelude.{◌≡◌, ◌+◌, ℕ, List, Bool, IsTrue};
+ghost use Rattle.std.specs.Prelude.{◌+◌, ℕ, List, Bool, IsTrue};
 ghost use Rattle.wasm_ops.specs.Leb128.{unsigned};
 ghost use Rattle.wasm_ops.specs.Spelling.{InRangeU32};
 ghost use Rattle.wasm_out.specs.Built.{Adds};

@@ -1,6 +1,6 @@
 //! A name space: the numbers of names, and how many items there are.
 
-ghost use Rattle.std.specs.Prelude.{◌≡◌, ⊤, ℕ, ◌+◌, ◌<◌, ◌≤◌, ◌^◌, ◌↔◌, IsTrue, not, Some, IfOk, OnOk, OnErr, IfErr, map as map_list};
+ghost use Rattle.std.specs.Prelude.{◌≡◌, ⊤, ◌+◌, ◌<◌, ◌≤◌, ◌^◌, ◌↔◌, IsTrue, not, Some, IfOk, OnOk, OnErr, IfErr, map as map_list};
 ghost use Rattle.std.specs.FinMap as finmap;
 ghost use Rattle.wast_tree.specs.Ids.{name_of, place_of, mark_of, marked, text_of, is_generated};
 ghost use Rattle.wast_tree.specs.Faults.{told, At, Unknown};

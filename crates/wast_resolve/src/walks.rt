@@ -1,7 +1,6 @@
 //! Walks over the tree in its place: each id where an index is wanted becomes the number that it denotes.
 
-ghost use Rattle.std.specs.Prelude.{◌≡◌, ⊤, List, map, flat_map, option_map, IsTrue};
-ghost use Rattle.wast_tree.specs.Spaces.{Types};
+ghost use Rattle.std.specs.Prelude.{List, map, flat_map, option_map, IsTrue};
 ghost use Rattle.wast_tree.specs.Occurrences.{Occurrence, if_there, in_index, in_def, in_type, in_type_use, in_instr, in_expression, in_func_kind, in_func, in_export, in_field};
 ghost use Rattle.wast_tree.specs.Known.{Known};
 ghost use Rattle.wast_tree.specs.WellFormed.{are_settled};

@@ -1,6 +1,6 @@
 //! Why a module is refused.
 
-ghost use Rattle.std.specs.Prelude.{◌≡◌, ◌<◌, ◌≤◌, Some};
+ghost use Rattle.std.specs.Prelude.{◌≡◌, Some};
 ghost use Rattle.wast_tree.specs.Faults.{fault_of, span_of, fault_number, is_placed, fault_text, form_text, unknown_text, unnamed_text, placed, refused, out_of_memory};
 ghost use Rattle.std.specs.Prelude.{IsTrue, not};
 
