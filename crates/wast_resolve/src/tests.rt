@@ -214,7 +214,7 @@ fn names_answer(rt: &impl Abort, names: &Names<'static>) {
 
 #[tactic(auto, using(crate::proofs::Anyway::settled_anyway))]
 #[test]
-fn the_first_unmet_demand_is_answered(rt: HostRuntime) {
+fn a_resolver_goes_on_answering(rt: HostRuntime) {
     let alloc = rt.alloc();
     let mut fields = Seq::new(alloc);
     add(&rt, &mut fields, type_field(alloc, 14));
@@ -226,6 +226,12 @@ fn the_first_unmet_demand_is_answered(rt: HostRuntime) {
     discard_fields(fields);
     let mut idx = by_id("t", 3);
     assert!(rt; resolver.resolve(&mut idx, Ns::Ty) == Ok(0));
+}
+
+#[tactic(auto, using(crate::proofs::Anyway::settled_anyway))]
+#[test]
+fn an_unknown_name_is_told_at_its_place(rt: HostRuntime) {
+    let alloc = rt.alloc();
     let mut fields = Seq::new(alloc);
     add(&rt, &mut fields, type_field(alloc, 14));
     add(&rt, &mut fields, export_field("g", 43));
@@ -236,6 +242,12 @@ fn the_first_unmet_demand_is_answered(rt: HostRuntime) {
         }
         Err(e) => assert!(rt; e == Error::new(at(43), Fault::Unknown("func", "g"))),
     }
+}
+
+#[tactic(auto, using(crate::proofs::Anyway::settled_anyway))]
+#[test]
+fn a_clash_is_told_before_an_unknown_name(rt: HostRuntime) {
+    let alloc = rt.alloc();
     let mut fields = Seq::new(alloc);
     add(&rt, &mut fields, export_field("g", 43));
     add(&rt, &mut fields, type_field(alloc, 14));
