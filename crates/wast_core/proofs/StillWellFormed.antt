@@ -95,7 +95,7 @@ module _ (k : Known) where
   field_numbered (field.Func f) = item Funcs (marked f.id) (both (type_use_numbered f.ty) (func_kind_numbered f.kind))
   field_numbered (field.Export e) = index_numbered (exported_space e.kind) e.item
 
-  -- What keeps to this stage does so after resolving.
+  -- What the tree covers is covered after resolving.
   some_plain : {A : Type 0} (w : A → A) (o : Option A) → is_some (option_map w o) ≡ is_some o
   some_plain w None = refl
   some_plain w (Some x) = refl

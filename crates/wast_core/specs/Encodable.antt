@@ -1,4 +1,4 @@
--- What the encoder may be handed: fields of this stage whose indices are numbers.
+-- What the encoder may be handed: fields that it covers, whose indices are numbers.
 use Rattle.std.specs.Prelude.{Bool, true, false, ◌&&◌, List}
 use Rattle.std.specs.List.{list_all}
 use Rattle.wast_tree.specs.declared.types.TypeDef.{TypeDef}

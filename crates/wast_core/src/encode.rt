@@ -58,7 +58,7 @@ fn join<'e>(alloc: Global, pieces: &[&[u8]]) -> Result<Vec<u8>, Error<'e>>
 pub struct EncodeOptions {}
 
 impl EncodeOptions {
-    /// The options as they are.
+    /// The one way to encode.
     pub fn new() -> Self {
         EncodeOptions {}
     }
@@ -66,9 +66,10 @@ impl EncodeOptions {
     /// Resolves the module, and gives its bytes (binary format, modules).
     ///
     /// It needs what [`Module::resolve`] needs. The bytes of a text module are read as what its fields mean. A refusal
-    /// of resolving is answered and kept; a refusal of encoding leaves the module resolved: E10 where a count, length
-    /// or position is 2^32 or more, E12 where memory is refused. A binary module gives its pieces, one after another,
-    /// and stays as it is.
+    /// of resolving is answered and kept, and a refused module answers what it keeps; a refusal of encoding leaves the
+    /// module resolved: E10 where a count, length or position is 2^32 or more, E12 where memory is refused. A binary
+    /// module gives its pieces, one after another, and stays as it is. The module is well formed afterwards, its span,
+    /// id and name stay, and so does the counter.
     pub fn encode_module<'a>(
         &self,
         alloc: Global,
@@ -94,7 +95,7 @@ impl EncodeOptions {
 }
 
 impl<'a> Module<'a> {
-    /// [`EncodeOptions::encode_module`] of the options as they are.
+    /// [`EncodeOptions::encode_module`] of the options as they are, with the same needs.
     pub fn encode(&mut self, alloc: Global, gensym: &mut Gensym) -> Result<Vec<u8>, Error<'a>>
         requires well_formed { IsTrue (is_well_formed self.old) }
         requires above { generation_bound self.old < gensym.old }

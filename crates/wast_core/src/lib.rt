@@ -15,5 +15,5 @@ mod wat;
 
 pub use encode::EncodeOptions;
 pub use items::{FuncSectionTy, RecOrType, SectionItem};
-pub use module::{Module, ModuleKind};
+pub use module::{Module, ModuleKind, discard_module};
 pub use wat::Wat;

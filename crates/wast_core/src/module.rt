@@ -9,7 +9,7 @@ use crate::generations::HasIds;
 use std::alloc::Global;
 use std::mem;
 use wast_resolve::Names;
-use wast_tree::{Error, Fault, Gensym, Id, ModuleField, NameAnnotation, Seq, Span};
+use wast_tree::{Error, Fault, Gensym, Id, ModuleField, NameAnnotation, Seq, Span, discard_fields};
 
 /// What a module holds.
 #[derive(Debug, Drop)]
@@ -39,7 +39,7 @@ impl<'a> Module<'a> {
     /// Whether the module can be resolved and encoded. It takes no memory.
     ///
     /// Binary and refused modules are well formed. Fields are, where each generated id that stands for an index is
-    /// borne by an item of its space, and where they keep to what this stage covers: every type use has an index and
+    /// borne by an item of its space, and where they keep to what the tree covers today: every type use has an index and
     /// no inline type; functions have no locals, hints or exports of their own; types are final, not shared, without
     /// parents, descriptor and describes, and their parameters have no ids and annotations.
     pub fn well_formed(&self) -> bool
@@ -69,7 +69,8 @@ impl<'a> Module<'a> {
     /// resolved where each id that it bears is new in its space and each id that stands for an index denotes an item.
     /// Else the answer is the first that is not so, with its place: E2 where an id is borne twice, and after all of
     /// these E4 where one denotes nothing; E10 where a space has 2^32 items or more, E12 where memory is refused. The
-    /// module keeps a refusal, and answers it from then on. A binary module stays as it is, and binds no names.
+    /// module keeps a refusal, and answers it from then on. A binary module stays as it is, and binds no names. Span, id
+    /// and name stay, and so does the counter.
     pub fn resolve(&mut self, alloc: Global, gensym: &mut Gensym) -> Result<Names<'a>, Error<'a>>
         requires well_formed { IsTrue (is_well_formed self.old) }
         requires above { generation_bound self.old < gensym.old }
@@ -79,8 +80,8 @@ impl<'a> Module<'a> {
         ensures well_formed { IsTrue (is_well_formed self.new) }
         ensures above { generation_bound self.new < gensym.new }
     {
-        let taken = ModuleKind::Refused(Error::refusal(Fault::Memory));
-        match mem::replace(&mut self.kind, taken) {
+        let placeholder = ModuleKind::Refused(Error::refusal(Fault::Memory));
+        match mem::replace(&mut self.kind, placeholder) {
             ModuleKind::Text(fields) => match wast_resolve::resolve(alloc, fields, gensym) {
                 Ok((fields, names)) => {
                     self.kind = ModuleKind::Text(fields);
@@ -100,5 +101,13 @@ impl<'a> Module<'a> {
                 Err(error)
             }
         }
+    }
+}
+
+/// Lets a module go.
+pub fn discard_module(module: Module<'_>) {
+    match module.kind {
+        ModuleKind::Text(fields) => discard_fields(fields),
+        ModuleKind::Binary(_) | ModuleKind::Refused(_) => {}
     }
 }

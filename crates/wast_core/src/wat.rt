@@ -42,7 +42,7 @@ impl EncodeOptions {
 }
 
 impl<'a> Wat<'a> {
-    /// [`EncodeOptions::encode_wat`] of the options as they are.
+    /// [`EncodeOptions::encode_wat`] of the options as they are, with the same needs.
     pub fn encode(&mut self, alloc: Global, gensym: &mut Gensym) -> Result<Vec<u8>, Error<'a>>
         requires well_formed { IsTrue (is_well_formed self.old) }
         requires above { generation_bound self.old < gensym.old }

@@ -13,7 +13,7 @@ use Rattle.std.proofs.lemmas.Bool.{cases_Bool, eqb-true, eq-eqb, lt-ltb, false_f
 use Rattle.std.proofs.lemmas.Cmp.{nat_list_eq_equiv, tied_itself}
 use Rattle.std.proofs.lemmas.List.{length-append}
 use Rattle.wast_tree.specs.Ids.{Name, Written, Generated, same_name, Mark}
-use Rattle.wast_tree.specs.Spaces.{name_if, is_called, place_of, is_borne}
+use Rattle.wast_tree.specs.Spaces.{name_if, is_called, position_of, is_borne}
 use Rattle.wast_resolve.specs.Namespaces.{Key, key_of, key_cmp, NameSpace, number_in, registered}
 use Rattle.wast_resolve.proofs.Keys.{exact_keys, keys_total}
 
@@ -97,7 +97,7 @@ pub record IsBorne (n : NameSpace) (names : List (Option Name)) : Type 0 where
   pub count : n.count ≡ length names
 
 pub record IsNumbered (n : NameSpace) (names : List (Option Name)) : Type 0 where
-  pub number : (q : Name) → number_in n q ≡ place_of q names
+  pub number : (q : Name) → number_in n q ≡ position_of q names
 
 is_some_or : (b : Bool) (g o : Option ℕ) (c l : ℕ) → is_some g ≡ is_some o → is_some (cond b (Some c) g) ≡ is_some (option_or o (cond b (Some l) None))
 is_some_or true g None c l h = refl
@@ -107,12 +107,12 @@ is_some_or false g (Some m) c l h = h
 
 pub borne_push : (n : NameSpace) (names : List (Option Name)) (id : Option Mark) → IsBorne n names → IsBorne (registered n id) (names ++ name_if id ∷ [])
 borne_push n names None h = record {
-  borne = λ q. h.borne q ∙ ap is_some (sym (position_push (is_called q) names None ∙ or_none (place_of q names)));
+  borne = λ q. h.borne q ∙ ap is_some (sym (position_push (is_called q) names None ∙ or_none (position_of q names)));
   count = omega (arith, h.count, length-append names (None ∷ []));
 }
 borne_push n names (Some m) h = record {
   borne = λ q.
-      ap is_some (number_push n m q) ∙ (is_some_or (same_name q m.0) (number_in n q) (place_of q names) n.count (length names) (h.borne q)
+      ap is_some (number_push n m q) ∙ (is_some_or (same_name q m.0) (number_in n q) (position_of q names) n.count (length names) (h.borne q)
       ∙ ap is_some (sym (position_push (is_called q) names (Some m.0))));
   count = omega (arith, h.count, length-append names (Some m.0 ∷ []));
 }
@@ -126,12 +126,12 @@ pick true g o c l fresh h e = rw (fresh refl) (ap Some e)
 pick false g o c l fresh h e = h ∙ sym (or_none o)
 
 pub unnamed_push : (n : NameSpace) (names : List (Option Name)) → IsNumbered n names → IsNumbered (registered n None) (names ++ None ∷ [])
-unnamed_push n names h = record { number = λ q. h.number q ∙ sym (position_push (is_called q) names None ∙ or_none (place_of q names)) }
+unnamed_push n names h = record { number = λ q. h.number q ∙ sym (position_push (is_called q) names None ∙ or_none (position_of q names)) }
 
 pub named_push : (n : NameSpace) (names : List (Option Name)) (m : Mark) → IsBorne n names → is_borne m.0 names ≡ false → IsNumbered n names → IsNumbered (registered n (Some m)) (names ++ Some m.0 ∷ [])
 named_push n names m b fresh h = record {
   number = λ q.
-      number_push n m q ∙ (pick (same_name q m.0) (number_in n q) (place_of q names) n.count (length names)
-      (λ e. none (place_of q names) (ap (λ r. is_borne r names) (same_name_equal q m.0 e) ∙ fresh)) (h.number q) b.count
+      number_push n m q ∙ (pick (same_name q m.0) (number_in n q) (position_of q names) n.count (length names)
+      (λ e. none (position_of q names) (ap (λ r. is_borne r names) (same_name_equal q m.0 e) ∙ fresh)) (h.number q) b.count
       ∙ sym (position_push (is_called q) names (Some m.0)));
 }

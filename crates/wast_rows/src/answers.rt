@@ -6,8 +6,8 @@ ghost use Rattle.wast_rows.specs.Answers.{Answers, TellsRow, Tells, refusal_text
 use crate::errors::RunError;
 use crate::numbers::number;
 use std::alloc::{AllocError, Global};
-use wast_core::{EncodeOptions, Module, ModuleKind};
-use wast_tree::{Error, Fault, Gensym, discard_fields};
+use wast_core::{EncodeOptions, Module, discard_module};
+use wast_tree::{Error, Fault, Gensym};
 
 /// `no row`
 fn no_row(alloc: Global) -> Result<String, AllocError>
@@ -63,14 +63,6 @@ fn line_of_module(alloc: Global, module: &mut Module<'_>) -> Result<String, RunE
     told(alloc, answer)
 }
 
-/// Lets a module go.
-fn discard(module: Module<'_>) {
-    match module.kind {
-        ModuleKind::Text(fields) => discard_fields(fields),
-        ModuleKind::Binary(_) | ModuleKind::Refused(_) => {}
-    }
-}
-
 /// The line of a row, where there is one.
 fn line_of_row(
     alloc: Global,
@@ -83,7 +75,7 @@ fn line_of_row(
         Some(Err(_)) => Err(RunError::Memory),
         Some(Ok(mut module)) => {
             let line = line_of_module(alloc, &mut module);
-            discard(module);
+            discard_module(module);
             line
         }
     }

@@ -9,7 +9,7 @@ use Rattle.wast_tree.specs.declared.ids.Id.{Id}
 use Rattle.wast_tree.specs.declared.ids.Index.{Index}
 use Rattle.wast_tree.specs.declared.ids.Index.TheVariants as index
 
--- the bytes of a written name, or the generation of a generated one
+-- the bytes of a written name, or the generation of a generated one; a counter gives generations from 1 on
 pub data Name : Type 0 where
   Written : List ℕ → Name
   Generated : ℕ → Name

@@ -1,7 +1,7 @@
 -- What the occurrences of a module make known: the number that a name denotes in each space.
 use Rattle.std.specs.Prelude.{ℕ, List, [], ◌∷◌, Option, flat_map, if◌then◌else◌}
 use Rattle.wast_tree.specs.Ids.{Name}
-use Rattle.wast_tree.specs.Spaces.{Space, same_space, name_if, place_of}
+use Rattle.wast_tree.specs.Spaces.{Space, same_space, name_if, position_of}
 use Rattle.wast_tree.specs.Occurrences.{Occurrence, Item, Use}
 
 -- the names of the items of a space, by their positions
@@ -17,4 +17,4 @@ pub record Known : Type 0 where
   pub number : Space → Name → Option ℕ
 
 abbrev pub known : List Occurrence → Known
-known os = record { number = λ s name. place_of name (names_in s os) }
+known os = record { number = λ s name. position_of name (names_in s os) }

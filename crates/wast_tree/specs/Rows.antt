@@ -42,14 +42,14 @@ by_number k n = index.Num k (place n)
 abbrev pub plain_def : TypeDef
 plain_def = record { kind = inner.Func (record { params = []; results = [] }); shared = false; parents = []; descriptor = None; describes = None; final_type = None }
 
--- `(type .. (func))`, which begins at n
+-- `(type .. (func))`, which begins at n; its place is that of its keyword, as for each field
 abbrev pub plain_type : Option Id → ℕ → ty.«Type»
-plain_type id n = record { span = place n; id = id; name = None; def = plain_def }
+plain_type id n = record { span = place (n + 1); id = id; name = None; def = plain_def }
 
 -- `(func .. (type ..) ..)`, which begins at n
 abbrev pub plain_func : Option Id → ℕ → Index → List Instruction → Func
 plain_func id n type instrs = record {
-  span = place n;
+  span = place (n + 1);
   id = id;
   name = None;
   exports = record { names = [] };
@@ -59,7 +59,7 @@ plain_func id n type instrs = record {
 
 -- `(export "a" (func ..))`, which begins at n
 abbrev pub plain_export : Address → ℕ → Index → Export
-plain_export a n item = record { span = place n; name = text a (codes "a"); kind = export.Func; item = item }
+plain_export a n item = record { span = place (n + 1); name = text a (codes "a"); kind = export.Func; item = item }
 
 -- `(type $t (func))`, `(func $f (type ..) ..)` and `(export "a" (func ..))`, which begin at n
 abbrev pub type_field : Address → ℕ → ModuleField

@@ -37,8 +37,8 @@ is_called name None = false
 is_called name (Some other) = same_name name other
 
 -- what a name denotes: the least position that bears it
-abbrev pub place_of : Name → List (Option Name) → Option ℕ
-place_of name names = position (is_called name) names
+abbrev pub position_of : Name → List (Option Name) → Option ℕ
+position_of name names = position (is_called name) names
 
 abbrev pub is_borne : Name → List (Option Name) → Bool
-is_borne name names = is_some (place_of name names)
+is_borne name names = is_some (position_of name names)

@@ -30,7 +30,7 @@ are_settled k os = list_all (is_settled k) os
 abbrev pub has_settled_indices : List ModuleField → Bool
 has_settled_indices fields = are_settled (known (in_module fields)) (in_module fields)
 
--- What follows holds at this stage of the tree.
+-- What follows is what the tree covers today.
 
 -- a parameter has neither id nor name annotation
 abbrev pub is_plain_param : Option Id × Option NameAnnotation × ValType → Bool

@@ -5,7 +5,7 @@ use crate::instrs::Expression;
 use crate::seq::Seq;
 use crate::types::{FunctionType, Type, TypeUse, ValType};
 
-/// A field of a module.
+/// A field of a module (text format, modules).
 #[derive(Debug, Drop)]
 pub enum ModuleField<'a> {
     /// `(type ..)`
@@ -23,10 +23,10 @@ pub struct InlineExport<'a> {
     pub names: Seq<&'a str>,
 }
 
-/// A function: `(func $f (type $t) ..)`.
+/// A function: `(func $f (type $t) ..)` (text format, functions).
 #[derive(Debug, Drop)]
 pub struct Func<'a> {
-    /// Where it begins.
+    /// The place of its keyword.
     pub span: Span,
     /// Its id.
     pub id: Option<Id<'a>>,
@@ -52,7 +52,7 @@ pub enum FuncKind<'a> {
     },
 }
 
-/// A local of a function: `(local $x i32)`.
+/// A local of a function: `(local $x i32)` (text format, functions).
 #[derive(Clone, Copy, Debug, PartialEq, Eq)]
 pub struct Local<'a> {
     /// Its id.
@@ -70,10 +70,10 @@ pub enum ExportKind {
     Func,
 }
 
-/// An export: `(export "a" (func $f))`.
+/// An export: `(export "a" (func $f))` (text format, exports).
 #[derive(Clone, Copy, Debug, PartialEq, Eq)]
 pub struct Export<'a> {
-    /// Where it begins.
+    /// The place of its keyword.
     pub span: Span,
     /// The name under which the item is known outside.
     pub name: &'a str,

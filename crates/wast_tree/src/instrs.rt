@@ -3,7 +3,7 @@
 use crate::ids::Index;
 use crate::seq::Seq;
 
-/// An instruction. Each variant has the name of its text, with `_` for `.`.
+/// An instruction (text format, instructions). Each variant has the name of its text, with `_` for `.`.
 #[allow(non_camel_case_types)]
 #[derive(Debug, Drop)]
 pub enum Instruction<'a> {
@@ -20,7 +20,7 @@ pub struct BranchHint {
     pub value: u32,
 }
 
-/// A flat list of instructions, without the `end` that closes it.
+/// A flat list of instructions, without the `end` that closes it (text format, expressions).
 #[derive(Debug, Drop)]
 pub struct Expression<'a> {
     /// The instructions, in the order of the text.

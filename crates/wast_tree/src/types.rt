@@ -3,7 +3,7 @@
 use crate::ids::{Id, Index, NameAnnotation, Span};
 use crate::seq::Seq;
 
-/// A value type.
+/// A value type (text format, value types).
 #[derive(Clone, Copy, Debug, PartialEq, Eq, Hash)]
 pub enum ValType {
     /// `i32`
@@ -18,7 +18,7 @@ pub enum ValType {
     V128,
 }
 
-/// The parameters and results of a function: `(param $x i32) (result i64)`.
+/// The parameters and results of a function: `(param $x i32) (result i64)` (text format, composite types).
 #[derive(Debug, Drop)]
 pub struct FunctionType<'a> {
     /// Each parameter's id, name annotation and type.
@@ -27,7 +27,7 @@ pub struct FunctionType<'a> {
     pub results: Seq<ValType>,
 }
 
-/// A type use: the index of a type, a type that is written out in place, or both.
+/// A type use: the index of a type, a type that is written out in place, or both (text format, type uses).
 #[derive(Debug, Drop)]
 pub struct TypeUse<'a, T> {
     /// `(type $t)`
@@ -36,14 +36,14 @@ pub struct TypeUse<'a, T> {
     pub inline: Option<T>,
 }
 
-/// A composite type.
+/// A composite type (text format, composite types).
 #[derive(Debug, Drop)]
 pub enum InnerTypeKind<'a> {
     /// `(func ..)`
     Func(FunctionType<'a>),
 }
 
-/// What a type is defined as: a composite type, and how it stands to other types.
+/// What a type is defined as: a composite type, and how it stands to other types (text format, recursive types).
 #[derive(Debug, Drop)]
 pub struct TypeDef<'a> {
     /// The composite type.
@@ -60,10 +60,10 @@ pub struct TypeDef<'a> {
     pub final_type: Option<bool>,
 }
 
-/// A type definition: `(type $t (func ..))`.
+/// A type definition: `(type $t (func ..))` (text format, types).
 #[derive(Debug, Drop)]
 pub struct Type<'a> {
-    /// Where it begins.
+    /// The place of its keyword.
     pub span: Span,
     /// Its id.
     pub id: Option<Id<'a>>,
