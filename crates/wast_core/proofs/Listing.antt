@@ -49,12 +49,9 @@ listed_in_range kind b [] p h = All-nil InRangePart
 listed_in_range kind b (x ∷ xs) p h =
     All-cons InRangePart (record { kind = Listed kind; items = x ∷ xs }) [] (subst (λ bytes. InRangeU32 (length bytes)) (counted_list kind b (x ∷ xs) p) h, in_range_list kind (x ∷ xs) p.in_range) (All-nil InRangePart)
 
-pub appended_part : (kind : SectionKind) (b : Built) (items : List (Entry kind)) (id : ℕ) (bytes : List ℕ) {P : Type 0} (old new : List ℕ) → IsFilled (entry kind) (InRangeEntry kind) empty b items → (b.count == 0) ≡ false
-    → id ≡ section_id kind → bytes ≡ counted b → (new ≡ old ++ section id bytes) × (InRangeU32 (length bytes) × P) → IsAppended old new (listed kind items)
-appended_part kind b items id bytes old new p h i e n = record {
-  bytes = n.0 ∙ (ap (λ k. old ++ section k bytes) i ∙ (ap (λ z. old ++ section (section_id kind) z) e ∙ ap (λ z. old ++ z) (sym (something_listed kind b items p h))));
-  in_range = listed_in_range kind b items p (subst (λ z. InRangeU32 (length z)) e n.1.0);
-}
+pub appended_part : (kind : SectionKind) (b : Built) (items : List (Entry kind)) (old new : List ℕ) → IsFilled (entry kind) (InRangeEntry kind) empty b items → (b.count == 0) ≡ false
+    → (new ≡ old ++ section (section_id kind) (counted b)) × (InRangeU32 (length (counted b)) × Unit {0}) → IsAppended old new (listed kind items)
+appended_part kind b items old new p h n = record { bytes = n.0 ∙ ap (λ z. old ++ z) (sym (something_listed kind b items p h)); in_range = listed_in_range kind b items p n.1.0 }
 
 -- a refusal of the items, and of the part
 pub refused_items : (kind : SectionKind) (items : List (Entry kind)) (e : Error) → IsRefused (InRangeAfter (InRangeEntry kind) 0 items) e → IsRefused (All InRangePart (listed kind items)) e
@@ -65,8 +62,8 @@ refused_items kind items e h = refused_for e (in_part kind items) h
     in_part kind (x ∷ xs) all =
         let r = (All-head InRangePart (record { kind = Listed kind; items = x ∷ xs }) [] all).1 in (subst InRangeU32 (sym (from_none (length (x ∷ xs)))) r.0, r.1)
 
-pub refused_part : (kind : SectionKind) (b : Built) (items : List (Entry kind)) (bytes : List ℕ) {P : Type 0} (e : Error) → IsFilled (entry kind) (InRangeEntry kind) empty b items → (b.count == 0) ≡ false
-    → bytes ≡ counted b → P → IsRefused (InRangeU32 (length bytes) × P) e → IsRefused (All InRangePart (listed kind items)) e
-refused_part kind b [] bytes e p h i always r = absurd (none b.count (count_of kind b [] p) h)
-refused_part kind b (x ∷ xs) bytes e p h i always r =
-    refused_for e (λ all. (subst (λ z. InRangeU32 (length z)) (sym (i ∙ counted_list kind b (x ∷ xs) p)) (All-head InRangePart (record { kind = Listed kind; items = x ∷ xs }) [] all).0, always)) r
+pub refused_part : (kind : SectionKind) (b : Built) (items : List (Entry kind)) (e : Error) → IsFilled (entry kind) (InRangeEntry kind) empty b items → (b.count == 0) ≡ false
+    → IsRefused (InRangeU32 (length (counted b)) × Unit {0}) e → IsRefused (All InRangePart (listed kind items)) e
+refused_part kind b [] e p h r = absurd (none b.count (count_of kind b [] p) h)
+refused_part kind b (x ∷ xs) e p h r =
+    refused_for e (λ all. (subst (λ z. InRangeU32 (length z)) (sym (counted_list kind b (x ∷ xs) p)) (All-head InRangePart (record { kind = Listed kind; items = x ∷ xs }) [] all).0, tt)) r

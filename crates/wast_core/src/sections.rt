@@ -1,110 +1,96 @@
 //! The sections of a module, made of its resolved fields.
 
-ghost use Rattle.std.specs.Prelude.{◌≡◌, IsTrue};
+ghost use Rattle.std.specs.Prelude.{IsTrue};
 ghost use Rattle.std.specs.List.{list_all};
 ghost use Rattle.wasm_ops.specs.Spelling.{InRangeU32};
-ghost use Rattle.wasm_out.specs.Parts.{SectionKind, Types, Functions, Exports, Code, section_id, entry, InRangeEntry};
+ghost use Rattle.wasm_out.specs.Parts.{entry, InRangeEntry};
 ghost use Rattle.wast_core.specs.Encodable.{is_encodable_field};
 ghost use Rattle.wast_core.specs.Filling.{AddsEach};
 ghost use Rattle.wast_core.specs.Meaning.{entries_in, entries, listed, sections};
 ghost use Rattle.wast_core.specs.Writing.{AppendsParts};
-ghost use Rattle.std.specs.Prelude.{refl};
 
 use crate::bodies::body;
 use crate::items::{FuncSectionTy, RecOrType, SectionItem};
 use std::alloc::Global;
-use wasm_out::{Build, CodeSection, ExportSection, FunctionSection, Module, Section, TypeSection};
+use wasm_out::{Build, Code, Exports, Functions, ListKind, ListSection, Module, Types};
 use wast_tree::{Error, ModuleField};
 
-/// A section that is filled field by field.
-trait Fill: Section + Build + Drop {
-    /// Its kind.
-    ghost kind: { SectionKind };
-
+/// A kind of sections that are filled field by field.
+trait Fill: ListKind + Sized {
     /// Adds what the field puts into the section.
-    fn add<'e>(&mut self, alloc: Global, field: &ModuleField) -> Result<(), Error<'e>>
+    fn add<'e>(
+        alloc: Global,
+        section: &mut ListSection<Self>,
+        field: &ModuleField,
+    ) -> Result<(), Error<'e>>
         requires encodable { IsTrue (is_encodable_field field.now) }
-        requires count { InRangeU32 (Self.built self.old).count }
-        ensures { AddsEach (entry kind) (InRangeEntry kind) (Self.built self.old) (Self.built self.new) (entries_in kind field.now) result };
-
-    /// Its id is that of its kind.
-    ghost has_id: { (s : Self) → Self.Section.number s ≡ section_id kind };
-
-    /// Its payload is a list, which is in range where its items are.
-    ghost is_always_in_range: { (s : Self) → Self.Section.in_range s };
+        requires count { InRangeU32 section.old.count }
+        ensures { AddsEach (entry Self.kind) (InRangeEntry Self.kind) section.old section.new (entries_in Self.kind field.now) result };
 }
 
-impl Fill for TypeSection {
-    ghost kind = { Types };
-
-    fn add<'e>(&mut self, alloc: Global, field: &ModuleField) -> Result<(), Error<'e>> {
+impl Fill for Types {
+    fn add<'e>(
+        alloc: Global,
+        section: &mut ListSection<Self>,
+        field: &ModuleField,
+    ) -> Result<(), Error<'e>> {
         match field {
-            ModuleField::Ty(ty) => RecOrType::Ty(ty).encode(alloc, self),
+            ModuleField::Ty(ty) => RecOrType::Ty(ty).encode(alloc, section),
             ModuleField::Func(_) | ModuleField::Export(_) => Ok(()),
         }
     }
-
-    ghost has_id = { λ _. refl };
-
-    ghost is_always_in_range = { λ _. tt };
 }
 
-impl Fill for FunctionSection {
-    ghost kind = { Functions };
-
-    fn add<'e>(&mut self, alloc: Global, field: &ModuleField) -> Result<(), Error<'e>> {
+impl Fill for Functions {
+    fn add<'e>(
+        alloc: Global,
+        section: &mut ListSection<Self>,
+        field: &ModuleField,
+    ) -> Result<(), Error<'e>> {
         match field {
-            ModuleField::Func(func) => FuncSectionTy(&func.ty).encode(alloc, self),
+            ModuleField::Func(func) => FuncSectionTy(&func.ty).encode(alloc, section),
             ModuleField::Ty(_) | ModuleField::Export(_) => Ok(()),
         }
     }
-
-    ghost has_id = { λ _. refl };
-
-    ghost is_always_in_range = { λ _. tt };
 }
 
-impl Fill for ExportSection {
-    ghost kind = { Exports };
-
-    fn add<'e>(&mut self, alloc: Global, field: &ModuleField) -> Result<(), Error<'e>> {
+impl Fill for Exports {
+    fn add<'e>(
+        alloc: Global,
+        section: &mut ListSection<Self>,
+        field: &ModuleField,
+    ) -> Result<(), Error<'e>> {
         match field {
-            ModuleField::Export(export) => export.encode(alloc, self),
+            ModuleField::Export(export) => export.encode(alloc, section),
             ModuleField::Ty(_) | ModuleField::Func(_) => Ok(()),
         }
     }
-
-    ghost has_id = { λ _. refl };
-
-    ghost is_always_in_range = { λ _. tt };
 }
 
-impl Fill for CodeSection {
-    ghost kind = { Code };
-
-    fn add<'e>(&mut self, alloc: Global, field: &ModuleField) -> Result<(), Error<'e>> {
+impl Fill for Code {
+    fn add<'e>(
+        alloc: Global,
+        section: &mut ListSection<Self>,
+        field: &ModuleField,
+    ) -> Result<(), Error<'e>> {
         match field {
-            ModuleField::Func(func) => self.function(&body(alloc, &func.kind)?),
+            ModuleField::Func(func) => section.function(&body(alloc, &func.kind)?),
             ModuleField::Ty(_) | ModuleField::Export(_) => Ok(()),
         }
     }
-
-    ghost has_id = { λ _. refl };
-
-    ghost is_always_in_range = { λ _. tt };
 }
 
-fn fill_with<'e, S: Fill>(
+fn fill_with<'e, K: Fill>(
     alloc: Global,
-    section: &mut S,
+    section: &mut ListSection<K>,
     fields: &[ModuleField],
 ) -> Result<(), Error<'e>>
     requires encodable { IsTrue (list_all is_encodable_field fields.now) }
-    requires count { InRangeU32 (S.Build.built section.old).count }
-    ensures { AddsEach (entry S.kind) (InRangeEntry S.kind) (S.Build.built section.old) (S.Build.built section.new) (entries S.kind fields.now) result }
+    requires count { InRangeU32 section.old.count }
+    ensures { AddsEach (entry K.kind) (InRangeEntry K.kind) section.old section.new (entries K.kind fields.now) result }
 {
     for field in fields {
-        match section.add(alloc, field) {
+        match K::add(alloc, section, field) {
             Ok(()) => {}
             Err(error) => return Err(error),
         }
@@ -113,15 +99,15 @@ fn fill_with<'e, S: Fill>(
 }
 
 /// Appends the section of a kind, where it has items.
-fn append_section<'e, S: Fill>(
+fn append_section<'e, K: Fill>(
     alloc: Global,
     module: &mut Module,
     fields: &[ModuleField],
 ) -> Result<(), Error<'e>>
     requires { IsTrue (list_all is_encodable_field fields.now) }
-    ensures { AppendsParts «module».old «module».new (listed S.kind (entries S.kind fields.now)) result }
+    ensures { AppendsParts «module».old «module».new (listed K.kind (entries K.kind fields.now)) result }
 {
-    let mut section = S::new(alloc);
+    let mut section = ListSection::<K>::new(alloc);
     match fill_with(alloc, &mut section, fields) {
         Ok(()) => {}
         Err(error) => return Err(error),
@@ -144,19 +130,19 @@ pub(crate) fn append_sections<'e>(
     requires { IsTrue (list_all is_encodable_field fields.now) }
     ensures { AppendsParts «module».old «module».new (sections fields.now) result }
 {
-    match append_section::<TypeSection>(alloc, module, fields) {
+    match append_section::<Types>(alloc, module, fields) {
         Ok(()) => {}
         Err(error) => return Err(error),
     }
-    match append_section::<FunctionSection>(alloc, module, fields) {
+    match append_section::<Functions>(alloc, module, fields) {
         Ok(()) => {}
         Err(error) => return Err(error),
     }
-    match append_section::<ExportSection>(alloc, module, fields) {
+    match append_section::<Exports>(alloc, module, fields) {
         Ok(()) => {}
         Err(error) => return Err(error),
     }
-    match append_section::<CodeSection>(alloc, module, fields) {
+    match append_section::<Code>(alloc, module, fields) {
         Ok(()) => {}
         Err(error) => return Err(error),
     }

@@ -9,20 +9,20 @@ use Rattle.wast_core.proofs.Listing.{nothing_listed, refused_items, refused_part
 use Rattle.wast_core.proofs.sections.append_section.Goals as goal
 
 pub returns-in-Err : goal.returns-in-Err
-returns-in-Err g c = refused_items g.S.Fill.kind (entries g.S.Fill.kind c.args.fields.now) c.in-Err.error
-    (subst (λ b. IsRefused (InRangeAfter (InRangeEntry g.S.Fill.kind) b.count (entries g.S.Fill.kind c.args.fields.now)) c.in-Err.error) c.new-section.ensures c.in-Err.ensures)
+returns-in-Err g c = refused_items g.K.ListKind.kind (entries g.K.ListKind.kind c.args.fields.now) c.in-Err.error
+    (subst (λ b. IsRefused (InRangeAfter (InRangeEntry g.K.ListKind.kind) b.count (entries g.K.ListKind.kind c.args.fields.now)) c.in-Err.error) c.new-section.ensures c.in-Err.ensures)
 
 pub returns-then-is_empty : goal.returns-then-is_empty
 returns-then-is_empty g c =
-    let filled = subst (λ b. IsFilled (entry g.S.Fill.kind) (InRangeEntry g.S.Fill.kind) b (g.S.Build.built c.fill_with.new.section) (entries g.S.Fill.kind c.args.fields.now)) c.new-section.ensures c.in-Ok.ensures in
-    subst (IsAppended c.args.module.now c.args.module.now) (sym (nothing_listed g.S.Fill.kind _ _ filled (sym c.is_empty.ensures ∙ c.if-is_empty.true))) (appended_none c.args.module.now)
+    let filled = subst (λ b. IsFilled (entry g.K.ListKind.kind) (InRangeEntry g.K.ListKind.kind) b c.fill_with.new.section (entries g.K.ListKind.kind c.args.fields.now)) c.new-section.ensures c.in-Ok.ensures in
+    subst (IsAppended c.args.module.now c.args.module.now) (sym (nothing_listed g.K.ListKind.kind _ _ filled (sym c.is_empty.ensures ∙ c.if-is_empty.true))) (appended_none c.args.module.now)
 
 pub returns-in-Ok-section : goal.returns-in-Ok-section
 returns-in-Ok-section g c =
-    let filled = subst (λ b. IsFilled (entry g.S.Fill.kind) (InRangeEntry g.S.Fill.kind) b (g.S.Build.built c.fill_with.new.section) (entries g.S.Fill.kind c.args.fields.now)) c.new-section.ensures c.in-Ok.ensures in
-    appended_part g.S.Fill.kind (g.S.Build.built c.fill_with.new.section) _ _ _ c.args.module.now _ filled (sym c.is_empty.ensures ∙ c.if-is_empty.false) (g.met.S.Fill.has_id c.fill_with.new.section) (g.met.S.Build.is_list c.fill_with.new.section) c.in-Ok-section.ensures
+    let filled = subst (λ b. IsFilled (entry g.K.ListKind.kind) (InRangeEntry g.K.ListKind.kind) b c.fill_with.new.section (entries g.K.ListKind.kind c.args.fields.now)) c.new-section.ensures c.in-Ok.ensures in
+    appended_part g.K.ListKind.kind _ _ c.args.module.now _ filled (sym c.is_empty.ensures ∙ c.if-is_empty.false) c.in-Ok-section.ensures
 
 pub returns : goal.returns
 returns g c =
-    let filled = subst (λ b. IsFilled (entry g.S.Fill.kind) (InRangeEntry g.S.Fill.kind) b (g.S.Build.built c.fill_with.new.section) (entries g.S.Fill.kind c.args.fields.now)) c.new-section.ensures c.in-Ok.ensures in
-    refused_part g.S.Fill.kind (g.S.Build.built c.fill_with.new.section) _ _ _ filled (sym c.is_empty.ensures ∙ c.if-is_empty.false) (g.met.S.Build.is_list c.fill_with.new.section) (g.met.S.Fill.is_always_in_range c.fill_with.new.section) c.in-Err-section.ensures.1
+    let filled = subst (λ b. IsFilled (entry g.K.ListKind.kind) (InRangeEntry g.K.ListKind.kind) b c.fill_with.new.section (entries g.K.ListKind.kind c.args.fields.now)) c.new-section.ensures c.in-Ok.ensures in
+    refused_part g.K.ListKind.kind _ _ _ filled (sym c.is_empty.ensures ∙ c.if-is_empty.false) c.in-Err-section.ensures.1

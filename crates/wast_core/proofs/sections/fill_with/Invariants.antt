@@ -6,4 +6,4 @@ use Rattle.wast_core.specs.Meaning.{entries_in}
 use Rattle.wast_core.proofs.sections.fill_with.Given as goal
 
 abbrev pub invariant-loop-field : goal.invariant-loop-field
-invariant-loop-field g l = IsFilled (entry g.S.Fill.kind) (InRangeEntry g.S.Fill.kind) (g.S.Build.built l.fn.section) (g.S.Build.built l.section) (flat_map (entries_in g.S.Fill.kind) (take l.field-index l.fields))
+invariant-loop-field g l = IsFilled (entry g.K.ListKind.kind) (InRangeEntry g.K.ListKind.kind) l.fn.section l.section (flat_map (entries_in g.K.ListKind.kind) (take l.field-index l.fields))

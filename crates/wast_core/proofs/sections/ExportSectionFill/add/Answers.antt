@@ -1,6 +1,0 @@
-use Rattle.wasm_out.specs.Parts.{Exports, entry, InRangeEntry}
-use Rattle.wast_core.proofs.Filled.{adds_one}
-use Rattle.wast_core.proofs.sections.ExportSectionFill.add.Goals as goal
-
-pub returns-in-Export : goal.returns-in-Export
-returns-in-Export c = rw c.in-Export.is (adds_one (entry Exports) (InRangeEntry Exports) c.args.self.now c.encode.new.section _ c.encode.result c.encode.ensures)
