@@ -6,9 +6,9 @@ use Rattle.wast_tree.specs.declared.ids.NameAnnotation.{NameAnnotation}
 use Rattle.wast_tree.specs.declared.fields.ModuleField.{ModuleField}
 use Rattle.wast_tree.specs.declared.fields.ModuleField.TheVariants as field
 use Rattle.wast_tree.specs.Ids.{Name, Written, Generated, name_of}
-use Rattle.wast_tree.specs.Spaces.{Space, Funcs, Types}
+use Rattle.wast_tree.specs.Spaces.{Space, Funcs, Tables, Memories, Globals, Tags, Types}
 use Rattle.wasm_ops.specs.Spelling.{InRangeU32, vec, InRangeVec, InRangeSized, name, InRangeName}
-use Rattle.wasm_out.specs.NameSubsections.{Named, Whole, Functions, subsection, name_entry}
+use Rattle.wasm_out.specs.NameSubsections.{Named, Whole, subsection, name_entry}
 use Rattle.wasm_out.specs.NameSubsections as named
 
 -- a name is the annotation, else a written id, never a generated one
@@ -44,12 +44,24 @@ abbrev pub name_map : Named → List (ℕ × List ℕ) → List ℕ
 name_map of [] = []
 name_map of (e ∷ es) = subsection of (vec name_entry (e ∷ es))
 
+-- the subsection of the names of a space
+abbrev pub named_of : Space → Named
+named_of Funcs = named.Functions
+named_of Tables = named.Tables
+named_of Memories = named.Memories
+named_of Globals = named.Globals
+named_of Tags = named.Tags
+named_of Types = named.Types
+
+abbrev pub item_names : Space → List ModuleField → List ℕ
+item_names s fields = name_map (named_of s) (named_items s fields)
+
 abbrev pub module_name : Option (List ℕ) → List ℕ
 module_name None = []
 module_name (Some text) = subsection Whole (name text)
 
 abbrev pub names_payload : Option (List ℕ) → List ModuleField → List ℕ
-names_payload text fields = module_name text ++ (name_map Functions (named_items Funcs fields) ++ name_map named.Types (named_items Types fields))
+names_payload text fields = module_name text ++ (item_names Funcs fields ++ item_names Types fields)
 
 -- The numbers, counts and lengths in it are in range.
 abbrev pub InRangeNameEntry : ℕ × List ℕ → Type 0

@@ -25,10 +25,8 @@ fn write_index<'e>(out: &mut Vec<u8>, op: IndexOp, index: &Index) -> Result<(), 
     ensures refusal { IfErr result (IsRefused (All IsInstr (index_instr op (meaning.number index.now) ∷ []))) }
 {
     let mut sink = InstructionSink::new(out);
-    match sink.index(op, conv::index(index)) {
-        Ok(()) => Ok(()),
-        Err(error) => Err(error),
-    }
+    sink.index(op, conv::index(index))?;
+    Ok(())
 }
 
 fn write_instr<'e>(out: &mut Vec<u8>, instruction: &Instruction) -> Result<(), Error<'e>>
@@ -47,10 +45,7 @@ fn write_instrs<'e>(out: &mut Vec<u8>, instructions: &[Instruction]) -> Result<(
     ensures refusal { IfErr result (IsRefused (All IsInstr (map meaning.instr instructions.now))) }
 {
     for instruction in instructions {
-        match write_instr(out, instruction) {
-            Ok(()) => {}
-            Err(error) => return Err(error),
-        }
+        write_instr(out, instruction)?;
     }
     Ok(())
 }
@@ -68,10 +63,7 @@ fn inline_body<'e>(
     let types = conv::converted(alloc, locals)?;
     let mut function = Function::new_with_locals_types(alloc, types.as_slice())?;
     let mut bytes = Vec::new(alloc);
-    match write_instrs(&mut bytes, instructions) {
-        Ok(()) => {}
-        Err(error) => return Err(error),
-    }
+    write_instrs(&mut bytes, instructions)?;
     function.raw(&bytes)?;
     function.end()?;
     Ok(function)

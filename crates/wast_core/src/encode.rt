@@ -29,14 +29,8 @@ fn encode_fields<'e>(
     ensures refusal { IfErr result (IsRefused (IsWritable (text_seen name.entry) fields.now)) }
 {
     let mut module = wasm_out::Module::new(alloc)?;
-    match append_sections(alloc, &mut module, fields) {
-        Ok(()) => {}
-        Err(error) => return Err(error),
-    }
-    match append_names(alloc, &mut module, name, fields) {
-        Ok(()) => {}
-        Err(error) => return Err(error),
-    }
+    append_sections(alloc, &mut module, fields)?;
+    append_names(alloc, &mut module, name, fields)?;
     let bytes = module.finish();
     Ok(bytes)
 }

@@ -9,10 +9,8 @@ ghost use Rattle.wasm_out.specs.Parts.{part, InRangePart};
 ghost use Rattle.wast_resolve.specs.Resolvers.{space_of};
 ghost use Rattle.wast_core.specs.Meaning.{names_part};
 ghost use Rattle.wast_core.specs.Names.{names_seen, text_seen};
-ghost use Rattle.wast_core.specs.NamesPayload.{id_text, given_name, names_given, named_items, names_payload, InRangeNameEntry, InRangeNames, InRangeNameMap, InRangeModuleName, module_name, name_map, named_from};
+ghost use Rattle.wast_core.specs.NamesPayload.{id_text, given_name, names_given, named_items, names_payload, InRangeNameEntry, InRangeNames, InRangeNameMap, InRangeModuleName, module_name, item_names, named_from};
 ghost use Rattle.wast_core.specs.Filling.{AddsEach, IsFilled, InRangeAfter};
-ghost use Rattle.wasm_out.specs.NameSubsections as named;
-ghost use Rattle.wast_tree.specs.Spaces.{Funcs, Types};
 
 use std::alloc::Global;
 use wasm_out::{Module, NameMap, NameSection};
@@ -42,7 +40,7 @@ pub(crate) fn given_name<'a>(
 }
 
 /// The name of the field's item in the space, where it has an item there.
-fn name_given<'a>(ns: Ns, field: &ModuleField<'a>) -> Option<Option<&'a str>>
+fn name_in_field<'a>(ns: Ns, field: &ModuleField<'a>) -> Option<Option<&'a str>>
     ensures { names_seen result ≡ names_given (space_of ns) field.now }
 {
     match ns {
@@ -80,7 +78,7 @@ fn name_map<'e>(alloc: Global, ns: Ns, fields: &[ModuleField]) -> Result<NameMap
     let mut names = NameMap::new(alloc);
     let mut position = 0usize;
     for field in fields {
-        if let Some(given) = name_given(ns, field) {
+        if let Some(given) = name_in_field(ns, field) {
             add_name(&mut names, position, given)?;
             position += 1;
         }
@@ -98,36 +96,28 @@ fn append_module_name<'e>(section: &mut NameSection, text: Option<&str>) -> Resu
     }
 }
 
-/// Appends the names of functions, where there are any.
+/// Appends the names of the items of a space, where there are any.
 #[tactic(auto, using(crate::proofs::NameMaps::map_appended))]
-fn append_functions<'e>(
+fn append_items<'e>(
     alloc: Global,
     section: &mut NameSection,
+    ns: Ns,
     fields: &[ModuleField],
 ) -> Result<(), Error<'e>>
-    ensures { Appends (InRangeNameMap (named_items Funcs fields.now)) section.old section.new (name_map named.Functions (named_items Funcs fields.now)) result }
+    ensures { Appends (InRangeNameMap (named_items (space_of ns) fields.now)) section.old section.new (item_names (space_of ns) fields.now) result }
 {
-    let names = name_map(alloc, Ns::Func, fields)?;
+    let names = name_map(alloc, ns, fields)?;
     if names.is_empty() {
         return Ok(());
     }
-    section.functions(&names)
-}
-
-/// Appends the names of types, where there are any.
-#[tactic(auto, using(crate::proofs::NameMaps::map_appended))]
-fn append_types<'e>(
-    alloc: Global,
-    section: &mut NameSection,
-    fields: &[ModuleField],
-) -> Result<(), Error<'e>>
-    ensures { Appends (InRangeNameMap (named_items Types fields.now)) section.old section.new (name_map named.Types (named_items Types fields.now)) result }
-{
-    let names = name_map(alloc, Ns::Ty, fields)?;
-    if names.is_empty() {
-        return Ok(());
+    match ns {
+        Ns::Func => section.functions(&names),
+        Ns::Table => section.tables(&names),
+        Ns::Memory => section.memories(&names),
+        Ns::Global => section.globals(&names),
+        Ns::Tag => section.tags(&names),
+        Ns::Ty => section.types(&names),
     }
-    section.types(&names)
 }
 
 /// The subsections of a module's names.
@@ -142,8 +132,8 @@ fn name_section<'e>(
 {
     let mut section = NameSection::new(alloc);
     append_module_name(&mut section, text)?;
-    append_functions(alloc, &mut section, fields)?;
-    append_types(alloc, &mut section, fields)?;
+    append_items(alloc, &mut section, Ns::Func, fields)?;
+    append_items(alloc, &mut section, Ns::Ty, fields)?;
     Ok(section)
 }
 

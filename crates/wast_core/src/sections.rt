@@ -90,10 +90,7 @@ fn fill_with<'e, K: Fill>(
     ensures { AddsEach (entry K.kind) (InRangeEntry K.kind) section.old section.new (entries K.kind fields.now) result }
 {
     for field in fields {
-        match K::add(alloc, section, field) {
-            Ok(()) => {}
-            Err(error) => return Err(error),
-        }
+        K::add(alloc, section, field)?;
     }
     Ok(())
 }
@@ -108,17 +105,12 @@ fn append_section<'e, K: Fill>(
     ensures { AppendsParts «module».old «module».new (listed K.kind (entries K.kind fields.now)) result }
 {
     let mut section = ListSection::<K>::new(alloc);
-    match fill_with(alloc, &mut section, fields) {
-        Ok(()) => {}
-        Err(error) => return Err(error),
-    }
+    fill_with(alloc, &mut section, fields)?;
     if section.is_empty() {
         return Ok(());
     }
-    match module.section(&section) {
-        Ok(()) => Ok(()),
-        Err(error) => Err(error),
-    }
+    module.section(&section)?;
+    Ok(())
 }
 
 /// Appends the sections of resolved fields, in the order of the binary format.
@@ -130,21 +122,9 @@ pub(crate) fn append_sections<'e>(
     requires { IsTrue (list_all is_encodable_field fields.now) }
     ensures { AppendsParts «module».old «module».new (sections fields.now) result }
 {
-    match append_section::<Types>(alloc, module, fields) {
-        Ok(()) => {}
-        Err(error) => return Err(error),
-    }
-    match append_section::<Functions>(alloc, module, fields) {
-        Ok(()) => {}
-        Err(error) => return Err(error),
-    }
-    match append_section::<Exports>(alloc, module, fields) {
-        Ok(()) => {}
-        Err(error) => return Err(error),
-    }
-    match append_section::<Code>(alloc, module, fields) {
-        Ok(()) => {}
-        Err(error) => return Err(error),
-    }
+    append_section::<Types>(alloc, module, fields)?;
+    append_section::<Functions>(alloc, module, fields)?;
+    append_section::<Exports>(alloc, module, fields)?;
+    append_section::<Code>(alloc, module, fields)?;
     Ok(())
 }

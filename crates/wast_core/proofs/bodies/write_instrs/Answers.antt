@@ -1,4 +1,5 @@
 use Rattle.std.proofs.Common.{sym, subst, ◌∙◌}
+use Rattle.std.proofs.lemmas.Result.{err_from_is_err_and}
 use Rattle.wasm_ops.specs.Table.{IsInstr}
 use Rattle.wast_tree.specs.Occurrences.{in_instr}
 use Rattle.wast_core.specs.Encodable.{is_item, is_resolved}
@@ -14,10 +15,12 @@ loop-instruction-init c = written_none c.args.out.now.items
 pub loop-instruction-preserved : goal.loop-instruction-preserved
 loop-instruction-preserved c =
     subst (IsWritten c.args.out.now.items c.write_instr.new.out.items) (sym (one_more meaning.instr c.args.instructions.now c.loop-instruction.instruction-index _ c.loop-instruction-test.true))
-    (written_more c.args.out.now.items c.loop-instruction.out.items c.write_instr.new.out.items _ _ c.loop-instruction.invariant c.in-Ok.ensures.ok)
+    (written_more c.args.out.now.items c.loop-instruction.out.items c.write_instr.new.out.items _ _ c.loop-instruction.invariant c.in_ok-write_instr.ensures.ok)
 
-pub returns-in-Err-clause-refusal : goal.returns-in-Err-clause-refusal
-returns-in-Err-clause-refusal c = refused_item IsInstr meaning.instr c.args.instructions.now c.loop-instruction.instruction-index _ c.in-Err.error c.loop-instruction-test.true c.in-Err.ensures.refusal
+pub returns-in_err-write_instr-clause-refusal : goal.returns-in_err-write_instr-clause-refusal
+returns-in_err-write_instr-clause-refusal c =
+    let p = err_from_is_err_and c.from_residual.result c.from_residual.ensures.1 in
+    rw (p.1, p.2) (refused_item IsInstr meaning.instr c.args.instructions.now c.loop-instruction.instruction-index _ c.in_err-write_instr.field-0.0 c.loop-instruction-test.true c.in_err-write_instr.ensures.refusal)
 
 pub write_instr-requires : goal.write_instr-requires
 write_instr-requires c = item_passes (λ i. is_resolved (in_instr i)) c.args.instructions.now c.loop-instruction.instruction-index _ c.loop-instruction-test.true (sym (each_passes is_item in_instr c.args.instructions.now) ∙ c.requires)

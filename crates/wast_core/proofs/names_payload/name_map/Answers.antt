@@ -24,7 +24,7 @@ pub loop-field-preserved : goal.loop-field-preserved
 loop-field-preserved c =
     let l = c.loop-field in
     let s = space_of c.args.ns in
-    elim c.match-name_given.branch [
+    elim c.match-name_in_field.branch [
       | in-Some+in_ok-add_name w ↦
           rw (w.names-is, w.position-is, each_more (names_given s) c.args.fields.now l.field-index c.field-item.result _ c.loop-field-test.true c.field-item.is w.in-Some.ensures)
           (mapped_more _ (text_seen w.in-Some.given) l.names w.add_name.new.names l.position l.field-index l.invariant w.in_ok-add_name.ensures)

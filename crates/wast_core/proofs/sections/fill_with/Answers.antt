@@ -1,4 +1,5 @@
 use Rattle.std.proofs.Common.{subst, sym, refl}
+use Rattle.std.proofs.lemmas.Result.{err_from_is_err_and}
 use Rattle.wasm_out.specs.Parts.{entry, InRangeEntry}
 use Rattle.wast_core.specs.Filling.{IsFilled}
 use Rattle.wast_core.specs.Meaning.{entries_in}
@@ -13,12 +14,13 @@ pub loop-field-preserved : goal.loop-field-preserved
 loop-field-preserved g c =
     subst (IsFilled (entry g.K.ListKind.kind) (InRangeEntry g.K.ListKind.kind) c.args.section.now c.add.new.section)
     (sym (each_more (entries_in g.K.ListKind.kind) c.args.fields.now c.loop-field.field-index c.field-item.result (entries_in g.K.ListKind.kind c.field-item.result) c.loop-field-test.true c.field-item.is refl))
-    (filled_more c.args.section.now c.loop-field.section c.add.new.section _ _ c.loop-field.invariant c.in-Ok.ensures)
+    (filled_more c.args.section.now c.loop-field.section c.add.new.section _ _ c.loop-field.invariant c.in_ok-add.ensures)
 
-pub returns-in-Err : goal.returns-in-Err
-returns-in-Err g c =
-    refused_field (InRangeEntry g.K.ListKind.kind) (entries_in g.K.ListKind.kind) c.args.fields.now c.loop-field.field-index c.field-item.result c.args.section.now c.loop-field.section
-    c.in-Err.error c.loop-field-test.true c.field-item.is c.loop-field.invariant c.in-Err.ensures
+pub returns-in_err-add : goal.returns-in_err-add
+returns-in_err-add g c =
+    let p = err_from_is_err_and c.from_residual.result c.from_residual.ensures.1 in
+    rw (p.1, p.2) (refused_field (InRangeEntry g.K.ListKind.kind) (entries_in g.K.ListKind.kind) c.args.fields.now c.loop-field.field-index c.field-item.result c.args.section.now c.loop-field.section
+    c.in_err-add.field-0.0 c.loop-field-test.true c.field-item.is c.loop-field.invariant c.in_err-add.ensures)
 
 pub add-requires-clause-count : goal.add-requires-clause-count
 add-requires-clause-count g c = still_in_range c.loop-field.invariant
