@@ -27,22 +27,11 @@ fn bears<'a>(bearer: &Option<Id<'a>>, id: &Id<'a>) -> bool
     }
 }
 
-fn is_types(ns: Ns) -> bool
-    ensures { result ≡ same_space (space_of ns) Types }
+/// Whether two spaces are the same.
+fn is_same_space(ns: Ns, other: Ns) -> bool
+    ensures { result ≡ same_space (space_of ns) (space_of other) }
 {
-    match ns {
-        Ns::Ty => true,
-        Ns::Func | Ns::Table | Ns::Global | Ns::Memory | Ns::Tag => false,
-    }
-}
-
-fn is_funcs(ns: Ns) -> bool
-    ensures { result ≡ same_space (space_of ns) Funcs }
-{
-    match ns {
-        Ns::Func => true,
-        Ns::Ty | Ns::Table | Ns::Global | Ns::Memory | Ns::Tag => false,
-    }
+    ns == other
 }
 
 /// Whether the field's item stands in the space and bears the id.
@@ -50,8 +39,8 @@ fn field_bears<'a>(field: &ModuleField<'a>, ns: Ns, id: &Id<'a>) -> bool
     ensures { result ≡ is_borne (name_of id.now) (names_in (space_of ns) (in_field field.now)) }
 {
     match field {
-        ModuleField::Ty(ty) => is_types(ns) && bears(&ty.id, id),
-        ModuleField::Func(func) => is_funcs(ns) && bears(&func.id, id),
+        ModuleField::Ty(ty) => is_same_space(ns, Ns::Ty) && bears(&ty.id, id),
+        ModuleField::Func(func) => is_same_space(ns, Ns::Func) && bears(&func.id, id),
         ModuleField::Export(_) => false,
     }
 }
