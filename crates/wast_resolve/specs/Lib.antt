@@ -5,4 +5,4 @@ pub mod Registering
 pub mod Resolved
 pub mod Resolvers
 pub mod Rows
-pub mod Settling
+pub mod Walking

@@ -1,4 +1,4 @@
--- Items put into the name spaces one after the other.
+-- Items put into the name spaces one after the other, as the first pass carries them along; no contract of a public call cites it. What it comes to is the clashes of Demands and what Known makes known.
 use Rattle.std.specs.Prelude.{◌≤◌, ◌^◌, Bool, true, false, List, [], ◌∷◌, ◌++◌, Option}
 use Rattle.wast_tree.specs.Ids.{Mark}
 use Rattle.wast_tree.specs.Spaces.{Space, Funcs, Tables, Memories, Globals, Tags, Types, same_space, word_of}

@@ -16,7 +16,7 @@ use std::alloc::Global;
 use std::marker::Model;
 use wast_tree::{Error, Gensym, Index, ModuleField, Seq};
 
-/// What the ids of a module denote, for a caller that has indices of its own.
+/// What the ids of a module denote, for a caller that has indices of its own (text format, indices).
 #[derive(Drop)]
 pub struct Names<'a> {
     resolver: Resolver<'a>,
@@ -105,6 +105,9 @@ impl<'a> Names<'a> {
 /// item of the space. The error is the first demand that is not met: E2 at the second bearer of an id in a space, in the
 /// order of the fields, and after all of these E4 at an id that denotes nothing. It is E12 where memory was refused, and
 /// E10 only where some space has 2^32 or more items. On an error the fields are dropped. The counter stays.
+///
+/// Inline types, type uses without an index, and the ids of parameters and locals are passed over: well formed fields have
+/// none of them.
 pub fn resolve<'a>(
     alloc: Global,
     fields: Seq<ModuleField<'a>>,

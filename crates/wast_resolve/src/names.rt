@@ -22,6 +22,9 @@ use wast_tree::{Error, ModuleField, Seq, discard_fields};
 /// item of the space. The error is the first demand that is not met: E2 at the second bearer of an id in a space, in the
 /// order of the fields, and after all of these E4 at an id that denotes nothing. It is E12 where memory was refused, and
 /// E10 only where some space has 2^32 or more items. On an error the fields are dropped.
+///
+/// Inline types, type uses without an index, and the ids of parameters and locals are passed over: well formed fields have
+/// none of them.
 pub fn resolve<'a>(
     alloc: Global,
     fields: Seq<ModuleField<'a>>,

@@ -51,7 +51,7 @@ impl Ns {
     }
 }
 
-/// What the ids of a module denote in each space.
+/// What the ids of a module denote in each space (text format, indices).
 #[derive(Drop)]
 pub struct Resolver<'a> {
     funcs: Namespace<'a>,
@@ -122,12 +122,12 @@ impl<'a> Resolver<'a> {
         ensures after { OnOk result (self.new ≡ with_item self.old (space_of ns) (marked id.entry)) }
     {
         match ns {
-            Ns::Func => register_item(&mut self.funcs, id, "func"),
-            Ns::Table => register_item(&mut self.tables, id, "table"),
-            Ns::Global => register_item(&mut self.globals, id, "global"),
-            Ns::Memory => register_item(&mut self.memories, id, "memory"),
-            Ns::Tag => register_item(&mut self.tags, id, "tag"),
-            Ns::Ty => register_item(&mut self.types, id, "type"),
+            Ns::Func => register_item(&mut self.funcs, id, ns.word()),
+            Ns::Table => register_item(&mut self.tables, id, ns.word()),
+            Ns::Global => register_item(&mut self.globals, id, ns.word()),
+            Ns::Memory => register_item(&mut self.memories, id, ns.word()),
+            Ns::Tag => register_item(&mut self.tags, id, ns.word()),
+            Ns::Ty => register_item(&mut self.types, id, ns.word()),
         }
     }
 }

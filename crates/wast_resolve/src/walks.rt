@@ -6,7 +6,7 @@ ghost use Rattle.wast_tree.specs.Known.{Known};
 ghost use Rattle.wast_tree.specs.WellFormed.{are_settled};
 ghost use Rattle.wast_resolve.specs.Resolved.{at, def_with, type_with, type_use_with, instr_with, expression_with, func_kind_with, func_with, export_with, field_with};
 ghost use Rattle.wast_resolve.specs.Resolvers.{space_of, known_of};
-ghost use Rattle.wast_resolve.specs.Settling.{Settles};
+ghost use Rattle.wast_resolve.specs.Walking.{Walks};
 
 use crate::resolver::{Ns, Resolver};
 use wast_tree::{
@@ -27,7 +27,7 @@ pub(crate) trait Walk<'a> {
     /// The error is E4 at the first id that denotes nothing.
     fn walk(&mut self, names: &Resolver<'a>) -> Result<(), Error<'a>>
         requires { IsTrue (are_settled (known_of names.now) (occurrences self.old)) }
-        ensures { Settles (known_of names.now) (occurrences self.old) (becomes (known_of names.now) self.old) self.new result };
+        ensures { Walks (known_of names.now) (occurrences self.old) (becomes (known_of names.now) self.old) self.new result };
 }
 
 /// Walks over each item of a list, in order.
@@ -36,7 +36,7 @@ pub(crate) fn walk_each<'a, T: Walk<'a>>(
     items: &mut Seq<T>,
 ) -> Result<(), Error<'a>>
     requires { IsTrue (are_settled (known_of names.now) (flat_map T.occurrences items.old)) }
-    ensures { Settles (known_of names.now) (flat_map T.occurrences items.old) (map (T.becomes (known_of names.now)) items.old) items.new result }
+    ensures { Walks (known_of names.now) (flat_map T.occurrences items.old) (map (T.becomes (known_of names.now)) items.old) items.new result }
 {
     for i in 0..items.len() {
         items.at_mut(i).walk(names)?;
@@ -48,7 +48,7 @@ pub(crate) fn walk_each<'a, T: Walk<'a>>(
 #[tactic(auto, using(crate::proofs::Indices::denoted_met))]
 fn walk_index<'a>(names: &Resolver<'a>, ns: Ns, index: &mut Index<'a>) -> Result<(), Error<'a>>
     requires { IsTrue (are_settled (known_of names.now) (in_index (space_of ns) index.old)) }
-    ensures { Settles (known_of names.now) (in_index (space_of ns) index.old) (at (known_of names.now) (space_of ns) index.old) index.new result }
+    ensures { Walks (known_of names.now) (in_index (space_of ns) index.old) (at (known_of names.now) (space_of ns) index.old) index.new result }
 {
     names.resolve(index, ns)?;
     Ok(())
@@ -61,7 +61,7 @@ fn walk_optional<'a>(
     index: &mut Option<Index<'a>>,
 ) -> Result<(), Error<'a>>
     requires { IsTrue (are_settled (known_of names.now) (if_there (in_index (space_of ns)) index.old)) }
-    ensures { Settles (known_of names.now) (if_there (in_index (space_of ns)) index.old) (option_map (at (known_of names.now) (space_of ns)) index.old) index.new result }
+    ensures { Walks (known_of names.now) (if_there (in_index (space_of ns)) index.old) (option_map (at (known_of names.now) (space_of ns)) index.old) index.new result }
 {
     if let Some(index) = index {
         walk_index(names, ns, index)?;
@@ -76,7 +76,7 @@ fn walk_indices<'a>(
     indices: &mut Seq<Index<'a>>,
 ) -> Result<(), Error<'a>>
     requires { IsTrue (are_settled (known_of names.now) (flat_map (in_index (space_of ns)) indices.old)) }
-    ensures { Settles (known_of names.now) (flat_map (in_index (space_of ns)) indices.old) (map (at (known_of names.now) (space_of ns)) indices.old) indices.new result }
+    ensures { Walks (known_of names.now) (flat_map (in_index (space_of ns)) indices.old) (map (at (known_of names.now) (space_of ns)) indices.old) indices.new result }
 {
     for i in 0..indices.len() {
         walk_index(names, ns, indices.at_mut(i))?;
