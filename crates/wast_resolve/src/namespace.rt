@@ -1,6 +1,6 @@
 //! A name space: the numbers of names, and how many items there are.
 
-ghost use Rattle.std.specs.Prelude.{◌≡◌, ⊤, ◌+◌, ◌<◌, ◌≤◌, ◌^◌, ◌↔◌, IsTrue, not, Some, IfOk, OnOk, OnErr, IfErr, map as map_list};
+ghost use Rattle.std.specs.Prelude.{◌≡◌, ⊤, ◌+◌, ◌<◌, ◌≤◌, ◌^◌, ◌↔◌, IsTrue, is_some, not, Some, IfOk, OnOk, OnErr, IfErr, map as map_list};
 ghost use Rattle.std.specs.FinMap as finmap;
 ghost use Rattle.wast_tree.specs.Ids.{name_of, place_of, mark_of, marked, text_of, is_generated};
 ghost use Rattle.wast_tree.specs.Faults.{told, At, Unknown};
@@ -78,10 +78,10 @@ impl<'a> Namespace<'a> {
     /// this number.
     ///
     /// It needs a count below 4,294,967,295. Where the id is there already, it answers E2 at the place of the new id,
-    /// still counts, and leaves the id at the new number. E12 changes nothing.
+    /// still counts, and leaves the id at the new number. E12 comes only where there is an id, and changes nothing.
     pub fn register(&mut self, id: Option<Id<'a>>, desc: &'a str) -> Result<u32, Error<'a>>
         requires { self.old.count + 1 < 2 ^ 32 }
-        ensures answer { Gives ⊤ (first_unmet (new_item self.old desc.now (marked id.entry))) self.old.count result }
+        ensures answer { Gives (IsTrue (is_some id.entry)) (first_unmet (new_item self.old desc.now (marked id.entry))) self.old.count result }
         ensures state { self.new ≡ unless_refused result (registered self.old (marked id.entry)) self.old }
     {
         let number = self.count;
