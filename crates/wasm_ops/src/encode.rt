@@ -168,6 +168,22 @@ impl<T: Encode> Encode for Sized<T> {
     }
 }
 
+/// A text as a name: the number of its bytes, and its bytes (binary format, names).
+#[derive(Clone, Copy)]
+pub struct Name<'a>(pub &'a str);
+
+impl<'a> Encode for Name<'a> {
+    ghost spelling = { λ n. name n.0.now };
+
+    ghost in_range = { λ n. InRangeName n.0.now };
+
+    ghost is_covered = { λ _. true };
+
+    fn encode<'e, S: Sink>(&self, out: &mut S) -> Result<(), Error<'e>> {
+        Sized(Raw(self.0.as_bytes())).encode(out)
+    }
+}
+
 /// Appends a name: the number of its bytes, and its bytes (binary format, names).
 ///
 /// The errors are the sink's refusal, where it has no room, and too large, where the name has 2^32 bytes or more; then
@@ -175,5 +191,5 @@ impl<T: Encode> Encode for Sized<T> {
 pub fn write_name<'e, S: Sink>(out: &mut S, text: &str) -> Result<(), Error<'e>>
     ensures { Puts S.appended S.fits S.refusal (InRangeName text.now) out.old out.new (name text.now) result }
 {
-    Sized(Raw(text.as_bytes())).encode(out)
+    Name(text).encode(out)
 }

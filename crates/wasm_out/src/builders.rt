@@ -14,7 +14,7 @@ use crate::items::Items;
 use crate::sections::{Build, Section};
 use std::alloc::Global;
 use std::marker::{Model, PhantomData};
-use wasm_ops::{Encode, ExportKind, Raw, Sized, SubType};
+use wasm_ops::{Encode, ExportKind, Name, Raw, Sized, SubType};
 use wast_tree::Error;
 
 /// A kind of sections whose content is a list.
@@ -154,8 +154,7 @@ impl ExportSection {
         ensures { Adds (InRangeU32 (self.old.count + 1) × InRangeName text.now) self.old self.new
             (export_entry (record { name = text.now; kind = kind; index = index })) result }
     {
-        self.items
-            .push(&(Sized(Raw(text.as_bytes())), (kind, index)))
+        self.items.push(&(Name(text), (kind, index)))
     }
 }
 

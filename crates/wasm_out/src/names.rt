@@ -12,7 +12,7 @@ use crate::items::Items;
 use crate::sections::Section;
 use std::alloc::Global;
 use std::marker::Model;
-use wasm_ops::{Encode, Raw, Sink, Sized};
+use wasm_ops::{Encode, Name, Raw, Sized};
 use wast_tree::Error;
 
 /// Names by index (custom sections, name maps). Contracts see it as its items.
@@ -54,7 +54,7 @@ impl NameMap {
         ensures { Adds (InRangeU32 (self.old.count + 1) × InRangeName text.now) self.old self.new
             (name_entry (index, text.now)) result }
     {
-        self.items.push(&(index, Sized(Raw(text.as_bytes()))))
+        self.items.push(&(index, Name(text)))
     }
 }
 
@@ -148,7 +148,7 @@ impl NameSection {
         ensures { Appends (InRangeU32 (length (name text.now)) × InRangeName text.now) self.old self.new
             (subsection named.Whole (name text.now)) result }
     {
-        self.subsection(0, &Sized(Raw(text.as_bytes())))
+        self.subsection(0, &Name(text))
     }
 
     /// Appends the names of functions.
@@ -255,6 +255,6 @@ impl Section for NameSection {
     }
 
     fn append_to<'e>(&self, out: &mut Vec<u8>) -> Result<(), Error<'e>> {
-        (Sized(Raw(b"name")), Raw(&self.bytes)).encode(out)
+        (Name("name"), Raw(&self.bytes)).encode(out)
     }
 }

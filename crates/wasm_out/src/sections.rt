@@ -6,7 +6,7 @@ ghost use Rattle.wasm_ops.specs.Spelling.{InRangeU32, name, InRangeName};
 ghost use Rattle.wasm_out.specs.Built.{Built, Appends, counted, empty};
 
 use std::alloc::Global;
-use wasm_ops::{Encode, Raw, Sized};
+use wasm_ops::{Encode, Name, Raw};
 use wast_tree::Error;
 
 /// A section of a module: an id, and what stands behind the section's length (binary format, sections).
@@ -93,6 +93,6 @@ impl<'a> Section for CustomSection<'a> {
     }
 
     fn append_to<'e>(&self, out: &mut Vec<u8>) -> Result<(), Error<'e>> {
-        (Sized(Raw(self.name.as_bytes())), Raw(&self.bytes)).encode(out)
+        (Name(self.name), Raw(&self.bytes)).encode(out)
     }
 }
