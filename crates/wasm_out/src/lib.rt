@@ -18,5 +18,5 @@ pub use builders::{
 };
 pub use laws::{building_law, part_spelling_law, reading_laws};
 pub use modules::Module;
-pub use names::{IndirectNameMap, NameMap, NameSection};
+pub use names::{Direct, IndexedNames, Indirect, IndirectNameMap, NameMap, NameSection};
 pub use sections::{Build, CustomSection, Section, StartSection};

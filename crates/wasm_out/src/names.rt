@@ -11,17 +11,18 @@ ghost use Rattle.wasm_out.specs.NameSubsections as named;
 use crate::items::Items;
 use crate::sections::Section;
 use std::alloc::Global;
-use std::marker::Model;
+use std::marker::{Model, PhantomData};
 use wasm_ops::{Encode, Name, Raw, Sized};
 use wast_tree::Error;
 
-/// Names by index (custom sections, name maps). Contracts see it as its items.
+/// Names by index, or maps of them by index (custom sections, name maps). Contracts see it as its items.
 #[derive(Debug, Drop)]
-pub struct NameMap {
+pub struct IndexedNames<K> {
     items: Items,
+    kind: PhantomData<K>,
 }
 
-impl Model for NameMap {
+impl<K> Model for IndexedNames<K> {
     ghost use Rattle.wasm_out.specs.Built.{Built};
 
     ghost Value = { Built };
@@ -29,23 +30,33 @@ impl Model for NameMap {
     ghost view = { λ s. s.items };
 }
 
-impl NameMap {
-    /// No names. It takes no memory.
+impl<K> IndexedNames<K> {
+    /// No items. It takes no memory.
     pub fn new(alloc: Global) -> Self
         ensures { result ≡ empty }
     {
-        NameMap {
+        IndexedNames {
             items: Items::new(alloc),
+            kind: PhantomData,
         }
     }
 
-    /// Whether there are no names.
+    /// Whether there are no items.
     pub fn is_empty(&self) -> bool
         ensures { result ≡ (self.now.count == 0) }
     {
         self.items.is_empty()
     }
+}
 
+/// The kind of maps with a name at each index.
+#[derive(Clone, Copy, Debug)]
+pub struct Direct;
+
+/// Names by index (custom sections, name maps). Contracts see it as its items.
+pub type NameMap = IndexedNames<Direct>;
+
+impl NameMap {
     /// Adds the name of what stands at an index.
     ///
     /// E10 comes only where there would be 2^32 names, or where the name has 2^32 bytes or more; E12 where memory is
@@ -58,37 +69,14 @@ impl NameMap {
     }
 }
 
+/// The kind of maps with a name map at each index.
+#[derive(Clone, Copy, Debug)]
+pub struct Indirect;
+
 /// Name maps by index (custom sections, indirect name maps). Contracts see it as its items.
-#[derive(Debug, Drop)]
-pub struct IndirectNameMap {
-    items: Items,
-}
-
-impl Model for IndirectNameMap {
-    ghost use Rattle.wasm_out.specs.Built.{Built};
-
-    ghost Value = { Built };
-
-    ghost view = { λ s. s.items };
-}
+pub type IndirectNameMap = IndexedNames<Indirect>;
 
 impl IndirectNameMap {
-    /// No maps. It takes no memory.
-    pub fn new(alloc: Global) -> Self
-        ensures { result ≡ empty }
-    {
-        IndirectNameMap {
-            items: Items::new(alloc),
-        }
-    }
-
-    /// Whether there are no maps.
-    pub fn is_empty(&self) -> bool
-        ensures { result ≡ (self.now.count == 0) }
-    {
-        self.items.is_empty()
-    }
-
     /// Adds the names that belong to what stands at an index.
     ///
     /// E10 comes only where there would be 2^32 maps, E12 where memory is refused. Then the map stays as it was.
