@@ -12,6 +12,7 @@ use crate::{
     part_spelling_law, reading_laws,
 };
 use std::alloc::Global;
+use std::process::Abort;
 use wasm_ops::{
     CompositeInnerType, CompositeType, ExportKind, FuncType, IndexOp, InstructionSink, SubType,
     ValType,
@@ -57,37 +58,76 @@ fn plain(alloc: Global) -> SubType {
     }
 }
 
+/// The section has this id, and these bytes behind its length.
+fn has_bytes<S: Section>(rt: &impl Abort, alloc: Global, section: &S, id: u8, payload: &[u8]) {
+    assert!(rt; section.id() == id, "for {payload:?}");
+    let mut out = Vec::new(alloc);
+    assert!(rt; section.append_to(&mut out).is_ok(), "for {payload:?}");
+    assert!(rt; out.as_slice() == payload, "for {payload:?}");
+}
+
+/// A type section with the plain type.
+fn types(rt: &impl Abort, alloc: Global) -> TypeSection {
+    let mut section = TypeSection::new(alloc);
+    let ty = plain(alloc);
+    assert!(rt; ty.is_covered());
+    assert!(rt; section.subtype(&ty).is_ok());
+    section
+}
+
+/// A function section with a function of the type at 0.
+fn functions(rt: &impl Abort, alloc: Global) -> FunctionSection {
+    let mut section = FunctionSection::new(alloc);
+    assert!(rt; section.function(0).is_ok());
+    section
+}
+
+/// An export section with the function at 0, as `a`.
+fn exports(rt: &impl Abort, alloc: Global) -> ExportSection {
+    let mut section = ExportSection::new(alloc);
+    assert!(rt; section.export("a", ExportKind::Func, 0).is_ok());
+    section
+}
+
+/// A code section with a body that has these locals and calls the function at an index.
+fn code(rt: &impl Abort, alloc: Global, types: &[ValType], index: u32) -> CodeSection {
+    let body = calling(alloc, types, index).expect(rt, "memory");
+    let mut section = CodeSection::new(alloc);
+    assert!(rt; section.function(&body).is_ok());
+    section
+}
+
+/// A map with one name.
+fn map(rt: &impl Abort, alloc: Global, index: u32, text: &str) -> NameMap {
+    let mut names = NameMap::new(alloc);
+    assert!(rt; names.append(index, text).is_ok());
+    names
+}
+
+/// A map of maps that has at 3 the name `x` at 2.
+fn maps(rt: &impl Abort, alloc: Global) -> IndirectNameMap {
+    let mut names = IndirectNameMap::new(alloc);
+    assert!(rt; names.append(3, &map(rt, alloc, 2, "x")).is_ok());
+    names
+}
+
+/// A name section with the function `f` and the type `t`.
+fn names(rt: &impl Abort, alloc: Global) -> NameSection {
+    let mut section = NameSection::new(alloc);
+    assert!(rt; section.functions(&map(rt, alloc, 0, "f")).is_ok());
+    assert!(rt; section.types(&map(rt, alloc, 0, "t")).is_ok());
+    section
+}
+
 #[test]
 fn sections_have_the_bytes_of_a_module(rt: HostRuntime) {
     let alloc = rt.alloc();
-    let mut types = TypeSection::new(alloc);
-    assert!(rt; types.is_empty());
-    let ty = plain(alloc);
-    assert!(rt; ty.is_covered());
-    assert!(rt; types.subtype(&ty).is_ok());
-    assert!(rt; !types.is_empty());
-    let mut functions = FunctionSection::new(alloc);
-    assert!(rt; functions.function(0).is_ok());
-    let mut exports = ExportSection::new(alloc);
-    assert!(rt; exports.export("a", ExportKind::Func, 0).is_ok());
-    let mut code = CodeSection::new(alloc);
-    let body = calling(alloc, &[], 0).expect(&rt, "memory");
-    assert!(rt; body.byte_len() == 4);
-    assert!(rt; code.function(&body).is_ok());
-    assert!(rt; code.byte_len() == 5);
-    let mut names = NameSection::new(alloc);
-    let mut function_names = NameMap::new(alloc);
-    assert!(rt; function_names.append(0, "f").is_ok());
-    assert!(rt; names.functions(&function_names).is_ok());
-    let mut type_names = NameMap::new(alloc);
-    assert!(rt; type_names.append(0, "t").is_ok());
-    assert!(rt; names.types(&type_names).is_ok());
     let mut whole = Module::new(alloc).expect(&rt, "memory");
-    assert!(rt; whole.section(&types).is_ok());
-    assert!(rt; whole.section(&functions).is_ok());
-    assert!(rt; whole.section(&exports).is_ok());
-    assert!(rt; whole.section(&code).is_ok());
-    assert!(rt; whole.section(&names).is_ok());
+    assert!(rt; whole.section(&types(&rt, alloc)).is_ok());
+    assert!(rt; whole.section(&functions(&rt, alloc)).is_ok());
+    assert!(rt; whole.section(&exports(&rt, alloc)).is_ok());
+    assert!(rt; whole.section(&code(&rt, alloc, &[], 0)).is_ok());
+    assert!(rt; whole.section(&names(&rt, alloc)).is_ok());
     let bytes = [
         0x00, 0x61, 0x73, 0x6d, 0x01, 0x00, 0x00, 0x00, 0x01, 0x04, 0x01, 0x60, 0x00, 0x00, 0x03,
         0x02, 0x01, 0x00, 0x07, 0x05, 0x01, 0x01, 0x61, 0x00, 0x00, 0x0a, 0x06, 0x01, 0x04, 0x00,
@@ -98,65 +138,83 @@ fn sections_have_the_bytes_of_a_module(rt: HostRuntime) {
 }
 
 #[test]
-fn each_call_has_its_bytes(rt: HostRuntime) {
+fn locals_are_runs_of_equal_types(rt: HostRuntime) {
     let alloc = rt.alloc();
     let types = [ValType::I32, ValType::I32, ValType::I64, ValType::I32];
-    let body = calling(alloc, &types, 300).expect(&rt, "memory");
-    let mut code = CodeSection::new(alloc);
-    assert!(rt; code.function(&body).is_ok());
-    let mut out = Vec::new(alloc);
-    assert!(rt; code.append_to(&mut out).is_ok());
-    let runs = [
+    let bytes = [
         0x01, 0x0b, 0x03, 0x02, 0x7f, 0x01, 0x7e, 0x01, 0x7f, 0x10, 0xac, 0x02, 0x0b,
     ];
-    assert!(rt; out.as_slice() == runs.as_slice());
-    out.clear();
+    has_bytes(&rt, alloc, &code(&rt, alloc, &types, 300), 10, &bytes);
+}
+
+#[test]
+fn start_and_custom_sections_have_their_bytes(rt: HostRuntime) {
+    let alloc = rt.alloc();
     let start = StartSection { function_index: 7 };
-    assert!(rt; start.append_to(&mut out).is_ok());
+    has_bytes(&rt, alloc, &start, 8, &[0x07]);
     let custom = CustomSection {
         name: "c",
         bytes: vec![in alloc; 9, 8].expect(&rt, "memory"),
     };
-    assert!(rt; custom.append_to(&mut out).is_ok());
-    assert!(rt; out.as_slice() == [0x07, 0x01, 0x63, 9, 8].as_slice());
-    assert!(rt; start.id() == 8 && custom.id() == 0);
-    building_law();
-    part_spelling_law();
-    reading_laws();
+    has_bytes(&rt, alloc, &custom, 0, &[0x01, 0x63, 9, 8]);
 }
 
 #[test]
-fn each_name_subsection_has_its_id(rt: HostRuntime) {
+fn subsections_of_name_maps_have_their_ids(rt: HostRuntime) {
     let alloc = rt.alloc();
-    let mut map = NameMap::new(alloc);
-    assert!(rt; map.is_empty());
-    assert!(rt; map.append(2, "x").is_ok());
-    let mut maps = IndirectNameMap::new(alloc);
-    assert!(rt; maps.is_empty());
-    assert!(rt; maps.append(3, &map).is_ok());
-    assert!(rt; !map.is_empty() && !maps.is_empty());
+    let map = map(&rt, alloc, 2, "x");
     let mut names = NameSection::new(alloc);
-    assert!(rt; names.is_empty());
     assert!(rt; names.module("m").is_ok());
-    assert!(rt; names.locals(&maps).is_ok());
-    assert!(rt; names.labels(&maps).is_ok());
     assert!(rt; names.tables(&map).is_ok());
     assert!(rt; names.memories(&map).is_ok());
     assert!(rt; names.globals(&map).is_ok());
     assert!(rt; names.elements(&map).is_ok());
     assert!(rt; names.data_segments(&map).is_ok());
-    assert!(rt; names.fields(&maps).is_ok());
     assert!(rt; names.tags(&map).is_ok());
+    let bytes = [
+        4, 0x6e, 0x61, 0x6d, 0x65, 0, 2, 1, 0x6d, 5, 4, 1, 2, 1, 0x78, 6, 4, 1, 2, 1, 0x78, 7, 4,
+        1, 2, 1, 0x78, 8, 4, 1, 2, 1, 0x78, 9, 4, 1, 2, 1, 0x78, 11, 4, 1, 2, 1, 0x78,
+    ];
+    has_bytes(&rt, alloc, &names, 0, &bytes);
+}
+
+#[test]
+fn subsections_of_maps_of_name_maps_have_their_ids(rt: HostRuntime) {
+    let alloc = rt.alloc();
+    let maps = maps(&rt, alloc);
+    let mut names = NameSection::new(alloc);
+    assert!(rt; names.locals(&maps).is_ok());
+    assert!(rt; names.labels(&maps).is_ok());
+    assert!(rt; names.fields(&maps).is_ok());
     assert!(rt; names.parameters(&maps).is_ok());
     assert!(rt; names.tag_parameters(&maps).is_ok());
-    assert!(rt; !names.is_empty() && names.id() == 0);
-    let mut out = Vec::new(alloc);
-    assert!(rt; names.append_to(&mut out).is_ok());
     let bytes = [
-        4, 0x6e, 0x61, 0x6d, 0x65, 0, 2, 1, 0x6d, 2, 6, 1, 3, 1, 2, 1, 0x78, 3, 6, 1, 3, 1, 2, 1,
-        0x78, 5, 4, 1, 2, 1, 0x78, 6, 4, 1, 2, 1, 0x78, 7, 4, 1, 2, 1, 0x78, 8, 4, 1, 2, 1, 0x78,
-        9, 4, 1, 2, 1, 0x78, 10, 6, 1, 3, 1, 2, 1, 0x78, 11, 4, 1, 2, 1, 0x78, 12, 6, 1, 3, 1, 2,
-        1, 0x78, 13, 6, 1, 3, 1, 2, 1, 0x78,
+        4, 0x6e, 0x61, 0x6d, 0x65, 2, 6, 1, 3, 1, 2, 1, 0x78, 3, 6, 1, 3, 1, 2, 1, 0x78, 10, 6, 1,
+        3, 1, 2, 1, 0x78, 12, 6, 1, 3, 1, 2, 1, 0x78, 13, 6, 1, 3, 1, 2, 1, 0x78,
     ];
-    assert!(rt; out.as_slice() == bytes.as_slice());
+    has_bytes(&rt, alloc, &names, 0, &bytes);
+}
+
+#[test]
+fn what_was_filled_is_not_empty(rt: HostRuntime) {
+    let alloc = rt.alloc();
+    assert!(rt; TypeSection::new(alloc).is_empty() && !types(&rt, alloc).is_empty());
+    assert!(rt; NameMap::new(alloc).is_empty() && !map(&rt, alloc, 2, "x").is_empty());
+    assert!(rt; IndirectNameMap::new(alloc).is_empty() && !maps(&rt, alloc).is_empty());
+    assert!(rt; NameSection::new(alloc).is_empty() && !names(&rt, alloc).is_empty());
+}
+
+#[test]
+fn bodies_tell_their_lengths(rt: HostRuntime) {
+    let alloc = rt.alloc();
+    let body = calling(alloc, &[], 0).expect(&rt, "memory");
+    assert!(rt; body.byte_len() == 4);
+    assert!(rt; code(&rt, alloc, &[], 0).byte_len() == 5);
+}
+
+#[test]
+fn the_laws_can_be_called() {
+    building_law();
+    part_spelling_law();
+    reading_laws();
 }
