@@ -88,7 +88,7 @@ impl<'a, T: Encode> Encode for &'a T {
     }
 }
 
-/// Items one after another, without their number.
+/// Items one after another, without their number (binary format, grammar).
 #[derive(Clone, Copy)]
 pub struct Each<'a, T>(pub &'a [T]);
 
@@ -131,7 +131,7 @@ impl<'a, T: Encode> Encode for Counted<'a, T> {
     }
 }
 
-/// Bytes as they are.
+/// Bytes as they are (binary format, bytes).
 #[derive(Clone, Copy)]
 pub struct Raw<'a>(pub &'a [u8]);
 

@@ -17,7 +17,7 @@ pub enum IndexOp {
 }
 
 impl IndexOp {
-    /// The byte that stands before the index.
+    /// The byte that stands before the index (binary format, instructions).
     pub fn byte(self) -> u8
         ensures { result ≡ index_byte self }
     {
@@ -25,7 +25,7 @@ impl IndexOp {
     }
 }
 
-/// Appends instructions to a sink.
+/// Appends instructions to a sink (binary format, instructions).
 #[derive(Drop)]
 pub struct InstructionSink<'s, S> {
     /// Where the instructions are appended.

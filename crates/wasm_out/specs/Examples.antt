@@ -17,7 +17,7 @@ runs_of_locals : locals (val.I32 ∷ val.I32 ∷ val.I64 ∷ []) ≡ 0x02 ∷ 0x
 unfolding unsigned unsigned_in
 runs_of_locals = refl
 
--- (module (func $f (export "a") (call $f))), with the name of the function and of its type
+-- (module (type $t (func)) (func $f (type $t) call $f) (export "a" (func $f))), with the names of the function and of its type
 abbrev pub parts : List Part
 parts =
     record { kind = Listed Types; items = Single (record { composite_type = record { inner = inner.Func (record { params = []; results = [] }); shared = false; descriptor = None; describes = None }; is_final = true; supertype_idxs = [] }) ∷ [] }

@@ -69,7 +69,8 @@ impl Function {
         Ok(Function { bytes })
     }
 
-    /// Appends instructions that are spelled already. It needs a spelled list of instructions.
+    /// Appends instructions that are spelled already (binary format, instructions). It needs a spelled list of
+    /// instructions.
     ///
     /// E12 comes where memory is refused; then the body stays as it was.
     pub fn raw<'e>(&mut self, bytes: &[u8]) -> Result<(), Error<'e>>
@@ -79,14 +80,14 @@ impl Function {
         self.bytes.put(bytes)
     }
 
-    /// How many bytes the body has so far.
+    /// How many bytes the body has so far, without its length (binary format, code section).
     pub fn byte_len(&self) -> usize
         ensures { result ≡ length self.now }
     {
         self.bytes.len()
     }
 
-    /// Appends the end of the body, `0b`.
+    /// Appends the end of the body, `0b` (binary format, expressions).
     ///
     /// E12 comes where memory is refused; then the body stays as it was.
     pub fn end<'e>(&mut self) -> Result<(), Error<'e>>

@@ -39,8 +39,8 @@ impl Module {
 
     /// Appends a section: its id, the length of its payload, and its payload.
     ///
-    /// E10 comes only where the payload has 2^32 bytes or more or the section is out of range, E12 where memory is
-    /// refused. Then the module stays as it was.
+    /// E10 comes only where the payload has 2^32 bytes or more or a count or length in it is out of range, E12 where
+    /// memory is refused. Then the module stays as it was.
     pub fn section<'e, S: Section>(&mut self, content: &S) -> Result<(), Error<'e>>
         ensures { Appends (InRangeU32 (length (S.payload content.now)) × S.in_range content.now) self.old self.new
             (section (S.number content.now) (S.payload content.now)) result }
