@@ -1,5 +1,6 @@
 -- The parts of a module, and their bytes: an id, the length of the payload, and the payload (binary format, modules: sections).
 use Rattle.std.specs.Prelude.{ℕ, List, ◌∷◌, ◌++◌, length, IsTrue}
+use Rattle.std.specs.Str.{is_utf8}
 use Rattle.wasm_ops.specs.Covered.{is_covered_sub_type}
 use Rattle.wasm_ops.specs.Leb128.{unsigned}
 use Rattle.wasm_ops.specs.declared.types.ExportKind.{ExportKind}
@@ -50,13 +51,17 @@ entry Code b = body b
 abbrev pub InRangeTypeEntry : TypeEntry → Type 0
 InRangeTypeEntry (Single t) = IsTrue (is_covered_sub_type t) × InRangeSubType t
 
+-- a name: UTF-8, of fewer than 2^32 bytes (binary format, names)
+abbrev pub IsName : List ℕ → Type 0
+IsName text = InRangeName text × IsTrue (is_utf8 text)
+
 abbrev pub InRangeExport : ExportEntry → Type 0
-InRangeExport e = InRangeName e.name × InRangeU32 e.index
+InRangeExport e = IsName e.name × InRangeU32 e.index
 
 abbrev pub InRangeBody : Body → Type 0
 InRangeBody b = InRangeSized InRangeContent content b
 
--- an item's numbers, counts and lengths are in range, its type is covered, and its instructions stand in the table
+-- an item's numbers, counts and lengths are in range, its name is one, its type is covered, and its instructions stand in the table
 abbrev pub InRangeEntry : (kind : SectionKind) → Entry kind → Type 0
 InRangeEntry Types t = InRangeTypeEntry t
 InRangeEntry Functions n = InRangeU32 n
@@ -88,7 +93,7 @@ payload Start n = unsigned n
 payload (Listed kind) items = vec (entry kind) items
 
 abbrev pub InRangeItems : (kind : PartKind) → Items kind → Type 0
-InRangeItems Custom c = InRangeName c.name
+InRangeItems Custom c = IsName c.name
 InRangeItems Start n = InRangeU32 n
 InRangeItems (Listed kind) items = InRangeVec (InRangeEntry kind) items
 

@@ -1,6 +1,7 @@
 //! The sections that are lists: types, functions, exports and code.
 
 ghost use Rattle.std.specs.Prelude.{◌≡◌, ◌+◌, ◌++◌, length, refl, IsTrue};
+ghost use Rattle.std.specs.Str.{is_utf8};
 ghost use Rattle.wasm_ops.specs.Covered.{is_covered_sub_type};
 ghost use Rattle.wasm_ops.specs.Leb128.{unsigned};
 ghost use Rattle.wasm_ops.specs.Spelling.{InRangeU32, InRangeName, InRangeSubType, sub_type};
@@ -151,8 +152,9 @@ impl ExportSection {
     /// E10 comes only where there would be 2^32 exports, or where the name has 2^32 bytes or more; E12 where memory is
     /// refused. Then the section stays as it was.
     pub fn export<'e>(&mut self, text: &str, kind: ExportKind, index: u32) -> Result<(), Error<'e>>
-        ensures { Adds (InRangeU32 (self.old.count + 1) × InRangeName text.now) self.old self.new
+        ensures added { Adds (InRangeU32 (self.old.count + 1) × InRangeName text.now) self.old self.new
             (export_entry (record { name = text.now; kind = kind; index = index })) result }
+        ensures text { IsTrue (is_utf8 text.now) }
     {
         self.items.push(&(Name(text), (kind, index)))
     }

@@ -1,8 +1,11 @@
 -- The names of items, with their positions, as a name map takes them in.
-use Rattle.std.proofs.Common.{◌≡◌, ℕ, ◌+◌, ◌≤◌, false, true≢false, ◌==◌, List, [], ◌∷◌, ◌++◌, length, Option, Some, None, sym, ap, ◌∙◌, subst, append-nil, arith, length-append}
-use Rattle.std.specs.Prelude.{Result, Ok, Err, All, OnOk, IfErr}
+use Rattle.std.proofs.Common.{◌≡◌, ℕ, ◌+◌, ◌≤◌, true, false, refl, true≢false, ◌==◌, List, [], ◌∷◌, ◌++◌, length, Option, Some, None, sym, ap, ◌∙◌, subst, append-nil, arith, length-append}
+use Rattle.std.specs.Prelude.{Result, Ok, Err, All, OnOk, IfErr, codes}
+use Rattle.std.specs.Str.{is_utf8}
+use lib.Utf8.{encode}
 use Rattle.std.specs.List.{flat_map}
 use Rattle.std.proofs.lemmas.List.Elements.{All-nil, All-cons, All-head}
+use Rattle.std.proofs.lemmas.Str.{is_utf8-from_IsUtf8}
 use Rattle.wast_tree.specs.declared.faults.Error.{Error}
 use Rattle.wasm_ops.specs.Spelling.{InRangeU32, InRangeName, InRangeVec}
 use Rattle.wasm_out.specs.Built.{Built, Adds, Appends, IsRefused, counted, empty, built}
@@ -75,10 +78,14 @@ map_appended (item ∷ items) of map old new (Ok x) f some h =
 map_appended (item ∷ items) of map old new (Err e) f some h =
     (h.0, refused_for e (λ r. subst (λ b. InRangeU32 (length (counted b))) (sym (built_of (item ∷ items) map f)) r.0) h.1)
 
+name_is_text : is_utf8 (codes "name") ≡ true
+unfolding encode
+name_is_text = is_utf8-from_IsUtf8 (codes "name") (codes "name", (refl, refl))
+
 -- the name section is in range where its payload's length is
 part_in_range : (payload : List ℕ) → InRangeU32 (length (name_payload payload)) → All InRangePart (names_part payload)
 part_in_range [] h = All-nil InRangePart
-part_in_range (b ∷ bs) h = All-cons InRangePart _ [] (h, omega arith) (All-nil InRangePart)
+part_in_range (b ∷ bs) h = All-cons InRangePart _ [] (h, (omega arith, name_is_text)) (All-nil InRangePart)
 
 payload_in_range : (payload : List ℕ) → false ≡ (length payload == 0) → All InRangePart (names_part payload) → InRangeU32 (length (name_payload payload))
 payload_in_range [] some h = absurd (true≢false (sym some))
