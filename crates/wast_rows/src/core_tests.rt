@@ -1,45 +1,77 @@
 //! Each call of `wast_core`, once or twice, with ample memory.
 
+ghost use Rattle.std.specs.Prelude.{◌≡◌, IsTrue};
+ghost use Rattle.wast_core.specs.Modules.{is_well_formed, generation_bound};
+
 use crate::sample;
+use crate::samples::{at, func, module, plain_type, type_at};
+use crate::tests::BYTES_OF_27;
 use std::alloc::Global;
 use std::process::Abort;
 use wasm_out::{Build, ExportSection, FunctionSection, Section, TypeSection};
 use wast_core::{
     EncodeOptions, FuncSectionTy, Module, ModuleKind, RecOrType, SectionItem, Wat, conv,
+    discard_module,
 };
 use wast_tree::{
-    Error, Export, ExportKind, Fault, FunctionType, Gensym, Index, InnerTypeKind, Seq, Span, Type,
-    TypeDef, TypeUse, ValType,
+    Error, Export, ExportKind, Fault, FunctionType, Gensym, Id, Index, InnerTypeKind, ModuleField,
+    NameAnnotation, Seq, TypeDef, TypeUse, ValType,
 };
 
-fn at(offset: usize) -> Span {
-    Span { offset }
+// The module, where it can be encoded with a counter at 1.
+fn ready<'a>(rt: &impl Abort, module: Module<'a>) -> Module<'a>
+    ensures well_formed { IsTrue (is_well_formed result) }
+    ensures bound { generation_bound result ≡ 0 }
+{
+    assert!(rt; module.well_formed());
+    assert!(rt; module.gensym_bound() == 0);
+    module
 }
 
-fn row<'a>(rt: &impl Abort, alloc: Global, n: u32) -> Module<'a> {
-    sample(alloc, n)
-        .expect(rt, "there is such a row")
-        .expect(rt, "memory")
+fn row<'a>(rt: &impl Abort, alloc: Global, n: u32) -> Module<'a>
+    ensures well_formed { IsTrue (is_well_formed result) }
+    ensures bound { generation_bound result ≡ 0 }
+{
+    let made = sample(alloc, n).expect(rt, "there is such a row");
+    ready(rt, made.expect(rt, "memory"))
+}
+
+fn in_hex(rt: &impl Abort, alloc: Global, answer: Result<Vec<u8>, Error<'_>>) -> String {
+    let bytes = answer.expect(rt, "bytes");
+    hex::encode(alloc, bytes.as_slice()).expect(rt, "memory")
 }
 
 #[test]
-fn each_way_of_encoding_gives_the_same(rt: HostRuntime) {
+fn a_module_gives_the_same_bytes_again(rt: HostRuntime) {
     let alloc = rt.alloc();
     let mut gensym = Gensym::new(1);
     let mut module = row(&rt, alloc, 27);
-    assert!(rt; module.well_formed());
-    assert!(rt; module.gensym_bound() == 0);
-    let first = module.encode(alloc, &mut gensym).expect(&rt, "bytes");
-    let again = EncodeOptions::new()
-        .encode_module(alloc, &mut module, &mut gensym)
-        .expect(&rt, "bytes");
-    assert!(rt; first.len() == 52 && first.as_slice() == again.as_slice());
-    let mut wat = Wat::Module(module);
-    let third = wat.encode(alloc, &mut gensym).expect(&rt, "bytes");
-    assert!(rt; first.as_slice() == third.as_slice());
-    let mut component = Wat::Component(at(7));
-    let refused = EncodeOptions::new().encode_wat(alloc, &mut component, &mut gensym);
-    assert!(rt; refused.err() == Some(Error::refusal(Fault::Component)));
+    let first = module.encode(alloc, &mut gensym);
+    assert!(rt; in_hex(&rt, alloc, first).as_str() == BYTES_OF_27);
+    let second = EncodeOptions::new().encode_module(alloc, &mut module, &mut gensym);
+    assert!(rt; in_hex(&rt, alloc, second).as_str() == BYTES_OF_27);
+    assert!(rt; gensym.peek() == 1);
+    discard_module(module);
+}
+
+#[test]
+fn a_text_gives_the_bytes_of_its_module(rt: HostRuntime) {
+    let alloc = rt.alloc();
+    let mut wat = Wat::Module(row(&rt, alloc, 27));
+    let answer = wat.encode(alloc, &mut Gensym::new(1));
+    assert!(rt; in_hex(&rt, alloc, answer).as_str() == BYTES_OF_27);
+    if let Wat::Module(module) = wat {
+        discard_module(module);
+    }
+}
+
+#[test]
+fn a_component_is_refused_and_stays(rt: HostRuntime) {
+    let mut gensym = Gensym::new(1);
+    let mut wat = Wat::Component(at(7));
+    let answer = EncodeOptions::new().encode_wat(rt.alloc(), &mut wat, &mut gensym);
+    assert!(rt; answer.err() == Some(Error::refusal(Fault::Component)));
+    assert!(rt; matches!(&wat, Wat::Component(span) if *span == at(7)));
     assert!(rt; gensym.peek() == 1);
 }
 
@@ -48,27 +80,88 @@ fn a_refusal_is_kept(rt: HostRuntime) {
     let alloc = rt.alloc();
     let mut gensym = Gensym::new(1);
     let mut module = row(&rt, alloc, 32);
-    assert!(rt; module.well_formed());
-    assert!(rt; module.gensym_bound() == 0);
     let refusal = Error::new(at(31), Fault::Duplicate("type"));
     assert!(rt; module.resolve(alloc, &mut gensym).err() == Some(refusal));
     assert!(rt; module.resolve(alloc, &mut gensym).err() == Some(refusal));
     assert!(rt; module.encode(alloc, &mut gensym).err() == Some(refusal));
     assert!(rt; matches!(module.kind, ModuleKind::Refused(_)));
+    discard_module(module);
+}
+
+#[test]
+fn a_binary_module_gives_its_pieces(rt: HostRuntime) {
+    let alloc = rt.alloc();
+    let mut gensym = Gensym::new(1);
     let mut pieces = Seq::new(alloc);
     for piece in [&b"ab"[..], &b""[..], &b"c"[..]] {
         pieces.push(piece).expect(&rt, "memory");
     }
-    let mut binary = Module {
-        span: at(0),
-        id: None,
-        name: None,
-        kind: ModuleKind::Binary(pieces),
-    };
-    assert!(rt; binary.gensym_bound() == 0);
+    let mut binary = ready(&rt, module(ModuleKind::Binary(pieces)));
     assert!(rt; binary.resolve(alloc, &mut gensym).is_ok());
-    let bytes = binary.encode(alloc, &mut gensym).expect(&rt, "bytes");
-    assert!(rt; bytes.as_slice() == b"abc".as_slice());
+    let answer = binary.encode(alloc, &mut gensym);
+    assert!(rt; in_hex(&rt, alloc, answer).as_str() == "616263");
+    discard_module(binary);
+}
+
+#[test]
+fn a_resolved_module_has_names(rt: HostRuntime) {
+    let alloc = rt.alloc();
+    let mut module = row(&rt, alloc, 27);
+    let names = module
+        .resolve(alloc, &mut Gensym::new(1))
+        .expect(&rt, "names");
+    discard_module(module);
+    let mut func = Index::Id(Id::new("f", at(5)));
+    assert!(rt; names.resolve_func(&mut func).is_ok());
+    assert!(rt; func == Index::Num(0, at(0)) && func.span() == at(5));
+}
+
+// What `(func (param i32 i64) (result f32))` defines.
+fn wide_type<'a>(alloc: Global) -> Result<TypeDef<'a>, Error<'a>> {
+    let mut params: Seq<(Option<Id<'a>>, Option<NameAnnotation<'a>>, ValType)> = Seq::new(alloc);
+    params.push((None, None, ValType::I32))?;
+    params.push((None, None, ValType::I64))?;
+    let mut results = Seq::new(alloc);
+    results.push(ValType::F32)?;
+    let mut def = plain_type(alloc, false);
+    def.kind = InnerTypeKind::Func(FunctionType { params, results });
+    Ok(def)
+}
+
+// `(module $m (type (func (param i32 i64) (result f32))) (func (type 0)))`
+fn named_module<'a>(alloc: Global) -> Result<Module<'a>, Error<'a>> {
+    let mut fields = Seq::new(alloc);
+    fields.push(ModuleField::Ty(type_at(None, 12, wide_type(alloc)?)))?;
+    fields.push(func(alloc, None, 56, Index::Num(0, at(67)), Seq::new(alloc)))?;
+    let mut named = module(ModuleKind::Text(fields));
+    named.id = Some(Id::new("m", at(8)));
+    Ok(named)
+}
+
+#[test]
+fn a_named_module_has_its_bytes(rt: HostRuntime) {
+    let alloc = rt.alloc();
+    let mut named = ready(&rt, named_module(alloc).expect(&rt, "memory"));
+    let answer = named.encode(alloc, &mut Gensym::new(1));
+    assert!(rt;
+        in_hex(&rt, alloc, answer).as_str()
+            == "0061736d0100000001070160027f7e017d030201000a040102000b0009046e616d650002016d"
+    );
+    discard_module(named);
+}
+
+#[test]
+fn conversions_have_their_values(rt: HostRuntime) {
+    let alloc = rt.alloc();
+    assert!(rt; conv::index(&Index::Num(5, at(0))) == 5);
+    assert!(rt; conv::val_type(&ValType::F64) == wasm_ops::ValType::F64);
+    assert!(rt; conv::export_kind(ExportKind::Func) == wasm_ops::ExportKind::Func);
+    let plain = plain_type(alloc, false);
+    let InnerTypeKind::Func(ty) = &plain.kind;
+    let function = conv::func_type(alloc, ty).expect(&rt, "memory");
+    assert!(rt; function.params.is_empty() && function.results.is_empty());
+    let sub_type = conv::sub_type(alloc, &plain).expect(&rt, "memory");
+    assert!(rt; sub_type.is_final && sub_type.supertype_idxs.is_empty());
 }
 
 fn payload<S: Section>(rt: &impl Abort, alloc: Global, section: &S) -> Vec<u8> {
@@ -78,46 +171,32 @@ fn payload<S: Section>(rt: &impl Abort, alloc: Global, section: &S) -> Vec<u8> {
 }
 
 #[test]
-fn items_and_conversions_have_their_values(rt: HostRuntime) {
+fn a_type_is_an_item(rt: HostRuntime) {
     let alloc = rt.alloc();
-    assert!(rt; conv::index(&Index::Num(5, at(0))) == 5);
-    assert!(rt; conv::val_type(&ValType::F64) == wasm_ops::ValType::F64);
-    assert!(rt; conv::export_kind(ExportKind::Func) == wasm_ops::ExportKind::Func);
-    let plain = FunctionType {
-        params: Seq::new(alloc),
-        results: Seq::new(alloc),
-    };
-    let function = conv::func_type(alloc, &plain).expect(&rt, "memory");
-    assert!(rt; function.params.is_empty() && function.results.is_empty());
-    let ty = Type {
-        span: at(0),
-        id: None,
-        name: None,
-        def: TypeDef {
-            kind: InnerTypeKind::Func(plain),
-            shared: false,
-            parents: Seq::new(alloc),
-            descriptor: None,
-            describes: None,
-            final_type: None,
-        },
-    };
-    let sub_type = conv::sub_type(alloc, &ty.def).expect(&rt, "memory");
-    assert!(rt; sub_type.is_final && sub_type.supertype_idxs.is_empty());
+    let ty = type_at(None, 9, plain_type(alloc, false));
     let mut types = TypeSection::new(alloc);
     assert!(rt; RecOrType::Ty(&ty).encode(alloc, &mut types).is_ok());
     assert!(rt; payload(&rt, alloc, &types).as_slice() == [1, 0x60, 0, 0].as_slice());
+}
+
+#[test]
+fn a_type_use_is_an_item(rt: HostRuntime) {
+    let alloc = rt.alloc();
     let used = TypeUse {
         index: Some(Index::Num(3, at(0))),
         inline: None,
     };
+    let item = FuncSectionTy(&used);
     let mut functions = FunctionSection::new(alloc);
-    assert!(rt;
-        (&FuncSectionTy(&used))
-            .encode(alloc, &mut functions)
-            .is_ok()
-    );
-    assert!(rt; payload(&rt, alloc, &functions).as_slice() == [1, 3].as_slice());
+    assert!(rt; item.encode(alloc, &mut functions).is_ok());
+    let again = <&FuncSectionTy as SectionItem>::encode(&&item, alloc, &mut functions);
+    assert!(rt; again.is_ok());
+    assert!(rt; payload(&rt, alloc, &functions).as_slice() == [2, 3, 3].as_slice());
+}
+
+#[test]
+fn an_export_is_an_item(rt: HostRuntime) {
+    let alloc = rt.alloc();
     let export = Export {
         span: at(0),
         name: "a",

@@ -1,6 +1,9 @@
 //! The modules of the worked rows.
 
-ghost use Rattle.std.specs.Prelude.{◌↔◌, IsSome, Contains};
+ghost use Rattle.std.specs.Prelude.{◌≡◌, ◌↔◌, IsTrue, not, IsSome, Contains};
+ghost use Rattle.wast_tree.specs.Occurrences.{in_def};
+ghost use Rattle.wast_tree.specs.WellFormed.{is_plain_def};
+ghost use Rattle.wast_core.specs.Encodable.{is_resolved};
 ghost use Rattle.wast_rows.specs.Rows.{row_numbers};
 
 use std::alloc::Global;
@@ -10,7 +13,7 @@ use wast_tree::{
     InnerTypeKind, Instruction, ModuleField, Seq, Span, Type, TypeDef, TypeUse,
 };
 
-fn at(offset: usize) -> Span {
+pub(crate) fn at(offset: usize) -> Span {
     Span { offset }
 }
 
@@ -18,37 +21,52 @@ fn id(name: &str, offset: usize) -> Id<'_> {
     Id::new(name, at(offset))
 }
 
-/// `(type $name (func))` at a place.
-fn empty_type<'a>(alloc: Global, name: Id<'a>, offset: usize) -> ModuleField<'a> {
-    ModuleField::Ty(Type {
-        span: at(offset),
-        id: Some(name),
-        name: None,
-        def: TypeDef {
-            kind: InnerTypeKind::Func(FunctionType {
-                params: Seq::new(alloc),
-                results: Seq::new(alloc),
-            }),
-            shared: false,
-            parents: Seq::new(alloc),
-            descriptor: None,
-            describes: None,
-            final_type: None,
-        },
-    })
+/// What `(func)` defines, and `(shared (func))` where it is shared.
+pub(crate) fn plain_type<'a>(alloc: Global, shared: bool) -> TypeDef<'a>
+    ensures plain { is_plain_def result ≡ not shared }
+    ensures resolved { IsTrue (is_resolved (in_def result)) }
+{
+    TypeDef {
+        kind: InnerTypeKind::Func(FunctionType {
+            params: Seq::new(alloc),
+            results: Seq::new(alloc),
+        }),
+        shared,
+        parents: Seq::new(alloc),
+        descriptor: None,
+        describes: None,
+        final_type: None,
+    }
 }
 
-/// `(func $name (type $ty) ..)` at a place.
-fn func<'a>(
+/// `(type ..)` at a place.
+pub(crate) fn type_at<'a>(id: Option<Id<'a>>, offset: usize, def: TypeDef<'a>) -> Type<'a>
+    ensures { result.def ≡ def.entry }
+{
+    Type {
+        span: at(offset),
+        id,
+        name: None,
+        def,
+    }
+}
+
+/// `(type $name (func))` at a place.
+fn empty_type<'a>(alloc: Global, name: Id<'a>, offset: usize) -> ModuleField<'a> {
+    ModuleField::Ty(type_at(Some(name), offset, plain_type(alloc, false)))
+}
+
+/// `(func .. (type ..) ..)` at a place.
+pub(crate) fn func<'a>(
     alloc: Global,
-    name: Id<'a>,
+    id: Option<Id<'a>>,
     offset: usize,
-    ty: Id<'a>,
+    ty: Index<'a>,
     instrs: Seq<Instruction<'a>>,
 ) -> ModuleField<'a> {
     ModuleField::Func(Func {
         span: at(offset),
-        id: Some(name),
+        id,
         name: None,
         exports: InlineExport {
             names: Seq::new(alloc),
@@ -61,7 +79,7 @@ fn func<'a>(
             },
         },
         ty: TypeUse {
-            index: Some(Index::Id(ty)),
+            index: Some(ty),
             inline: None,
         },
     })
@@ -77,13 +95,13 @@ fn export(item: Id<'_>, offset: usize) -> ModuleField<'_> {
     })
 }
 
-/// A module of these fields, without id.
-fn module(fields: Seq<ModuleField<'_>>) -> Module<'_> {
+/// A module without id.
+pub(crate) fn module(kind: ModuleKind<'_>) -> Module<'_> {
     Module {
         span: at(1),
         id: None,
         name: None,
-        kind: ModuleKind::Text(fields),
+        kind,
     }
 }
 
@@ -93,9 +111,9 @@ fn exported_call<'a>(alloc: Global) -> Result<Module<'a>, Error<'a>> {
     instrs.push(Instruction::call(Index::Id(id("f", 49))))?;
     let mut fields = Seq::new(alloc);
     fields.push(empty_type(alloc, id("t", 14), 9))?;
-    fields.push(func(alloc, id("f", 31), 26, id("t", 40), instrs))?;
+    fields.push(func(alloc, Some(id("f", 31)), 26, Index::Id(id("t", 40)), instrs))?;
     fields.push(export(id("f", 71), 54))?;
-    Ok(module(fields))
+    Ok(module(ModuleKind::Text(fields)))
 }
 
 /// `(module (type $t (func)) (export "a" (func $g)) (func $f (type $t)))`
@@ -103,8 +121,9 @@ fn unknown_export<'a>(alloc: Global) -> Result<Module<'a>, Error<'a>> {
     let mut fields = Seq::new(alloc);
     fields.push(empty_type(alloc, id("t", 14), 9))?;
     fields.push(export(id("g", 43), 26))?;
-    fields.push(func(alloc, id("f", 54), 49, id("t", 63), Seq::new(alloc)))?;
-    Ok(module(fields))
+    let ty = Index::Id(id("t", 63));
+    fields.push(func(alloc, Some(id("f", 54)), 49, ty, Seq::new(alloc)))?;
+    Ok(module(ModuleKind::Text(fields)))
 }
 
 /// `(module (type $t (func)) (type $t (func)))`
@@ -112,7 +131,7 @@ fn same_type_twice<'a>(alloc: Global) -> Result<Module<'a>, Error<'a>> {
     let mut fields = Seq::new(alloc);
     fields.push(empty_type(alloc, id("t", 14), 9))?;
     fields.push(empty_type(alloc, id("t", 31), 26))?;
-    Ok(module(fields))
+    Ok(module(ModuleKind::Text(fields)))
 }
 
 /// The module of a worked row, or want of memory; `None` where there is no such row.
@@ -123,7 +142,7 @@ pub fn sample<'a>(alloc: Global, n: u32) -> Option<Result<Module<'a>, Error<'a>>
     ensures { IsSome result ↔ Contains row_numbers n }
 {
     match n {
-        1 => Some(Ok(module(Seq::new(alloc)))),
+        1 => Some(Ok(module(ModuleKind::Text(Seq::new(alloc))))),
         27 => Some(exported_call(alloc)),
         31 => Some(unknown_export(alloc)),
         32 => Some(same_type_twice(alloc)),

@@ -1,14 +1,16 @@
+use crate::samples::{at, module, plain_type, type_at};
 use crate::{RunError, run, sample};
 use std::alloc::Global;
 use std::io;
 use std::io::{Read, Write};
 use std::test::Fail;
 use wast_core::{Module, ModuleKind};
-use wast_tree::{
-    Error, Fault, FunctionType, Gensym, Id, InnerTypeKind, ModuleField, Seq, Span, Type, TypeDef,
-};
+use wast_tree::{Error, Fault, Gensym, Id, ModuleField, Seq};
 
 const FIRST_ROW: &str = "0061736d01000000\n";
+
+pub(crate) const BYTES_OF_27: &str =
+    "0061736d0100000001040160000003020100070501016100000a0601040010000b0011046e616d65010401000166040401000174";
 
 fn answers(alloc: Global, mut input: &[u8]) -> Result<Vec<u8>, RunError> {
     let mut output = Vec::new(alloc);
@@ -19,10 +21,8 @@ fn answers(alloc: Global, mut input: &[u8]) -> Result<Vec<u8>, RunError> {
 #[test]
 fn rows_have_their_lines(rt: HostRuntime) -> Result<(), Fail> {
     let output = answers(rt.alloc(), b"1\n27\n31\n32\n")?;
-    let bytes_of_27 =
-        "0061736d0100000001040160000003020100070501016100000a0601040010000b0011046e616d65010401000166040401000174";
     let want = format!(in rt.alloc();
-        "{FIRST_ROW}{bytes_of_27}\nfault at 43: unknown func: failed to find name `$g`\nfault at 31: duplicate type identifier\n"
+        "{FIRST_ROW}{BYTES_OF_27}\nfault at 43: unknown func: failed to find name `$g`\nfault at 31: duplicate type identifier\n"
     )?;
     assert_eq!(rt; output.as_slice(), want.as_bytes());
     Ok(())
@@ -59,38 +59,13 @@ fn type_module<'a>(
     id: Option<Id<'a>>,
     shared: bool,
 ) -> Result<Module<'a>, Error<'a>> {
-    let span = Span { offset: 0 };
     let mut fields = Seq::new(alloc);
-    fields.push(ModuleField::Ty(Type {
-        span,
-        id,
-        name: None,
-        def: TypeDef {
-            kind: InnerTypeKind::Func(FunctionType {
-                params: Seq::new(alloc),
-                results: Seq::new(alloc),
-            }),
-            shared,
-            parents: Seq::new(alloc),
-            descriptor: None,
-            describes: None,
-            final_type: None,
-        },
-    }))?;
-    Ok(kind_module(ModuleKind::Text(fields)))
-}
-
-fn kind_module(kind: ModuleKind<'_>) -> Module<'_> {
-    Module {
-        span: Span { offset: 0 },
-        id: None,
-        name: None,
-        kind,
-    }
+    fields.push(ModuleField::Ty(type_at(id, 9, plain_type(alloc, shared))))?;
+    Ok(module(ModuleKind::Text(fields)))
 }
 
 fn generated_module<'a>(alloc: Global) -> Result<Module<'a>, Error<'a>> {
-    let id = Gensym::new(1).generate(Span { offset: 0 })?;
+    let id = Gensym::new(1).generate(at(14))?;
     type_module(alloc, Some(id), false)
 }
 
@@ -100,8 +75,8 @@ fn odd_row<'a>(alloc: Global, n: u32) -> Option<Result<Module<'a>, Error<'a>>> {
         0 => Some(Err(Error::refusal(Fault::Component))),
         1 => Some(type_module(alloc, None, true)),
         2 => Some(generated_module(alloc)),
-        3 => Some(Ok(kind_module(ModuleKind::Refused(Error::refusal(Fault::Component))))),
-        4 => Some(Ok(kind_module(ModuleKind::Refused(Error::refusal(Fault::Memory))))),
+        3 => Some(Ok(module(ModuleKind::Refused(Error::refusal(Fault::Component))))),
+        4 => Some(Ok(module(ModuleKind::Refused(Error::refusal(Fault::Memory))))),
         _ => None,
     }
 }
