@@ -1,3 +1,5 @@
+//! Runs over worked and other rows, from input that ends or fails and to output that takes all or fails.
+
 use crate::samples::{at, module, plain_type, type_at};
 use crate::{RunError, run, sample};
 use std::alloc::Global;
@@ -29,7 +31,7 @@ fn rows_have_their_lines(rt: HostRuntime) -> Result<(), Fail> {
 }
 
 #[test]
-fn other_lines_are_no_rows(rt: HostRuntime) -> Result<(), Fail> {
+fn each_line_has_its_answer(rt: HostRuntime) -> Result<(), Fail> {
     let none = "no row\n";
     let row_and_none = "0061736d01000000\nno row\n";
     for (input, want) in [
@@ -42,6 +44,7 @@ fn other_lines_are_no_rows(rt: HostRuntime) -> Result<(), Fail> {
         (&b"4294967296"[..], none),
         (&b"0"[..], none),
         (&b"2"[..], none),
+        (&b"20"[..], none),
         (&b"\xff\xfe"[..], none),
         (&b"1"[..], FIRST_ROW),
         (&b"1\n"[..], FIRST_ROW),
@@ -107,6 +110,10 @@ fn handed_in_rows_have_their_lines(rt: HostRuntime) -> Result<(), Fail> {
     Ok(())
 }
 
+const TWO_LINES: &[u8] = b"3\n5";
+
+const TWO_ANSWERS: &[u8] = b"refused: components are not encoded\nno row\n";
+
 // Gives or takes one byte a call, and fails once, after so many calls.
 #[derive(Drop)]
 struct FailsOnce<'a> {
@@ -155,39 +162,115 @@ impl Write for FailsOnce<'_> {
 }
 
 #[test]
-fn what_stands_before_a_fault_is_a_beginning(rt: HostRuntime) -> Result<(), Fail> {
-    let input = &b"3\n5"[..];
-    let whole = b"refused: components are not encoded\nno row\n";
-    for (kind, ends) in [
-        (io::ErrorKind::Other, false),
-        (io::ErrorKind::Interrupted, true),
+fn a_reader_fails_once(rt: HostRuntime) -> Result<(), Fail> {
+    for (kind, ends, calls) in [
+        (io::ErrorKind::Other, false, 0),
+        (io::ErrorKind::Other, false, 1),
+        (io::ErrorKind::Other, false, 2),
+        (io::ErrorKind::Other, false, 3),
+        (io::ErrorKind::Interrupted, true, 0),
+        (io::ErrorKind::Interrupted, true, 1),
+        (io::ErrorKind::Interrupted, true, 2),
+        (io::ErrorKind::Interrupted, true, 3),
     ] {
-        for calls in 0..4 {
-            let mut reader = FailsOnce {
-                input,
-                output: Vec::new(rt.alloc()),
-                calls: Some(calls),
-                kind,
-            };
-            let mut output = Vec::new(rt.alloc());
-            let result = run_odd_rows(rt.alloc(), &mut reader, &mut output);
-            assert_eq!(rt; result, if ends { Ok(()) } else { Err(RunError::Read) });
-            assert!(rt; whole.starts_with(output.as_slice()));
-            assert_eq!(rt; output.len() == whole.len(), ends);
-        }
-        for calls in [0, 20, 36, 42] {
-            let mut reader = input;
-            let mut writer = FailsOnce {
-                input: &[],
-                output: Vec::new(rt.alloc()),
-                calls: Some(calls),
-                kind,
-            };
-            let result = run_odd_rows(rt.alloc(), &mut reader, &mut writer);
-            assert_eq!(rt; result, if ends { Ok(()) } else { Err(RunError::Write) });
-            assert!(rt; whole.starts_with(writer.output.as_slice()));
-            assert_eq!(rt; writer.output.len(), if ends { whole.len() } else { calls });
-        }
+        let mut reader = FailsOnce {
+            input: TWO_LINES,
+            output: Vec::new(rt.alloc()),
+            calls: Some(calls),
+            kind,
+        };
+        let mut output = Vec::new(rt.alloc());
+        let result = run_odd_rows(rt.alloc(), &mut reader, &mut output);
+        assert_eq!(rt; result, if ends { Ok(()) } else { Err(RunError::Read) });
+        assert!(rt; TWO_ANSWERS.starts_with(output.as_slice()));
+        assert_eq!(rt; output.len() == TWO_ANSWERS.len(), ends);
+    }
+    Ok(())
+}
+
+#[test]
+fn a_writer_fails_once(rt: HostRuntime) -> Result<(), Fail> {
+    for (kind, ends, calls) in [
+        (io::ErrorKind::Other, false, 0),
+        (io::ErrorKind::Other, false, 20),
+        (io::ErrorKind::Other, false, 36),
+        (io::ErrorKind::Other, false, 42),
+        (io::ErrorKind::Interrupted, true, 0),
+        (io::ErrorKind::Interrupted, true, 20),
+        (io::ErrorKind::Interrupted, true, 36),
+        (io::ErrorKind::Interrupted, true, 42),
+    ] {
+        let mut reader = TWO_LINES;
+        let mut writer = FailsOnce {
+            input: &[],
+            output: Vec::new(rt.alloc()),
+            calls: Some(calls),
+            kind,
+        };
+        let result = run_odd_rows(rt.alloc(), &mut reader, &mut writer);
+        assert_eq!(rt; result, if ends { Ok(()) } else { Err(RunError::Write) });
+        assert!(rt; TWO_ANSWERS.starts_with(writer.output.as_slice()));
+        assert_eq!(rt;
+            writer.output.len(),
+            if ends { TWO_ANSWERS.len() } else { calls }
+        );
+    }
+    Ok(())
+}
+
+// Is interrupted at each call.
+#[derive(Drop)]
+struct NeverEnds {
+    reads: u32,
+}
+
+impl Read for NeverEnds {
+    fn read(&mut self, _buf: &mut [u8]) -> io::Result<usize> {
+        self.reads = self.reads.saturating_add(1);
+        Err(io::ErrorKind::Interrupted.into())
+    }
+}
+
+#[test]
+fn a_reader_without_end_is_left(rt: HostRuntime) {
+    let mut reader = NeverEnds { reads: 0 };
+    let mut output = Vec::new(rt.alloc());
+    let result = run_odd_rows(rt.alloc(), &mut reader, &mut output);
+    assert_eq!(rt; result, Err(RunError::Read));
+    assert_eq!(rt; reader.reads, 1_000_000);
+    assert!(rt; output.is_empty());
+}
+
+// Takes all, but never passes it on.
+#[derive(Drop)]
+struct FlushFails {}
+
+impl Write for FlushFails {
+    fn write(&mut self, buf: &[u8]) -> io::Result<usize> {
+        Ok(buf.len())
+    }
+
+    fn flush(&mut self) -> io::Result<()> {
+        Err(io::ErrorKind::Other.into())
+    }
+}
+
+#[test]
+fn a_flush_that_fails_is_told(rt: HostRuntime) {
+    let mut reader = TWO_LINES;
+    let result = run_odd_rows(rt.alloc(), &mut reader, &mut FlushFails {});
+    assert_eq!(rt; result, Err(RunError::Write));
+}
+
+#[test]
+fn errors_have_their_texts(rt: HostRuntime) -> Result<(), Fail> {
+    for (error, want) in [
+        (RunError::Read, "the input could not be read"),
+        (RunError::Write, "the output could not be written"),
+        (RunError::Memory, "out of memory"),
+    ] {
+        let text = format!(in rt.alloc(); "{error}")?;
+        assert_eq!(rt; text.as_str(), want);
     }
     Ok(())
 }
