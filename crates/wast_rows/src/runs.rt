@@ -163,10 +163,13 @@ fn read_piece<'b, R: Read>(
 /// - the module's bytes in lower case hexadecimal, as encoding gives them with a counter at 1;
 /// - `fault at P: text` or `refused: text` where encoding refuses the module with a place P or without one.
 ///
-/// It answers `Read` where a read fails, or where a million reads do not meet the end; `Write` where a write fails; and
-/// `Memory` where memory is refused, also while a module is made or encoded, and for every error that the function
-/// handed in gives. A read or a write that is interrupted is made again. Lines that were written before an error stay
-/// written, and a beginning of the next one may stand after them.
+/// It answers `Read` where a read fails, or where a million reads do not meet the end; `Write` where a write or a flush
+/// fails; and `Memory` where memory is refused, also while a module is made or encoded, and for every error that the
+/// function handed in gives. A read or a write that is interrupted is made again. Lines that were written before an
+/// error stay written, and a beginning of the next one may stand after them.
+///
+/// The contract speaks of readers and writers that tell their bytes, as `&[u8]` and `Vec<u8>` do; of others, such as the
+/// standard streams, it says nothing of what was read and written.
 pub fn run<'a, R: Read, W: Write, F: Fn(u32) -> Option<Result<Module<'a>, Error<'a>>>>(
     alloc: Global,
     reader: &mut R,
