@@ -50,6 +50,13 @@ fn a_second_bearer_takes_the_name(rt: HostRuntime) {
 }
 
 #[test]
+fn an_item_without_a_name_takes_a_number(rt: HostRuntime) {
+    let mut space = Namespace::with_count(rt.alloc(), 4);
+    assert!(rt; space.register(None, "func") == Ok(4));
+    assert!(rt; space.register_specific(Id::new("c", at(5)), 9, "func") == Ok(()));
+}
+
+#[test]
 fn a_count_ends_below_two_to_the_32(rt: HostRuntime) {
     let mut space = Namespace::with_count(rt.alloc(), 4294967294);
     assert!(rt; space.alloc() == 4294967294);
@@ -59,13 +66,13 @@ fn a_count_ends_below_two_to_the_32(rt: HostRuntime) {
     assert!(rt; error == Error::new(at(9), Fault::Unknown("table", "x")));
 }
 
-// `(type $t (func))`
-fn type_field(alloc: Global, offset: usize) -> ModuleField<'static>
+// `(type $t (func))`, by the places of its keyword and its id
+fn type_field(alloc: Global, keyword: usize, id: usize) -> ModuleField<'static>
     ensures { IsTrue (are_settled (known []) (in_field result)) }
 {
     ModuleField::Ty(Type {
-        span: at(offset),
-        id: Some(Id::new("t", at(offset))),
+        span: at(keyword),
+        id: Some(Id::new("t", at(id))),
         name: None,
         def: TypeDef {
             kind: InnerTypeKind::Func(FunctionType {
@@ -90,7 +97,7 @@ fn func_field(rt: &impl Abort, alloc: Global) -> ModuleField<'static>
         .push(Instruction::call(Index::Id(Id::new("f", at(49)))))
         .expect(rt, "memory");
     ModuleField::Func(Func {
-        span: at(25),
+        span: at(26),
         id: Some(Id::new("f", at(31))),
         name: None,
         exports: InlineExport {
@@ -115,7 +122,7 @@ fn export_field(name: &'static str, offset: usize) -> ModuleField<'static>
     ensures { IsTrue (are_settled (known []) (in_field result)) }
 {
     ModuleField::Export(Export {
-        span: at(53),
+        span: at(54),
         name: "a",
         kind: ExportKind::Func,
         item: Index::Id(Id::new(name, at(offset))),
@@ -154,7 +161,7 @@ fn callee(kind: &FuncKind<'static>) -> Option<Index<'static>> {
 fn a_resolved_module_has_numbers(rt: HostRuntime) {
     let alloc = rt.alloc();
     let mut fields = Seq::new(alloc);
-    add(&rt, &mut fields, type_field(alloc, 14));
+    add(&rt, &mut fields, type_field(alloc, 9, 14));
     add(&rt, &mut fields, func_field(&rt, alloc));
     add(&rt, &mut fields, export_field("f", 71));
     let mut gensym = Gensym::new(1);
@@ -227,7 +234,7 @@ fn names_answer(rt: &impl Abort, names: &Names<'static>) {
 fn a_resolver_goes_on_answering(rt: HostRuntime) {
     let alloc = rt.alloc();
     let mut fields = Seq::new(alloc);
-    add(&rt, &mut fields, type_field(alloc, 14));
+    add(&rt, &mut fields, type_field(alloc, 9, 14));
     let resolved = names::resolve(alloc, fields);
     assert!(rt; resolved.is_ok());
     let Ok((fields, resolver)) = resolved else {
@@ -243,7 +250,7 @@ fn a_resolver_goes_on_answering(rt: HostRuntime) {
 fn an_unknown_name_is_told_at_its_place(rt: HostRuntime) {
     let alloc = rt.alloc();
     let mut fields = Seq::new(alloc);
-    add(&rt, &mut fields, type_field(alloc, 14));
+    add(&rt, &mut fields, type_field(alloc, 9, 14));
     add(&rt, &mut fields, export_field("g", 43));
     match names::resolve(alloc, fields) {
         Ok((fields, _)) => {
@@ -260,8 +267,8 @@ fn a_clash_is_told_before_an_unknown_name(rt: HostRuntime) {
     let alloc = rt.alloc();
     let mut fields = Seq::new(alloc);
     add(&rt, &mut fields, export_field("g", 43));
-    add(&rt, &mut fields, type_field(alloc, 14));
-    add(&rt, &mut fields, type_field(alloc, 31));
+    add(&rt, &mut fields, type_field(alloc, 9, 14));
+    add(&rt, &mut fields, type_field(alloc, 26, 31));
     match names::resolve(alloc, fields) {
         Ok((fields, _)) => {
             discard_fields(fields);
