@@ -1,6 +1,7 @@
 //! The modules of the worked rows.
 
-ghost use Rattle.std.specs.Prelude.{◌≡◌, ◌↔◌, IsTrue, not, IsSome, Contains};
+ghost use Rattle.std.specs.Prelude.{◌≡◌, ◌↔◌, IsTrue, not, IsSome, IfSome, IfErr, Contains};
+ghost use Rattle.wast_tree.specs.Faults.{out_of_memory};
 ghost use Rattle.wast_tree.specs.Occurrences.{in_def};
 ghost use Rattle.wast_tree.specs.WellFormed.{is_plain_def};
 ghost use Rattle.wast_core.specs.Encodable.{is_resolved};
@@ -106,7 +107,9 @@ pub(crate) fn module(kind: ModuleKind<'_>) -> Module<'_> {
 }
 
 /// `(module (type $t (func)) (func $f (type $t) call $f) (export "a" (func $f)))`
-fn exported_call<'a>(alloc: Global) -> Result<Module<'a>, Error<'a>> {
+fn exported_call<'a>(alloc: Global) -> Result<Module<'a>, Error<'a>>
+    ensures { IfErr result (λ e. e ≡ out_of_memory) }
+{
     let mut instrs = Seq::new(alloc);
     instrs.push(Instruction::call(Index::Id(id("f", 49))))?;
     let mut fields = Seq::new(alloc);
@@ -117,7 +120,9 @@ fn exported_call<'a>(alloc: Global) -> Result<Module<'a>, Error<'a>> {
 }
 
 /// `(module (type $t (func)) (export "a" (func $g)) (func $f (type $t)))`
-fn unknown_export<'a>(alloc: Global) -> Result<Module<'a>, Error<'a>> {
+fn unknown_export<'a>(alloc: Global) -> Result<Module<'a>, Error<'a>>
+    ensures { IfErr result (λ e. e ≡ out_of_memory) }
+{
     let mut fields = Seq::new(alloc);
     fields.push(empty_type(alloc, id("t", 14), 9))?;
     fields.push(export(id("g", 43), 26))?;
@@ -127,7 +132,9 @@ fn unknown_export<'a>(alloc: Global) -> Result<Module<'a>, Error<'a>> {
 }
 
 /// `(module (type $t (func)) (type $t (func)))`
-fn same_type_twice<'a>(alloc: Global) -> Result<Module<'a>, Error<'a>> {
+fn same_type_twice<'a>(alloc: Global) -> Result<Module<'a>, Error<'a>>
+    ensures { IfErr result (λ e. e ≡ out_of_memory) }
+{
     let mut fields = Seq::new(alloc);
     fields.push(empty_type(alloc, id("t", 14), 9))?;
     fields.push(empty_type(alloc, id("t", 31), 26))?;
@@ -139,7 +146,8 @@ fn same_type_twice<'a>(alloc: Global) -> Result<Module<'a>, Error<'a>> {
 /// The rows are 1, 27, 31 and 32. Places are offsets in the text of the row's module: of a field that of its keyword,
 /// of an id that of its `$`.
 pub fn sample<'a>(alloc: Global, n: u32) -> Option<Result<Module<'a>, Error<'a>>>
-    ensures { IsSome result ↔ Contains row_numbers n }
+    ensures there { IsSome result ↔ Contains row_numbers n }
+    ensures refusal { IfSome result (λ made. IfErr made (λ e. e ≡ out_of_memory)) }
 {
     match n {
         1 => Some(Ok(module(ModuleKind::Text(Seq::new(alloc))))),
