@@ -15,7 +15,7 @@ use wast_core::{
 };
 use wast_tree::{
     Error, Export, ExportKind, Fault, FunctionType, Gensym, Id, Index, InnerTypeKind, ModuleField,
-    NameAnnotation, Seq, TypeDef, TypeUse, ValType,
+    Seq, TypeDef, TypeUse, ValType,
 };
 
 // The module, where it can be encoded with a counter at 1.
@@ -117,31 +117,32 @@ fn a_resolved_module_has_names(rt: HostRuntime) {
 }
 
 // What `(func (param i32 i64) (result f32))` defines.
-fn wide_type<'a>(alloc: Global) -> Result<TypeDef<'a>, Error<'a>> {
-    let mut params: Seq<(Option<Id<'a>>, Option<NameAnnotation<'a>>, ValType)> = Seq::new(alloc);
-    params.push((None, None, ValType::I32))?;
-    params.push((None, None, ValType::I64))?;
-    let mut results = Seq::new(alloc);
-    results.push(ValType::F32)?;
+fn wide_type<'a>(rt: &impl Abort, alloc: Global) -> TypeDef<'a> {
+    let params = vec![in alloc; (None, None, ValType::I32), (None, None, ValType::I64)];
+    let results = vec![in alloc; ValType::F32];
     let mut def = plain_type(alloc, false);
-    def.kind = InnerTypeKind::Func(FunctionType { params, results });
-    Ok(def)
+    def.kind = InnerTypeKind::Func(FunctionType {
+        params: Seq::from_vec(params.expect(rt, "memory")),
+        results: Seq::from_vec(results.expect(rt, "memory")),
+    });
+    def
 }
 
 // `(module $m (type (func (param i32 i64) (result f32))) (func (type 0)))`
-fn named_module<'a>(alloc: Global) -> Result<Module<'a>, Error<'a>> {
-    let mut fields = Seq::new(alloc);
-    fields.push(ModuleField::Ty(type_at(None, 12, wide_type(alloc)?)))?;
-    fields.push(func(alloc, None, 56, Index::Num(0, at(67)), Seq::new(alloc)))?;
-    let mut named = module(ModuleKind::Text(fields));
+fn named_module<'a>(rt: &impl Abort, alloc: Global) -> Module<'a> {
+    let fields = vec![in alloc;
+        ModuleField::Ty(type_at(None, 12, wide_type(rt, alloc))),
+        func(alloc, None, 56, Index::Num(0, at(67)), Seq::new(alloc)),
+    ];
+    let mut named = module(ModuleKind::Text(Seq::from_vec(fields.expect(rt, "memory"))));
     named.id = Some(Id::new("m", at(8)));
-    Ok(named)
+    named
 }
 
 #[test]
 fn a_named_module_has_its_bytes(rt: HostRuntime) {
     let alloc = rt.alloc();
-    let mut named = ready(&rt, named_module(alloc).expect(&rt, "memory"));
+    let mut named = ready(&rt, named_module(&rt, alloc));
     let answer = named.encode(alloc, &mut Gensym::new(1));
     assert!(rt;
         in_hex(&rt, alloc, answer).as_str()
