@@ -21,10 +21,9 @@ fn at(offset: usize) -> Span {
 
 #[test]
 fn a_second_bearer_takes_the_name(rt: HostRuntime) {
-    let a = Id::new("a", at(1));
     let again = Id::new("a", at(2));
     let mut space = Namespace::new(rt.alloc());
-    assert!(rt; space.register(Some(a), "func") == Ok(0));
+    assert!(rt; space.register(Some(Id::new("a", at(1))), "func") == Ok(0));
     assert!(rt; !space.is_full());
     assert!(rt;
         space.register(Some(again), "func") == Err(Error::new(at(2), Fault::Duplicate("func")))
@@ -34,26 +33,39 @@ fn a_second_bearer_takes_the_name(rt: HostRuntime) {
     assert!(rt; idx.span() == at(3) && idx == Index::Num(1, at(0)));
     assert!(rt; !space.is_full());
     assert!(rt; space.alloc() == 2);
-    assert!(rt;
-        space.register_specific(again, 7, "func")
-            == Err(Error::new(at(2), Fault::DuplicateField("func", "a")))
-    );
-    let mut idx = Index::Id(a);
-    assert!(rt; space.resolve(&mut idx, "func") == Ok(7));
-    assert!(rt; !space.is_full());
-    assert!(rt; space.alloc() == 3);
-    let mut other = Index::Id(Id::new("b", at(4)));
-    assert!(rt;
-        space.resolve(&mut other, "func") == Err(resolve_error(Id::new("b", at(4)), "func"))
-    );
-    assert!(rt; other == Index::Id(Id::new("b", at(0))));
 }
 
 #[test]
 fn an_item_without_a_name_takes_a_number(rt: HostRuntime) {
     let mut space = Namespace::with_count(rt.alloc(), 4);
     assert!(rt; space.register(None, "func") == Ok(4));
+    assert!(rt; !space.is_full());
+    assert!(rt; space.alloc() == 5);
+}
+
+#[test]
+fn a_second_number_takes_the_name(rt: HostRuntime) {
+    let again = Id::new("c", at(6));
+    let mut space = Namespace::new(rt.alloc());
     assert!(rt; space.register_specific(Id::new("c", at(5)), 9, "func") == Ok(()));
+    assert!(rt;
+        space.register_specific(again, 7, "func")
+            == Err(Error::new(at(6), Fault::DuplicateField("func", "c")))
+    );
+    let mut idx = Index::Id(again);
+    assert!(rt; space.resolve(&mut idx, "func") == Ok(7));
+    assert!(rt; !space.is_full());
+    assert!(rt; space.alloc() == 0);
+}
+
+#[test]
+fn an_unknown_name_stays(rt: HostRuntime) {
+    let other = Id::new("b", at(4));
+    let mut idx = Index::Id(other);
+    assert!(rt;
+        Namespace::new(rt.alloc()).resolve(&mut idx, "func") == Err(resolve_error(other, "func"))
+    );
+    assert!(rt; idx == Index::Id(other));
 }
 
 #[test]
