@@ -39,23 +39,27 @@ fn a_second_bearer_takes_the_name(rt: HostRuntime) {
 fn an_item_without_a_name_takes_a_number(rt: HostRuntime) {
     let mut space = Namespace::with_count(rt.alloc(), 4);
     assert!(rt; space.register(None, "func") == Ok(4));
+    assert!(rt; space.register_specific(Id::new("c", at(5)), 9, "func") == Ok(()));
     assert!(rt; !space.is_full());
     assert!(rt; space.alloc() == 5);
 }
 
+// As `a_second_bearer_takes_the_name` leaves it.
 #[test]
 fn a_second_number_takes_the_name(rt: HostRuntime) {
-    let again = Id::new("c", at(6));
+    let a = Id::new("a", at(1));
     let mut space = Namespace::new(rt.alloc());
-    assert!(rt; space.register_specific(Id::new("c", at(5)), 9, "func") == Ok(()));
+    assert!(rt; space.register(Some(a), "func").is_ok() && !space.is_full());
+    assert!(rt; space.register(Some(a), "func").is_err() && !space.is_full());
+    assert!(rt; space.alloc() == 2);
     assert!(rt;
-        space.register_specific(again, 7, "func")
-            == Err(Error::new(at(6), Fault::DuplicateField("func", "c")))
+        space.register_specific(Id::new("a", at(2)), 7, "func")
+            == Err(Error::new(at(2), Fault::DuplicateField("func", "a")))
     );
-    let mut idx = Index::Id(again);
+    let mut idx = Index::Id(a);
     assert!(rt; space.resolve(&mut idx, "func") == Ok(7));
     assert!(rt; !space.is_full());
-    assert!(rt; space.alloc() == 0);
+    assert!(rt; space.alloc() == 3);
 }
 
 #[test]
