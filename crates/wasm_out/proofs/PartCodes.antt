@@ -41,7 +41,7 @@ type_entry_code = record { begins = type_begins }
     type_begins (Single x) (Single y) r s p q e = let one = sub_type_code.begins x y r s p q e in (ap Single one.0, one.1)
 
 export_entry_code : IsCode ExportEntry InRangeExport export_entry
-export_entry_code = code_within (λ e p. (p.0.0, (tt, p.1))) (code_by (λ (e : ExportEntry). (e.name, (e.kind, e.index))) (λ p. record { name = p.0; kind = p.1.0; index = p.1.1 }) (λ e. refl) (pair_code name_code (pair_code export_kind_code index_code)))
+export_entry_code = code_within (λ e p. (p.0, (tt, p.1))) (code_by (λ (e : ExportEntry). (e.name, (e.kind, e.index))) (λ p. record { name = p.0; kind = p.1.0; index = p.1.1 }) (λ e. refl) (pair_code name_code (pair_code export_kind_code index_code)))
 
 pub entry_code : (kind : SectionKind) → IsCode (Entry kind) (InRangeEntry kind) (entry kind)
 entry_code Types = type_entry_code
@@ -55,7 +55,7 @@ bytes_whole : IsWhole (List ℕ) Any (λ bytes. bytes)
 bytes_whole = record { same = λ x y p q e. e }
 
 custom_whole : IsWhole CustomPart (InRangeItems Custom) custom
-custom_whole = whole_within (λ c p. (p.0, tt)) (whole_by (λ (c : CustomPart). (c.name, c.bytes)) (λ p. record { name = p.0; bytes = p.1 }) (λ c. refl) (pair_whole name_code bytes_whole))
+custom_whole = whole_within (λ c p. (p, tt)) (whole_by (λ (c : CustomPart). (c.name, c.bytes)) (λ p. record { name = p.0; bytes = p.1 }) (λ c. refl) (pair_whole name_code bytes_whole))
 
 pub payload_whole : (kind : PartKind) → IsWhole (Items kind) (InRangeItems kind) (payload kind)
 payload_whole Custom = custom_whole

@@ -1,5 +1,5 @@
 -- The parts of a module, and their bytes: an id, the length of the payload, and the payload (binary format, modules: sections).
-use Rattle.std.specs.Prelude.{ℕ, List, ◌∷◌, ◌++◌, length, IsTrue}
+use Rattle.std.specs.Prelude.{ℕ, List, ◌∷◌, ◌++◌, length, All, IsTrue}
 use Rattle.std.specs.Str.{is_utf8}
 use Rattle.wasm_ops.specs.Covered.{is_covered_sub_type}
 use Rattle.wasm_ops.specs.Leb128.{unsigned}
@@ -51,17 +51,13 @@ entry Code b = body b
 abbrev pub InRangeTypeEntry : TypeEntry → Type 0
 InRangeTypeEntry (Single t) = IsTrue (is_covered_sub_type t) × InRangeSubType t
 
--- a name: UTF-8, of fewer than 2^32 bytes (binary format, names)
-abbrev pub IsName : List ℕ → Type 0
-IsName text = InRangeName text × IsTrue (is_utf8 text)
-
 abbrev pub InRangeExport : ExportEntry → Type 0
-InRangeExport e = IsName e.name × InRangeU32 e.index
+InRangeExport e = InRangeName e.name × InRangeU32 e.index
 
 abbrev pub InRangeBody : Body → Type 0
 InRangeBody b = InRangeSized InRangeContent content b
 
--- an item's numbers, counts and lengths are in range, its name is one, its type is covered, and its instructions stand in the table
+-- an item's numbers, counts and lengths are in range, its type is covered, and its instructions stand in the table
 abbrev pub InRangeEntry : (kind : SectionKind) → Entry kind → Type 0
 InRangeEntry Types t = InRangeTypeEntry t
 InRangeEntry Functions n = InRangeU32 n
@@ -93,7 +89,7 @@ payload Start n = unsigned n
 payload (Listed kind) items = vec (entry kind) items
 
 abbrev pub InRangeItems : (kind : PartKind) → Items kind → Type 0
-InRangeItems Custom c = IsName c.name
+InRangeItems Custom c = InRangeName c.name
 InRangeItems Start n = InRangeU32 n
 InRangeItems (Listed kind) items = InRangeVec (InRangeEntry kind) items
 
@@ -121,3 +117,19 @@ part p = section (part_id p.kind) (payload p.kind p.items)
 
 abbrev pub InRangePart : Part → Type 0
 InRangePart p = InRangeSized (InRangeItems p.kind) (payload p.kind) p.items
+
+-- the name of an item, where it has one, is UTF-8 (binary format, names)
+abbrev pub IsNamedEntry : (kind : SectionKind) → Entry kind → Type 0
+IsNamedEntry Types t = Unit {0}
+IsNamedEntry Functions n = Unit {0}
+IsNamedEntry Exports e = IsTrue (is_utf8 e.name)
+IsNamedEntry Code b = Unit {0}
+
+abbrev pub IsNamedItems : (kind : PartKind) → Items kind → Type 0
+IsNamedItems Custom c = IsTrue (is_utf8 c.name)
+IsNamedItems Start n = Unit {0}
+IsNamedItems (Listed kind) items = All (IsNamedEntry kind) items
+
+-- the names in a part are UTF-8
+abbrev pub IsNamedPart : Part → Type 0
+IsNamedPart p = IsNamedItems p.kind p.items

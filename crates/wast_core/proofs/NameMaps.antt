@@ -10,7 +10,7 @@ use Rattle.wast_tree.specs.declared.faults.Error.{Error}
 use Rattle.wasm_ops.specs.Spelling.{InRangeU32, InRangeName, InRangeVec}
 use Rattle.wasm_out.specs.Built.{Built, Adds, Appends, IsRefused, counted, empty, built}
 use Rattle.wasm_out.specs.NameSubsections.{Named, subsection, name_entry, name_payload}
-use Rattle.wasm_out.specs.Parts.{InRangePart}
+use Rattle.wasm_out.specs.Parts.{InRangePart, IsNamedPart}
 use Rattle.wast_core.specs.Meaning.{names_part}
 use Rattle.wast_core.specs.NamesPayload.{named_from, InRangeNameEntry, InRangeNameMap, name_map}
 use Rattle.wast_core.specs.Filling.{AddsEach, InRangeAfter, IsFilled}
@@ -85,7 +85,7 @@ name_is_text = is_utf8-from_IsUtf8 (codes "name") (codes "name", (refl, refl))
 -- the name section is in range where its payload's length is
 part_in_range : (payload : List ℕ) → InRangeU32 (length (name_payload payload)) → All InRangePart (names_part payload)
 part_in_range [] h = All-nil InRangePart
-part_in_range (b ∷ bs) h = All-cons InRangePart _ [] (h, (omega arith, name_is_text)) (All-nil InRangePart)
+part_in_range (b ∷ bs) h = All-cons InRangePart _ [] (h, omega arith) (All-nil InRangePart)
 
 payload_in_range : (payload : List ℕ) → false ≡ (length payload == 0) → All InRangePart (names_part payload) → InRangeU32 (length (name_payload payload))
 payload_in_range [] some h = absurd (true≢false (sym some))
@@ -101,3 +101,8 @@ pub section_refused : (payload old new bytes : List ℕ) (Names : Type 0) (resul
     → Appends (InRangeU32 (length (name_payload payload)) × Unit {0}) old new bytes result → IfErr result (IsRefused (Names × All InRangePart (names_part payload)))
 section_refused payload old new bytes Names (Ok x) some h = tt
 section_refused payload old new bytes Names (Err e) some h = refused_for e (λ r. (payload_in_range payload some r.1, tt)) h.1
+
+-- the name section has its name
+pub section_is_named : (payload : List ℕ) → All IsNamedPart (names_part payload)
+section_is_named [] = All-nil IsNamedPart
+section_is_named (b ∷ bs) = All-cons IsNamedPart _ [] name_is_text (All-nil IsNamedPart)

@@ -1,4 +1,4 @@
--- Which text modules are small enough: every count, length and position that the binary format writes is below 2^32. (Names are to be UTF-8, too, as each `&str` is.)
+-- Which text modules are small enough: every count, length and position that the binary format writes is below 2^32.
 use Rattle.std.specs.Prelude.{ℕ, List, Option, All}
 use Rattle.wast_tree.specs.declared.fields.ModuleField.{ModuleField}
 use Rattle.wast_tree.specs.Occurrences.{in_module}

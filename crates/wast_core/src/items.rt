@@ -1,6 +1,7 @@
 //! Items of sections, as the encoder writes them.
 
-ghost use Rattle.std.specs.Prelude.{◌+◌, ℕ, List, Bool, IsTrue};
+ghost use Rattle.std.specs.Prelude.{◌+◌, ℕ, List, Bool, OnOk, IsTrue};
+ghost use Rattle.std.specs.Str.{is_utf8};
 ghost use Rattle.wasm_ops.specs.Leb128.{unsigned};
 ghost use Rattle.wasm_ops.specs.Spelling.{InRangeU32};
 ghost use Rattle.wasm_out.specs.Built.{Adds};
@@ -25,6 +26,9 @@ pub trait SectionItem {
     /// The numbers, counts and lengths in its spelling are in range.
     ghost in_range: { Self → Type 0 };
 
+    /// Its name, where it has one, is UTF-8.
+    ghost is_named: { Self → Type 0 };
+
     /// It is resolved, and of a form that the encoder covers.
     ghost is_encodable: { Self → Bool };
 
@@ -35,7 +39,8 @@ pub trait SectionItem {
     /// where memory is refused. Then the section stays as it was.
     fn encode<'e>(&self, alloc: Global, section: &mut Self::Section) -> Result<(), Error<'e>>
         requires { IsTrue (is_encodable self.now) }
-        ensures { Adds (InRangeU32 ((Self.Section.built section.old).count + 1) × in_range self.now) (Self.Section.built section.old) (Self.Section.built section.new) (spelling self.now) result };
+        ensures added { Adds (InRangeU32 ((Self.Section.built section.old).count + 1) × in_range self.now) (Self.Section.built section.old) (Self.Section.built section.new) (spelling self.now) result }
+        ensures named { OnOk result (is_named self.now) };
 }
 
 impl<T: SectionItem> SectionItem for &T {
@@ -44,6 +49,8 @@ impl<T: SectionItem> SectionItem for &T {
     ghost spelling = { λ item. T.spelling item.now };
 
     ghost in_range = { λ item. T.in_range item.now };
+
+    ghost is_named = { λ item. T.is_named item.now };
 
     ghost is_encodable = { λ item. T.is_encodable item.now };
 
@@ -68,6 +75,8 @@ impl SectionItem for RecOrType<'_, '_> {
 
     ghost in_range = { λ item. InRangeTypeEntry (entry_of item) };
 
+    ghost is_named = { λ _. Unit {0} };
+
     ghost is_encodable = { λ item. is_encodable_def (type_of item).def };
 
     fn encode<'e>(&self, alloc: Global, section: &mut TypeSection) -> Result<(), Error<'e>> {
@@ -88,6 +97,8 @@ impl SectionItem for FuncSectionTy<'_, '_> {
 
     ghost in_range = { λ item. InRangeU32 (meaning.type_index item.0.now) };
 
+    ghost is_named = { λ _. Unit {0} };
+
     ghost is_encodable = { λ item. is_encodable_type_use item.0.now };
 
     fn encode<'e>(&self, _alloc: Global, section: &mut FunctionSection) -> Result<(), Error<'e>> {
@@ -104,6 +115,8 @@ impl SectionItem for Export<'_> {
     ghost spelling = { λ item. export_entry (meaning.export_entry item) };
 
     ghost in_range = { λ item. InRangeExport (meaning.export_entry item) };
+
+    ghost is_named = { λ item. IsTrue (is_utf8 item.name.now) };
 
     ghost is_encodable = { λ item. is_number item.item };
 

@@ -1,9 +1,9 @@
 //! The sections of a module, made of its resolved fields.
 
-ghost use Rattle.std.specs.Prelude.{IsTrue};
+ghost use Rattle.std.specs.Prelude.{All, OnOk, IsTrue};
 ghost use Rattle.std.specs.List.{list_all};
 ghost use Rattle.wasm_ops.specs.Spelling.{InRangeU32};
-ghost use Rattle.wasm_out.specs.Parts.{entry, InRangeEntry};
+ghost use Rattle.wasm_out.specs.Parts.{entry, InRangeEntry, IsNamedEntry};
 ghost use Rattle.wast_core.specs.Encodable.{is_encodable_field};
 ghost use Rattle.wast_core.specs.Filling.{AddsEach};
 ghost use Rattle.wast_core.specs.Meaning.{entries_in, entries, listed, sections};
@@ -25,7 +25,8 @@ trait Fill: ListKind + Sized {
     ) -> Result<(), Error<'e>>
         requires encodable { IsTrue (is_encodable_field field.now) }
         requires count { InRangeU32 section.old.count }
-        ensures { AddsEach (entry Self.kind) (InRangeEntry Self.kind) section.old section.new (entries_in Self.kind field.now) result };
+        ensures added { AddsEach (entry Self.kind) (InRangeEntry Self.kind) section.old section.new (entries_in Self.kind field.now) result }
+        ensures named { OnOk result (All (IsNamedEntry Self.kind) (entries_in Self.kind field.now)) };
 }
 
 impl Fill for Types {
@@ -87,7 +88,8 @@ fn fill_with<'e, K: Fill>(
 ) -> Result<(), Error<'e>>
     requires encodable { IsTrue (list_all is_encodable_field fields.now) }
     requires count { InRangeU32 section.old.count }
-    ensures { AddsEach (entry K.kind) (InRangeEntry K.kind) section.old section.new (entries K.kind fields.now) result }
+    ensures added { AddsEach (entry K.kind) (InRangeEntry K.kind) section.old section.new (entries K.kind fields.now) result }
+    ensures named { OnOk result (All (IsNamedEntry K.kind) (entries K.kind fields.now)) }
 {
     for field in fields {
         K::add(alloc, section, field)?;

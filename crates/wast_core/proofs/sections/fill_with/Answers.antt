@@ -1,6 +1,8 @@
 use Rattle.std.proofs.Common.{subst, sym, refl}
+use Rattle.std.specs.Prelude.{All}
+use Rattle.std.proofs.lemmas.List.Elements.{All-nil, All-append}
 use Rattle.std.proofs.lemmas.Result.{err_from_is_err_and}
-use Rattle.wasm_out.specs.Parts.{entry, InRangeEntry}
+use Rattle.wasm_out.specs.Parts.{entry, InRangeEntry, IsNamedEntry}
 use Rattle.wast_core.specs.Filling.{IsFilled}
 use Rattle.wast_core.specs.Meaning.{entries_in}
 use Rattle.wast_core.proofs.Each.{each_more}
@@ -8,19 +10,21 @@ use Rattle.wast_core.proofs.Filled.{filled_none, filled_more, refused_field, sti
 use Rattle.wast_core.proofs.sections.fill_with.Goals as goal
 
 pub loop-field-init : goal.loop-field-init
-loop-field-init g c = filled_none c.args.section.now c.requires.count
+loop-field-init g c = (filled_none c.args.section.now c.requires.count, All-nil (IsNamedEntry g.K.ListKind.kind))
 
 pub loop-field-preserved : goal.loop-field-preserved
 loop-field-preserved g c =
-    subst (IsFilled (entry g.K.ListKind.kind) (InRangeEntry g.K.ListKind.kind) c.args.section.now c.add.new.section)
-    (sym (each_more (entries_in g.K.ListKind.kind) c.args.fields.now c.loop-field.field-index c.field-item.result (entries_in g.K.ListKind.kind c.field-item.result) c.loop-field-test.true c.field-item.is refl))
-    (filled_more c.args.section.now c.loop-field.section c.add.new.section _ _ c.loop-field.invariant c.in_ok-add.ensures)
+    let more = each_more (entries_in g.K.ListKind.kind) c.args.fields.now c.loop-field.field-index c.field-item.result (entries_in g.K.ListKind.kind c.field-item.result) c.loop-field-test.true c.field-item.is refl in (
+      subst (IsFilled (entry g.K.ListKind.kind) (InRangeEntry g.K.ListKind.kind) c.args.section.now c.add.new.section) (sym more)
+          (filled_more c.args.section.now c.loop-field.section c.add.new.section _ _ c.loop-field.invariant.0 c.in_ok-add.ensures.added),
+      subst (All (IsNamedEntry g.K.ListKind.kind)) (sym more) (All-append (IsNamedEntry g.K.ListKind.kind) _ _ c.loop-field.invariant.1 c.in_ok-add.ensures.named),
+    )
 
-pub returns-in_err-add : goal.returns-in_err-add
-returns-in_err-add g c =
+pub returns-in_err-add-clause-added : goal.returns-in_err-add-clause-added
+returns-in_err-add-clause-added g c =
     let p = err_from_is_err_and c.from_residual.result c.from_residual.ensures.1 in
     rw (p.1, p.2) (refused_field (InRangeEntry g.K.ListKind.kind) (entries_in g.K.ListKind.kind) c.args.fields.now c.loop-field.field-index c.field-item.result c.args.section.now c.loop-field.section
-    c.in_err-add.field-0.0 c.loop-field-test.true c.field-item.is c.loop-field.invariant c.in_err-add.ensures)
+    c.in_err-add.field-0.0 c.loop-field-test.true c.field-item.is c.loop-field.invariant.0 c.in_err-add.ensures.added)
 
 pub add-requires-clause-count : goal.add-requires-clause-count
-add-requires-clause-count g c = still_in_range c.loop-field.invariant
+add-requires-clause-count g c = still_in_range c.loop-field.invariant.0
