@@ -149,9 +149,9 @@ impl<'a> Encode for Raw<'a> {
 
 /// A value behind the number of its bytes, as in a section or a body (binary format, sections).
 #[derive(Clone, Copy)]
-pub struct Sized<T>(pub T);
+pub struct WithLength<T>(pub T);
 
-impl<T: Encode> Encode for Sized<T> {
+impl<T: Encode> Encode for WithLength<T> {
     ghost spelling = { λ s. sized T.spelling s.0 };
 
     ghost in_range = { λ s. InRangeSized T.in_range T.spelling s.0 };
@@ -180,7 +180,7 @@ impl<'a> Encode for Name<'a> {
     ghost is_covered = { λ _. true };
 
     fn encode<'e, S: Sink>(&self, out: &mut S) -> Result<(), Error<'e>> {
-        Sized(Raw(self.0.as_bytes())).encode(out)
+        WithLength(Raw(self.0.as_bytes())).encode(out)
     }
 }
 

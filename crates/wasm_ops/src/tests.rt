@@ -5,7 +5,7 @@ ghost use Rattle.wasm_ops.specs.Covered.{is_covered_sub_type};
 
 use crate::{
     CompositeInnerType, CompositeType, Counted, Each, Encode, ExportKind, FuncType, IndexOp,
-    InstructionSink, Length, Raw, Sink, Sized, SubType, ValType, instruction_law, signed_law,
+    InstructionSink, Length, Raw, Sink, SubType, ValType, WithLength, instruction_law, signed_law,
     type_spelling_law, unsigned_law, write_name, write_s32, write_s33, write_s64, write_u32,
     write_u64,
 };
@@ -143,7 +143,7 @@ fn pairs_and_lists_have_their_bytes(rt: HostRuntime) {
     is_spelled(
         &rt,
         alloc,
-        &Sized(Counted(&types)),
+        &WithLength(Counted(&types)),
         &[4, 3, 0x7d, 0x7c, 0x7b],
     );
     is_spelled(&rt, alloc, &Raw(&[9, 8]), &[9, 8]);

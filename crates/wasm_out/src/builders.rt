@@ -15,7 +15,7 @@ use crate::items::Items;
 use crate::sections::{Build, Section};
 use std::alloc::Global;
 use std::marker::{Model, PhantomData};
-use wasm_ops::{Encode, ExportKind, Name, Raw, Sized, SubType};
+use wasm_ops::{Encode, ExportKind, Name, Raw, SubType, WithLength};
 use wast_tree::Error;
 
 /// A kind of sections whose content is a list.
@@ -186,7 +186,7 @@ impl CodeSection {
         ensures { Adds (InRangeU32 (self.old.count + 1) × InRangeU32 (length function.now)) self.old self.new
             (unsigned (length function.now) ++ function.now) result }
     {
-        self.items.push(&Sized(Raw(function.as_bytes())))
+        self.items.push(&WithLength(Raw(function.as_bytes())))
     }
 
     /// How many bytes were added, behind the number of the bodies.

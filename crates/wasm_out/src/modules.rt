@@ -9,7 +9,7 @@ ghost use Rattle.wasm_out.specs.Reads.{header};
 use crate::sections::Section;
 use std::alloc::Global;
 use std::marker::Model;
-use wasm_ops::{Encode, Raw, Sink, Sized};
+use wasm_ops::{Encode, Raw, Sink, WithLength};
 use wast_tree::Error;
 
 /// A module: the header, and sections (binary format, modules). Contracts see it as its bytes.
@@ -47,7 +47,7 @@ impl Module {
     {
         let mut payload = Vec::new(self.alloc);
         content.append_to(&mut payload)?;
-        (content.id(), Sized(Raw(&payload))).encode(&mut self.bytes)
+        (content.id(), WithLength(Raw(&payload))).encode(&mut self.bytes)
     }
 
     /// The bytes of the module. It takes no memory.

@@ -12,7 +12,7 @@ use crate::items::Items;
 use crate::sections::Section;
 use std::alloc::Global;
 use std::marker::{Model, PhantomData};
-use wasm_ops::{Encode, Name, Raw, Sized};
+use wasm_ops::{Encode, Name, Raw, WithLength};
 use wast_tree::Error;
 
 /// Names by index, or maps of them by index (custom sections, name maps). Contracts see it as its items.
@@ -128,7 +128,7 @@ impl NameSection {
         ensures { Appends (InRangeU32 (length (T.spelling content.now)) × T.in_range content.now) self.old self.new
             (section id (T.spelling content.now)) result }
     {
-        (id, Sized(content)).encode(&mut self.bytes)
+        (id, WithLength(content)).encode(&mut self.bytes)
     }
 
     /// Appends the name of the module. E10 comes also where the name has 2^32 bytes or more.
