@@ -45,15 +45,15 @@ abbrev pub joined : List (Bor (List ℕ)) → List ℕ
 joined pieces = flat_map (λ p. p.now) pieces
 
 -- Why a text module gives no bytes: it is not resolved, and keeps why; or it is resolved, and memory was refused or it is too large.
-abbrev pub IsRefused : Option (List ℕ) → List ModuleField → Error → ModuleKind → Type 0
-IsRefused name fields e new =
+abbrev pub IsUnencoded : Option (List ℕ) → List ModuleField → Error → ModuleKind → Type 0
+IsUnencoded name fields e new =
     (IsUnresolved fields e × (new ≡ kind.Refused e))
     ⊎ (IsMet fields × ((e ≡ out_of_memory) ⊎ ((e ≡ too_large) × (IsBounded name fields → ⊥))) × (new ≡ kind.Text (resolved fields)))
 
 -- A text module gives bytes only where each demand is met, and then bytes that are read as what it means.
 abbrev pub EncodesKind : Option (List ℕ) → ModuleKind → Result (Vec ℕ) Error → ModuleKind → Type 0
 EncodesKind name (kind.Text fields) (Ok bytes) new = IsMet fields × Reads bytes.items (meaning name fields) × (new ≡ kind.Text (resolved fields))
-EncodesKind name (kind.Text fields) (Err e) new = IsRefused name fields e new
+EncodesKind name (kind.Text fields) (Err e) new = IsUnencoded name fields e new
 EncodesKind name (kind.Binary pieces) (Ok bytes) new = (bytes.items ≡ joined pieces) × (new ≡ kind.Binary pieces)
 EncodesKind name (kind.Binary pieces) (Err e) new = (e ≡ out_of_memory) × (new ≡ kind.Binary pieces)
 EncodesKind name (kind.Refused e) (Ok bytes) new = ⊥

@@ -55,6 +55,6 @@ TellsRow (Some (Err e)) line = ⊥
 TellsRow (Some (Ok m)) line = TellsIf (is_encodable m) m line
 
 -- the line answers what was asked, where gives relates the number of a row to its module
-pub data Answers (gives : ℕ → Option (Result Module Error) → Type 0) (asked line : List ℕ) : Type 0 where
-  row : (n : ℕ) (sample : Option (Result Module Error)) → IsNumber asked n → gives n sample → TellsRow sample line → Answers gives asked line
-  no_number : IsNoNumber asked → line ≡ no_row_text → Answers gives asked line
+pub data TellsLine (gives : ℕ → Option (Result Module Error) → Type 0) (asked line : List ℕ) : Type 0 where
+  row : (n : ℕ) (sample : Option (Result Module Error)) → IsNumber asked n → gives n sample → TellsRow sample line → TellsLine gives asked line
+  no_number : IsNoNumber asked → line ≡ no_row_text → TellsLine gives asked line

@@ -1,7 +1,7 @@
 //! The line that answers a line.
 
 ghost use Rattle.std.specs.Prelude.{◌≡◌, IfOk, Some, Ok, string_bytes};
-ghost use Rattle.wast_rows.specs.Answers.{Answers, TellsRow, Tells, refusal_text, no_row_text, ill_formed_text};
+ghost use Rattle.wast_rows.specs.Answers.{TellsLine, TellsRow, Tells, refusal_text, no_row_text, ill_formed_text};
 
 use crate::errors::RunError;
 use crate::numbers::number;
@@ -88,7 +88,7 @@ pub(crate) fn answer<'a, F: Fn(u32) -> Option<Result<Module<'a>, Error<'a>>>>(
     sample: &F,
 ) -> Result<String, RunError>
     requires { F.IsAlwaysCallable sample.now }
-    ensures { IfOk result (λ text. Answers (F.post sample.now) line.now (string_bytes text)) }
+    ensures { IfOk result (λ text. TellsLine (F.post sample.now) line.now (string_bytes text)) }
 {
     match number(line) {
         None => Ok(no_row(alloc)?),

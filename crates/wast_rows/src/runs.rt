@@ -2,7 +2,7 @@
 
 ghost use Rattle.std.specs.Prelude.{ℕ, ◌<◌, ◌≤◌, List, [], ◌∷◌, ◌++◌, length, take, OnOk, OnErr, IfOk, IfSome, IfNone};
 ghost use Rattle.std.specs.Io.KnownBytes.{Appends, Consumes, IsAtEnd, Keeps};
-ghost use Rattle.wast_rows.specs.Answers.{Answers};
+ghost use Rattle.wast_rows.specs.Answers.{TellsLine};
 ghost use Rattle.wast_rows.specs.Runs.{IsOpen, Ran, Broke, FeedsWriter, AnswersWriter, BeginsWriter, AnswersLine, BeginsLine, BeginsBytes};
 
 use crate::answers::answer;
@@ -61,8 +61,8 @@ fn answer_line<'a, W: Write, F: Fn(u32) -> Option<Result<Module<'a>, Error<'a>>>
     sample: &F,
 ) -> Result<(), RunError>
     requires { F.IsAlwaysCallable sample.now }
-    ensures ok { OnOk result (AnswersLine (Answers (F.post sample.now)) line.now (W.contents writer.old) (W.contents writer.new)) }
-    ensures err { OnErr result (BeginsLine (Answers (F.post sample.now)) line.now (W.contents writer.old) (W.contents writer.new)) }
+    ensures ok { OnOk result (AnswersLine (TellsLine (F.post sample.now)) line.now (W.contents writer.old) (W.contents writer.new)) }
+    ensures err { OnErr result (BeginsLine (TellsLine (F.post sample.now)) line.now (W.contents writer.old) (W.contents writer.new)) }
 {
     let mut text = answer(alloc, line, sample)?;
     text.push('\n')?;
@@ -79,8 +79,8 @@ fn take_byte<'a, W: Write, F: Fn(u32) -> Option<Result<Module<'a>, Error<'a>>>>(
 ) -> Result<(), RunError>
     requires callable { F.IsAlwaysCallable sample.now }
     requires still_open { IsOpen pending.old.items }
-    ensures ok { OnOk result (FeedsWriter (Answers (F.post sample.now)) pending.old.items (byte ∷ []) pending.new.items (W.contents writer.old) (W.contents writer.new)) }
-    ensures err { OnErr result ((rest : List ℕ) → BeginsWriter (Answers (F.post sample.now)) (pending.old.items ++ (byte ∷ rest)) (W.contents writer.old) (W.contents writer.new)) }
+    ensures ok { OnOk result (FeedsWriter (TellsLine (F.post sample.now)) pending.old.items (byte ∷ []) pending.new.items (W.contents writer.old) (W.contents writer.new)) }
+    ensures err { OnErr result ((rest : List ℕ) → BeginsWriter (TellsLine (F.post sample.now)) (pending.old.items ++ (byte ∷ rest)) (W.contents writer.old) (W.contents writer.new)) }
 {
     if byte != b'\n' {
         pending.push(byte)?;
@@ -101,8 +101,8 @@ fn feed<'a, W: Write, F: Fn(u32) -> Option<Result<Module<'a>, Error<'a>>>>(
 ) -> Result<(), RunError>
     requires callable { F.IsAlwaysCallable sample.now }
     requires still_open { IsOpen pending.old.items }
-    ensures ok { OnOk result (FeedsWriter (Answers (F.post sample.now)) pending.old.items bytes.now pending.new.items (W.contents writer.old) (W.contents writer.new)) }
-    ensures err { OnErr result (BeginsWriter (Answers (F.post sample.now)) (pending.old.items ++ bytes.now) (W.contents writer.old) (W.contents writer.new)) }
+    ensures ok { OnOk result (FeedsWriter (TellsLine (F.post sample.now)) pending.old.items bytes.now pending.new.items (W.contents writer.old) (W.contents writer.new)) }
+    ensures err { OnErr result (BeginsWriter (TellsLine (F.post sample.now)) (pending.old.items ++ bytes.now) (W.contents writer.old) (W.contents writer.new)) }
 {
     for byte in bytes {
         take_byte(alloc, *byte, pending, writer, sample)?;
@@ -119,8 +119,8 @@ fn finish<'a, W: Write, F: Fn(u32) -> Option<Result<Module<'a>, Error<'a>>>>(
 ) -> Result<(), RunError>
     requires callable { F.IsAlwaysCallable sample.now }
     requires still_open { IsOpen pending.now }
-    ensures ok { OnOk result (AnswersWriter (Answers (F.post sample.now)) pending.now (W.contents writer.old) (W.contents writer.new)) }
-    ensures err { OnErr result (BeginsWriter (Answers (F.post sample.now)) pending.now (W.contents writer.old) (W.contents writer.new)) }
+    ensures ok { OnOk result (AnswersWriter (TellsLine (F.post sample.now)) pending.now (W.contents writer.old) (W.contents writer.new)) }
+    ensures err { OnErr result (BeginsWriter (TellsLine (F.post sample.now)) pending.now (W.contents writer.old) (W.contents writer.new)) }
 {
     if pending.is_empty() {
         return Ok(());
@@ -177,8 +177,8 @@ pub fn run<'a, R: Read, W: Write, F: Fn(u32) -> Option<Result<Module<'a>, Error<
     sample: F,
 ) -> Result<(), RunError>
     requires { F.IsAlwaysCallable sample }
-    ensures ok { OnOk result (Ran (Answers (F.post sample)) (R.remaining reader.old) (R.remaining reader.new) (W.contents writer.old) (W.contents writer.new)) }
-    ensures err { OnErr result (Broke (Answers (F.post sample)) (R.remaining reader.old) (R.remaining reader.new) (W.contents writer.old) (W.contents writer.new)) }
+    ensures ok { OnOk result (Ran (TellsLine (F.post sample)) (R.remaining reader.old) (R.remaining reader.new) (W.contents writer.old) (W.contents writer.new)) }
+    ensures err { OnErr result (Broke (TellsLine (F.post sample)) (R.remaining reader.old) (R.remaining reader.new) (W.contents writer.old) (W.contents writer.new)) }
 {
     let mut buffer = [0u8; PIECE_LEN];
     let mut pending = Vec::new(alloc);

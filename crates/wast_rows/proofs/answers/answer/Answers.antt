@@ -1,6 +1,6 @@
 use Rattle.std.proofs.lemmas.Result.{IfOk-weaker}
-use Rattle.wast_rows.specs.Answers.{Answers}
+use Rattle.wast_rows.specs.Answers.{TellsLine}
 use Rattle.wast_rows.proofs.answers.answer.Goals as goal
 
 pub returns-in-Some : goal.returns-in-Some
-returns-in-Some g c = IfOk-weaker c.line_of_row.result _ _ (λ line tells. Answers.row c.in-Some.n _ c.in-Some.ensures c.sample.ensures tells) c.line_of_row.ensures
+returns-in-Some g c = IfOk-weaker c.line_of_row.result _ _ (λ line tells. TellsLine.row c.in-Some.n _ c.in-Some.ensures c.sample.ensures tells) c.line_of_row.ensures
