@@ -1,6 +1,6 @@
 -- The spellings of the instructions of the table show their value.
-use Rattle.std.proofs.Common.{◌≡◌, ◌<◌, ℕ, Bool, true, false, eqb, List, [], ◌∷◌, ◌++◌, length, Option, Some, None, refl, sym, ap, ◌∙◌, subst, append_assoc, arith, inl, inr, ◌⊎◌, ◌&&◌}
-use Rattle.std.proofs.lemmas.Bool.{eqb-true, ltb-true, lt-ltb}
+use Rattle.std.proofs.Common.{◌≡◌, ◌<◌, ℕ, Bool, true, false, eqb, List, [], ◌∷◌, ◌++◌, length, Option, Some, refl, sym, ap, ◌∙◌, subst, append_assoc, arith, inl, inr, ◌⊎◌, ◌&&◌}
+use Rattle.std.proofs.lemmas.Bool.{eqb-true, ltb-true}
 use Rattle.wasm_ops.specs.Codes.{IsCode}
 use Rattle.wasm_ops.specs.Leb128.{unsigned}
 use Rattle.wasm_ops.specs.Table.{Key, Byte, Prefixed, Kind, Index, Row, Field, field, InRangeField, Fields, fields, InRangeFields, Instr, key_bytes, instr, table, same_key, kinds_of, ascends, is_apart, all_apart, IsInstr}
@@ -99,15 +99,6 @@ instr_code = record {
       let row : x.row ≡ y.row = ap f one.0 ∙ ap g kinds in
       numbers_begin x.row y.row x.numbers y.numbers r s row p.numbers q.numbers one.1;
 }
-
--- an instruction begins with no byte that is a key of no row
-pub instr_apart : {A : Type 0} (i : Instr) (b : ℕ) (r s : List ℕ) → IsInstr i → b < 0xfb → kinds_of (Byte b) table ≡ None → instr i ++ r ≡ b ∷ s → A
-instr_apart {A} i b r s p lt missing e =
-    let xs = fields i.row.kinds i.numbers in
-    let small : is_apart (Byte b) ≡ true = lt-ltb b 0xfb lt in
-    let one = key_begins i.row.key (Byte b) (xs ++ r) s (apart_at i.row.key table i.row.kinds table_apart p.row) small (sym (append_assoc (key_bytes i.row.key) xs r) ∙ e) in
-    let no : None ≡ Some i.row.kinds = sym missing ∙ sym (ap (λ k. kinds_of k table) one.0) ∙ p.row in
-    absurd cc
 
 -- the key has a byte or more
 key_nonempty : (k : Key) (xs : List ℕ) → 0 < length (key_bytes k ++ xs)

@@ -49,9 +49,6 @@ func_type_code = code_by (λ f. (f.params, f.results)) (λ p. record { params = 
 inner_begins : (x y : CompositeInnerType) (r s : List ℕ) → InRangeCompositeInnerType x → InRangeCompositeInnerType y → composite_inner_type x ++ r ≡ composite_inner_type y ++ s → (x ≡ y) × (r ≡ s)
 inner_begins (inner.Func f) (inner.Func g) r s p q e = let one = func_type_code.begins f g r s p q e in (ap inner.Func one.0, one.1)
 
-pub composite_inner_type_code : IsCode CompositeInnerType InRangeCompositeInnerType composite_inner_type
-composite_inner_type_code = record { begins = inner_begins }
-
 -- a composite type that is covered is what it is made of
 abbrev plain : CompositeInnerType → CompositeType
 plain i = record { inner = i; shared = false; descriptor = None; describes = None }

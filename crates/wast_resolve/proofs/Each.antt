@@ -1,9 +1,9 @@
 -- A walk over each item of a list, in its place.
-use Rattle.std.proofs.Common.{◌≡◌, ℕ, suc, ◌+◌, ◌<◌, ◌≤◌, List, [], ◌∷◌, ◌++◌, None, IsTrue, refl, sym, ◌∙◌, ap, length, map, get_or, drop, take, arith, add-one, subst}
+use Rattle.std.proofs.Common.{◌≡◌, ℕ, suc, ◌+◌, ◌<◌, List, [], ◌∷◌, ◌++◌, None, IsTrue, sym, ◌∙◌, ap, length, map, get_or, drop, take, arith, add-one, subst}
 use Rattle.std.proofs.Math.ListN.{set, length-set}
 use Rattle.std.proofs.Math.Seq.{drop-cons, take-suc}
 use Rattle.std.specs.Prelude.{flat_map}
-use Rattle.std.proofs.lemmas.List.{append-nil, drop-drop, drop-set-lt, take_more_set, take-append-drop, take_all, map-append}
+use Rattle.std.proofs.lemmas.List.{append-nil, drop-drop, drop-set-lt, take_more_set, take-append-drop, map-append}
 use Rattle.std.proofs.lemmas.Grind.{flat_map-append}
 use Rattle.wast_tree.specs.Faults.{Told}
 use Rattle.wast_tree.specs.Occurrences.{Occurrence}
@@ -20,9 +20,6 @@ pub record IsHalfway {X : Type 0} (k : Known) (f : X → List Occurrence) (w : X
   pub become : take i nows ≡ map w (take i olds)
 
 module _ {X : Type 0} {k : Known} {f : X → List Occurrence} {w : X → X} {olds : List X} where
-  pub starts : IsHalfway k f w olds olds 0
-  starts = record { len = refl; left = refl; met = refl; become = refl }
-
   same_item : {nows : List X} {i : ℕ} (d : X) → IsHalfway k f w olds nows i → i < length nows → drop i olds ≡ get_or nows i d ∷ drop (suc i) olds
   same_item {nows} {i} d p lt =
       let a : drop i nows ≡ get_or nows i d ∷ drop (suc i) nows = drop-cons nows i d lt in
@@ -64,9 +61,3 @@ module _ {X : Type 0} {k : Known} {f : X → List Occurrence} {w : X → X} {old
       let others = flat_map f (drop (suc i) olds) in
       subst (λ os. Answers ⊥ ⊥ t (first_unmet (uses k os))) (sym (split p lt is))
       (second_fails k (flat_map f (take i olds)) (f x ++ others) t p.met (first_fails k (f x) others t failed))
-
-  pub all_met : {nows : List X} {i : ℕ} → IsHalfway k f w olds nows i → length olds ≤ i → first_unmet (uses k (flat_map f olds)) ≡ None
-  all_met {nows} {i} p le = subst (λ zs. first_unmet (uses k (flat_map f zs)) ≡ None) (take_all i olds le) p.met
-
-  pub all_become : {nows : List X} {i : ℕ} → IsHalfway k f w olds nows i → length olds ≤ i → nows ≡ map w olds
-  all_become {nows} {i} p le = sym (take_all i nows (omega (arith, p.len))) ∙ (p.become ∙ ap (map w) (take_all i olds le))

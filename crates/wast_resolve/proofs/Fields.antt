@@ -10,13 +10,12 @@ use Rattle.wast_tree.specs.declared.instrs.Instruction.TheVariants as instr
 use Rattle.wast_tree.specs.declared.fields.FuncKind.{FuncKind}
 use Rattle.wast_tree.specs.declared.fields.FuncKind.TheVariants as func
 use Rattle.wast_tree.specs.declared.fields.Func.{Func}
-use Rattle.wast_tree.specs.declared.fields.Export.{Export}
 use Rattle.wast_tree.specs.declared.fields.ModuleField.{ModuleField}
 use Rattle.wast_tree.specs.declared.faults.Error.{Error}
 use Rattle.wast_tree.specs.Ids.{Mark}
 use Rattle.wast_tree.specs.Faults.{Told, told}
 use Rattle.wast_tree.specs.Spaces.{Space, Types, Funcs, word_of}
-use Rattle.wast_tree.specs.Occurrences.{Occurrence, Item, if_there, in_index, in_def, in_type_use, in_instr, in_func_kind, in_export, exported_space, in_field, in_module}
+use Rattle.wast_tree.specs.Occurrences.{Occurrence, Item, if_there, in_index, in_def, in_type_use, in_instr, in_func_kind, in_field, in_module}
 use Rattle.wast_resolve.specs.Demands.{first_unmet, Answers}
 use Rattle.wast_resolve.specs.Outcomes.{Outcome}
 use Rattle.wast_resolve.specs.Namespaces.{new_item}
@@ -67,9 +66,6 @@ free_kind (func.Inline locals e) = free_each in_instr e.instrs free_instr
 
 pub free_func : (f : Func) → IsItemFree (in_type_use f.ty ++ in_func_kind f.kind)
 free_func f = free_append (in_type_use f.ty) (in_func_kind f.kind) (free_if (in_index Types) f.ty.index (free_index Types)) (free_kind f.kind)
-
-pub free_export : (e : Export) → IsItemFree (in_export e)
-free_export e = free_index (exported_space e.kind) e.item
 
 -- an item, and then none
 pub one_outcome : (r : NameSpaces) (s : Space) (id : Option Mark) (rest : List Occurrence) (result : Result (Unit {0}) Error) → IsItemFree rest

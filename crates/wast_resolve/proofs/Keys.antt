@@ -9,7 +9,7 @@ use Rattle.std.specs.Map.{lookup}
 use Rattle.std.proofs.lemmas.Cmp.{on_total, then_total}
 use Rattle.std.proofs.lemmas.Map.Lookups.{CmpEqualImpliesEq, exact_pairs, exact_bytes, exact_unsigned}
 use Rattle.wast_tree.specs.Ids.{Name, Written, Generated, is_generated, generation_of}
-use Rattle.wast_resolve.specs.Namespaces.{generation_if, key_of, key_cmp}
+use Rattle.wast_resolve.specs.Namespaces.{generation_if, key_cmp}
 use Rattle.wast_resolve.specs.Namespaces as space
 use Rattle.wast_resolve.specs.declared.namespace.Key.{Key}
 

@@ -68,10 +68,7 @@ module _ (P : List ℕ → List ℕ → Type 0) where
         shown = ap (λ o. o ++ after) fed.shown ∙ ap (λ o. ended_lines fed.told ++ o) last.shown ∙ sym (flat_map-append ended fed.told last.told);
       }
 
-  -- no line, and an open line
-  pub AnswersText-nil : AnswersText P [] []
-  AnswersText-nil = record { told = []; answered = tt; shown = refl }
-
+  -- an open line
   pub AnswersText-open : (line told : List ℕ) → line ≢ [] → IsOpen line → P line told → AnswersText P line (ended told)
   AnswersText-open [] told some no_feed answers = absurd (some refl)
   AnswersText-open (byte ∷ line) told some no_feed answers =

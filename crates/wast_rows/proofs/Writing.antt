@@ -5,7 +5,7 @@ use Rattle.std.specs.Io.KnownBytes.{Appends}
 use Rattle.std.proofs.KnownBytes.{Appends-nil, Appends-trans}
 use Rattle.wast_rows.specs.Lines.{line_feed, ended}
 use Rattle.wast_rows.specs.Runs.{IsOpen, WritesOn, BeginsAnswer, BeginsLine, BeginsBytes, BeginsWriter, AnswersLine, AnswersWriter, FeedsWriter}
-use Rattle.wast_rows.proofs.Feeding.{IsOpen-push, Feeds-nil, Feeds-byte, Feeds-feed, Feeds-more, AnswersText-nil, AnswersText-open, AnswersText-more, BeginsText-nil, BeginsText-feed, BeginsText-open, BeginsText-more}
+use Rattle.wast_rows.proofs.Feeding.{IsOpen-push, Feeds-nil, Feeds-byte, Feeds-feed, Feeds-more, AnswersText-open, AnswersText-more, BeginsText-nil, BeginsText-feed, BeginsText-open, BeginsText-more}
 
 -- what holds holds on an error
 pub on_err_of : {T E P : Type 0} (r : Result T E) → P → OnErr r P
@@ -55,10 +55,7 @@ module _ (P : List ℕ → List ℕ → Type 0) where
         still_open = second.still_open;
       }
 
-  -- what is written at the end: for no open line, for an open line, and after what feeding wrote
-  pub AnswersWriter-nil : (a : Option (List ℕ)) → AnswersWriter P [] a a
-  AnswersWriter-nil a = record { output = []; answered = AnswersText-nil P; appended = Appends-nil a }
-
+  -- what is written at the end: for an open line, and after what feeding wrote
   pub AnswersWriter-open : (line : List ℕ) (a b : Option (List ℕ)) → line ≢ [] → IsOpen line → AnswersLine P line a b → AnswersWriter P line a b
   AnswersWriter-open line a b some no_feed last = record { output = ended last.told; answered = AnswersText-open P line last.told some no_feed last.answers; appended = last.appended }
 
