@@ -119,7 +119,7 @@ sized_code {f = f} c = record {
       (c.same x y p.1 q.1 two.0, two.1);
 }
 
-bytes_whole : IsWhole (List ℕ) Any (λ bytes. bytes)
+pub bytes_whole : IsWhole (List ℕ) Any (λ bytes. bytes)
 bytes_whole = record { same = λ x y p q e. e }
 
 pub name_code : IsCode (List ℕ) InRangeName name

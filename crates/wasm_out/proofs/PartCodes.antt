@@ -7,7 +7,7 @@ use Rattle.wasm_ops.specs.declared.types.ValType.{ValType}
 use Rattle.wasm_ops.specs.Codes.{IsCode, IsWhole}
 use Rattle.wasm_ops.specs.Spelling.{Any, InRangeU32, sized, InRangeSized}
 use Rattle.wasm_ops.specs.Table.{Instr, instrs, IsInstr}
-use Rattle.wasm_ops.proofs.Codes.{index_code, code_within, code_whole, whole_within, pair_code, pair_whole, code_by, whole_by, vec_code, sized_code, filled_whole, name_code}
+use Rattle.wasm_ops.proofs.Codes.{index_code, code_within, code_whole, whole_within, pair_code, pair_whole, code_by, whole_by, vec_code, sized_code, filled_whole, name_code, bytes_whole}
 use Rattle.wasm_ops.proofs.TypeCodes.{val_type_code, export_kind_code, sub_type_code}
 use Rattle.wasm_ops.proofs.InstrCodes.{instr_code, instr-nonempty}
 use Rattle.wasm_out.specs.Bodies.{Body, Run, run, runs, locals, content, InRangeContent}
@@ -50,9 +50,6 @@ entry_code Exports = export_entry_code
 entry_code Code = sized_code content_whole
 
 -- ---- parts
-
-bytes_whole : IsWhole (List ℕ) Any (λ bytes. bytes)
-bytes_whole = record { same = λ x y p q e. e }
 
 custom_whole : IsWhole CustomPart (InRangeItems Custom) custom
 custom_whole = whole_within (λ c p. (p, tt)) (whole_by (λ (c : CustomPart). (c.name, c.bytes)) (λ p. record { name = p.0; bytes = p.1 }) (λ c. refl) (pair_whole name_code bytes_whole))

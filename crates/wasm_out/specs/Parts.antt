@@ -119,17 +119,17 @@ abbrev pub InRangePart : Part → Type 0
 InRangePart p = InRangeSized (InRangeItems p.kind) (payload p.kind) p.items
 
 -- the name of an item, where it has one, is UTF-8 (binary format, names)
-abbrev pub IsNamedEntry : (kind : SectionKind) → Entry kind → Type 0
-IsNamedEntry Types t = Unit {0}
-IsNamedEntry Functions n = Unit {0}
-IsNamedEntry Exports e = IsTrue (is_utf8 e.name)
-IsNamedEntry Code b = Unit {0}
+abbrev pub HasUtf8Name : (kind : SectionKind) → Entry kind → Type 0
+HasUtf8Name Types t = Unit {0}
+HasUtf8Name Functions n = Unit {0}
+HasUtf8Name Exports e = IsTrue (is_utf8 e.name)
+HasUtf8Name Code b = Unit {0}
 
-abbrev pub IsNamedItems : (kind : PartKind) → Items kind → Type 0
-IsNamedItems Custom c = IsTrue (is_utf8 c.name)
-IsNamedItems Start n = Unit {0}
-IsNamedItems (Listed kind) items = All (IsNamedEntry kind) items
+abbrev pub HaveUtf8Names : (kind : PartKind) → Items kind → Type 0
+HaveUtf8Names Custom c = IsTrue (is_utf8 c.name)
+HaveUtf8Names Start n = Unit {0}
+HaveUtf8Names (Listed kind) items = All (HasUtf8Name kind) items
 
 -- the names in a part are UTF-8
-abbrev pub IsNamedPart : Part → Type 0
-IsNamedPart p = IsNamedItems p.kind p.items
+abbrev pub HasUtf8Names : Part → Type 0
+HasUtf8Names p = HaveUtf8Names p.kind p.items

@@ -8,7 +8,7 @@ use Rattle.wast_tree.specs.declared.faults.Error.{Error}
 use Rattle.wasm_ops.specs.Leb128.{unsigned}
 use Rattle.wasm_ops.specs.Spelling.{InRangeU32, vec}
 use Rattle.wasm_out.specs.Built.{Built, IsRefused, empty, counted}
-use Rattle.wasm_out.specs.Parts.{SectionKind, Entry, entry, InRangeEntry, Listed, part, section, section_id, InRangePart, InRangeItems, IsNamedEntry, IsNamedPart}
+use Rattle.wasm_out.specs.Parts.{SectionKind, Entry, entry, InRangeEntry, Listed, part, section, section_id, InRangePart, InRangeItems, HasUtf8Name, HasUtf8Names}
 use Rattle.wast_core.specs.Filling.{IsFilled, InRangeAfter}
 use Rattle.wast_core.specs.Meaning.{listed}
 use Rattle.wast_core.specs.Writing.{IsAppended}
@@ -49,13 +49,13 @@ listed_in_range kind b [] p h = All-nil InRangePart
 listed_in_range kind b (x ∷ xs) p h =
     All-cons InRangePart (record { kind = Listed kind; items = x ∷ xs }) [] (subst (λ bytes. InRangeU32 (length bytes)) (counted_list kind b (x ∷ xs) p) h, in_range_list kind (x ∷ xs) p.in_range) (All-nil InRangePart)
 
-listed_named : (kind : SectionKind) (items : List (Entry kind)) → All (IsNamedEntry kind) items → All IsNamedPart (listed kind items)
-listed_named kind [] named = All-nil IsNamedPart
-listed_named kind (x ∷ xs) named = All-cons IsNamedPart (record { kind = Listed kind; items = x ∷ xs }) [] named (All-nil IsNamedPart)
+listed_names : (kind : SectionKind) (items : List (Entry kind)) → All (HasUtf8Name kind) items → All HasUtf8Names (listed kind items)
+listed_names kind [] names = All-nil HasUtf8Names
+listed_names kind (x ∷ xs) names = All-cons HasUtf8Names (record { kind = Listed kind; items = x ∷ xs }) [] names (All-nil HasUtf8Names)
 
 pub appended_part : (kind : SectionKind) (b : Built) (items : List (Entry kind)) (old new : List ℕ) → IsFilled (entry kind) (InRangeEntry kind) empty b items → (b.count == 0) ≡ false
-    → (new ≡ old ++ section (section_id kind) (counted b)) × (InRangeU32 (length (counted b)) × Unit {0}) → All (IsNamedEntry kind) items → IsAppended old new (listed kind items)
-appended_part kind b items old new p h n named = record { bytes = n.0 ∙ ap (λ z. old ++ z) (sym (something_listed kind b items p h)); in_range = listed_in_range kind b items p n.1.0; named = listed_named kind items named }
+    → (new ≡ old ++ section (section_id kind) (counted b)) × (InRangeU32 (length (counted b)) × Unit {0}) → All (HasUtf8Name kind) items → IsAppended old new (listed kind items)
+appended_part kind b items old new p h n names = record { bytes = n.0 ∙ ap (λ z. old ++ z) (sym (something_listed kind b items p h)); in_range = listed_in_range kind b items p n.1.0; names = listed_names kind items names }
 
 -- a refusal of the items, and of the part
 pub refused_items : (kind : SectionKind) (items : List (Entry kind)) (e : Error) → IsRefused (InRangeAfter (InRangeEntry kind) 0 items) e → IsRefused (All InRangePart (listed kind items)) e

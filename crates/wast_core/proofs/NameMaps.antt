@@ -10,7 +10,7 @@ use Rattle.wast_tree.specs.declared.faults.Error.{Error}
 use Rattle.wasm_ops.specs.Spelling.{InRangeU32, InRangeName, InRangeVec}
 use Rattle.wasm_out.specs.Built.{Built, Adds, Appends, IsRefused, counted, empty, built}
 use Rattle.wasm_out.specs.NameSubsections.{Named, subsection, name_entry, name_payload}
-use Rattle.wasm_out.specs.Parts.{InRangePart, IsNamedPart}
+use Rattle.wasm_out.specs.Parts.{InRangePart, HasUtf8Names}
 use Rattle.wast_core.specs.Meaning.{names_part}
 use Rattle.wast_core.specs.NamesPayload.{named_from, InRangeNameEntry, InRangeNameMap, name_map}
 use Rattle.wast_core.specs.Filling.{AddsEach, InRangeAfter, IsFilled}
@@ -102,7 +102,7 @@ pub section_refused : (payload old new bytes : List ℕ) (Names : Type 0) (resul
 section_refused payload old new bytes Names (Ok x) some h = tt
 section_refused payload old new bytes Names (Err e) some h = refused_for e (λ r. (payload_in_range payload some r.1, tt)) h.1
 
--- the name section has its name
-pub section_is_named : (payload : List ℕ) → All IsNamedPart (names_part payload)
-section_is_named [] = All-nil IsNamedPart
-section_is_named (b ∷ bs) = All-cons IsNamedPart _ [] name_is_text (All-nil IsNamedPart)
+-- the name section's own name is UTF-8
+pub section_names : (payload : List ℕ) → All HasUtf8Names (names_part payload)
+section_names [] = All-nil HasUtf8Names
+section_names (b ∷ bs) = All-cons HasUtf8Names _ [] name_is_text (All-nil HasUtf8Names)

@@ -19,7 +19,7 @@ pub reads_parts : (name : Option (List ℕ)) (fields : List ModuleField) (a b c 
     → Reads c (parts name fields)
 reads_parts name fields a b c h p q bytes =
     let both = appended_both a b c (sections fields) (names_part (names_payload name fields)) p q in
-    record { each = both.in_range; named = both.named; spelled = both.bytes ∙ ap (λ z. z ++ flat_map part (parts name fields)) h; are_bytes = bytes }
+    record { each = both.in_range; names = both.names; spelled = both.bytes ∙ ap (λ z. z ++ flat_map part (parts name fields)) h; are_bytes = bytes }
 
 pub sections_refused : (name : Option (List ℕ)) (fields : List ModuleField) (e : Error) → IsRefused (All InRangePart (sections fields)) e → IsRefused (IsWritable name fields) e
 sections_refused name fields e h = refused_for e (λ w. all_left InRangePart (sections fields) (names_part (names_payload name fields)) w.parts) h

@@ -7,7 +7,7 @@ use Rattle.wast_tree.specs.declared.instrs.Instruction.{Instruction}
 use Rattle.wasm_ops.specs.Table.{Instr, instrs, IsInstr}
 use Rattle.wasm_out.specs.Bodies.{Body, content, InRangeContent}
 use Rattle.wasm_out.specs.Built.{IsRefused}
-use Rattle.wasm_out.specs.Parts.{Part, part, InRangePart, IsNamedPart}
+use Rattle.wasm_out.specs.Parts.{Part, part, InRangePart, HasUtf8Names}
 use Rattle.wast_core.specs.Meaning as meaning
 
 -- the instructions stand at the end of the new bytes, and each is a row of the table with numbers in range
@@ -27,7 +27,7 @@ pub record IsBodyOf (body : Body) (bytes : List ℕ) : Type 0 where
 pub record IsAppended (old new : List ℕ) (parts : List Part) : Type 0 where
   pub bytes : new ≡ old ++ flat_map part parts
   pub in_range : All InRangePart parts
-  pub named : All IsNamedPart parts
+  pub names : All HasUtf8Names parts
 
 -- the parts were appended; else memory was refused, or they are not in range
 abbrev pub AppendsParts : List ℕ → List ℕ → List Part → Result (Unit {0}) Error → Type 0

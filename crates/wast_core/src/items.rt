@@ -27,7 +27,7 @@ pub trait SectionItem {
     ghost in_range: { Self → Type 0 };
 
     /// Its name, where it has one, is UTF-8.
-    ghost is_named: { Self → Type 0 };
+    ghost has_utf8_name: { Self → Type 0 };
 
     /// It is resolved, and of a form that the encoder covers.
     ghost is_encodable: { Self → Bool };
@@ -40,7 +40,7 @@ pub trait SectionItem {
     fn encode<'e>(&self, alloc: Global, section: &mut Self::Section) -> Result<(), Error<'e>>
         requires { IsTrue (is_encodable self.now) }
         ensures added { Adds (InRangeU32 ((Self.Section.built section.old).count + 1) × in_range self.now) (Self.Section.built section.old) (Self.Section.built section.new) (spelling self.now) result }
-        ensures named { OnOk result (is_named self.now) };
+        ensures name { OnOk result (has_utf8_name self.now) };
 }
 
 impl<T: SectionItem> SectionItem for &T {
@@ -50,7 +50,7 @@ impl<T: SectionItem> SectionItem for &T {
 
     ghost in_range = { λ item. T.in_range item.now };
 
-    ghost is_named = { λ item. T.is_named item.now };
+    ghost has_utf8_name = { λ item. T.has_utf8_name item.now };
 
     ghost is_encodable = { λ item. T.is_encodable item.now };
 
@@ -75,7 +75,7 @@ impl SectionItem for RecOrType<'_, '_> {
 
     ghost in_range = { λ item. InRangeTypeEntry (entry_of item) };
 
-    ghost is_named = { λ _. Unit {0} };
+    ghost has_utf8_name = { λ _. Unit {0} };
 
     ghost is_encodable = { λ item. is_encodable_def (type_of item).def };
 
@@ -97,7 +97,7 @@ impl SectionItem for FuncSectionTy<'_, '_> {
 
     ghost in_range = { λ item. InRangeU32 (meaning.type_index item.0.now) };
 
-    ghost is_named = { λ _. Unit {0} };
+    ghost has_utf8_name = { λ _. Unit {0} };
 
     ghost is_encodable = { λ item. is_encodable_type_use item.0.now };
 
@@ -116,7 +116,7 @@ impl SectionItem for Export<'_> {
 
     ghost in_range = { λ item. InRangeExport (meaning.export_entry item) };
 
-    ghost is_named = { λ item. IsTrue (is_utf8 item.name.now) };
+    ghost has_utf8_name = { λ item. IsTrue (is_utf8 item.name.now) };
 
     ghost is_encodable = { λ item. is_number item.item };
 

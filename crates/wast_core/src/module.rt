@@ -25,7 +25,7 @@ pub enum ModuleKind<'a> {
 /// A module: `(module $m ..)`.
 #[derive(Debug, Drop)]
 pub struct Module<'a> {
-    /// Where it begins.
+    /// The place of its keyword.
     pub span: Span,
     /// Its id.
     pub id: Option<Id<'a>>,

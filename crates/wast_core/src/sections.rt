@@ -3,7 +3,7 @@
 ghost use Rattle.std.specs.Prelude.{All, OnOk, IsTrue};
 ghost use Rattle.std.specs.List.{list_all};
 ghost use Rattle.wasm_ops.specs.Spelling.{InRangeU32};
-ghost use Rattle.wasm_out.specs.Parts.{entry, InRangeEntry, IsNamedEntry};
+ghost use Rattle.wasm_out.specs.Parts.{entry, InRangeEntry, HasUtf8Name};
 ghost use Rattle.wast_core.specs.Encodable.{is_encodable_field};
 ghost use Rattle.wast_core.specs.Filling.{AddsEach};
 ghost use Rattle.wast_core.specs.Meaning.{entries_in, entries, listed, sections};
@@ -26,7 +26,7 @@ trait Fill: ListKind + Sized {
         requires encodable { IsTrue (is_encodable_field field.now) }
         requires count { InRangeU32 section.old.count }
         ensures added { AddsEach (entry Self.kind) (InRangeEntry Self.kind) section.old section.new (entries_in Self.kind field.now) result }
-        ensures named { OnOk result (All (IsNamedEntry Self.kind) (entries_in Self.kind field.now)) };
+        ensures names { OnOk result (All (HasUtf8Name Self.kind) (entries_in Self.kind field.now)) };
 }
 
 impl Fill for Types {
@@ -89,7 +89,7 @@ fn fill_with<'e, K: Fill>(
     requires encodable { IsTrue (list_all is_encodable_field fields.now) }
     requires count { InRangeU32 section.old.count }
     ensures added { AddsEach (entry K.kind) (InRangeEntry K.kind) section.old section.new (entries K.kind fields.now) result }
-    ensures named { OnOk result (All (IsNamedEntry K.kind) (entries K.kind fields.now)) }
+    ensures names { OnOk result (All (HasUtf8Name K.kind) (entries K.kind fields.now)) }
 {
     for field in fields {
         K::add(alloc, section, field)?;

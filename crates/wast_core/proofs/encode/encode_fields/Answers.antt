@@ -6,7 +6,7 @@ use Rattle.wast_core.specs.Names.{text_seen}
 use Rattle.wast_core.specs.NamesPayload.{names_payload}
 use Rattle.wast_core.specs.Writing.{IsAppended}
 use Rattle.wast_core.proofs.Whole.{reads_parts, sections_refused, names_refused}
-use Rattle.wast_core.proofs.NameMaps.{section_is_named}
+use Rattle.wast_core.proofs.NameMaps.{section_names}
 use Rattle.wast_core.proofs.encode.encode_fields.Goals as goal
 
 pub returns-in_err-append_sections-clause-refusal : goal.returns-in_err-append_sections-clause-refusal
@@ -22,6 +22,6 @@ returns-in_err-append_names-clause-refusal c =
 pub returns-clause-bytes : goal.returns-clause-bytes
 returns-clause-bytes c =
     let names : IsAppended c.append_sections.new.module c.finish-bytes.result.items (names_part (names_payload (text_seen c.args.name) c.args.fields.now)) =
-    record { bytes = c.finish-bytes.ensures ∙ c.in_ok-append_names.ensures.bytes; in_range = c.in_ok-append_names.ensures.in_range.1; named = section_is_named (names_payload (text_seen c.args.name) c.args.fields.now) } in
+    record { bytes = c.finish-bytes.ensures ∙ c.in_ok-append_names.ensures.bytes; in_range = c.in_ok-append_names.ensures.in_range.1; names = section_names (names_payload (text_seen c.args.name) c.args.fields.now) } in
     let small : All (λ x. x < 256) c.finish-bytes.result.items = λ k d lt. omega arith in
     reads_parts (text_seen c.args.name) c.args.fields.now c.in_ok-module.module c.append_sections.new.module c.finish-bytes.result.items c.in_ok-module.ensures.0 c.in_ok-append_sections.ensures names small

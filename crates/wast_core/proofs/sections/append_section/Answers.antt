@@ -23,7 +23,7 @@ returns-then-is_empty g c =
 pub returns : goal.returns
 returns g c =
     let filled = subst (λ b. IsFilled (entry g.K.ListKind.kind) (InRangeEntry g.K.ListKind.kind) b c.fill_with.new.section (entries g.K.ListKind.kind c.args.fields.now)) c.new-section.ensures c.in_ok-fill_with.ensures.added in
-    appended_part g.K.ListKind.kind _ _ c.args.module.now _ filled (sym c.is_empty.ensures ∙ c.if-is_empty.false) c.in_ok-section.ensures c.in_ok-fill_with.ensures.named
+    appended_part g.K.ListKind.kind _ _ c.args.module.now _ filled (sym c.is_empty.ensures ∙ c.if-is_empty.false) c.in_ok-section.ensures c.in_ok-fill_with.ensures.names
 
 pub returns-in_err-section : goal.returns-in_err-section
 returns-in_err-section g c =
