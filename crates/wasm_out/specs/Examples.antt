@@ -1,8 +1,6 @@
--- Worked examples of the definitions, which compute.
+-- Worked examples of the definitions, which compute (rows.rt).
 use Rattle.std.specs.Prelude.{◌≡◌, ℕ, true, false, List, [], ◌∷◌, ◌++◌, None, codes}
-use Rattle.std.proofs.Common.{refl}
 use Rattle.std.specs.List.{flat_map}
-use Rattle.wasm_ops.specs.Leb128.{unsigned, unsigned_in}
 use Rattle.wasm_ops.specs.declared.types.ValType.TheVariants as val
 use Rattle.wasm_ops.specs.declared.types.ExportKind.TheVariants as kind
 use Rattle.wasm_ops.specs.declared.types.CompositeInnerType.TheVariants as inner
@@ -13,9 +11,8 @@ use Rattle.wasm_out.specs.Parts.{Types, Functions, Exports, Code, Single, Custom
 use Rattle.wasm_out.specs.Reads.{header}
 
 -- runs of locals: two of i32, one of i64
-runs_of_locals : locals (val.I32 ∷ val.I32 ∷ val.I64 ∷ []) ≡ 0x02 ∷ 0x02 ∷ 0x7f ∷ 0x01 ∷ 0x7e ∷ []
-unfolding unsigned unsigned_in
-runs_of_locals = refl
+abbrev pub RunsOfLocals : Type 0
+RunsOfLocals = locals (val.I32 ∷ val.I32 ∷ val.I64 ∷ []) ≡ 0x02 ∷ 0x02 ∷ 0x7f ∷ 0x01 ∷ 0x7e ∷ []
 
 -- (module (type $t (func)) (func $f (type $t) call $f) (export "a" (func $f))), with the names of the function and of its type
 abbrev pub parts : List Part
@@ -35,6 +32,5 @@ bytes = 0x00 ∷ 0x61 ∷ 0x73 ∷ 0x6d ∷ 0x01 ∷ 0x00 ∷ 0x00 ∷ 0x00
     ∷ 0x0a ∷ 0x06 ∷ 0x01 ∷ 0x04 ∷ 0x00 ∷ 0x10 ∷ 0x00 ∷ 0x0b
     ∷ 0x00 ∷ 0x11 ∷ 0x04 ∷ 0x6e ∷ 0x61 ∷ 0x6d ∷ 0x65 ∷ 0x01 ∷ 0x04 ∷ 0x01 ∷ 0x00 ∷ 0x01 ∷ 0x66 ∷ 0x04 ∷ 0x04 ∷ 0x01 ∷ 0x00 ∷ 0x01 ∷ 0x74 ∷ []
 
-pub spelled : header ++ flat_map part parts ≡ bytes
-unfolding unsigned unsigned_in
-spelled = refl
+abbrev pub Spelled : Type 0
+Spelled = header ++ flat_map part parts ≡ bytes

@@ -7,6 +7,7 @@ mod items;
 mod laws;
 mod modules;
 mod names;
+mod rows;
 mod sections;
 #[cfg(test)]
 mod tests;

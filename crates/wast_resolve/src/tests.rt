@@ -133,15 +133,15 @@ fn func_field(rt: &impl Abort, alloc: Global) -> ModuleField<'static>
     })
 }
 
-// `(export "a" (func ..))`
-fn export_field(name: &'static str, offset: usize) -> ModuleField<'static>
+// `(export "a" (func ..))`, by the places of its keyword and its index
+fn export_field(name: &'static str, keyword: usize, index: usize) -> ModuleField<'static>
     ensures { IsTrue (are_settled (known []) (in_field result)) }
 {
     ModuleField::Export(Export {
-        span: at(54),
+        span: at(keyword),
         name: "a",
         kind: ExportKind::Func,
-        item: Index::Id(Id::new(name, at(offset))),
+        item: Index::Id(Id::new(name, at(index))),
     })
 }
 
@@ -179,7 +179,7 @@ fn a_resolved_module_has_numbers(rt: HostRuntime) {
     let mut fields = Seq::new(alloc);
     add(&rt, &mut fields, type_field(alloc, 9, 14));
     add(&rt, &mut fields, func_field(&rt, alloc));
-    add(&rt, &mut fields, export_field("f", 71));
+    add(&rt, &mut fields, export_field("f", 54, 71));
     let mut gensym = Gensym::new(1);
     let resolved = resolve(alloc, fields, &mut gensym);
     assert!(rt; resolved.is_ok());
@@ -267,7 +267,7 @@ fn an_unknown_name_is_told_at_its_place(rt: HostRuntime) {
     let alloc = rt.alloc();
     let mut fields = Seq::new(alloc);
     add(&rt, &mut fields, type_field(alloc, 9, 14));
-    add(&rt, &mut fields, export_field("g", 43));
+    add(&rt, &mut fields, export_field("g", 26, 43));
     match names::resolve(alloc, fields) {
         Ok((fields, _)) => {
             discard_fields(fields);
@@ -282,7 +282,7 @@ fn an_unknown_name_is_told_at_its_place(rt: HostRuntime) {
 fn a_clash_is_told_before_an_unknown_name(rt: HostRuntime) {
     let alloc = rt.alloc();
     let mut fields = Seq::new(alloc);
-    add(&rt, &mut fields, export_field("g", 43));
+    add(&rt, &mut fields, export_field("g", 26, 43));
     add(&rt, &mut fields, type_field(alloc, 9, 14));
     add(&rt, &mut fields, type_field(alloc, 26, 31));
     match names::resolve(alloc, fields) {

@@ -120,7 +120,7 @@ fn a_resolved_module_has_names(rt: HostRuntime) {
 fn wide_type<'a>(rt: &impl Abort, alloc: Global) -> TypeDef<'a> {
     let params = vec![in alloc; (None, None, ValType::I32), (None, None, ValType::I64)];
     let results = vec![in alloc; ValType::F32];
-    let mut def = plain_type(alloc, false);
+    let mut def = plain_type(alloc);
     def.kind = InnerTypeKind::Func(FunctionType {
         params: Seq::from_vec(params.expect(rt, "memory")),
         results: Seq::from_vec(results.expect(rt, "memory")),
@@ -132,7 +132,7 @@ fn wide_type<'a>(rt: &impl Abort, alloc: Global) -> TypeDef<'a> {
 fn named_module<'a>(rt: &impl Abort, alloc: Global) -> Module<'a> {
     let fields = vec![in alloc;
         ModuleField::Ty(type_at(None, 12, wide_type(rt, alloc))),
-        func(alloc, None, 56, Index::Num(0, at(67)), Seq::new(alloc)),
+        func(alloc, None, 55, Index::Num(0, at(66)), Seq::new(alloc)),
     ];
     let mut named = module(ModuleKind::Text(Seq::from_vec(fields.expect(rt, "memory"))));
     named.id = Some(Id::new("m", at(8)));
@@ -157,7 +157,7 @@ fn conversions_have_their_values(rt: HostRuntime) {
     assert!(rt; conv::index(&Index::Num(5, at(0))) == 5);
     assert!(rt; conv::val_type(&ValType::F64) == wasm_ops::ValType::F64);
     assert!(rt; conv::export_kind(ExportKind::Func) == wasm_ops::ExportKind::Func);
-    let plain = plain_type(alloc, false);
+    let plain = plain_type(alloc);
     let InnerTypeKind::Func(ty) = &plain.kind;
     let function = conv::func_type(alloc, ty).expect(&rt, "memory");
     assert!(rt; function.params.is_empty() && function.results.is_empty());
@@ -174,7 +174,7 @@ fn payload<S: Section>(rt: &impl Abort, alloc: Global, section: &S) -> Vec<u8> {
 #[test]
 fn a_type_is_an_item(rt: HostRuntime) {
     let alloc = rt.alloc();
-    let ty = type_at(None, 9, plain_type(alloc, false));
+    let ty = type_at(None, 9, plain_type(alloc));
     let mut types = TypeSection::new(alloc);
     assert!(rt; RecOrType::Ty(&ty).encode(alloc, &mut types).is_ok());
     assert!(rt; payload(&rt, alloc, &types).as_slice() == [1, 0x60, 0, 0].as_slice());

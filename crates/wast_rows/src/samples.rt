@@ -1,6 +1,6 @@
 //! The modules of the worked rows.
 
-ghost use Rattle.std.specs.Prelude.{◌≡◌, ◌↔◌, IsTrue, not, IsSome, IfSome, IfErr, Contains};
+ghost use Rattle.std.specs.Prelude.{◌≡◌, ◌↔◌, IsTrue, IsSome, IfSome, IfErr, Contains};
 ghost use Rattle.wast_tree.specs.Faults.{out_of_memory};
 ghost use Rattle.wast_tree.specs.Occurrences.{in_def};
 ghost use Rattle.wast_tree.specs.WellFormed.{is_plain_def};
@@ -22,9 +22,9 @@ fn id(name: &str, offset: usize) -> Id<'_> {
     Id::new(name, at(offset))
 }
 
-/// What `(func)` defines, and `(shared (func))` where it is shared.
-pub(crate) fn plain_type<'a>(alloc: Global, shared: bool) -> TypeDef<'a>
-    ensures plain { is_plain_def result ≡ not shared }
+/// What `(func)` defines.
+pub(crate) fn plain_type<'a>(alloc: Global) -> TypeDef<'a>
+    ensures plain { IsTrue (is_plain_def result) }
     ensures resolved { IsTrue (is_resolved (in_def result)) }
 {
     TypeDef {
@@ -32,7 +32,7 @@ pub(crate) fn plain_type<'a>(alloc: Global, shared: bool) -> TypeDef<'a>
             params: Seq::new(alloc),
             results: Seq::new(alloc),
         }),
-        shared,
+        shared: false,
         parents: Seq::new(alloc),
         descriptor: None,
         describes: None,
@@ -54,7 +54,7 @@ pub(crate) fn type_at<'a>(id: Option<Id<'a>>, offset: usize, def: TypeDef<'a>) -
 
 /// `(type $name (func))` at a place.
 fn empty_type<'a>(alloc: Global, name: Id<'a>, offset: usize) -> ModuleField<'a> {
-    ModuleField::Ty(type_at(Some(name), offset, plain_type(alloc, false)))
+    ModuleField::Ty(type_at(Some(name), offset, plain_type(alloc)))
 }
 
 /// `(func .. (type ..) ..)` at a place.

@@ -63,7 +63,9 @@ fn type_module<'a>(
     shared: bool,
 ) -> Result<Module<'a>, Error<'a>> {
     let mut fields = Seq::new(alloc);
-    fields.push(ModuleField::Ty(type_at(id, 9, plain_type(alloc, shared))))?;
+    let mut def = plain_type(alloc);
+    def.shared = shared;
+    fields.push(ModuleField::Ty(type_at(id, 9, def)))?;
     Ok(module(ModuleKind::Text(fields)))
 }
 

@@ -1,0 +1,12 @@
+-- The worked examples, computed.
+use Rattle.std.proofs.Common.{refl}
+use Rattle.wasm_ops.specs.Leb128.{unsigned, unsigned_in}
+use Rattle.wasm_out.specs.Examples.{RunsOfLocals, Spelled}
+
+pub runs_of_locals : RunsOfLocals
+unfolding unsigned unsigned_in
+runs_of_locals = refl
+
+pub worked_module : Spelled
+unfolding unsigned unsigned_in
+worked_module = refl
