@@ -1,4 +1,3 @@
-pub mod Anyway
 pub mod BothPasses
 pub mod Each
 pub mod Fields

@@ -19,7 +19,7 @@ use wast_tree::{
 };
 
 // The module, where it can be encoded with a counter at 1.
-fn ready<'a>(rt: &impl Abort, module: Module<'a>) -> Module<'a>
+pub(crate) fn ready<'a>(rt: &impl Abort, module: Module<'a>) -> Module<'a>
     ensures well_formed { IsTrue (is_well_formed result) }
     ensures bound { generation_bound result ≡ 0 }
 {
@@ -28,7 +28,7 @@ fn ready<'a>(rt: &impl Abort, module: Module<'a>) -> Module<'a>
     module
 }
 
-fn row<'a>(rt: &impl Abort, alloc: Global, n: u32) -> Module<'a>
+pub(crate) fn row<'a>(rt: &impl Abort, alloc: Global, n: u32) -> Module<'a>
     ensures well_formed { IsTrue (is_well_formed result) }
     ensures bound { generation_bound result ≡ 0 }
 {

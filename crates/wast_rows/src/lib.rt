@@ -6,6 +6,8 @@ mod answers;
 mod core_tests;
 mod errors;
 mod numbers;
+#[cfg(test)]
+mod resolve_tests;
 mod runs;
 mod samples;
 #[cfg(test)]
