@@ -65,6 +65,11 @@ fn faults_have_their_texts(rt: HostRuntime) {
         let place = error.number() as usize;
         assert!(rt; error.span() == Some(at(place)), "{text}");
     }
+    assert!(rt; fault_at(1, Fault::NotFunc).fault() == Fault::NotFunc);
+}
+
+#[test]
+fn refusals_have_their_texts(rt: HostRuntime) {
     let refused = [
         (10, Error::refusal(Fault::TooLarge), "too large"),
         (
@@ -87,7 +92,6 @@ fn faults_have_their_texts(rt: HostRuntime) {
             "{text}"
         );
     }
-    assert!(rt; fault_at(1, Fault::NotFunc).fault() == Fault::NotFunc);
 }
 
 #[test]
@@ -161,6 +165,10 @@ fn ids_and_indices_ignore_places(rt: HostRuntime) {
         assert!(rt; !index.is_same(&Index::Id(last)) && !index.is_same(&Index::Num(0, at(1))));
         last = *id;
     }
+}
+
+#[test]
+fn numbers_ignore_places(rt: HostRuntime) {
     let (number, other) = (Index::Num(3, at(8)), Index::Num(3, at(9)));
     assert!(rt; number == other && number.is_same(&other) && hash_of(&number) == hash_of(&other));
     assert!(rt; number.is_resolved() && number.span() == at(8));
