@@ -3,7 +3,7 @@ use Rattle.std.proofs.Common.{◌≡◌, ◌<◌, ℕ, Bool, true, false, eqb, L
 use Rattle.std.proofs.lemmas.Bool.{eqb-true, ltb-true}
 use Rattle.wasm_ops.specs.Codes.{IsCode}
 use Rattle.wasm_ops.specs.Leb128.{unsigned}
-use Rattle.wasm_ops.specs.Table.{Key, Byte, Prefixed, Kind, Index, Row, Field, field, InRangeField, Fields, fields, InRangeFields, Instr, key_bytes, instr, table, same_key, kinds_of, ascends, is_apart, all_apart, IsInstr}
+use Rattle.wasm_ops.specs.Table.{Opcode, Byte, Prefixed, Kind, Index, Row, Field, field, InRangeField, Fields, fields, InRangeFields, Instr, opcode_bytes, instr, table, same_opcode, kinds_of, ascends, is_apart, all_apart, IsInstr}
 use Rattle.wasm_ops.proofs.Numbers.{unsigned_begins}
 use Rattle.wasm_ops.proofs.Codes.{number_code, pair_code}
 
@@ -26,7 +26,7 @@ pub fields_code : (kinds : List Kind) → IsCode (Fields kinds) (InRangeFields k
 fields_code [] = record { begins = λ x y r s p q e. (refl, e) }
 fields_code (kind ∷ kinds) = pair_code (field_code kind) (fields_code kinds)
 
--- ---- keys
+-- ---- opcodes
 
 both_true : (b c : Bool) → elim b as (λ v. Bool) [ true ↦ c | false ↦ false ] ≡ true → (b ≡ true) × (c ≡ true)
 both_true true c e = (refl, e)
@@ -40,28 +40,28 @@ and_true : (b c : Bool) → (b && c) ≡ true → (b ≡ true) × (c ≡ true)
 and_true true c e = (refl, e)
 and_true false c e = absurd cc
 
-same_key_is : (k l : Key) → same_key k l ≡ true → k ≡ l
-same_key_is (Byte a) (Byte b) e = ap Byte (eqb-true a b e)
-same_key_is (Byte a) (Prefixed q n) e = absurd cc
-same_key_is (Prefixed p m) (Byte b) e = absurd cc
-same_key_is (Prefixed p m) (Prefixed q n) e = let h = and_true (eqb p q) (eqb m n) e in let a = eqb-true p q h.0 in let b = eqb-true m n h.1 in cc
+same_opcode_is : (k l : Opcode) → same_opcode k l ≡ true → k ≡ l
+same_opcode_is (Byte a) (Byte b) e = ap Byte (eqb-true a b e)
+same_opcode_is (Byte a) (Prefixed q n) e = absurd cc
+same_opcode_is (Prefixed p m) (Byte b) e = absurd cc
+same_opcode_is (Prefixed p m) (Prefixed q n) e = let h = and_true (eqb p q) (eqb m n) e in let a = eqb-true p q h.0 in let b = eqb-true m n h.1 in cc
 
--- what holds of each key in a table in which no key of one byte is a prefix
-apart_at : (k : Key) (rows : List Row) (kinds : List Kind) → all_apart rows ≡ true → kinds_of k rows ≡ Some kinds → is_apart k ≡ true
+-- what holds of each opcode in a table in which no opcode of one byte is a prefix
+apart_at : (k : Opcode) (rows : List Row) (kinds : List Kind) → all_apart rows ≡ true → kinds_of k rows ≡ Some kinds → is_apart k ≡ true
 unfolding all_apart kinds_of
 apart_at k [] kinds a h = absurd cc
 apart_at k (r ∷ rs) kinds a h =
-    let both = both_true (is_apart r.key) (all_apart rs) a in
-    elim (which (same_key r.key k) (Some r.kinds) (kinds_of k rs) (Some kinds) h) [
-      | inl w ↦ subst (λ l. is_apart l ≡ true) (same_key_is r.key k w.0) both.0
+    let both = both_true (is_apart r.opcode) (all_apart rs) a in
+    elim (which (same_opcode r.opcode k) (Some r.kinds) (kinds_of k rs) (Some kinds) h) [
+      | inl w ↦ subst (λ l. is_apart l ≡ true) (same_opcode_is r.opcode k w.0) both.0
       | inr w ↦ apart_at k rs kinds both.1 w.1
     ]
 
-key_begins : (k l : Key) (r s : List ℕ) → is_apart k ≡ true → is_apart l ≡ true → key_bytes k ++ r ≡ key_bytes l ++ s → (k ≡ l) × (r ≡ s)
-key_begins (Byte a) (Byte b) r s p q e = let h : a ≡ b = cc in (ap Byte h, cc)
-key_begins (Byte a) (Prefixed b n) r s p q e = let h : a ≡ b = cc in absurd (omega (arith, ltb-true a 0xfb p, ltb-true 0xfa b q))
-key_begins (Prefixed b n) (Byte a) r s p q e = let h : b ≡ a = cc in absurd (omega (arith, ltb-true a 0xfb q, ltb-true 0xfa b p))
-key_begins (Prefixed a m) (Prefixed b n) r s p q e =
+opcode_begins : (k l : Opcode) (r s : List ℕ) → is_apart k ≡ true → is_apart l ≡ true → opcode_bytes k ++ r ≡ opcode_bytes l ++ s → (k ≡ l) × (r ≡ s)
+opcode_begins (Byte a) (Byte b) r s p q e = let h : a ≡ b = cc in (ap Byte h, cc)
+opcode_begins (Byte a) (Prefixed b n) r s p q e = let h : a ≡ b = cc in absurd (omega (arith, ltb-true a 0xfb p, ltb-true 0xfa b q))
+opcode_begins (Prefixed b n) (Byte a) r s p q e = let h : b ≡ a = cc in absurd (omega (arith, ltb-true a 0xfb q, ltb-true 0xfa b p))
+opcode_begins (Prefixed a m) (Prefixed b n) r s p q e =
     let h : a ≡ b = cc in
     let t : unsigned m ++ r ≡ unsigned n ++ s = cc in
     let one = unsigned_begins m n r s t in
@@ -92,18 +92,18 @@ instr_code = record {
   begins = λ x y r s p q e.
       let xs = fields x.row.kinds x.numbers in
       let ys = fields y.row.kinds y.numbers in
-      let one = key_begins x.row.key y.row.key (xs ++ r) (ys ++ s) (apart_at x.row.key table x.row.kinds table_apart p.row) (apart_at y.row.key table y.row.kinds table_apart q.row) (sym (append_assoc (key_bytes x.row.key) xs r) ∙ e ∙ append_assoc (key_bytes y.row.key) ys s) in
+      let one = opcode_begins x.row.opcode y.row.opcode (xs ++ r) (ys ++ s) (apart_at x.row.opcode table x.row.kinds table_apart p.row) (apart_at y.row.opcode table y.row.kinds table_apart q.row) (sym (append_assoc (opcode_bytes x.row.opcode) xs r) ∙ e ∙ append_assoc (opcode_bytes y.row.opcode) ys s) in
       let kinds : x.row.kinds ≡ y.row.kinds = some_is x.row.kinds y.row.kinds (sym p.row ∙ ap (λ k. kinds_of k table) one.0 ∙ q.row) in
-      let f : Key → Row = λ k. record { key = k; kinds = x.row.kinds } in
-      let g : List Kind → Row = λ ks. record { key = y.row.key; kinds = ks } in
+      let f : Opcode → Row = λ k. record { opcode = k; kinds = x.row.kinds } in
+      let g : List Kind → Row = λ ks. record { opcode = y.row.opcode; kinds = ks } in
       let row : x.row ≡ y.row = ap f one.0 ∙ ap g kinds in
       numbers_begin x.row y.row x.numbers y.numbers r s row p.numbers q.numbers one.1;
 }
 
--- the key has a byte or more
-key_nonempty : (k : Key) (xs : List ℕ) → 0 < length (key_bytes k ++ xs)
-key_nonempty (Byte b) xs = omega arith
-key_nonempty (Prefixed p n) xs = omega arith
+-- the opcode has a byte or more
+opcode_nonempty : (k : Opcode) (xs : List ℕ) → 0 < length (opcode_bytes k ++ xs)
+opcode_nonempty (Byte b) xs = omega arith
+opcode_nonempty (Prefixed p n) xs = omega arith
 
 pub instr-nonempty : (i : Instr) → 0 < length (instr i)
-instr-nonempty i = key_nonempty i.row.key (fields i.row.kinds i.numbers)
+instr-nonempty i = opcode_nonempty i.row.opcode (fields i.row.kinds i.numbers)

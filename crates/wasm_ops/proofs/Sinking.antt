@@ -7,38 +7,38 @@ use Rattle.std.proofs.lemmas.List.{take_more}
 use Rattle.std.proofs.lemmas.List.Concat.{flat_map-cons}
 use Rattle.std.proofs.lemmas.List.Elements.{All-more}
 use Rattle.wast_tree.specs.declared.faults.Error.{Error}
-use Rattle.wasm_ops.specs.Sinks.{IsRefusal, Puts, AppendLaws}
+use Rattle.wasm_ops.specs.Sinks.{SinkRules, IsRefusal, Puts, AppendLaws}
 
 -- what has no room behind x has none where x is a part
-refused_behind : {S : Type 0} (appended : S → S → List ℕ → Type 0) (fits : S → ℕ → Type 0) (size_of : S → ℕ) (is_cut : S → ℕ → S → Type 0) (refusal : Error) (all part : Type 0) (a b : S) (x y whole : List ℕ) (e : Error)
-    → AppendLaws S appended fits size_of is_cut → length x + length y ≤ length whole → (all → part) → appended a b x → IsRefusal refusal (fits b (length y)) part e → IsRefusal refusal (fits a (length whole)) all e
-refused_behind appended fits size_of is_cut refusal all part a b x y whole e laws le has h r =
+refused_behind : {S : Type 0} (rules : SinkRules S) (all part : Type 0) (a b : S) (x y whole : List ℕ) (e : Error)
+    → AppendLaws rules → length x + length y ≤ length whole → (all → part) → rules.appended a b x → IsRefusal rules.refusal (rules.fits b (length y)) part e → IsRefusal rules.refusal (rules.fits a (length whole)) all e
+refused_behind rules all part a b x y whole e laws le has h r =
     elim r [
       | inl p ↦ inl (p.0, λ f. p.1 (laws.fits_less b (length y) (length whole - length x) (omega arith) (laws.fits_rest a b x (length whole) (omega arith) f h)))
       | inr p ↦ inr (p.0, λ s. p.1 (has s))
     ]
 
 -- after x, y was refused: the sink is cut back to its size before x
-pub cut_back : {S A : Type 0} (appended : S → S → List ℕ → Type 0) (fits : S → ℕ → Type 0) (size_of : S → ℕ) (is_cut : S → ℕ → S → Type 0) (refusal : Error) (all part : Type 0) (a b c d : S) (x y whole : List ℕ) (n : ℕ) (r : Result A Error)
-    → AppendLaws S appended fits size_of is_cut → length x + length y ≤ length whole → (all → part) → appended a b x → Puts appended fits refusal part b c y r → is_err r ≡ true → n ≡ size_of a → is_cut c n d → Puts appended fits refusal all a d whole r
-cut_back appended fits size_of is_cut refusal all part a b c d x y whole n (Ok t) laws le has h p bad s k = absurd cc
-cut_back appended fits size_of is_cut refusal all part a b c d x y whole n (Err e) laws le has h p bad s k = (
-  laws.cuts_back a c d (x ++ []) (laws.joins a b c x [] h p.0) (subst (λ (m : ℕ). is_cut c m d) s k),
-  refused_behind appended fits size_of is_cut refusal all part a b x y whole e laws le has h p.1,
+pub cut_back : {S A : Type 0} (rules : SinkRules S) (all part : Type 0) (a b c d : S) (x y whole : List ℕ) (n : ℕ) (r : Result A Error)
+    → AppendLaws rules → length x + length y ≤ length whole → (all → part) → rules.appended a b x → Puts rules part b c y r → is_err r ≡ true → n ≡ rules.size_of a → rules.is_cut c n d → Puts rules all a d whole r
+cut_back rules all part a b c d x y whole n (Ok t) laws le has h p bad s k = absurd cc
+cut_back rules all part a b c d x y whole n (Err e) laws le has h p bad s k = (
+  laws.cuts_back a c d (x ++ []) (laws.joins a b c x [] h p.0) (subst (λ (m : ℕ). rules.is_cut c m d) s k),
+  refused_behind rules all part a b x y whole e laws le has h p.1,
 )
 
 -- the range said another way
-pub puts_as : {S A : Type 0} (appended : S → S → List ℕ → Type 0) (fits : S → ℕ → Type 0) (refusal : Error) (one other : Type 0) (a b : S) (x : List ℕ) (r : Result A Error)
-    → (one → other) → (other → one) → Puts appended fits refusal one a b x r → Puts appended fits refusal other a b x r
-puts_as appended fits refusal one other a b x (Ok t) f g p = (p.0, f p.1)
-puts_as appended fits refusal one other a b x (Err e) f g p =
+pub puts_as : {S A : Type 0} (rules : SinkRules S) (one other : Type 0) (a b : S) (x : List ℕ) (r : Result A Error)
+    → (one → other) → (other → one) → Puts rules one a b x r → Puts rules other a b x r
+puts_as rules one other a b x (Ok t) f g p = (p.0, f p.1)
+puts_as rules one other a b x (Err e) f g p =
     (p.0, elim p.1 [ inl q ↦ inl q | inr q ↦ inr (q.0, λ s. q.1 (g s)) ])
 
 -- what was no error was appended, and is in range
-was_put : {S A : Type 0} (appended : S → S → List ℕ → Type 0) (fits : S → ℕ → Type 0) (refusal : Error) (in_range : Type 0) (a b : S) (x : List ℕ) (r : Result A Error)
-    → Puts appended fits refusal in_range a b x r → is_err r ≡ false → appended a b x × in_range
-was_put appended fits refusal in_range a b x (Ok t) p good = p
-was_put appended fits refusal in_range a b x (Err e) p good = absurd cc
+was_put : {S A : Type 0} (rules : SinkRules S) (in_range : Type 0) (a b : S) (x : List ℕ) (r : Result A Error)
+    → Puts rules in_range a b x r → is_err r ≡ false → rules.appended a b x × in_range
+was_put rules in_range a b x (Ok t) p good = p
+was_put rules in_range a b x (Err e) p good = absurd cc
 
 flat_map-take-more : {X A : Type 0} (f : X → List A) (xs : List X) (k : ℕ) (x : X) → k < length xs → x ≡ get_or xs k x → flat_map f (take k xs) ++ f x ≡ flat_map f (take (k + 1) xs)
 flat_map-take-more f xs k x lt is =
@@ -48,12 +48,12 @@ flat_map-take-more f xs k x lt is =
     ∙ ap (flat_map f) (sym (take_more xs k x lt))
 
 -- one item more
-pub each_more : {S A X : Type 0} (appended : S → S → List ℕ → Type 0) (fits : S → ℕ → Type 0) (size_of : S → ℕ) (is_cut : S → ℕ → S → Type 0) (refusal : Error) (spell : X → List ℕ) (in_range : X → Type 0) (a b c : S) (xs : List X) (k : ℕ) (x : X) (r : Result A Error)
-    → AppendLaws S appended fits size_of is_cut → k < length xs → x ≡ get_or xs k x → appended a b (flat_map spell (take k xs)) → All in_range (take k xs) → Puts appended fits refusal (in_range x) b c (spell x) r → is_err r ≡ false
-    → appended a c (flat_map spell (take (k + 1) xs)) × All in_range (take (k + 1) xs)
-each_more appended fits size_of is_cut refusal spell in_range a b c xs k x r laws lt is has all p good =
-    let one = was_put appended fits refusal (in_range x) b c (spell x) r p good in (
-      subst (appended a c) (flat_map-take-more spell xs k x lt is) (laws.joins a b c (flat_map spell (take k xs)) (spell x) has one.0),
+pub one_item_more : {S A X : Type 0} (rules : SinkRules S) (spell : X → List ℕ) (in_range : X → Type 0) (a b c : S) (xs : List X) (k : ℕ) (x : X) (r : Result A Error)
+    → AppendLaws rules → k < length xs → x ≡ get_or xs k x → rules.appended a b (flat_map spell (take k xs)) → All in_range (take k xs) → Puts rules (in_range x) b c (spell x) r → is_err r ≡ false
+    → rules.appended a c (flat_map spell (take (k + 1) xs)) × All in_range (take (k + 1) xs)
+one_item_more rules spell in_range a b c xs k x r laws lt is has all p good =
+    let one = was_put rules (in_range x) b c (spell x) r p good in (
+      subst (rules.appended a c) (flat_map-take-more spell xs k x lt is) (laws.joins a b c (flat_map spell (take k xs)) (spell x) has one.0),
       All-more in_range xs k x lt all (subst in_range is one.1),
     )
 

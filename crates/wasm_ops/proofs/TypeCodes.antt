@@ -3,8 +3,8 @@ use Rattle.std.proofs.Common.{◌≡◌, ◌&&◌, ℕ, Bool, true, false, Optio
 use Rattle.std.specs.Prelude.{IsTrue, not, is_none}
 use Rattle.wasm_ops.specs.Codes.{IsCode}
 use Rattle.wasm_ops.specs.Leb128.{unsigned}
-use Rattle.wasm_ops.specs.Covered.{is_covered_composite_type, is_covered_sub_type}
-use Rattle.wasm_ops.specs.Spelling.{Any, InRangeU32, vec, InRangeVec, val_type, export_kind, func_type, InRangeFuncType, composite_inner_type, InRangeCompositeInnerType, composite_type, InRangeCompositeType, sub_bytes, sub_type, InRangeSubType}
+use Rattle.wasm_ops.specs.Covered.{is_covered_composite_type, IsSpellableCompositeType, IsSpellableSubType}
+use Rattle.wasm_ops.specs.Spelling.{Any, InRangeU32, vec, InRangeVec, val_type, export_kind, func_type, InRangeFuncType, composite_inner_type, InRangeCompositeInnerType, composite_type, sub_bytes, sub_type}
 use Rattle.wasm_ops.specs.declared.types.ValType.{ValType}
 use Rattle.wasm_ops.specs.declared.types.ValType.TheVariants as val
 use Rattle.wasm_ops.specs.declared.types.ExportKind.{ExportKind}
@@ -62,7 +62,7 @@ plain_by i false None (Some n) e = absurd cc
 is_plain : (x : CompositeType) → IsTrue (is_covered_composite_type x) → x ≡ plain x.inner
 is_plain x e = plain_by x.inner x.shared x.descriptor x.describes e
 
-pub composite_type_code : IsCode CompositeType (λ x. IsTrue (is_covered_composite_type x) × InRangeCompositeType x) composite_type
+pub composite_type_code : IsCode CompositeType IsSpellableCompositeType composite_type
 composite_type_code = record {
   begins = λ x y r s p q e.
       let one = inner_begins x.inner y.inner r s p.1 q.1 e in
@@ -79,11 +79,11 @@ Below = List ℕ × CompositeType
 abbrev below : List ℕ → CompositeType → Below
 below ps c = (ps, c)
 
-below_code : IsCode Below (λ p. InRangeVec InRangeU32 p.0 × (IsTrue (is_covered_composite_type p.1) × InRangeCompositeType p.1)) (λ p. vec unsigned p.0 ++ composite_type p.1)
+below_code : IsCode Below (λ p. InRangeVec InRangeU32 p.0 × IsSpellableCompositeType p.1) (λ p. vec unsigned p.0 ++ composite_type p.1)
 below_code = pair_code (vec_code index_code) composite_type_code
 
 abbrev Fine : List ℕ → CompositeType → Type 0
-Fine ps c = InRangeVec InRangeU32 ps × (IsTrue (is_covered_composite_type c) × InRangeCompositeType c)
+Fine ps c = InRangeVec InRangeU32 ps × IsSpellableCompositeType c
 
 sub_begins : (m n : Bool) (ps qs : List ℕ) (c d : CompositeType) (r s : List ℕ) → Fine ps c → Fine qs d → sub_bytes m ps (composite_type c) ++ r ≡ sub_bytes n qs (composite_type d) ++ s → (m ≡ n) × (below ps c ≡ below qs d) × (r ≡ s)
 sub_begins true true [] [] c d r s p q e =
@@ -103,7 +103,7 @@ sub_begins true false (x ∷ xs) qs c d r s p q e = absurd (omega (arith, ap fro
 sub_begins false true ps [] c d r s p q e = absurd (omega (arith, ap front e, composite_front d.inner s))
 sub_begins false true ps (y ∷ ys) c d r s p q e = absurd (omega (arith, ap front e))
 
-pub sub_type_code : IsCode SubType (λ x. IsTrue (is_covered_sub_type x) × InRangeSubType x) sub_type
+pub sub_type_code : IsCode SubType IsSpellableSubType sub_type
 sub_type_code = record {
   begins = λ x y r s p q e.
       let one = sub_begins x.is_final y.is_final x.supertype_idxs y.supertype_idxs x.composite_type y.composite_type r s (p.1.0, (p.0, p.1.1)) (q.1.0, (q.0, q.1.1)) e in

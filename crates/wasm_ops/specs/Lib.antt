@@ -1,7 +1,7 @@
 pub mod Codes
 pub mod Covered
 pub mod Leb128
-pub mod Rows
+pub mod IndexInstrs
 pub mod SinkLaws
 pub mod Sinks
 pub mod Spelling

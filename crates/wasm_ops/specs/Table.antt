@@ -5,16 +5,16 @@ use Rattle.wasm_ops.specs.Leb128.{unsigned}
 use Rattle.wasm_ops.specs.Spelling.{InRangeU32}
 
 -- what stands before the numbers: a byte, or a prefix and a number
-pub data Key : Type 0 where
-  Byte : (byte : ℕ) → Key
-  Prefixed : (prefix number : ℕ) → Key
+pub data Opcode : Type 0 where
+  Byte : (byte : ℕ) → Opcode
+  Prefixed : (prefix number : ℕ) → Opcode
 
 -- the kinds of immediates
 pub data Kind : Type 0 where
   Index : Kind
 
 pub record Row : Type 0 where
-  pub key : Key
+  pub opcode : Opcode
   pub kinds : List Kind
 
 -- an immediate of a kind, its bytes, and that it is in range
@@ -45,56 +45,59 @@ pub record Instr : Type 0 where
   pub row : Row
   pub numbers : Fields row.kinds
 
-abbrev pub key_bytes : Key → List ℕ
-key_bytes (Byte b) = b ∷ []
-key_bytes (Prefixed p n) = p ∷ unsigned n
+abbrev pub opcode_bytes : Opcode → List ℕ
+opcode_bytes (Byte b) = b ∷ []
+opcode_bytes (Prefixed p n) = p ∷ unsigned n
 
 abbrev pub instr : Instr → List ℕ
-instr i = key_bytes i.row.key ++ fields i.row.kinds i.numbers
+instr i = opcode_bytes i.row.opcode ++ fields i.row.kinds i.numbers
 
 -- instructions one after another
 abbrev pub instrs : List Instr → List ℕ
 instrs is = flat_map instr is
 
--- rows of consecutive keys: how the keys are made, the first, how many, and their kinds of immediates
-abbrev pub run : (ℕ → Key) → ℕ → ℕ → List Kind → List Row
-run key first zero kinds = []
-run key first (suc count) kinds = record { key = key first; kinds = kinds } ∷ run key (first + 1) count kinds
+-- rows of consecutive opcodes: how the opcodes are made, the first, how many, and their kinds of immediates
+abbrev pub consecutive : (ℕ → Opcode) → ℕ → ℕ → List Kind → List Row
+consecutive opcode first zero kinds = []
+consecutive opcode first (suc count) kinds =
+    record { opcode = opcode first; kinds = kinds } ∷ consecutive opcode (first + 1) count kinds
 
--- the rows, in the order of their keys
+-- the rows, in the order of their opcodes
 unfoldable pub table : List Row
-table = run Byte 0x10 1 (Index ∷ [])
+table = consecutive Byte 0x10 1 (Index ∷ [])
 
-abbrev pub same_key : Key → Key → Bool
-same_key (Byte a) (Byte b) = nat_eq a b
-same_key (Prefixed p m) (Prefixed q n) = nat_eq p q && nat_eq m n
-same_key k l = false
+abbrev pub same_opcode : Opcode → Opcode → Bool
+same_opcode (Byte a) (Byte b) = nat_eq a b
+same_opcode (Prefixed p m) (Prefixed q n) = nat_eq p q && nat_eq m n
+same_opcode k l = false
 
--- the kinds of immediates behind a key
-unfoldable pub kinds_of : Key → List Row → Option (List Kind)
-kinds_of key [] = None
-kinds_of key (r ∷ rs) = elim (same_key r.key key) [ true ↦ Some r.kinds | false ↦ kinds_of key rs ]
+-- the kinds of immediates behind an opcode
+unfoldable pub kinds_of : Opcode → List Row → Option (List Kind)
+kinds_of opcode [] = None
+kinds_of opcode (r ∷ rs) =
+    elim (same_opcode r.opcode opcode) [ true ↦ Some r.kinds | false ↦ kinds_of opcode rs ]
 
 -- the row stands in the table, and the numbers are in range
 pub record IsInstr (i : Instr) : Type 0 where
-  pub row : kinds_of i.row.key table ≡ Some i.row.kinds
+  pub row : kinds_of i.row.opcode table ≡ Some i.row.kinds
   pub numbers : InRangeFields i.row.kinds i.numbers
 
--- where a key stands among all: the bytes, and then the numbers behind each prefix
-abbrev pub place : Key → ℕ
-place (Byte b) = b
-place (Prefixed p n) = 65536 * p + n
+-- where an opcode stands among all: the bytes, and then the numbers behind each prefix
+abbrev pub opcode_order : Opcode → ℕ
+opcode_order (Byte b) = b
+opcode_order (Prefixed p n) = 65536 * p + n
 
--- each key is above the one before it
+-- each opcode is above the one before it
 unfoldable pub ascends : ℕ → List Row → Bool
 ascends before [] = true
-ascends before (r ∷ rs) = elim (nat_lt before (place r.key + 1)) [ true ↦ ascends (place r.key + 1) rs | false ↦ false ]
+ascends before (r ∷ rs) =
+    elim (nat_lt before (opcode_order r.opcode + 1)) [ true ↦ ascends (opcode_order r.opcode + 1) rs | false ↦ false ]
 
--- a key of one byte is no prefix: prefixes are from 0xfb on
-abbrev pub is_apart : Key → Bool
+-- an opcode of one byte is no prefix: prefixes are from 0xfb on
+abbrev pub is_apart : Opcode → Bool
 is_apart (Byte b) = nat_lt b 0xfb
 is_apart (Prefixed p n) = nat_lt 0xfa p
 
 unfoldable pub all_apart : List Row → Bool
 all_apart [] = true
-all_apart (r ∷ rs) = elim (is_apart r.key) [ true ↦ all_apart rs | false ↦ false ]
+all_apart (r ∷ rs) = elim (is_apart r.opcode) [ true ↦ all_apart rs | false ↦ false ]

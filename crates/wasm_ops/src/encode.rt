@@ -27,7 +27,7 @@ pub trait Encode {
     /// of range; then nothing was appended.
     fn encode<'e, S: Sink>(&self, out: &mut S) -> Result<(), Error<'e>>
         requires { IsTrue (is_covered self.now) }
-        ensures { Puts S.appended S.fits S.refusal (in_range self.now) out.old out.new (spelling self.now) result };
+        ensures { Puts S.rules (in_range self.now) out.old out.new (spelling self.now) result };
 }
 
 /// A byte (binary format, bytes).
@@ -189,7 +189,7 @@ impl<'a> Encode for Name<'a> {
 /// The errors are the sink's refusal, where it has no room, and too large, where the name has 2^32 bytes or more; then
 /// nothing was appended.
 pub fn write_name<'e, S: Sink>(out: &mut S, text: &str) -> Result<(), Error<'e>>
-    ensures { Puts S.appended S.fits S.refusal (InRangeName text.now) out.old out.new (name text.now) result }
+    ensures { Puts S.rules (InRangeName text.now) out.old out.new (name text.now) result }
 {
     Name(text).encode(out)
 }

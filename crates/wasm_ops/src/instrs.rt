@@ -1,7 +1,7 @@
 //! Instructions of the binary format.
 
 ghost use Rattle.std.specs.Prelude.{◌≡◌};
-ghost use Rattle.wasm_ops.specs.Rows.{index_byte, index_instr};
+ghost use Rattle.wasm_ops.specs.IndexInstrs.{index_byte, index_instr};
 ghost use Rattle.wasm_ops.specs.Sinks.{Puts};
 ghost use Rattle.wasm_ops.specs.Table.{instr, IsInstr};
 
@@ -46,7 +46,8 @@ impl<'s, S: Sink> InstructionSink<'s, S> {
     /// It appends the spelling of that row of the table. The only error is the sink's refusal; then nothing was
     /// appended.
     pub fn index<'e>(&mut self, op: IndexOp, index: u32) -> Result<(), Error<'e>>
-        ensures appended { Puts S.appended S.fits S.refusal (IsInstr (index_instr op index)) self.old.out.now self.new.out.now (instr (index_instr op index)) result }
+        ensures appended { Puts S.rules (IsInstr (index_instr op index)) self.old.out.now self.new.out.now
+            (instr (index_instr op index)) result }
         ensures same { self.new.out.ghost_name ≡ self.old.out.ghost_name }
     {
         (op.byte(), index).encode(self.out)

@@ -1,10 +1,10 @@
 //! The laws of spellings: each value has one, and no spelling begins another.
 
-ghost use Rattle.std.specs.Prelude.{◌≡◌, ℕ, ℤ, true, List, ◌++◌, IsTrue};
+ghost use Rattle.std.specs.Prelude.{◌≡◌, ℕ, ℤ, true, List, ◌++◌};
 ghost use Rattle.wasm_ops.specs.Codes.{IsCode};
-ghost use Rattle.wasm_ops.specs.Covered.{is_covered_composite_type, is_covered_sub_type};
+ghost use Rattle.wasm_ops.specs.Covered.{IsSpellableCompositeType, IsSpellableSubType};
 ghost use Rattle.wasm_ops.specs.Leb128.{SpellsUnsigned, SpellsSigned, unsigned, signed};
-ghost use Rattle.wasm_ops.specs.Spelling.{Any, name, InRangeName, val_type, export_kind, func_type, InRangeFuncType, composite_type, InRangeCompositeType, sub_type, InRangeSubType};
+ghost use Rattle.wasm_ops.specs.Spelling.{Any, name, InRangeName, val_type, export_kind, func_type, InRangeFuncType, composite_type, sub_type};
 ghost use Rattle.wasm_ops.specs.Table.{Instr, instr, IsInstr, table, ascends, all_apart};
 ghost use Rattle.wasm_ops.specs.declared.types.ValType.{ValType};
 ghost use Rattle.wasm_ops.specs.declared.types.ExportKind.{ExportKind};
@@ -28,19 +28,19 @@ pub fn signed_law()
     ensures begins { (y z : ℤ) (r s : List ℕ) → signed y ++ r ≡ signed z ++ s → (y ≡ z) × (r ≡ s) }
 {}
 
-/// The law of names and types: bytes that begin with a spelling begin with that of one value only (binary format, values
-/// and types). Of composite types and sub types it speaks where the encoder covers them.
+/// The law of names and types: bytes that begin with a spelling begin with that of one value only (binary format,
+/// values and types). Of composite types and sub types it speaks where the encoder covers them.
 pub fn type_spelling_law()
     ensures names { IsCode (List ℕ) InRangeName name }
     ensures val_types { IsCode ValType Any val_type }
     ensures export_kinds { IsCode ExportKind Any export_kind }
     ensures func_types { IsCode FuncType InRangeFuncType func_type }
-    ensures composite_types { IsCode CompositeType (λ x. IsTrue (is_covered_composite_type x) × InRangeCompositeType x) composite_type }
-    ensures sub_types { IsCode SubType (λ x. IsTrue (is_covered_sub_type x) × InRangeSubType x) sub_type }
+    ensures composite_types { IsCode CompositeType IsSpellableCompositeType composite_type }
+    ensures sub_types { IsCode SubType IsSpellableSubType sub_type }
 {}
 
-/// The law of instructions: no two rows of the table share a key, no key of one byte is the prefix of another, and bytes
-/// that begin with the spelling of an instruction begin with that of one only (binary format, instructions).
+/// The law of instructions: no two rows of the table share an opcode, no opcode of one byte is the prefix of another,
+/// and bytes that begin with the spelling of an instruction begin with that of one only (binary format, instructions).
 pub fn instruction_law()
     ensures distinct { ascends 0 table ≡ true }
     ensures apart { all_apart table ≡ true }

@@ -29,7 +29,7 @@ fn unsigned_bytes(n: u64) -> ([u8; 10], usize)
 /// It appends the one spelling of the number, the shortest. The only error is the sink's refusal; then nothing was
 /// appended.
 pub fn write_u64<'e, S: Sink>(out: &mut S, n: u64) -> Result<(), Error<'e>>
-    ensures { Puts S.appended S.fits S.refusal (Unit {0}) out.old out.new (unsigned n) result }
+    ensures { Puts S.rules (Unit {0}) out.old out.new (unsigned n) result }
 {
     let (bytes, len) = unsigned_bytes(n);
     out.put(&bytes[..len])
@@ -40,7 +40,7 @@ pub fn write_u64<'e, S: Sink>(out: &mut S, n: u64) -> Result<(), Error<'e>>
 /// It appends the one spelling of the number, the shortest. The only error is the sink's refusal; then nothing was
 /// appended.
 pub fn write_u32<'e, S: Sink>(out: &mut S, n: u32) -> Result<(), Error<'e>>
-    ensures { Puts S.appended S.fits S.refusal (Unit {0}) out.old out.new (unsigned n) result }
+    ensures { Puts S.rules (Unit {0}) out.old out.new (unsigned n) result }
 {
     write_u64(out, u64::from(n))
 }
@@ -89,7 +89,7 @@ fn signed_bytes(n: i64) -> ([u8; 10], usize)
 /// It appends the one spelling of the number, the shortest. The only error is the sink's refusal; then nothing was
 /// appended.
 pub fn write_s64<'e, S: Sink>(out: &mut S, n: i64) -> Result<(), Error<'e>>
-    ensures { Puts S.appended S.fits S.refusal (Unit {0}) out.old out.new (signed n) result }
+    ensures { Puts S.rules (Unit {0}) out.old out.new (signed n) result }
 {
     let (bytes, len) = signed_bytes(n);
     out.put(&bytes[..len])
@@ -100,7 +100,7 @@ pub fn write_s64<'e, S: Sink>(out: &mut S, n: i64) -> Result<(), Error<'e>>
 /// It appends the one spelling of the number, the shortest. The only error is the sink's refusal; then nothing was
 /// appended.
 pub fn write_s32<'e, S: Sink>(out: &mut S, n: i32) -> Result<(), Error<'e>>
-    ensures { Puts S.appended S.fits S.refusal (Unit {0}) out.old out.new (signed n) result }
+    ensures { Puts S.rules (Unit {0}) out.old out.new (signed n) result }
 {
     write_s64(out, i64::from(n))
 }
@@ -112,7 +112,7 @@ pub fn write_s32<'e, S: Sink>(out: &mut S, n: i32) -> Result<(), Error<'e>>
 pub fn write_s33<'e, S: Sink>(out: &mut S, n: i64) -> Result<(), Error<'e>>
     requires low { negsuc 4294967295 ≤ℤ n }
     requires high { n ≤ℤ pos 4294967295 }
-    ensures { Puts S.appended S.fits S.refusal (Unit {0}) out.old out.new (signed n) result }
+    ensures { Puts S.rules (Unit {0}) out.old out.new (signed n) result }
 {
     write_s64(out, n)
 }

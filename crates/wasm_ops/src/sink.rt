@@ -1,9 +1,8 @@
 //! What takes bytes: a vector of them, or a count.
 
 ghost use Rattle.std.specs.Prelude.{◌≡◌, ◌≤◌, ◌<◌, ◌+◌, ◌^◌, ℕ, List, ◌++◌, take, length};
-ghost use Rattle.wast_tree.specs.declared.faults.Error.{Error};
 ghost use Rattle.wast_tree.specs.Faults.{too_large, out_of_memory};
-ghost use Rattle.wasm_ops.specs.Sinks.{Puts, AppendLaws};
+ghost use Rattle.wasm_ops.specs.Sinks.{SinkRules, Puts, AppendLaws};
 ghost use Rattle.wasm_ops.specs.SinkLaws as laws;
 
 use std::marker::Model;
@@ -13,49 +12,35 @@ use wast_tree::{Error, Fault};
 ///
 /// A writer appends all that it writes, or leaves the sink as it was.
 pub trait Sink {
-    /// From the first to the second, these bytes were appended.
-    ghost appended: { Self → Self → List ℕ → Type 0 };
-
-    /// So many bytes more are sure to be taken.
-    ghost fits: { Self → ℕ → Type 0 };
-
-    /// How many bytes stand in it.
-    ghost size_of: { Self → ℕ };
-
-    /// What cutting to a size leaves.
-    ghost is_cut: { Self → ℕ → Self → Type 0 };
-
-    /// The error where there is no room.
-    ghost refusal: { Error };
+    /// What it holds and takes, and the error where it has no room.
+    ghost rules: { SinkRules Self };
 
     /// Appends bytes. The only error is the sink's refusal, where it does not fit so many.
     fn put<'e>(&mut self, bytes: &[u8]) -> Result<(), Error<'e>>
-        ensures { Puts appended fits refusal (Unit {0}) self.old self.new bytes.now result };
+        ensures { Puts rules (Unit {0}) self.old self.new bytes.now result };
 
     /// How many bytes stand in the sink.
     fn size(&self) -> u64
-        ensures { result ≡ size_of self.now };
+        ensures { result ≡ rules.size_of self.now };
 
     /// Takes bytes off the end, down to a size. It needs a size that is not above the present one.
     fn cut(&mut self, size: u64)
-        requires { size ≤ size_of self.old }
-        ensures { is_cut self.old size self.new };
+        requires { size ≤ rules.size_of self.old }
+        ensures { rules.is_cut self.old size self.new };
 
     /// What was appended can be joined and cut back.
-    ghost laws: { AppendLaws Self appended fits size_of is_cut };
+    ghost laws: { AppendLaws rules };
 }
 
-/// Bytes stand at the end of the vector. Any number of them may be refused, for want of memory.
+/// Bytes stand at the end of the vector. Any number of them may be refused, where memory runs out.
 impl Sink for Vec<u8> {
-    ghost appended = { λ a b x. b.items ≡ a.items ++ x };
-
-    ghost fits = { λ _ _. ⊥ };
-
-    ghost size_of = { λ a. length a.items };
-
-    ghost is_cut = { λ a n b. b.items ≡ take n a.items };
-
-    ghost refusal = { out_of_memory };
+    ghost rules = { record {
+      appended = λ a b x. b.items ≡ a.items ++ x;
+      fits = λ _ _. ⊥;
+      size_of = λ a. length a.items;
+      is_cut = λ a n b. b.items ≡ take n a.items;
+      refusal = out_of_memory;
+    } };
 
     fn put<'e>(&mut self, bytes: &[u8]) -> Result<(), Error<'e>> {
         self.extend_from_slice(bytes)?;
@@ -106,21 +91,20 @@ impl Length {
     pub fn count(&self) -> u64
         ensures { result ≡ self.now }
     {
-        self.count
+        let Length { count } = self;
+        *count
     }
 }
 
 /// A count below 2^64 fits; from there on bytes are refused as too large.
 impl Sink for Length {
-    ghost appended = { λ a b x. b ≡ a + length x };
-
-    ghost fits = { λ a n. a + n < 2 ^ 64 };
-
-    ghost size_of = { λ a. a };
-
-    ghost is_cut = { λ a n b. b ≡ n };
-
-    ghost refusal = { too_large };
+    ghost rules = { record {
+      appended = λ a b x. b ≡ a + length x;
+      fits = λ a n. a + n < 2 ^ 64;
+      size_of = λ a. a;
+      is_cut = λ a n b. b ≡ n;
+      refusal = too_large;
+    } };
 
     fn put<'e>(&mut self, bytes: &[u8]) -> Result<(), Error<'e>> {
         let Some(count) = self.count.checked_add(bytes.len() as u64) else {
@@ -131,7 +115,7 @@ impl Sink for Length {
     }
 
     fn size(&self) -> u64 {
-        self.count
+        self.count()
     }
 
     fn cut(&mut self, size: u64) {

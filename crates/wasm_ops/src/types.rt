@@ -28,7 +28,9 @@ impl ValType {
     pub fn is_covered(&self) -> bool
         ensures { result ≡ true }
     {
-        true
+        match self {
+            ValType::I32 | ValType::I64 | ValType::F32 | ValType::F64 | ValType::V128 => true,
+        }
     }
 }
 
@@ -91,7 +93,7 @@ impl FuncType {
     pub fn is_covered(&self) -> bool
         ensures { result ≡ true }
     {
-        true
+        true // since each value type is covered
     }
 }
 
@@ -121,7 +123,9 @@ impl CompositeInnerType {
     pub fn is_covered(&self) -> bool
         ensures { result ≡ true }
     {
-        true
+        match self {
+            CompositeInnerType::Func(ty) => ty.is_covered(),
+        }
     }
 }
 

@@ -5,11 +5,11 @@ use Rattle.std.proofs.lemmas.List.{flat_map_more}
 use Rattle.std.proofs.lemmas.List.Elements.{All-nil, All-cons}
 use Rattle.wasm_ops.specs.Table.{Instr, instr, instrs, IsInstr}
 use Rattle.wasm_out.specs.Bodies.{Body, locals, InRangeContent, SpellsInstrs, SpellsBody}
-use Rattle.wasm_out.specs.Built.{Built, with_item, built}
+use Rattle.wasm_out.specs.Built.{Built, built_with, built}
 
 -- one item more
-pub with_item-built : {A : Type 0} (spell : A → List ℕ) (items : List A) (item : A) → with_item (built spell items) (spell item) ≡ built spell (items ++ (item ∷ []))
-with_item-built spell items item =
+pub built_with-built : {A : Type 0} (spell : A → List ℕ) (items : List A) (item : A) → built_with (built spell items) (spell item) ≡ built spell (items ++ (item ∷ []))
+built_with-built spell items item =
     let f : ℕ → Built = λ n. record { count = n; bytes = flat_map spell items ++ spell item } in
     let g : List ℕ → Built = λ bs. record { count = length (items ++ (item ∷ [])); bytes = bs } in
     ap f (sym (length-append items (item ∷ []))) ∙ ap g (flat_map_more spell [] items item)

@@ -10,18 +10,18 @@ use Rattle.wasm_ops.specs.Table.{Instr, instrs, IsInstr}
 use Rattle.wasm_ops.proofs.Codes.{index_code, code_within, code_whole, whole_within, pair_code, pair_whole, code_by, whole_by, vec_code, sized_code, filled_whole, name_code, bytes_whole}
 use Rattle.wasm_ops.proofs.TypeCodes.{val_type_code, export_kind_code, sub_type_code}
 use Rattle.wasm_ops.proofs.InstrCodes.{instr_code, instr-nonempty}
-use Rattle.wasm_out.specs.Bodies.{Body, Run, run, runs, locals, content, InRangeContent}
-use Rattle.wasm_out.specs.Parts.{SectionKind, Types, Functions, Exports, Code, TypeEntry, Single, ExportEntry, Entry, type_entry, export_entry, entry, InRangeTypeEntry, InRangeExport, InRangeEntry, PartKind, Custom, Start, Listed, CustomPart, Items, custom, payload, InRangeItems, section_id, part_id, Part, part, InRangePart}
+use Rattle.wasm_out.specs.Bodies.{Body, LocalRun, local_run, local_runs, locals, content, InRangeContent}
+use Rattle.wasm_out.specs.Parts.{SectionKind, Types, Functions, Exports, Code, TypeEntry, Single, ExportEntry, Entry, type_entry, export_entry, entry, InRangeTypeEntry, InRangeExport, InRangeEntry, PartKind, Custom, Start, Listed, CustomPart, PartItems, custom, payload, InRangePartItems, section_id, part_id, Part, part, InRangePart}
 use Rattle.wasm_out.specs.Reads.{header, Reads}
-use Rattle.wasm_out.proofs.LocalRuns.{expanded, expanded-runs, runs_in_range}
+use Rattle.wasm_out.proofs.LocalRuns.{expanded, expanded-local_runs, runs_in_range}
 
 -- ---- bodies
 
-run_code : IsCode Run (λ (r : Run). InRangeU32 r.0 × Any r.1) run
+run_code : IsCode LocalRun (λ (r : LocalRun). InRangeU32 r.0 × Any r.1) local_run
 run_code = pair_code index_code val_type_code
 
 locals_code : IsCode (List ValType) (λ ts. InRangeU32 (length ts)) locals
-locals_code = code_within runs_in_range (code_by runs expanded expanded-runs (vec_code run_code))
+locals_code = code_within runs_in_range (code_by local_runs expanded expanded-local_runs (vec_code run_code))
 
 instrs_whole : IsWhole (List Instr) (All IsInstr) instrs
 instrs_whole = filled_whole (λ i p. instr-nonempty i) instr_code
@@ -51,10 +51,10 @@ entry_code Code = sized_code content_whole
 
 -- ---- parts
 
-custom_whole : IsWhole CustomPart (InRangeItems Custom) custom
+custom_whole : IsWhole CustomPart (InRangePartItems Custom) custom
 custom_whole = whole_within (λ c p. (p, tt)) (whole_by (λ (c : CustomPart). (c.name, c.bytes)) (λ p. record { name = p.0; bytes = p.1 }) (λ c. refl) (pair_whole name_code bytes_whole))
 
-pub payload_whole : (kind : PartKind) → IsWhole (Items kind) (InRangeItems kind) (payload kind)
+pub payload_whole : (kind : PartKind) → IsWhole (PartItems kind) (InRangePartItems kind) (payload kind)
 payload_whole Custom = custom_whole
 payload_whole Start = code_whole index_code
 payload_whole (Listed kind) = code_whole (vec_code (entry_code kind))
@@ -82,16 +82,16 @@ id_shows Custom (Listed l) e = absurd (omega (arith, (listed_apart l).0, e))
 id_shows (Listed k) Start e = absurd ((listed_apart k).1 e)
 id_shows Start (Listed l) e = absurd ((listed_apart l).1 (sym e))
 
-abbrev part_of : (kind : PartKind) → Items kind → Part
+abbrev part_of : (kind : PartKind) → PartItems kind → Part
 part_of kind items = record { kind = kind; items = items }
 
-abbrev InRangePayload : (kind : PartKind) → Items kind → Type 0
-InRangePayload kind items = InRangeSized (InRangeItems kind) (payload kind) items
+abbrev InRangePayload : (kind : PartKind) → PartItems kind → Type 0
+InRangePayload kind items = InRangeSized (InRangePartItems kind) (payload kind) items
 
 -- items of two kinds that are one
-items_begin : (k l : PartKind) (x : Items k) (y : Items l) (r s : List ℕ) → k ≡ l → InRangePayload k x → InRangePayload l y → sized (payload k) x ++ r ≡ sized (payload l) y ++ s → (part_of k x ≡ part_of l y) × (r ≡ s)
-items_begin k l x y r s e p q h =
-    let Motive : PartKind → Type 0 = λ m. (z : Items m) → InRangePayload m z → sized (payload k) x ++ r ≡ sized (payload m) z ++ s → (part_of k x ≡ part_of m z) × (r ≡ s) in
+payloads_begin : (k l : PartKind) (x : PartItems k) (y : PartItems l) (r s : List ℕ) → k ≡ l → InRangePayload k x → InRangePayload l y → sized (payload k) x ++ r ≡ sized (payload l) y ++ s → (part_of k x ≡ part_of l y) × (r ≡ s)
+payloads_begin k l x y r s e p q h =
+    let Motive : PartKind → Type 0 = λ m. (z : PartItems m) → InRangePayload m z → sized (payload k) x ++ r ≡ sized (payload m) z ++ s → (part_of k x ≡ part_of m z) × (r ≡ s) in
     let here : Motive k = λ z t f. let one = (sized_code (payload_whole k)).begins x z r s p t f in (ap (part_of k) one.0, one.1) in
     subst Motive e here y q h
 
@@ -100,7 +100,7 @@ part_code = record {
   begins = λ x y r s p q e.
       let h : part_id x.kind ≡ part_id y.kind = cc in
       let t : sized (payload x.kind) x.items ++ r ≡ sized (payload y.kind) y.items ++ s = cc in
-      items_begin x.kind y.kind x.items y.items r s (id_shows x.kind y.kind h) p q t;
+      payloads_begin x.kind y.kind x.items y.items r s (id_shows x.kind y.kind h) p q t;
 }
 
 -- ---- modules

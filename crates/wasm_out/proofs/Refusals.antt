@@ -6,7 +6,7 @@ use Rattle.wast_tree.specs.Faults.{out_of_memory}
 use Rattle.wasm_ops.specs.Sinks.{IsRefusal}
 use Rattle.wasm_out.specs.Built.{Makes}
 
--- what is in range is refused for want of memory alone
+-- what is in range is refused where memory was refused, and nowhere else
 pub only_memory : {Room InRange : Type 0} (e : Error) → InRange → IsRefusal out_of_memory Room InRange e → e ≡ out_of_memory
 only_memory e fits refusal =
     elim refusal [

@@ -1,7 +1,7 @@
 -- The worked examples, computed.
 use Rattle.std.proofs.Common.{refl}
 use Rattle.wasm_ops.specs.Leb128.{unsigned, unsigned_in}
-use Rattle.wasm_out.specs.Examples.{RunsOfLocals, Spelled}
+use Rattle.wasm_out.specs.WorkedBytes.{RunsOfLocals, Spelled}
 
 pub runs_of_locals : RunsOfLocals
 unfolding unsigned unsigned_in

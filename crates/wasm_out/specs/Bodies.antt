@@ -12,31 +12,31 @@ pub record Body : Type 0 where
   pub instrs : List Instr
 
 -- so many locals of one type
-abbrev pub Run : Type 0
-Run = ℕ × ValType
+abbrev pub LocalRun : Type 0
+LocalRun = ℕ × ValType
 
 abbrev pub is_same_type : ValType → ValType → Bool
 is_same_type t u = pointwise nat_eq (val_type t) (val_type u)
 
 -- one local more in front of a run and others: whether it is of the run's type
-abbrev pub in_front : Bool → ValType → Run → List Run → List Run
+abbrev pub in_front : Bool → ValType → LocalRun → List LocalRun → List LocalRun
 in_front true t r rs = (r.0 + 1, t) ∷ rs
 in_front false t r rs = (1, t) ∷ (r ∷ rs)
 
-abbrev pub with_local : ValType → List Run → List Run
+abbrev pub with_local : ValType → List LocalRun → List LocalRun
 with_local t [] = (1, t) ∷ []
 with_local t (r ∷ rs) = in_front (is_same_type t r.1) t r rs
 
 -- maximal runs of equal types
-abbrev pub runs : List ValType → List Run
-runs [] = []
-runs (t ∷ ts) = with_local t (runs ts)
+abbrev pub local_runs : List ValType → List LocalRun
+local_runs [] = []
+local_runs (t ∷ ts) = with_local t (local_runs ts)
 
-abbrev pub run : Run → List ℕ
-run r = unsigned r.0 ++ val_type r.1
+abbrev pub local_run : LocalRun → List ℕ
+local_run r = unsigned r.0 ++ val_type r.1
 
 abbrev pub locals : List ValType → List ℕ
-locals types = vec run (runs types)
+locals types = vec local_run (local_runs types)
 
 -- what stands behind the length of a body
 abbrev pub content : Body → List ℕ

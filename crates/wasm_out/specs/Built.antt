@@ -13,12 +13,12 @@ pub record Built : Type 0 where
 abbrev pub empty : Built
 empty = record { count = 0; bytes = [] }
 
-abbrev pub with_item : Built → List ℕ → Built
-with_item b item = record { count = b.count + 1; bytes = b.bytes ++ item }
+abbrev pub built_with : Built → List ℕ → Built
+built_with b item = record { count = b.count + 1; bytes = b.bytes ++ item }
 
 -- the count, and the items (binary format, lists)
-abbrev pub counted : Built → List ℕ
-counted b = unsigned b.count ++ b.bytes
+abbrev pub behind_count : Built → List ℕ
+behind_count b = unsigned b.count ++ b.bytes
 
 -- the builder to which these items were added, one after another
 abbrev pub built : {A : Type 0} → (A → List ℕ) → List A → Built
@@ -30,7 +30,7 @@ IsRefused InRange e = (e ≡ out_of_memory) ⊎ ((e ≡ too_large) × (InRange �
 
 -- the item was added, and it is in range; or the builder stays
 abbrev pub Adds : {A : Type 0} → Type 0 → Built → Built → List ℕ → Result A Error → Type 0
-Adds InRange old new item (Ok x) = (new ≡ with_item old item) × InRange
+Adds InRange old new item (Ok x) = (new ≡ built_with old item) × InRange
 Adds InRange old new item (Err e) = (new ≡ old) × IsRefused InRange e
 
 -- the bytes were appended, and what they spell is in range; or the bytes stay

@@ -1,6 +1,6 @@
 pub mod Bodies
 pub mod Built
-pub mod Examples
+pub mod WorkedBytes
 pub mod NameSubsections
 pub mod Parts
 pub mod Reads

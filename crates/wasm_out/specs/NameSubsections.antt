@@ -3,7 +3,7 @@ use Rattle.std.specs.Prelude.{ℕ, List, ◌∷◌, ◌++◌, length, codes, Res
 use Rattle.wast_tree.specs.declared.faults.Error.{Error}
 use Rattle.wasm_ops.specs.Leb128.{unsigned}
 use Rattle.wasm_ops.specs.Spelling.{InRangeU32, name}
-use Rattle.wasm_out.specs.Built.{Built, counted, Appends}
+use Rattle.wasm_out.specs.Built.{Built, behind_count, Appends}
 
 -- what the names are names of
 pub data Named : Type 0 where
@@ -45,7 +45,8 @@ subsection named content = subsection_id named ∷ (unsigned (length content) ++
 
 -- a map of names was appended as a subsection, and its length is in range; or the bytes stay
 abbrev pub AppendsNames : {A : Type 0} → Named → Built → List ℕ → List ℕ → Result A Error → Type 0
-AppendsNames named names old new result = Appends (InRangeU32 (length (counted names))) old new (subsection named (counted names)) result
+AppendsNames named names old new result =
+    Appends (InRangeU32 (length (behind_count names))) old new (subsection named (behind_count names)) result
 
 -- a name map's entry: an index and a name
 abbrev pub name_entry : ℕ × List ℕ → List ℕ

@@ -74,24 +74,24 @@ pub record CustomPart : Type 0 where
   pub bytes : List ℕ
 
 -- a start section holds one number
-abbrev pub Items : PartKind → Type 0
-Items Custom = CustomPart
-Items Start = ℕ
-Items (Listed kind) = List (Entry kind)
+abbrev pub PartItems : PartKind → Type 0
+PartItems Custom = CustomPart
+PartItems Start = ℕ
+PartItems (Listed kind) = List (Entry kind)
 
 -- the name, and the bytes as they are
 abbrev pub custom : CustomPart → List ℕ
 custom c = name c.name ++ c.bytes
 
-abbrev pub payload : (kind : PartKind) → Items kind → List ℕ
+abbrev pub payload : (kind : PartKind) → PartItems kind → List ℕ
 payload Custom c = custom c
 payload Start n = unsigned n
 payload (Listed kind) items = vec (entry kind) items
 
-abbrev pub InRangeItems : (kind : PartKind) → Items kind → Type 0
-InRangeItems Custom c = InRangeName c.name
-InRangeItems Start n = InRangeU32 n
-InRangeItems (Listed kind) items = InRangeVec (InRangeEntry kind) items
+abbrev pub InRangePartItems : (kind : PartKind) → PartItems kind → Type 0
+InRangePartItems Custom c = InRangeName c.name
+InRangePartItems Start n = InRangeU32 n
+InRangePartItems (Listed kind) items = InRangeVec (InRangeEntry kind) items
 
 abbrev pub section_id : SectionKind → ℕ
 section_id Types = 1
@@ -106,7 +106,7 @@ part_id (Listed kind) = section_id kind
 
 pub record Part : Type 0 where
   pub kind : PartKind
-  pub items : Items kind
+  pub items : PartItems kind
 
 -- the id, the length of the payload, and the payload
 abbrev pub section : ℕ → List ℕ → List ℕ
@@ -116,7 +116,7 @@ abbrev pub part : Part → List ℕ
 part p = section (part_id p.kind) (payload p.kind p.items)
 
 abbrev pub InRangePart : Part → Type 0
-InRangePart p = InRangeSized (InRangeItems p.kind) (payload p.kind) p.items
+InRangePart p = InRangeSized (InRangePartItems p.kind) (payload p.kind) p.items
 
 -- the name of an item, where it has one, is UTF-8 (binary format, names)
 abbrev pub HasUtf8Name : (kind : SectionKind) → Entry kind → Type 0
@@ -125,7 +125,7 @@ HasUtf8Name Functions n = Unit {0}
 HasUtf8Name Exports e = IsTrue (is_utf8 e.name)
 HasUtf8Name Code b = Unit {0}
 
-abbrev pub HaveUtf8Names : (kind : PartKind) → Items kind → Type 0
+abbrev pub HaveUtf8Names : (kind : PartKind) → PartItems kind → Type 0
 HaveUtf8Names Custom c = IsTrue (is_utf8 c.name)
 HaveUtf8Names Start n = Unit {0}
 HaveUtf8Names (Listed kind) items = All (HasUtf8Name kind) items

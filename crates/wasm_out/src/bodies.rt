@@ -4,17 +4,17 @@ ghost use Rattle.std.specs.Prelude.{◌≡◌, ◌∷◌, [], length, IfOk, IfEr
 ghost use Rattle.wasm_ops.specs.Spelling.{InRangeU32};
 ghost use Rattle.wast_tree.specs.Faults.{out_of_memory};
 ghost use Rattle.wasm_out.specs.Built.{Appends, Makes};
-ghost use Rattle.wasm_out.specs.Bodies.{SpellsInstrs, locals, runs};
+ghost use Rattle.wasm_out.specs.Bodies.{SpellsInstrs, locals, local_runs};
 
 use std::alloc::Global;
 use std::marker::Model;
 use wasm_ops::{Counted, Encode, Sink, ValType};
 use wast_tree::{Error, Fault};
 
-/// The maximal runs of equal types, each as its length and its type. The only error is want of memory.
+/// The maximal runs of equal types, each as its length and its type. The only error is E12, where memory is refused.
 fn runs_of<'e>(alloc: Global, types: &[ValType]) -> Result<Vec<(u32, ValType)>, Error<'e>>
     requires { InRangeU32 (length types.now) }
-    ensures ok { IfOk result (λ made. made.items ≡ runs types.now) }
+    ensures ok { IfOk result (λ made. made.items ≡ local_runs types.now) }
     ensures err { IfErr result (λ e. e ≡ out_of_memory) }
 {
     let mut made = Vec::new(alloc);

@@ -5,14 +5,14 @@ ghost use Rattle.std.specs.Str.{is_utf8};
 ghost use Rattle.wasm_ops.specs.Covered.{is_covered_sub_type};
 ghost use Rattle.wasm_ops.specs.Leb128.{unsigned};
 ghost use Rattle.wasm_ops.specs.Spelling.{InRangeU32, InRangeName, InRangeSubType, sub_type};
-ghost use Rattle.wasm_out.specs.Built.{Adds, counted};
+ghost use Rattle.wasm_out.specs.Built.{Adds, behind_count};
 ghost use Rattle.wasm_out.specs.Bodies.{SpellsBody};
 ghost use Rattle.wasm_out.specs.Parts.{SectionKind, section_id, export_entry};
 ghost use Rattle.wasm_out.specs.Parts as parts;
 
 use crate::bodies::Function;
-use crate::items::Items;
-use crate::sections::{Build, Section};
+use crate::built_items::BuiltItems;
+use crate::sections::{Build, CODE_ID, EXPORT_ID, FUNCTION_ID, Section, TYPE_ID};
 use std::alloc::Global;
 use std::marker::{Model, PhantomData};
 use wasm_ops::{Encode, ExportKind, Name, Raw, SubType, WithLength};
@@ -31,7 +31,7 @@ pub trait ListKind {
 /// A section whose content is a list (binary format, sections). Contracts see it as its items.
 #[derive(Debug, Drop)]
 pub struct ListSection<K: ListKind> {
-    items: Items,
+    items: BuiltItems,
     kind: PhantomData<K>,
 }
 
@@ -46,7 +46,7 @@ impl<K: ListKind> Model for ListSection<K> {
 impl<K: ListKind> Section for ListSection<K> {
     ghost number = { λ _. section_id K.kind };
 
-    ghost payload = { counted };
+    ghost payload = { behind_count };
 
     ghost in_range = { λ _. Unit {0} };
 
@@ -64,7 +64,7 @@ impl<K: ListKind> Build for ListSection<K> {
 
     fn new(alloc: Global) -> Self {
         ListSection {
-            items: Items::new(alloc),
+            items: BuiltItems::new(alloc),
             kind: PhantomData,
         }
     }
@@ -84,7 +84,7 @@ impl ListKind for Types {
     ghost kind = { parts.Types };
 
     fn id() -> u8 {
-        1
+        TYPE_ID
     }
 }
 
@@ -98,7 +98,8 @@ impl TypeSection {
     /// memory is refused. Then the section stays as it was.
     pub fn subtype<'e>(&mut self, ty: &SubType) -> Result<(), Error<'e>>
         requires { IsTrue (is_covered_sub_type ty.now) }
-        ensures { Adds (InRangeU32 (self.old.count + 1) × InRangeSubType ty.now) self.old self.new (sub_type ty.now) result }
+        ensures { Adds (InRangeU32 (self.old.count + 1) × InRangeSubType ty.now) self.old self.new
+            (sub_type ty.now) result }
     {
         self.items.push(ty)
     }
@@ -112,7 +113,7 @@ impl ListKind for Functions {
     ghost kind = { parts.Functions };
 
     fn id() -> u8 {
-        3
+        FUNCTION_ID
     }
 }
 
@@ -139,7 +140,7 @@ impl ListKind for Exports {
     ghost kind = { parts.Exports };
 
     fn id() -> u8 {
-        7
+        EXPORT_ID
     }
 }
 
@@ -168,7 +169,7 @@ impl ListKind for Code {
     ghost kind = { parts.Code };
 
     fn id() -> u8 {
-        10
+        CODE_ID
     }
 }
 

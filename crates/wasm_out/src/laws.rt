@@ -2,24 +2,24 @@
 
 ghost use Rattle.std.specs.Prelude.{◌≡◌, ◌∷◌, ◌++◌, [], ℕ, List};
 ghost use Rattle.wasm_ops.specs.Codes.{IsCode, IsWhole};
-ghost use Rattle.wasm_out.specs.Built.{with_item, built, counted};
-ghost use Rattle.wasm_out.specs.Parts.{SectionKind, Entry, entry, InRangeEntry, PartKind, Listed, Items, payload, InRangeItems, Part, part, InRangePart};
+ghost use Rattle.wasm_out.specs.Built.{built_with, built, behind_count};
+ghost use Rattle.wasm_out.specs.Parts.{SectionKind, Entry, entry, InRangeEntry, PartKind, Listed, PartItems, payload, InRangePartItems, Part, part, InRangePart};
 ghost use Rattle.wasm_out.specs.Reads.{Reads};
 
 /// The law of builders: a builder to which items were added one by one holds their list, and its payload is that of the
 /// part with these items (binary format, modules: sections).
 pub fn building_law()
     ensures more { (kind : SectionKind) (items : List (Entry kind)) (item : Entry kind) →
-        with_item (built (entry kind) items) (entry kind item) ≡ built (entry kind) (items ++ item ∷ []) }
+        built_with (built (entry kind) items) (entry kind item) ≡ built (entry kind) (items ++ item ∷ []) }
     ensures payloads { (kind : SectionKind) (items : List (Entry kind)) →
-        counted (built (entry kind) items) ≡ payload (Listed kind) items }
+        behind_count (built (entry kind) items) ≡ payload (Listed kind) items }
 {}
 
 /// The law of parts: an item of a section shows its value and where it ends, a payload shows its items, and no part
 /// begins another (binary format, modules: sections).
 pub fn part_spelling_law()
     ensures entries { (kind : SectionKind) → IsCode (Entry kind) (InRangeEntry kind) (entry kind) }
-    ensures payloads { (kind : PartKind) → IsWhole (Items kind) (InRangeItems kind) (payload kind) }
+    ensures payloads { (kind : PartKind) → IsWhole (PartItems kind) (InRangePartItems kind) (payload kind) }
     ensures parts { IsCode Part InRangePart part }
 {}
 

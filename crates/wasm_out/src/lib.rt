@@ -3,14 +3,14 @@
 
 mod bodies;
 mod builders;
-mod items;
+mod built_items;
 mod laws;
 mod modules;
 mod names;
-mod rows;
 mod sections;
 #[cfg(test)]
 mod tests;
+mod worked_bytes;
 
 pub use bodies::Function;
 pub use builders::{

@@ -1,7 +1,7 @@
 //! Whole modules.
 
-ghost use Rattle.std.specs.Prelude.{◌≡◌, length};
-ghost use Rattle.wasm_ops.specs.Spelling.{InRangeU32};
+ghost use Rattle.std.specs.Prelude.{◌≡◌};
+ghost use Rattle.wasm_ops.specs.Spelling.{InRangeSized};
 ghost use Rattle.wasm_out.specs.Built.{Appends, Makes};
 ghost use Rattle.wasm_out.specs.Parts.{section};
 ghost use Rattle.wasm_out.specs.Reads.{header};
@@ -42,7 +42,7 @@ impl Module {
     /// E10 comes only where the payload has 2^32 bytes or more or a count or length in it is out of range, E12 where
     /// memory is refused. Then the module stays as it was.
     pub fn section<'e, S: Section>(&mut self, content: &S) -> Result<(), Error<'e>>
-        ensures { Appends (InRangeU32 (length (S.payload content.now)) × S.in_range content.now) self.old self.new
+        ensures { Appends (InRangeSized S.in_range S.payload content.now) self.old self.new
             (section (S.number content.now) (S.payload content.now)) result }
     {
         let mut payload = Vec::new(self.alloc);

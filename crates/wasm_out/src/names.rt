@@ -2,14 +2,14 @@
 
 ghost use Rattle.std.specs.Prelude.{◌≡◌, ◌+◌, ◌==◌, ◌++◌, [], length, IsTrue};
 ghost use Rattle.wasm_ops.specs.Leb128.{unsigned};
-ghost use Rattle.wasm_ops.specs.Spelling.{InRangeU32, name, InRangeName};
-ghost use Rattle.wasm_out.specs.Built.{Adds, Appends, counted, empty};
+ghost use Rattle.wasm_ops.specs.Spelling.{InRangeU32, InRangeSized, name, InRangeName};
+ghost use Rattle.wasm_out.specs.Built.{Adds, Appends, behind_count, empty};
 ghost use Rattle.wasm_out.specs.NameSubsections.{AppendsNames, name_entry, subsection, name_payload};
 ghost use Rattle.wasm_out.specs.Parts.{section};
 ghost use Rattle.wasm_out.specs.NameSubsections as named;
 
-use crate::items::Items;
-use crate::sections::Section;
+use crate::built_items::BuiltItems;
+use crate::sections::{CUSTOM_ID, Section};
 use std::alloc::Global;
 use std::marker::{Model, PhantomData};
 use wasm_ops::{Encode, Name, Raw, WithLength};
@@ -18,7 +18,7 @@ use wast_tree::Error;
 /// Names by index, or maps of them by index (custom sections, name maps). Contracts see it as its items.
 #[derive(Debug, Drop)]
 pub struct IndexedNames<K> {
-    items: Items,
+    items: BuiltItems,
     kind: PhantomData<K>,
 }
 
@@ -36,7 +36,7 @@ impl<K> IndexedNames<K> {
         ensures { result ≡ empty }
     {
         IndexedNames {
-            items: Items::new(alloc),
+            items: BuiltItems::new(alloc),
             kind: PhantomData,
         }
     }
@@ -81,7 +81,8 @@ impl IndirectNameMap {
     ///
     /// E10 comes only where there would be 2^32 maps, E12 where memory is refused. Then the map stays as it was.
     pub fn append<'e>(&mut self, index: u32, names: &NameMap) -> Result<(), Error<'e>>
-        ensures { Adds (InRangeU32 (self.old.count + 1)) self.old self.new (unsigned index ++ counted names.now) result }
+        ensures { Adds (InRangeU32 (self.old.count + 1)) self.old self.new
+            (unsigned index ++ behind_count names.now) result }
     {
         self.items.push(&(index, &names.items))
     }
@@ -125,7 +126,7 @@ impl NameSection {
     /// Appends a subsection: its id, the length of its content, and its content.
     fn subsection<'e, T: Encode>(&mut self, id: u8, content: &T) -> Result<(), Error<'e>>
         requires { IsTrue (T.is_covered content.now) }
-        ensures { Appends (InRangeU32 (length (T.spelling content.now)) × T.in_range content.now) self.old self.new
+        ensures { Appends (InRangeSized T.in_range T.spelling content.now) self.old self.new
             (section id (T.spelling content.now)) result }
     {
         (id, WithLength(content)).encode(&mut self.bytes)
@@ -133,7 +134,7 @@ impl NameSection {
 
     /// Appends the name of the module. E10 comes also where the name has 2^32 bytes or more.
     pub fn module<'e>(&mut self, text: &str) -> Result<(), Error<'e>>
-        ensures { Appends (InRangeU32 (length (name text.now)) × InRangeName text.now) self.old self.new
+        ensures { Appends (InRangeSized InRangeName name text.now) self.old self.new
             (subsection named.Whole (name text.now)) result }
     {
         self.subsection(0, &Name(text))
@@ -239,7 +240,7 @@ impl Section for NameSection {
     ghost in_range = { λ _. Unit {0} };
 
     fn id(&self) -> u8 {
-        0
+        CUSTOM_ID
     }
 
     fn append_to<'e>(&self, out: &mut Vec<u8>) -> Result<(), Error<'e>> {

@@ -3,11 +3,29 @@
 ghost use Rattle.std.specs.Prelude.{◌≡◌, ◌==◌, ◌++◌, ℕ, List};
 ghost use Rattle.wasm_ops.specs.Leb128.{unsigned};
 ghost use Rattle.wasm_ops.specs.Spelling.{InRangeU32, name, InRangeName};
-ghost use Rattle.wasm_out.specs.Built.{Built, Appends, counted, empty};
+ghost use Rattle.wasm_out.specs.Built.{Built, Appends, behind_count, empty};
 
 use std::alloc::Global;
 use wasm_ops::{Encode, Name, Raw};
 use wast_tree::Error;
+
+/// The id of custom sections, the name section among them (binary format, sections).
+pub(crate) const CUSTOM_ID: u8 = 0;
+
+/// The id of type sections.
+pub(crate) const TYPE_ID: u8 = 1;
+
+/// The id of function sections.
+pub(crate) const FUNCTION_ID: u8 = 3;
+
+/// The id of export sections.
+pub(crate) const EXPORT_ID: u8 = 7;
+
+/// The id of start sections.
+pub(crate) const START_ID: u8 = 8;
+
+/// The id of code sections.
+pub(crate) const CODE_ID: u8 = 10;
 
 /// A section of a module: an id, and what stands behind the section's length (binary format, sections).
 pub trait Section {
@@ -46,7 +64,7 @@ pub trait Build: Section {
         ensures { result ≡ ((built self.now).count == 0) };
 
     /// The payload is the number of the items, and the items.
-    ghost is_list: { (s : Self) → Self.payload s ≡ counted (built s) };
+    ghost is_list: { (s : Self) → Self.payload s ≡ behind_count (built s) };
 }
 
 /// The start section, which names the function that runs first (binary format, start section).
@@ -64,7 +82,7 @@ impl Section for StartSection {
     ghost in_range = { λ s. InRangeU32 s.function_index };
 
     fn id(&self) -> u8 {
-        8
+        START_ID
     }
 
     fn append_to<'e>(&self, out: &mut Vec<u8>) -> Result<(), Error<'e>> {
@@ -89,7 +107,7 @@ impl<'a> Section for CustomSection<'a> {
     ghost in_range = { λ s. InRangeName s.name.now };
 
     fn id(&self) -> u8 {
-        0
+        CUSTOM_ID
     }
 
     fn append_to<'e>(&self, out: &mut Vec<u8>) -> Result<(), Error<'e>> {

@@ -2,7 +2,7 @@
 
 ghost use Rattle.std.specs.Prelude.{◌≡◌, IfOk, OnOk};
 ghost use Rattle.wasm_ops.specs.declared.instrs.IndexOp.TheVariants as ops;
-ghost use Rattle.wasm_ops.specs.Rows.{index_instr};
+ghost use Rattle.wasm_ops.specs.IndexInstrs.{index_instr};
 ghost use Rattle.wasm_ops.specs.Table.{instr, IsInstr};
 ghost use Rattle.wasm_out.specs.Bodies.{SpellsBody};
 

@@ -6,7 +6,7 @@ use Rattle.std.proofs.lemmas.Grind.{flat_map-append}
 use Rattle.std.proofs.lemmas.List.Elements.{All-nil, All-cons, All-head, All-tail, All-append}
 use Rattle.wast_tree.specs.declared.faults.Error.{Error}
 use Rattle.wasm_ops.specs.Spelling.{InRangeU32}
-use Rattle.wasm_out.specs.Built.{Built, IsRefused, with_item, Adds}
+use Rattle.wasm_out.specs.Built.{Built, IsRefused, built_with, Adds}
 use Rattle.wasm_ops.specs.Leb128.{unsigned}
 use Rattle.wasm_out.specs.Bodies.{Body}
 use Rattle.wasm_out.specs.Parts.{Code, entry, InRangeEntry}
@@ -61,7 +61,7 @@ module _ {A : Type 0} {spell : A → List ℕ} {InRange : A → Type 0} where
       refused_for e (λ r. (let l = length-append xs ys in let s = r.0 in omega arith, all_right InRange xs ys r.1)) h
 
   -- one item, as a builder adds it
-  pub filled_one : (a b : Built) (x : A) → b ≡ with_item a (spell x) → InRangeU32 (a.count + 1) → InRange x → IsFilled spell InRange a b (x ∷ [])
+  pub filled_one : (a b : Built) (x : A) → b ≡ built_with a (spell x) → InRangeU32 (a.count + 1) → InRange x → IsFilled spell InRange a b (x ∷ [])
   filled_one a b x e n r = record { built = e ∙ ap (λ z. record { count = a.count + 1; bytes = a.bytes ++ z }) (sym (append-nil (spell x))); in_range = (n, All-cons InRange x [] r (All-nil InRange)) }
 
   -- the count stays in range

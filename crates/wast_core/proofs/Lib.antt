@@ -1,15 +1,10 @@
 pub mod Appended
-pub mod Bearers
 pub mod Each
 pub mod Encoded
 pub mod Filled
-pub mod Greatest
 pub mod Listing
 pub mod NameMaps
-pub mod Passes
-pub mod Settled
-pub mod StillBelow
-pub mod StillWellFormed
+pub mod EachPasses
 pub mod Worked
 pub mod Written
 pub mod Whole

@@ -8,7 +8,7 @@ use Rattle.std.proofs.lemmas.List.Elements.{All-nil, All-cons, All-head}
 use Rattle.std.proofs.lemmas.Str.{is_utf8-from_IsUtf8}
 use Rattle.wast_tree.specs.declared.faults.Error.{Error}
 use Rattle.wasm_ops.specs.Spelling.{InRangeU32, InRangeName, InRangeVec}
-use Rattle.wasm_out.specs.Built.{Built, Adds, Appends, IsRefused, counted, empty, built}
+use Rattle.wasm_out.specs.Built.{Built, Adds, Appends, IsRefused, behind_count, empty, built}
 use Rattle.wasm_out.specs.NameSubsections.{Named, subsection, name_entry, name_payload}
 use Rattle.wasm_out.specs.Parts.{InRangePart, HasUtf8Names}
 use Rattle.wast_core.specs.Meaning.{names_part}
@@ -70,13 +70,13 @@ built_of items map f = f.built ∙ ap (λ n. record { count = n; bytes = flat_ma
 
 -- a subsection of names
 pub map_appended : (items : List (ℕ × List ℕ)) (of : Named) (map : Built) (old new : List ℕ) (result : Result (Unit {0}) Error) → IsFilled name_entry InRangeNameEntry empty map items
-    → false ≡ (map.count == 0) → Appends (InRangeU32 (length (counted map))) old new (subsection of (counted map)) result → Appends (InRangeNameMap items) old new (name_map of items) result
+    → false ≡ (map.count == 0) → Appends (InRangeU32 (length (behind_count map))) old new (subsection of (behind_count map)) result → Appends (InRangeNameMap items) old new (name_map of items) result
 map_appended [] of map old new result f some h = absurd (true≢false (sym (some ∙ ap (λ b. b.count == 0) f.built)))
 map_appended (item ∷ items) of map old new (Ok x) f some h =
-    let r = subst (λ b. (new ≡ old ++ subsection of (counted b)) × InRangeU32 (length (counted b))) (built_of (item ∷ items) map f) h in
+    let r = subst (λ b. (new ≡ old ++ subsection of (behind_count b)) × InRangeU32 (length (behind_count b))) (built_of (item ∷ items) map f) h in
     (r.0, (r.1, from_none (item ∷ items) f.in_range))
 map_appended (item ∷ items) of map old new (Err e) f some h =
-    (h.0, refused_for e (λ r. subst (λ b. InRangeU32 (length (counted b))) (sym (built_of (item ∷ items) map f)) r.0) h.1)
+    (h.0, refused_for e (λ r. subst (λ b. InRangeU32 (length (behind_count b))) (sym (built_of (item ∷ items) map f)) r.0) h.1)
 
 name_is_text : is_utf8 (codes "name") ≡ true
 unfolding encode

@@ -39,7 +39,7 @@ pub refused_item : {A B : Type 0} (P : B → Type 0) (f : A → B) (xs : List A)
 refused_item P f xs i d e lt h =
     refused_for e (λ all. all_right P (map f (take i xs)) (f (get_or xs i d) ∷ []) (all_left P (map f (take i xs) ++ f (get_or xs i d) ∷ []) (map f (drop (i + 1) xs)) (subst (All P) (around f xs i d lt) all))) h
 
--- a sink of bytes refuses an item by want of memory, or where it is out of range
+-- a sink of bytes refuses an item where it is out of memory, or where it is out of range
 pub refused_one_by : {A : Type 0} (P : A → Type 0) (x : A) (e : Error) → IsRefusal out_of_memory ⊥ (P x) e → IsRefused (All P (x ∷ [])) e
 refused_one_by P x e (inl m) = inl m.0
 refused_one_by P x e (inr (t, n)) = inr (t, λ all. n (All-head P x [] all))

@@ -1,10 +1,9 @@
 -- Which text modules are small enough: every count, length and position that the binary format writes is below 2^32.
 use Rattle.std.specs.Prelude.{ℕ, List, Option, All}
-use Rattle.wast_tree.specs.declared.fields.ModuleField.{ModuleField}
-use Rattle.wast_tree.specs.Occurrences.{in_module}
 use Rattle.wasm_out.specs.Parts.{InRangePart}
 use Rattle.wast_resolve.specs.Demands.{IsCrowded}
 use Rattle.wast_resolve.specs.Resolved.{resolved}
+use Rattle.wast_core.specs.Tree.{ModuleField}
 use Rattle.wast_core.specs.Meaning.{parts}
 use Rattle.wast_core.specs.NamesPayload.{InRangeNames}
 
@@ -14,5 +13,5 @@ pub record IsWritable (name : Option (List ℕ)) (fields : List ModuleField) : T
   pub names : InRangeNames name fields
 
 pub record IsBounded (name : Option (List ℕ)) (fields : List ModuleField) : Type 0 where
-  pub spaces : IsCrowded (in_module fields) → ⊥
+  pub spaces : IsCrowded fields → ⊥
   pub written : IsWritable name (resolved fields)

@@ -1,17 +1,17 @@
 -- What resolving and encoding a module answer, and what they leave.
-use Rattle.std.specs.Prelude.{◌≡◌, ⊤, ℕ, List, Option, None, Result, Ok, Err, ◌⊎◌}
+use Rattle.std.specs.Prelude.{◌≡◌, ℕ, List, [], Option, None, Result, Ok, Err, ◌⊎◌}
 use Rattle.std.specs.List.{flat_map}
 use Rattle.std.specs.Borrow.{Bor}
 use Rattle.std.specs.Global.{Vec}
 use Rattle.wast_tree.specs.declared.faults.Error.{Error}
-use Rattle.wast_tree.specs.declared.fields.ModuleField.{ModuleField}
-use Rattle.wast_tree.specs.Faults.{told, too_large, out_of_memory}
+use Rattle.wast_tree.specs.Faults.{too_large, out_of_memory}
 use Rattle.wast_tree.specs.Known.{known}
-use Rattle.wast_tree.specs.Occurrences.{in_module}
+use Rattle.wast_tree.specs.Items.{items}
 use Rattle.wasm_out.specs.Reads.{Reads}
-use Rattle.wast_resolve.specs.Demands.{demands, first_unmet, IsCrowded, Answers}
+use Rattle.wast_resolve.specs.Demands.{demands, first_unmet, IsUnresolved}
 use Rattle.wast_resolve.specs.Resolved.{resolved}
-use Rattle.wast_resolve.specs.Resolvers.{NameSpaces, no_names, known_of}
+use Rattle.wast_resolve.specs.Resolvers.{Bindings, known_to}
+use Rattle.wast_core.specs.Tree.{ModuleField}
 use Rattle.wast_core.specs.declared.module.Module.{Module}
 use Rattle.wast_core.specs.declared.module.ModuleKind.{ModuleKind}
 use Rattle.wast_core.specs.declared.module.ModuleKind.TheVariants as kind
@@ -23,18 +23,19 @@ use Rattle.wast_core.specs.Bounded.{IsBounded}
 abbrev pub IsMet : List ModuleField → Type 0
 IsMet fields = first_unmet (demands fields) ≡ None
 
--- Resolving the fields is refused by the first unmet demand, at its place; or memory was, or a space is crowded.
-abbrev pub IsUnresolved : List ModuleField → Error → Type 0
-IsUnresolved fields e = Answers ⊤ (IsCrowded (in_module fields)) (told e) (first_unmet (demands fields))
-
 -- A text module is resolved exactly where each demand is met; a refusal is kept, and answered from then on.
-abbrev pub Resolves : ModuleKind → Result NameSpaces Error → ModuleKind → Type 0
-Resolves (kind.Text fields) (Ok names) new = IsMet fields × (new ≡ kind.Text (resolved fields)) × (known_of names ≡ known (in_module fields))
-Resolves (kind.Text fields) (Err e) new = IsUnresolved fields e × (new ≡ kind.Refused e)
-Resolves (kind.Binary pieces) (Ok names) new = (names ≡ no_names) × (new ≡ kind.Binary pieces)
-Resolves (kind.Binary pieces) (Err e) new = ⊥
-Resolves (kind.Refused e) (Ok names) new = ⊥
-Resolves (kind.Refused e) (Err d) new = (d ≡ e) × (new ≡ kind.Refused e)
+abbrev pub ResolvesKind : ModuleKind → Result Bindings Error → ModuleKind → Type 0
+ResolvesKind (kind.Text fields) (Ok names) new = IsMet fields × (new ≡ kind.Text (resolved fields)) × (known_to names ≡ known (items fields))
+ResolvesKind (kind.Text fields) (Err e) new = IsUnresolved fields e × (new ≡ kind.Refused e)
+ResolvesKind (kind.Binary pieces) (Ok names) new = (known_to names ≡ known []) × (new ≡ kind.Binary pieces)
+ResolvesKind (kind.Binary pieces) (Err e) new = ⊥
+ResolvesKind (kind.Refused e) (Ok names) new = ⊥
+ResolvesKind (kind.Refused e) (Err d) new = (d ≡ e) × (new ≡ kind.Refused e)
+
+-- resolving what a module holds, and the counter, before and after; the counter stays, since no id is filled in yet
+pub record Resolves (old : ModuleKind) (before : ℕ) (result : Result Bindings Error) (new : ModuleKind) (after : ℕ) : Type 0 where
+  pub kind : ResolvesKind old result new
+  pub counter : after ≡ before
 
 -- the name that the name section gives the module
 abbrev pub name_of_module : Module → Option (List ℕ)
@@ -59,6 +60,7 @@ EncodesKind name (kind.Binary pieces) (Err e) new = (e ≡ out_of_memory) × (ne
 EncodesKind name (kind.Refused e) (Ok bytes) new = ⊥
 EncodesKind name (kind.Refused e) (Err d) new = (d ≡ e) × (new ≡ kind.Refused e)
 
--- encoding a module, before and after
-abbrev pub Encodes : Module → Result (Vec ℕ) Error → Module → Type 0
-Encodes old result new = EncodesKind (name_of_module old) old.kind result new.kind
+-- encoding a module, and the counter, before and after; the counter stays, since no id is filled in yet
+pub record Encodes (old : Module) (before : ℕ) (result : Result (Vec ℕ) Error) (new : Module) (after : ℕ) : Type 0 where
+  pub kind : EncodesKind (name_of_module old) old.kind result new.kind
+  pub counter : after ≡ before

@@ -2,11 +2,12 @@ pub mod Encodable
 pub mod Filling
 pub mod Bounded
 pub mod Headline
-pub mod Items
+pub mod Entries
 pub mod Meaning
 pub mod Modules
 pub mod Names
 pub mod NamesPayload
 pub mod Writing
-pub mod Rows
+pub mod WorkedMeanings
+pub mod Tree
 pub mod Wats

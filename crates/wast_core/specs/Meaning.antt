@@ -1,25 +1,16 @@
 -- What a text module means: its parts, in the order of the sections, with the numbers of its resolved list (binary format, modules).
 use Rattle.std.specs.Prelude.{ℕ, List, [], ◌∷◌, ◌++◌, map, Option, unwrap_or, option_map, codes}
 use Rattle.std.specs.List.{flat_map}
-use Rattle.wast_tree.specs.declared.ids.Index.{Index}
-use Rattle.wast_tree.specs.declared.ids.Index.TheVariants as index
-use Rattle.wast_tree.specs.declared.types.ValType as tree
-use Rattle.wast_tree.specs.declared.types.ValType.TheVariants as val
-use Rattle.wast_tree.specs.declared.types.FunctionType.{FunctionType}
-use Rattle.wast_tree.specs.declared.types.TypeUse.{TypeUse}
-use Rattle.wast_tree.specs.declared.types.InnerTypeKind.{InnerTypeKind}
-use Rattle.wast_tree.specs.declared.types.InnerTypeKind.TheVariants as inner
-use Rattle.wast_tree.specs.declared.types.TypeDef.{TypeDef}
-use Rattle.wast_tree.specs.declared.instrs.Instruction.{Instruction}
-use Rattle.wast_tree.specs.declared.instrs.Instruction.TheVariants as instruction
-use Rattle.wast_tree.specs.declared.fields.FuncKind.{FuncKind}
-use Rattle.wast_tree.specs.declared.fields.FuncKind.TheVariants as func
-use Rattle.wast_tree.specs.declared.fields.ExportKind as tree_export
-use Rattle.wast_tree.specs.declared.fields.ExportKind.TheVariants as export
-use Rattle.wast_tree.specs.declared.fields.Export.{Export}
-use Rattle.wast_tree.specs.declared.fields.ModuleField.{ModuleField}
-use Rattle.wast_tree.specs.declared.fields.ModuleField.TheVariants as field
 use Rattle.wast_tree.specs.WellFormed.{is_final}
+use Rattle.wast_core.specs.Tree as tree
+use Rattle.wast_core.specs.Tree.{Index, FunctionType, TypeUse, InnerTypeKind, TypeDef, Instruction, FuncKind, Export, ModuleField}
+use Rattle.wast_core.specs.Tree.index
+use Rattle.wast_core.specs.Tree.value as val
+use Rattle.wast_core.specs.Tree.inner
+use Rattle.wast_core.specs.Tree.instr as instruction
+use Rattle.wast_core.specs.Tree.func
+use Rattle.wast_core.specs.Tree.export
+use Rattle.wast_core.specs.Tree.field
 use Rattle.wasm_ops.specs.declared.types.ValType.{ValType}
 use Rattle.wasm_ops.specs.declared.types.ValType.TheVariants as out
 use Rattle.wasm_ops.specs.declared.types.FuncType.{FuncType}
@@ -29,7 +20,7 @@ use Rattle.wasm_ops.specs.declared.types.SubType.{SubType}
 use Rattle.wasm_ops.specs.declared.types.ExportKind.{ExportKind}
 use Rattle.wasm_ops.specs.declared.types.ExportKind.TheVariants as kind
 use Rattle.wasm_ops.specs.declared.instrs.IndexOp.TheVariants.{Call}
-use Rattle.wasm_ops.specs.Rows.{index_instr}
+use Rattle.wasm_ops.specs.IndexInstrs.{index_instr}
 use Rattle.wasm_ops.specs.Table.{Instr}
 use Rattle.wasm_out.specs.Bodies.{Body}
 use Rattle.wasm_out.specs.Parts.{SectionKind, Types, Functions, Exports, Code, Entry, Single, ExportEntry, Custom, Listed, Part}
@@ -72,7 +63,7 @@ instr (instruction.call f) = index_instr Call (number f)
 abbrev pub body : FuncKind → Body
 body (func.Inline locals e) = record { locals = map (λ l. val_type l.ty) locals; instrs = map instr e.instrs }
 
-abbrev pub export_kind : tree_export.ExportKind → ExportKind
+abbrev pub export_kind : tree.ExportKind → ExportKind
 export_kind export.Func = kind.Func
 
 abbrev pub export_entry : Export → ExportEntry

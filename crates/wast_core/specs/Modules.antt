@@ -1,7 +1,8 @@
--- Which modules are well formed, and the greatest generation of their ids.
-use Rattle.std.specs.Prelude.{ℕ, max, Bool, true, List, []}
+-- Which modules are well formed, the greatest generation of their ids, and when they are ready to be resolved.
+use Rattle.std.specs.Prelude.{ℕ, max, ◌<◌, Bool, true, IsTrue}
+use Rattle.wast_tree.specs.Ids.{marked}
 use Rattle.wast_tree.specs.WellFormed as fields
-use Rattle.wast_tree.specs.Generations.{greatest, in_each, in_id, in_fields}
+use Rattle.wast_tree.specs.Generations.{generation_if, greatest_generation}
 use Rattle.wast_core.specs.declared.module.Module.{Module}
 use Rattle.wast_core.specs.declared.module.ModuleKind.{ModuleKind}
 use Rattle.wast_core.specs.declared.module.ModuleKind.TheVariants as kind
@@ -15,11 +16,17 @@ is_well_formed_kind (kind.Refused e) = true
 abbrev pub is_well_formed : Module → Bool
 is_well_formed m = is_well_formed_kind m.kind
 
-abbrev pub generations_in : ModuleKind → List ℕ
-generations_in (kind.Text fs) = in_fields fs
-generations_in (kind.Binary pieces) = []
-generations_in (kind.Refused e) = []
+-- the greatest generation of an id in the fields, and 0 where there are none
+abbrev pub bound_of_kind : ModuleKind → ℕ
+bound_of_kind (kind.Text fs) = greatest_generation fs
+bound_of_kind (kind.Binary pieces) = 0
+bound_of_kind (kind.Refused e) = 0
 
 -- the greatest generation of an id in the module
 abbrev pub generation_bound : Module → ℕ
-generation_bound m = max (greatest (in_each in_id m.id)) (greatest (generations_in m.kind))
+generation_bound m = max (generation_if (marked m.id)) (bound_of_kind m.kind)
+
+-- The module is well formed, and the counter above its generated ids.
+pub record IsReady (m : Module) (counter : ℕ) : Type 0 where
+  pub well_formed : IsTrue (is_well_formed m)
+  pub above : generation_bound m < counter

@@ -2,8 +2,7 @@
 use Rattle.std.specs.Prelude.{◌≡◌, ℕ, List, ◌++◌, All, map, Result, Ok, Err}
 use Rattle.std.specs.List.{flat_map}
 use Rattle.wast_tree.specs.declared.faults.Error.{Error}
-use Rattle.wast_tree.specs.declared.fields.Local.{Local}
-use Rattle.wast_tree.specs.declared.instrs.Instruction.{Instruction}
+use Rattle.wast_core.specs.Tree.{Local, Instruction}
 use Rattle.wasm_ops.specs.Table.{Instr, instrs, IsInstr}
 use Rattle.wasm_out.specs.Bodies.{Body, content, InRangeContent}
 use Rattle.wasm_out.specs.Built.{IsRefused}

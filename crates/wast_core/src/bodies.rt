@@ -3,12 +3,12 @@
 ghost use Rattle.std.specs.Prelude.{◌∷◌, [], map, All, OnOk, IfOk, IfErr, IsTrue};
 ghost use Rattle.std.specs.List.{flat_map};
 ghost use Rattle.wast_tree.specs.Ids.{is_number};
-ghost use Rattle.wasm_ops.specs.Rows.{index_instr};
-ghost use Rattle.wast_tree.specs.Occurrences.{in_instr, in_func_kind};
+ghost use Rattle.wasm_ops.specs.IndexInstrs.{index_instr};
+ghost use Rattle.wast_tree.specs.Occurrences.{in_instr, in_func_kind, asked_in_steps, asked};
 ghost use Rattle.wasm_ops.specs.Table.{IsInstr};
 ghost use Rattle.wasm_out.specs.Bodies.{InRangeContent};
 ghost use Rattle.wasm_out.specs.Built.{IsRefused};
-ghost use Rattle.wast_core.specs.Encodable.{is_resolved};
+ghost use Rattle.wast_resolve.specs.Resolved.{is_resolved};
 ghost use Rattle.wast_core.specs.Meaning as meaning;
 ghost use Rattle.wast_core.specs.Writing.{IsWritten, IsBodyOf, body_of};
 
@@ -30,7 +30,7 @@ fn write_index<'e>(out: &mut Vec<u8>, op: IndexOp, index: &Index) -> Result<(), 
 }
 
 fn write_instr<'e>(out: &mut Vec<u8>, instruction: &Instruction) -> Result<(), Error<'e>>
-    requires { IsTrue (is_resolved (in_instr instruction.now)) }
+    requires { IsTrue (is_resolved (asked_in_steps (in_instr instruction.now))) }
     ensures ok { OnOk result (IsWritten out.old.items out.new.items (meaning.instr instruction.now ∷ [])) }
     ensures refusal { IfErr result (IsRefused (All IsInstr (meaning.instr instruction.now ∷ []))) }
 {
@@ -40,7 +40,7 @@ fn write_instr<'e>(out: &mut Vec<u8>, instruction: &Instruction) -> Result<(), E
 }
 
 fn write_instrs<'e>(out: &mut Vec<u8>, instructions: &[Instruction]) -> Result<(), Error<'e>>
-    requires { IsTrue (is_resolved (flat_map in_instr instructions.now)) }
+    requires { IsTrue (is_resolved (asked_in_steps (flat_map in_instr instructions.now))) }
     ensures ok { OnOk result (IsWritten out.old.items out.new.items (map meaning.instr instructions.now)) }
     ensures refusal { IfErr result (IsRefused (All IsInstr (map meaning.instr instructions.now))) }
 {
@@ -56,7 +56,7 @@ fn inline_body<'e>(
     locals: &[Local],
     instructions: &[Instruction],
 ) -> Result<Function, Error<'e>>
-    requires { IsTrue (is_resolved (flat_map in_instr instructions.now)) }
+    requires { IsTrue (is_resolved (asked_in_steps (flat_map in_instr instructions.now))) }
     ensures ok { IfOk result (IsBodyOf (body_of locals.now instructions.now)) }
     ensures refusal { IfErr result (IsRefused (InRangeContent (body_of locals.now instructions.now))) }
 {
@@ -73,7 +73,7 @@ fn inline_body<'e>(
 ///
 /// E10 comes only where there are 2^32 locals or more, E12 where memory is refused.
 pub(crate) fn body<'e>(alloc: Global, kind: &FuncKind) -> Result<Function, Error<'e>>
-    requires { IsTrue (is_resolved (in_func_kind kind.now)) }
+    requires { IsTrue (is_resolved (asked (in_func_kind kind.now))) }
     ensures ok { IfOk result (IsBodyOf (meaning.body kind.now)) }
     ensures refusal { IfErr result (IsRefused (InRangeContent (meaning.body kind.now))) }
 {

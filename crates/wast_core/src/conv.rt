@@ -5,8 +5,8 @@ ghost use Rattle.std.specs.List.{list_all};
 ghost use Rattle.wast_tree.specs.Ids.{is_number};
 ghost use Rattle.wast_tree.specs.Faults.{out_of_memory};
 ghost use Rattle.wast_tree.specs.Occurrences.{in_def, in_index, if_there};
-ghost use Rattle.wast_tree.specs.Spaces.{Types};
-ghost use Rattle.wast_core.specs.Encodable.{is_resolved};
+ghost use Rattle.wast_resolve.specs.Resolved.{is_resolved};
+ghost use Rattle.wast_core.specs.Tree.space;
 ghost use Rattle.wast_core.specs.Meaning as meaning;
 
 use std::alloc::Global;
@@ -30,7 +30,7 @@ pub(crate) trait Convert {
         ensures { result ≡ becomes self.now };
 }
 
-/// Each item of a list as its value. The only error is want of memory.
+/// Each item of a list as its value. The only error is out of memory.
 pub(crate) fn converted<'e, T: Convert>(
     alloc: Global,
     items: &[T],
@@ -123,7 +123,7 @@ impl Convert for Local<'_> {
     }
 }
 
-/// A function type: the types of its parameters and results (binary format, composite types). The only error is want
+/// A function type: the types of its parameters and results (binary format, composite types). The only error is out
 /// of memory.
 pub fn func_type<'e>(alloc: Global, ty: &FunctionType) -> Result<FuncType, Error<'e>>
     ensures value { IfOk result (λ made. made ≡ meaning.func_type ty.now) }
@@ -144,7 +144,7 @@ fn inner_type<'e>(alloc: Global, kind: &InnerTypeKind) -> Result<CompositeInnerT
 }
 
 fn optional_index(optional: &Option<Index>) -> Option<u32>
-    requires { IsTrue (is_resolved (if_there (in_index Types) optional.now)) }
+    requires { IsTrue (is_resolved (if_there (in_index space.Ty) optional.now)) }
     ensures { result ≡ option_map meaning.number optional.now }
 {
     match optional {
@@ -154,7 +154,7 @@ fn optional_index(optional: &Option<Index>) -> Option<u32>
 }
 
 /// What a type is defined as: a composite type, and how it stands to other types (binary format, recursive types). It
-/// needs resolved indices. The only error is want of memory.
+/// needs resolved indices. The only error is out of memory.
 pub fn sub_type<'e>(alloc: Global, ty: &TypeDef) -> Result<SubType, Error<'e>>
     requires { IsTrue (is_resolved (in_def ty.now)) }
     ensures value { IfOk result (λ made. made ≡ meaning.sub_type ty.now) }

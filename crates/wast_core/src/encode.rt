@@ -1,21 +1,21 @@
 //! The encoder.
 
-ghost use Rattle.std.specs.Prelude.{◌≡◌, ◌<◌, IfOk, IfErr, IsTrue};
-ghost use Rattle.std.specs.List.{list_all};
+ghost use Rattle.std.specs.Prelude.{◌≡◌, IfOk, IfErr, IsTrue};
 ghost use Rattle.wast_tree.specs.Faults.{out_of_memory};
 ghost use Rattle.wasm_out.specs.Built.{IsRefused};
 ghost use Rattle.wasm_out.specs.Reads.{Reads};
 ghost use Rattle.wast_core.specs.Bounded.{IsWritable};
-ghost use Rattle.wast_core.specs.Encodable.{is_encodable_field};
+ghost use Rattle.wast_core.specs.Encodable.{are_encodable};
 ghost use Rattle.wast_core.specs.Headline.{Encodes, joined};
 ghost use Rattle.wast_core.specs.Meaning.{parts};
-ghost use Rattle.wast_core.specs.Modules.{is_well_formed, generation_bound};
+ghost use Rattle.wast_core.specs.Modules.{IsReady};
 ghost use Rattle.wast_core.specs.Names.{text_seen};
 
 use crate::module::{Module, ModuleKind};
 use crate::names_payload::{append_names, given_name};
 use crate::sections::append_sections;
 use std::alloc::Global;
+use wast_resolve::resolved_laws;
 use wast_tree::{Error, Gensym, ModuleField};
 
 /// The bytes of a module with these resolved fields.
@@ -24,7 +24,7 @@ fn encode_fields<'e>(
     name: Option<&str>,
     fields: &[ModuleField],
 ) -> Result<Vec<u8>, Error<'e>>
-    requires { IsTrue (list_all is_encodable_field fields.now) }
+    requires { IsTrue (are_encodable fields.now) }
     ensures bytes { IfOk result (λ v. Reads v.items (parts (text_seen name.entry) fields.now)) }
     ensures refusal { IfErr result (IsRefused (IsWritable (text_seen name.entry) fields.now)) }
 {
@@ -70,14 +70,12 @@ impl EncodeOptions {
         module: &mut Module<'a>,
         gensym: &mut Gensym,
     ) -> Result<Vec<u8>, Error<'a>>
-        requires well_formed { IsTrue (is_well_formed «module».old) }
-        requires above { generation_bound «module».old < gensym.old }
-        ensures answer { Encodes «module».old result «module».new }
+        requires { IsReady «module».old gensym.old }
+        ensures answer { Encodes «module».old gensym.old result «module».new gensym.new }
         ensures stays { «module».new ≡ record «module».old { kind = «module».new.kind } }
-        ensures counter { gensym.new ≡ gensym.old }
-        ensures well_formed { IsTrue (is_well_formed «module».new) }
-        ensures above { generation_bound «module».new < gensym.new }
+        ensures ready { IsReady «module».new gensym.new }
     {
+        resolved_laws();
         module.resolve(alloc, gensym)?;
         let name = given_name(&module.name, &module.id);
         match &module.kind {
@@ -91,13 +89,10 @@ impl EncodeOptions {
 impl<'a> Module<'a> {
     /// [`EncodeOptions::encode_module`] of the options as they are, with the same needs.
     pub fn encode(&mut self, alloc: Global, gensym: &mut Gensym) -> Result<Vec<u8>, Error<'a>>
-        requires well_formed { IsTrue (is_well_formed self.old) }
-        requires above { generation_bound self.old < gensym.old }
-        ensures answer { Encodes self.old result self.new }
+        requires { IsReady self.old gensym.old }
+        ensures answer { Encodes self.old gensym.old result self.new gensym.new }
         ensures stays { self.new ≡ record self.old { kind = self.new.kind } }
-        ensures counter { gensym.new ≡ gensym.old }
-        ensures well_formed { IsTrue (is_well_formed self.new) }
-        ensures above { generation_bound self.new < gensym.new }
+        ensures ready { IsReady self.new gensym.new }
     {
         EncodeOptions::new().encode_module(alloc, self, gensym)
     }

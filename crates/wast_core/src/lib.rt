@@ -2,18 +2,16 @@
 #![tactic(auto)]
 
 mod bodies;
-mod check;
 pub mod conv;
 mod encode;
-mod generations;
-mod items;
+mod examples;
 mod module;
 mod names_payload;
-mod rows;
+mod section_items;
 mod sections;
 mod wat;
 
 pub use encode::EncodeOptions;
-pub use items::{FuncSectionTy, RecOrType, SectionItem};
 pub use module::{Module, ModuleKind, discard_module};
+pub use section_items::{FuncSectionTy, RecOrType, SectionItem};
 pub use wat::Wat;

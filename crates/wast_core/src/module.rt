@@ -1,15 +1,16 @@
 //! Modules of the text format.
 
-ghost use Rattle.std.specs.Prelude.{◌≡◌, ◌<◌, IsTrue};
-ghost use Rattle.wast_core.specs.Modules.{is_well_formed, generation_bound};
+ghost use Rattle.std.specs.Prelude.{◌≡◌};
+ghost use Rattle.wast_core.specs.Modules.{is_well_formed, generation_bound, IsReady};
 ghost use Rattle.wast_core.specs.Headline.{Resolves};
 
-use crate::check::are_well_formed;
-use crate::generations::HasIds;
 use std::alloc::Global;
 use std::mem;
-use wast_resolve::Names;
-use wast_tree::{Error, Fault, Gensym, Id, ModuleField, NameAnnotation, Seq, Span, discard_fields};
+use wast_resolve::{Names, resolved_laws};
+use wast_tree::{
+    Error, Fault, Gensym, Id, ModuleField, NameAnnotation, Seq, Span, discard_fields, gensym_bound,
+    well_formed,
+};
 
 /// What a module holds.
 #[derive(Debug, Drop)]
@@ -46,7 +47,7 @@ impl<'a> Module<'a> {
         ensures { result ≡ is_well_formed self.now }
     {
         match &self.kind {
-            ModuleKind::Text(fields) => are_well_formed(fields.as_slice()),
+            ModuleKind::Text(fields) => well_formed(fields.as_slice()),
             ModuleKind::Binary(_) | ModuleKind::Refused(_) => true,
         }
     }
@@ -56,10 +57,10 @@ impl<'a> Module<'a> {
         ensures { result ≡ generation_bound self.now }
     {
         let held = match &self.kind {
-            ModuleKind::Text(fields) => fields.bound(),
+            ModuleKind::Text(fields) => gensym_bound(fields.as_slice()),
             ModuleKind::Binary(_) | ModuleKind::Refused(_) => 0,
         };
-        self.id.bound().max(held)
+        self.id.map_or(0, |id| id.generation()).max(held)
     }
 
     /// Gives each index the number of what it names, and answers what the names of the module denote (text format,
@@ -72,14 +73,12 @@ impl<'a> Module<'a> {
     /// module keeps a refusal, and answers it from then on. A binary module stays as it is, and binds no names. Span, id
     /// and name stay, and so does the counter.
     pub fn resolve(&mut self, alloc: Global, gensym: &mut Gensym) -> Result<Names<'a>, Error<'a>>
-        requires well_formed { IsTrue (is_well_formed self.old) }
-        requires above { generation_bound self.old < gensym.old }
-        ensures answer { Resolves self.old.kind result self.new.kind }
+        requires { IsReady self.old gensym.old }
+        ensures answer { Resolves self.old.kind gensym.old result self.new.kind gensym.new }
         ensures stays { self.new ≡ record self.old { kind = self.new.kind } }
-        ensures counter { gensym.new ≡ gensym.old }
-        ensures well_formed { IsTrue (is_well_formed self.new) }
-        ensures above { generation_bound self.new < gensym.new }
+        ensures ready { IsReady self.new gensym.new }
     {
+        resolved_laws();
         let placeholder = ModuleKind::Refused(Error::refusal(Fault::Memory));
         match mem::replace(&mut self.kind, placeholder) {
             ModuleKind::Text(fields) => match wast_resolve::resolve(alloc, fields, gensym) {
@@ -104,7 +103,7 @@ impl<'a> Module<'a> {
     }
 }
 
-/// Lets a module go.
+/// Drops a module.
 pub fn discard_module(module: Module<'_>) {
     match module.kind {
         ModuleKind::Text(fields) => discard_fields(fields),

@@ -6,16 +6,14 @@ ghost use Rattle.wasm_ops.specs.Spelling.{InRangeU32};
 ghost use Rattle.wasm_out.specs.Built.{Appends, IsRefused, empty};
 ghost use Rattle.wasm_out.specs.NameSubsections.{name_entry};
 ghost use Rattle.wasm_out.specs.Parts.{part, InRangePart};
-ghost use Rattle.wast_resolve.specs.Resolvers.{space_of};
 ghost use Rattle.wast_core.specs.Meaning.{names_part};
 ghost use Rattle.wast_core.specs.Names.{names_seen, text_seen};
-ghost use Rattle.wast_core.specs.NamesPayload.{id_text, given_name, names_given, named_items, names_payload, InRangeNameEntry, InRangeNames, InRangeNameMap, InRangeModuleName, module_name, item_names, named_from};
+ghost use Rattle.wast_core.specs.NamesPayload.{id_text, given_name, name_in, names_given, named_items, names_payload, InRangeNameEntry, InRangeNames, InRangeNameMap, InRangeModuleName, module_name, item_names, named_from};
 ghost use Rattle.wast_core.specs.Filling.{AddsEach, IsFilled, InRangeAfter};
 
 use std::alloc::Global;
 use wasm_out::{Module, NameMap, NameSection};
-use wast_resolve::Ns;
-use wast_tree::{Error, Fault, Id, ModuleField, NameAnnotation};
+use wast_tree::{Error, Fault, Id, ModuleField, NameAnnotation, Space};
 
 fn id_text<'a>(id: &Option<Id<'a>>) -> Option<&'a str>
     ensures { text_seen result ≡ id_text id.now }
@@ -40,20 +38,21 @@ pub(crate) fn given_name<'a>(
 }
 
 /// The name of the field's item in the space, where it has an item there.
-fn name_in_field<'a>(ns: Ns, field: &ModuleField<'a>) -> Option<Option<&'a str>>
-    ensures { names_seen result ≡ names_given (space_of ns) field.now }
+fn name_in_field<'a>(space: Space, field: &ModuleField<'a>) -> Option<Option<&'a str>>
+    ensures { names_seen result ≡ names_given space field.now }
 {
-    match ns {
-        Ns::Ty => match field {
-            ModuleField::Ty(ty) => Some(given_name(&ty.name, &ty.id)),
-            ModuleField::Func(_) | ModuleField::Export(_) => None,
-        },
-        Ns::Func => match field {
-            ModuleField::Func(func) => Some(given_name(&func.name, &func.id)),
-            ModuleField::Ty(_) | ModuleField::Export(_) => None,
-        },
-        Ns::Table | Ns::Global | Ns::Memory | Ns::Tag => None,
+    match field {
+        ModuleField::Ty(ty) => given_in(space, Space::Ty, given_name(&ty.name, &ty.id)),
+        ModuleField::Func(func) => given_in(space, Space::Func, given_name(&func.name, &func.id)),
+        ModuleField::Export(_) => None,
     }
+}
+
+/// The name of an item, where it is an item of the space.
+fn given_in(space: Space, own: Space, name: Option<&str>) -> Option<Option<&str>>
+    ensures { names_seen result ≡ name_in space (own, text_seen name.entry) }
+{
+    if space.is(own) { Some(name) } else { None }
 }
 
 /// Adds the name of an item at its position, where it has one.
@@ -71,14 +70,14 @@ fn add_name<'e>(names: &mut NameMap, position: usize, given: Option<&str>) -> Re
 }
 
 /// The names of the items of a space, by their positions.
-fn name_map<'e>(alloc: Global, ns: Ns, fields: &[ModuleField]) -> Result<NameMap, Error<'e>>
-    ensures names { IfOk result (λ map. IsFilled name_entry InRangeNameEntry empty map (named_items (space_of ns) fields.now)) }
-    ensures refusal { IfErr result (IsRefused (InRangeAfter InRangeNameEntry 0 (named_items (space_of ns) fields.now))) }
+fn name_map<'e>(alloc: Global, space: Space, fields: &[ModuleField]) -> Result<NameMap, Error<'e>>
+    ensures names { IfOk result (λ map. IsFilled name_entry InRangeNameEntry empty map (named_items space fields.now)) }
+    ensures refusal { IfErr result (IsRefused (InRangeAfter InRangeNameEntry 0 (named_items space fields.now))) }
 {
     let mut names = NameMap::new(alloc);
     let mut position = 0usize;
     for field in fields {
-        if let Some(given) = name_in_field(ns, field) {
+        if let Some(given) = name_in_field(space, field) {
             add_name(&mut names, position, given)?;
             position += 1;
         }
@@ -101,22 +100,24 @@ fn append_module_name<'e>(section: &mut NameSection, text: Option<&str>) -> Resu
 fn append_items<'e>(
     alloc: Global,
     section: &mut NameSection,
-    ns: Ns,
+    space: Space,
     fields: &[ModuleField],
 ) -> Result<(), Error<'e>>
-    ensures { Appends (InRangeNameMap (named_items (space_of ns) fields.now)) section.old section.new (item_names (space_of ns) fields.now) result }
+    ensures { Appends (InRangeNameMap (named_items space fields.now)) section.old section.new (item_names space fields.now) result }
 {
-    let names = name_map(alloc, ns, fields)?;
+    let names = name_map(alloc, space, fields)?;
     if names.is_empty() {
         return Ok(());
     }
-    match ns {
-        Ns::Func => section.functions(&names),
-        Ns::Table => section.tables(&names),
-        Ns::Memory => section.memories(&names),
-        Ns::Global => section.globals(&names),
-        Ns::Tag => section.tags(&names),
-        Ns::Ty => section.types(&names),
+    match space {
+        Space::Func => section.functions(&names),
+        Space::Table => section.tables(&names),
+        Space::Memory => section.memories(&names),
+        Space::Global => section.globals(&names),
+        Space::Tag => section.tags(&names),
+        Space::Elem => section.elements(&names),
+        Space::Data => section.data_segments(&names),
+        Space::Ty => section.types(&names),
     }
 }
 
@@ -132,8 +133,8 @@ fn name_section<'e>(
 {
     let mut section = NameSection::new(alloc);
     append_module_name(&mut section, text)?;
-    append_items(alloc, &mut section, Ns::Func, fields)?;
-    append_items(alloc, &mut section, Ns::Ty, fields)?;
+    append_items(alloc, &mut section, Space::Func, fields)?;
+    append_items(alloc, &mut section, Space::Ty, fields)?;
     Ok(section)
 }
 

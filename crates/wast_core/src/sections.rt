@@ -1,16 +1,15 @@
 //! The sections of a module, made of its resolved fields.
 
 ghost use Rattle.std.specs.Prelude.{All, OnOk, IsTrue};
-ghost use Rattle.std.specs.List.{list_all};
 ghost use Rattle.wasm_ops.specs.Spelling.{InRangeU32};
 ghost use Rattle.wasm_out.specs.Parts.{entry, InRangeEntry, HasUtf8Name};
-ghost use Rattle.wast_core.specs.Encodable.{is_encodable_field};
+ghost use Rattle.wast_core.specs.Encodable.{is_encodable_field, are_encodable};
 ghost use Rattle.wast_core.specs.Filling.{AddsEach};
 ghost use Rattle.wast_core.specs.Meaning.{entries_in, entries, listed, sections};
 ghost use Rattle.wast_core.specs.Writing.{AppendsParts};
 
 use crate::bodies::body;
-use crate::items::{FuncSectionTy, RecOrType, SectionItem};
+use crate::section_items::{FuncSectionTy, RecOrType, SectionItem};
 use std::alloc::Global;
 use wasm_out::{Build, Code, Exports, Functions, ListKind, ListSection, Module, Types};
 use wast_tree::{Error, ModuleField};
@@ -86,7 +85,7 @@ fn fill_with<'e, K: Fill>(
     section: &mut ListSection<K>,
     fields: &[ModuleField],
 ) -> Result<(), Error<'e>>
-    requires encodable { IsTrue (list_all is_encodable_field fields.now) }
+    requires encodable { IsTrue (are_encodable fields.now) }
     requires count { InRangeU32 section.old.count }
     ensures added { AddsEach (entry K.kind) (InRangeEntry K.kind) section.old section.new (entries K.kind fields.now) result }
     ensures names { OnOk result (All (HasUtf8Name K.kind) (entries K.kind fields.now)) }
@@ -103,7 +102,7 @@ fn append_section<'e, K: Fill>(
     module: &mut Module,
     fields: &[ModuleField],
 ) -> Result<(), Error<'e>>
-    requires { IsTrue (list_all is_encodable_field fields.now) }
+    requires { IsTrue (are_encodable fields.now) }
     ensures { AppendsParts «module».old «module».new (listed K.kind (entries K.kind fields.now)) result }
 {
     let mut section = ListSection::<K>::new(alloc);
@@ -121,7 +120,7 @@ pub(crate) fn append_sections<'e>(
     module: &mut Module,
     fields: &[ModuleField],
 ) -> Result<(), Error<'e>>
-    requires { IsTrue (list_all is_encodable_field fields.now) }
+    requires { IsTrue (are_encodable fields.now) }
     ensures { AppendsParts «module».old «module».new (sections fields.now) result }
 {
     append_section::<Types>(alloc, module, fields)?;

@@ -1,7 +1,6 @@
 //! What a text holds: a module or a component.
 
-ghost use Rattle.std.specs.Prelude.{◌≡◌, ◌<◌, IsTrue};
-ghost use Rattle.wast_core.specs.Wats.{is_well_formed, generation_bound, EncodesWat};
+ghost use Rattle.wast_core.specs.Wats.{IsReadyWat, EncodesWat};
 
 use crate::encode::EncodeOptions;
 use crate::module::Module;
@@ -27,12 +26,9 @@ impl EncodeOptions {
         wat: &mut Wat<'a>,
         gensym: &mut Gensym,
     ) -> Result<Vec<u8>, Error<'a>>
-        requires well_formed { IsTrue (is_well_formed wat.old) }
-        requires above { generation_bound wat.old < gensym.old }
-        ensures answer { EncodesWat wat.old result wat.new }
-        ensures counter { gensym.new ≡ gensym.old }
-        ensures well_formed { IsTrue (is_well_formed wat.new) }
-        ensures above { generation_bound wat.new < gensym.new }
+        requires { IsReadyWat wat.old gensym.old }
+        ensures answer { EncodesWat wat.old gensym.old result wat.new gensym.new }
+        ensures ready { IsReadyWat wat.new gensym.new }
     {
         match wat {
             Wat::Module(module) => self.encode_module(alloc, module, gensym),
@@ -44,12 +40,9 @@ impl EncodeOptions {
 impl<'a> Wat<'a> {
     /// [`EncodeOptions::encode_wat`] of the options as they are, with the same needs.
     pub fn encode(&mut self, alloc: Global, gensym: &mut Gensym) -> Result<Vec<u8>, Error<'a>>
-        requires well_formed { IsTrue (is_well_formed self.old) }
-        requires above { generation_bound self.old < gensym.old }
-        ensures answer { EncodesWat self.old result self.new }
-        ensures counter { gensym.new ≡ gensym.old }
-        ensures well_formed { IsTrue (is_well_formed self.new) }
-        ensures above { generation_bound self.new < gensym.new }
+        requires { IsReadyWat self.old gensym.old }
+        ensures answer { EncodesWat self.old gensym.old result self.new gensym.new }
+        ensures ready { IsReadyWat self.new gensym.new }
     {
         EncodeOptions::new().encode_wat(alloc, self, gensym)
     }

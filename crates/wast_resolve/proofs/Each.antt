@@ -1,26 +1,23 @@
 -- A walk over each item of a list, in its place.
-use Rattle.std.proofs.Common.{◌≡◌, ℕ, suc, ◌+◌, ◌<◌, List, [], ◌∷◌, ◌++◌, None, IsTrue, sym, ◌∙◌, ap, length, map, get_or, drop, take, arith, add-one, subst}
+use Rattle.std.proofs.Common.{◌≡◌, ℕ, suc, ◌+◌, ◌<◌, List, [], ◌∷◌, ◌++◌, None, sym, ◌∙◌, ap, length, map, get_or, drop, take, arith, add-one, subst}
 use Rattle.std.proofs.Math.ListN.{set, length-set}
 use Rattle.std.proofs.Math.Seq.{drop-cons, take-suc}
 use Rattle.std.specs.Prelude.{flat_map}
 use Rattle.std.proofs.lemmas.List.{append-nil, drop-drop, drop-set-lt, take_more_set, take-append-drop, map-append}
 use Rattle.std.proofs.lemmas.Grind.{flat_map-append}
 use Rattle.wast_tree.specs.Faults.{Told}
-use Rattle.wast_tree.specs.Occurrences.{Occurrence}
-use Rattle.wast_tree.specs.Known.{Known}
-use Rattle.wast_tree.specs.WellFormed.{are_settled}
-use Rattle.wast_resolve.specs.Demands.{first_unmet, uses, Answers}
-use Rattle.wast_resolve.proofs.Parts.{both_met, first_fails, second_fails, first_settled, second_settled}
+use Rattle.wast_resolve.specs.Demands.{Demand, first_unmet, Answers}
+use Rattle.wast_resolve.proofs.Parts.{both_met, first_fails, second_fails}
 
 -- the first i items of olds are walked, and nows is what there is then
-pub record IsHalfway {X : Type 0} (k : Known) (f : X → List Occurrence) (w : X → X) (olds nows : List X) (i : ℕ) : Type 0 where
+pub record IsHalfway {X A : Type 0} (g : A → List Demand) (f : X → List A) (w : X → X) (olds nows : List X) (i : ℕ) : Type 0 where
   pub len : length nows ≡ length olds
   pub left : drop i nows ≡ drop i olds
-  pub met : first_unmet (uses k (flat_map f (take i olds))) ≡ None
+  pub met : first_unmet (flat_map g (flat_map f (take i olds))) ≡ None
   pub become : take i nows ≡ map w (take i olds)
 
-module _ {X : Type 0} {k : Known} {f : X → List Occurrence} {w : X → X} {olds : List X} where
-  same_item : {nows : List X} {i : ℕ} (d : X) → IsHalfway k f w olds nows i → i < length nows → drop i olds ≡ get_or nows i d ∷ drop (suc i) olds
+module _ {X A : Type 0} {g : A → List Demand} {f : X → List A} {w : X → X} {olds : List X} where
+  same_item : {nows : List X} {i : ℕ} (d : X) → IsHalfway g f w olds nows i → i < length nows → drop i olds ≡ get_or nows i d ∷ drop (suc i) olds
   same_item {nows} {i} d p lt =
       let a : drop i nows ≡ get_or nows i d ∷ drop (suc i) nows = drop-cons nows i d lt in
       let b : drop i olds ≡ get_or olds i d ∷ drop (suc i) olds = drop-cons olds i d (omega (arith, p.len)) in
@@ -29,19 +26,13 @@ module _ {X : Type 0} {k : Known} {f : X → List Occurrence} {w : X → X} {old
       b ∙ ap (λ x. x ∷ drop (suc i) olds) e
 
   -- the list about the item that is walked next
-  split : {nows : List X} {i : ℕ} {x : X} → IsHalfway k f w olds nows i → i < length olds → x ≡ get_or nows i x → flat_map f olds ≡ flat_map f (take i olds) ++ (f x ++ flat_map f (drop (suc i) olds))
+  split : {nows : List X} {i : ℕ} {x : X} → IsHalfway g f w olds nows i → i < length olds → x ≡ get_or nows i x → flat_map f olds ≡ flat_map f (take i olds) ++ (f x ++ flat_map f (drop (suc i) olds))
   split {nows} {i} {x} p lt is =
       let lt2 : i < length nows = omega (arith, p.len) in
       let rest : drop i olds ≡ x ∷ drop (suc i) olds = same_item x p lt2 ∙ ap (λ z. z ∷ drop (suc i) olds) (sym is) in
       ap (flat_map f) (sym (take-append-drop i olds)) ∙ (flat_map-append f (take i olds) (drop i olds) ∙ ap (λ zs. flat_map f (take i olds) ++ flat_map f zs) rest)
 
-  pub item_settled : {nows : List X} {i : ℕ} {x : X} → IsHalfway k f w olds nows i → i < length olds → x ≡ get_or nows i x → IsTrue (are_settled k (flat_map f olds)) → IsTrue (are_settled k (f x))
-  item_settled {nows} {i} {x} p lt is h =
-      let others = flat_map f (drop (suc i) olds) in
-      let g : IsTrue (are_settled k (flat_map f (take i olds) ++ (f x ++ others))) = subst (λ os. IsTrue (are_settled k os)) (split p lt is) h in
-      first_settled k (f x) others (second_settled k (flat_map f (take i olds)) (f x ++ others) g)
-
-  pub goes_on : {nows : List X} {i : ℕ} {x y : X} → IsHalfway k f w olds nows i → i < length olds → x ≡ get_or nows i x → first_unmet (uses k (f x)) ≡ None → y ≡ w x → IsHalfway k f w olds (set nows i y) (i + 1)
+  pub goes_on : {nows : List X} {i : ℕ} {x y : X} → IsHalfway g f w olds nows i → i < length olds → x ≡ get_or nows i x → first_unmet (flat_map g (f x)) ≡ None → y ≡ w x → IsHalfway g f w olds (set nows i y) (i + 1)
   goes_on {nows} {i} {x} {y} p lt is met new =
       let lt2 : i < length nows = omega (arith, p.len) in
       let rest : drop i olds ≡ x ∷ drop (suc i) olds = same_item x p lt2 ∙ ap (λ z. z ∷ drop (suc i) olds) (sym is) in
@@ -50,14 +41,14 @@ module _ {X : Type 0} {k : Known} {f : X → List Occurrence} {w : X → X} {old
       record {
         len = length-set nows i y ∙ p.len;
         left = drop-set-lt (i + 1) nows i y (omega arith) ∙ rw (← drop-drop 1 i nows, ← drop-drop 1 i olds) (ap (drop 1) p.left);
-        met = subst (λ zs. first_unmet (uses k zs) ≡ None)
+        met = subst (λ zs. first_unmet (flat_map g zs) ≡ None)
             (sym (ap (flat_map f) more ∙ (flat_map-append f (take i olds) (x ∷ []) ∙ ap (λ zs. flat_map f (take i olds) ++ zs) (append-nil (f x)))))
-            (both_met k (flat_map f (take i olds)) (f x) p.met met);
+            (both_met g (flat_map f (take i olds)) (f x) p.met met);
         become = take_more_set nows i y lt2 ∙ (ap (λ zs. zs ++ y ∷ []) p.become ∙ (ap (λ z. map w (take i olds) ++ z ∷ []) new ∙ (sym (map-append w (take i olds) (x ∷ [])) ∙ ap (map w) (sym more))));
       }
 
-  pub stops : {nows : List X} {i : ℕ} {x : X} (t : Told) → IsHalfway k f w olds nows i → i < length olds → x ≡ get_or nows i x → Answers ⊥ ⊥ t (first_unmet (uses k (f x))) → Answers ⊥ ⊥ t (first_unmet (uses k (flat_map f olds)))
+  pub stops : {nows : List X} {i : ℕ} {x : X} (t : Told) → IsHalfway g f w olds nows i → i < length olds → x ≡ get_or nows i x → Answers ⊥ ⊥ t (first_unmet (flat_map g (f x))) → Answers ⊥ ⊥ t (first_unmet (flat_map g (flat_map f olds)))
   stops {nows} {i} {x} t p lt is failed =
       let others = flat_map f (drop (suc i) olds) in
-      subst (λ os. Answers ⊥ ⊥ t (first_unmet (uses k os))) (sym (split p lt is))
-      (second_fails k (flat_map f (take i olds)) (f x ++ others) t p.met (first_fails k (f x) others t failed))
+      subst (λ os. Answers ⊥ ⊥ t (first_unmet (flat_map g os))) (sym (split p lt is))
+      (second_fails g (flat_map f (take i olds)) (f x ++ others) ⊥ ⊥ t p.met (first_fails g (f x) others ⊥ ⊥ t failed))

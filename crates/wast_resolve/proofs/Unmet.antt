@@ -1,7 +1,8 @@
 -- The first unmet demand of demands one after the other, and what an error answers of it.
 use Rattle.std.proofs.Common.{◌≡◌, refl, ◌∙◌, List, [], ◌∷◌, ◌++◌, Option, Some, None, Bool, true, false, cond}
-use Rattle.wast_tree.specs.declared.ids.Span.{Span}
-use Rattle.wast_tree.specs.Faults.{Refusal, ImportAfter, Duplicate, DuplicateField, Unknown, NotFunc, OutOfBounds, NoMatch, Labels, NoNamedFields, TooLarge, Uncovered, Memory, Component, Told, At, Nowhere}
+use native.Mathlib.Omega.{arith}
+use Rattle.wast_resolve.specs.Tree.{Span}
+use Rattle.wast_tree.specs.Faults.{Refusal, Told}
 use Rattle.wast_resolve.specs.Demands.{Demand, first_unmet, Answers}
 
 more_unmet : (b : Bool) (f : Refusal × Span) (r s t : Option (Refusal × Span)) → (r ≡ None → s ≡ t) → cond b r (Some f) ≡ None → cond b s (Some f) ≡ t
@@ -24,20 +25,7 @@ unmet_append (d ∷ ds) es f h = still_unmet d.met (d.fault, d.place) f (first_u
 
 -- what is answered of some demands, under less, is answered of others, under more
 pub answers_more : {K L M N : Type 0} (t : Told) (o p : Option (Refusal × Span)) → (K → L) → (M → N) → ((f : Refusal × Span) → o ≡ Some f → p ≡ Some f) → Answers K M t o → Answers L N t p
-answers_more (At fault place) o p l m h a = h (fault, place) a
-answers_more (Nowhere Memory) o p l m h a = l a
-answers_more (Nowhere TooLarge) o p l m h a = m a
-answers_more (Nowhere (ImportAfter k)) o p l m h a = absurd a
-answers_more (Nowhere (Duplicate k)) o p l m h a = absurd a
-answers_more (Nowhere (DuplicateField k n)) o p l m h a = absurd a
-answers_more (Nowhere (Unknown k n)) o p l m h a = absurd a
-answers_more (Nowhere NotFunc) o p l m h a = absurd a
-answers_more (Nowhere OutOfBounds) o p l m h a = absurd a
-answers_more (Nowhere NoMatch) o p l m h a = absurd a
-answers_more (Nowhere Labels) o p l m h a = absurd a
-answers_more (Nowhere (NoNamedFields n i)) o p l m h a = absurd a
-answers_more (Nowhere (Uncovered form)) o p l m h a = absurd a
-answers_more (Nowhere Component) o p l m h a = absurd a
+answers_more t o p l m h a = grind (arith, l, m, h)
 
 module _ {K L M N : Type 0} (t : Told) (ds es : List Demand) (l : K → L) (m : M → N) where
   pub answers_first : Answers K M t (first_unmet ds) → Answers L N t (first_unmet (ds ++ es))
@@ -45,3 +33,12 @@ module _ {K L M N : Type 0} (t : Told) (ds es : List Demand) (l : K → L) (m : 
 
   pub answers_after : first_unmet ds ≡ None → Answers K M t (first_unmet es) → Answers L N t (first_unmet (ds ++ es))
   answers_after met a = answers_more t (first_unmet es) (first_unmet (ds ++ es)) l m (λ f h. first_unmet-append ds es met ∙ h) a
+
+-- demands that are met one after the other are met each
+pub met_parts : (ds es : List Demand) → first_unmet (ds ++ es) ≡ None → (first_unmet ds ≡ None) × (first_unmet es ≡ None)
+met_parts [] es h = (refl, h)
+met_parts (d ∷ ds) es h = by_met d.met (first_unmet ds) (first_unmet es) (first_unmet (ds ++ es)) (d.fault, d.place) (met_parts ds es) h
+  where
+    by_met : (b : Bool) (r s all : Option (Refusal × Span)) (f : Refusal × Span) → (all ≡ None → (r ≡ None) × (s ≡ None)) → cond b all (Some f) ≡ None → (cond b r (Some f) ≡ None) × (s ≡ None)
+    by_met true r s all f g h = g h
+    by_met false r s all f g h = cc

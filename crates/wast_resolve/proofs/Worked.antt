@@ -1,6 +1,6 @@
 -- The worked modules, computed.
 use Rattle.std.proofs.Common.{refl}
-use Rattle.wast_resolve.specs.Rows.{Row27, Row31, Row32}
+use Rattle.wast_resolve.specs.WorkedAnswers.{Row27, Row31, Row32}
 
 pub row27 : Row27
 row27 a b c d e f = (refl, refl)

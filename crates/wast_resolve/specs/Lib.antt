@@ -1,8 +1,15 @@
+pub mod Clashes
 pub mod Demands
+pub mod Filling
+pub mod Gathers
+pub mod Heads
+pub mod Laws
+pub mod LookUps
 pub mod Namespaces
 pub mod Outcomes
-pub mod Registering
+pub mod Places
 pub mod Resolved
 pub mod Resolvers
-pub mod Rows
+pub mod Tree
 pub mod Walking
+pub mod WorkedAnswers

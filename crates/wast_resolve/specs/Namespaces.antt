@@ -1,16 +1,16 @@
 -- A name space as a value: a finite map from names to numbers, beside a count (text format: identifiers, indices).
-use Rattle.std.specs.Prelude.{ℕ, ◌+◌, Bool, true, not, ◌||◌, is_some, List, [], Option, Some, None, refl}
+use Rattle.std.specs.Prelude.{ℕ, ◌+◌, Bool, not, is_some, List, [], Option, Some, None, refl}
 use Rattle.std.specs.declared.cmp.Ordering.{Ordering}
 use Rattle.std.specs.Ordering.{nat_cmp, ordering_then}
 use Rattle.std.specs.Option.{option_cmp}
 use Rattle.std.specs.Cmp.Lexicographic.{slice_cmp}
 use Rattle.std.specs.FinMap.{FinMap, empty, get, insert, code}
 use Rattle.std.specs.Coded.{Coded, coded×, coded_ℕ, coded_list, coded_option, code_by}
-use Rattle.wast_tree.specs.declared.ids.Index.{Index}
-use Rattle.wast_tree.specs.declared.ids.Index.TheVariants as index
-use Rattle.wast_tree.specs.Ids.{Name, Written, Generated, text_of, is_generated, Mark, name_of, mark_of}
+use Rattle.wast_resolve.specs.Tree.{Index}
+use Rattle.wast_resolve.specs.Tree.index
+use Rattle.wast_tree.specs.Ids.{Name, Written, Generated, text_of, Mark, name_of}
 use Rattle.wast_tree.specs.Faults.{Duplicate, DuplicateField}
-use Rattle.wast_resolve.specs.Demands.{Demand, asks, unknown}
+use Rattle.wast_resolve.specs.Demands.{Demand, one_demand}
 
 -- the text of a name, and its generation where it is generated
 abbrev pub Key : Type 0
@@ -60,22 +60,12 @@ is_new s name = not (is_some (number_in s name))
 
 abbrev pub new_item : NameSpace → List ℕ → Option Mark → List Demand
 new_item s word None = []
-new_item s word (Some m) = asks (Duplicate word) m.1 (is_new s m.0)
+new_item s word (Some m) = one_demand (Duplicate word) m.1 (is_new s m.0)
 
 abbrev pub new_name : NameSpace → List ℕ → Mark → List Demand
-new_name s word m = asks (DuplicateField word (text_of m.0)) m.1 (is_new s m.0)
+new_name s word m = one_demand (DuplicateField word (text_of m.0)) m.1 (is_new s m.0)
 
 -- what an index denotes; a number denotes itself
 abbrev pub denoted : (Name → Option ℕ) → Index → Option ℕ
 denoted number (index.Num n span) = Some n
 denoted number (index.Id id) = number (name_of id)
-
--- An id that is no number denotes something.
-abbrev pub known_index : (Name → Option ℕ) → List ℕ → Index → List Demand
-known_index number word (index.Num n span) = []
-known_index number word (index.Id id) = unknown word (mark_of id) (is_some (number (name_of id)))
-
--- A generated id denotes something.
-abbrev pub is_settled_index : (Name → Option ℕ) → Index → Bool
-is_settled_index number (index.Num n span) = true
-is_settled_index number (index.Id id) = not (is_generated (name_of id)) || is_some (number (name_of id))

@@ -19,7 +19,7 @@ abbrev pub after_told : {S : Type 0} → Told → S → S → S
 after_told (At fault place) new old = new
 after_told (Nowhere fault) new old = old
 
--- the new value; the old one after a refusal that has no place, as want of memory
+-- the new value; the old one after a refusal that has no place, as out of memory
 abbrev pub unless_refused : {T S : Type 0} → Result T Error → S → S → S
 unless_refused (Ok x) new old = new
 unless_refused (Err e) new old = after_told (told e) new old

@@ -1,50 +1,34 @@
 //! A name space: the numbers of names, and how many items there are.
 
-ghost use Rattle.std.specs.Prelude.{◌≡◌, ⊤, ◌+◌, ◌<◌, ◌≤◌, ◌^◌, ◌↔◌, IsTrue, is_some, not, Some, IfOk, OnOk, OnErr, IfErr, map as map_list};
+ghost use Rattle.std.specs.Prelude.{◌≡◌, ⊤, ◌+◌, ◌<◌, ◌≤◌, ◌^◌, ◌↔◌, IsTrue, is_some, not, Some, IfOk, OnOk, OnErr, IfErr};
 ghost use Rattle.std.specs.FinMap as finmap;
+ghost use Rattle.std.specs.FinMap.{find, put};
 ghost use Rattle.wast_tree.specs.Ids.{name_of, place_of, mark_of, marked, text_of, is_generated};
 ghost use Rattle.wast_tree.specs.Faults.{told, At, Unknown};
-ghost use Rattle.wast_resolve.specs.Demands.{first_unmet, Answers};
+ghost use Rattle.wast_tree.specs.WellFormed.{is_settled_index};
+ghost use Rattle.wast_resolve.specs.Demands.{first_unmet, Answers, known_index};
 ghost use Rattle.wast_resolve.specs.Resolved.{numbered};
 ghost use Rattle.wast_resolve.specs.Outcomes.{Gives, unless_refused};
-ghost use Rattle.wast_resolve.specs.Namespaces.{NameSpace, coded_space, key_of, empty_from, number_in, counted, named, registered, new_item, new_name, denoted, known_index, is_settled_index};
+ghost use Rattle.wast_resolve.specs.Places.{entries_of, AreSorted};
+ghost use Rattle.wast_resolve.specs.Heads.{AreHeads};
+ghost use Rattle.wast_resolve.specs.Namespaces.{NameSpace, coded_space, key_cmp, key_of, empty_from, number_in, counted, named, registered, new_item, new_name, denoted};
 
+use crate::heads::Heads;
+use crate::order::place_between;
 use std::alloc::{AllocError, Global};
-use std::collections::BTreeMap;
 use std::marker::Model;
 use wast_tree::{Error, Fault, Id, Index};
 
-/// What an id is called: its text, and its generation where it is generated.
-#[derive(Clone, Copy, PartialEq, Eq, PartialOrd, Ord)]
-struct Key<'a> {
-    text: &'a str,
-    generation: Option<u64>,
-}
-
-impl<'a> Key<'a> {
-    /// What the id is called, whatever its place.
-    #[tactic(auto, using(crate::proofs::Keys::written_has_none, crate::proofs::Keys::generated_has_one))]
-    fn new(id: &Id<'a>) -> Self
-        ensures { (result.text.now, result.generation) ≡ key_of (name_of id.now) }
-    {
-        let generation = if id.is_gensym() {
-            Some(id.generation())
-        } else {
-            None
-        };
-        Key {
-            text: id.name(),
-            generation,
-        }
-    }
-}
-
 /// A name space (text format, indices): a finite map from ids to numbers, beside a count of items.
 ///
-/// Names are those of ids: an id is found whatever its place. A count is at most 4,294,967,295.
+/// Names are those of ids: an id is found whatever its place. A count is at most 4,294,967,295. A name is found by
+/// halving.
 #[derive(Drop)]
 pub struct Namespace<'a> {
-    numbers: BTreeMap<Key<'a>, u32>,
+    // sorted by name
+    names: Vec<(Id<'a>, u32)>,
+    // of all names or of none
+    heads: Heads<'a>,
     count: u32,
 }
 
@@ -53,7 +37,9 @@ impl<'a> Model for Namespace<'a> {
 
     ghost coded = { coded_space };
 
-    ghost view = { λ s. record { names = finmap.from_entries (map_list (λ e. ((e.0.text.now, e.0.generation), e.1)) s.numbers.entries); count = s.count } };
+    ghost view = { λ s. record { names = finmap.from_sorted (entries_of s.names.items); count = s.count } };
+
+    ghost invariant = { λ s. AreSorted s.names.items × AreHeads s.heads.prefix.now s.heads.heads.items s.names.items };
 }
 
 impl<'a> Namespace<'a> {
@@ -68,8 +54,18 @@ impl<'a> Namespace<'a> {
     pub fn with_count(alloc: Global, count: u32) -> Self
         ensures { result ≡ empty_from count }
     {
+        Namespace::from_sorted(Vec::new(alloc), Heads::none(alloc), count)
+    }
+
+    /// Sorted names with their heads, and a count.
+    pub(crate) fn from_sorted(names: Vec<(Id<'a>, u32)>, heads: Heads<'a>, count: u32) -> Self
+        requires sorted { AreSorted names.items }
+        requires heads { AreHeads heads.prefix.now heads.heads.items names.items }
+        ensures { result ≡ record { names = finmap.from_sorted (entries_of names.entry.items); count = count } }
+    {
         Namespace {
-            numbers: BTreeMap::new(alloc),
+            names,
+            heads,
             count,
         }
     }
@@ -79,6 +75,9 @@ impl<'a> Namespace<'a> {
     ///
     /// It needs a count below 4,294,967,295. Where the id is there already, it answers E2 at the place of the new id,
     /// still counts, and leaves the id at the new number. E12 comes only where there is an id, and changes nothing.
+    ///
+    /// A new name moves those that are greater, so that n names take time that grows with the square of n. The resolver
+    /// fills its spaces at once.
     pub fn register(&mut self, id: Option<Id<'a>>, desc: &'a str) -> Result<u32, Error<'a>>
         requires { self.old.count + 1 < 2 ^ 32 }
         ensures answer { Gives (IsTrue (is_some id.entry)) (first_unmet (new_item self.old desc.now (marked id.entry))) self.old.count result }
@@ -165,7 +164,16 @@ impl<'a> Namespace<'a> {
         Ok(number)
     }
 
+    /// The ids with their numbers, each once: by the bytes of the names, then written before generated, then by
+    /// generation. It takes no memory.
+    pub fn pairs(&self) -> &[(Id<'a>, u32)]
+        ensures { entries_of result.now ≡ finmap.entries self.now.names }
+    {
+        &self.names
+    }
+
     /// Whether the count is at its end, where no item can be registered.
+    #[cfg(test)]
     pub(crate) fn is_full(&self) -> bool
         ensures { IsTrue result ↔ (2 ^ 32 ≤ self.now.count + 1) }
     {
@@ -173,19 +181,50 @@ impl<'a> Namespace<'a> {
     }
 
     /// The number of a name.
-    fn find(&self, id: &Id<'a>) -> Option<u32>
+    pub(crate) fn find(&self, id: &Id<'a>) -> Option<u32>
         ensures { result ≡ number_in self.now (name_of id.now) }
     {
-        self.numbers.get(&Key::new(id)).copied()
+        let (low, high) = self.heads.range(&self.names, id);
+        match place_between(&self.names, id, low, high) {
+            Ok(at) => Some(self.names[at].1),
+            Err(_) => None,
+        }
     }
 
-    /// Sets the number of a name, and gives the one before. Where memory is refused nothing changes.
+    /// Sets the number of a name, and gives the one before. Where memory is refused nothing changes. The heads are dropped,
+    /// and further names are looked up whole.
     fn put(&mut self, id: Id<'a>, number: u32) -> Result<Option<u32>, AllocError>
         ensures before { IfOk result (λ before. before ≡ number_in self.old (name_of id.entry)) }
         ensures ok { OnOk result (self.new ≡ named self.old (name_of id.entry) number) }
         ensures err { OnErr result (self.new ≡ self.old) }
     {
-        Ok(self.numbers.insert(Key::new(&id), number)?)
+        let before = put_among(&mut self.names, id, number)?;
+        self.heads.clear();
+        Ok(before)
+    }
+}
+
+/// Sets the number of a name among sorted names, and gives the one before. Where memory is refused nothing changes.
+fn put_among<'a>(
+    names: &mut Vec<(Id<'a>, u32)>,
+    id: Id<'a>,
+    number: u32,
+) -> Result<Option<u32>, AllocError>
+    requires { AreSorted names.old.items }
+    ensures before { IfOk result (λ before. before ≡ find key_cmp (key_of (name_of id.entry)) (entries_of names.old.items)) }
+    ensures ok { OnOk result (entries_of names.new.items ≡ put key_cmp (key_of (name_of id.entry)) number (entries_of names.old.items)) }
+    ensures err { OnErr result (names.new.items ≡ names.old.items) }
+{
+    match place_between(names, &id, 0, names.len()) {
+        Ok(at) => {
+            let before = names[at].1;
+            names[at] = (id, number);
+            Ok(Some(before))
+        }
+        Err(at) => {
+            names.insert(at, (id, number))?;
+            Ok(None)
+        }
     }
 }
 

@@ -1,5 +1,6 @@
 //! Examples of name spaces, whose answers come from outside.
 
+use crate::filling::Gathering;
 use crate::{Namespace, resolve_error};
 use wast_tree::{Error, Fault, Id, Index, Span};
 
@@ -68,4 +69,39 @@ fn a_count_ends_below_two_to_the_32(rt: HostRuntime) {
     let error = resolve_error(Id::new("x", at(9)), "table");
     assert!(rt; error.number() == 4);
     assert!(rt; error == Error::new(at(9), Fault::Unknown("table", "x")));
+}
+
+#[test]
+fn pairs_go_by_their_names(rt: HostRuntime) {
+    let mut space = Namespace::new(rt.alloc());
+    assert!(rt; space.register(Some(Id::new("b", at(1))), "func") == Ok(0));
+    assert!(rt; !space.is_full());
+    assert!(rt; space.register(Some(Id::new("a", at(2))), "func") == Ok(1));
+    assert!(rt; space.pairs() == [(Id::new("a", at(0)), 1), (Id::new("b", at(0)), 0)].as_slice());
+}
+
+// `abcdefgh1` and `abcdefgh2` have one head.
+#[test]
+fn a_space_is_filled_at_once(rt: HostRuntime) {
+    let mut items = Gathering::new(rt.alloc(), 3).expect(&rt, "no memory");
+    for name in ["abcdefgh2", "", "b", "abcdefgh1"] {
+        let id = if name.is_empty() {
+            None
+        } else {
+            Some(Id::new(name, at(1)))
+        };
+        assert!(rt; !items.is_full());
+        assert!(rt; items.add(id) == Ok(()));
+    }
+    let space = items
+        .filled(rt.alloc())
+        .expect(&rt, "no memory")
+        .expect(&rt, "a clash");
+    let mut first = Index::Id(Id::new("abcdefgh1", at(2)));
+    let mut second = Index::Id(Id::new("abcdefgh2", at(2)));
+    let mut missing = Index::Id(Id::new("abcdefgh", at(2)));
+    assert!(rt; space.try_resolve(&mut first) == Some(3));
+    assert!(rt; space.try_resolve(&mut second) == Some(0));
+    assert!(rt; space.try_resolve(&mut missing).is_none());
+    assert!(rt; space.pairs().len() == 3 && !space.is_full());
 }

@@ -1,197 +1,156 @@
 //! Walks over the tree in its place: each id where an index is wanted becomes the number that it denotes.
+#![tactic(auto, using(crate::proofs::Parts::both_met, crate::proofs::Parts::first_fails, crate::proofs::Parts::second_fails, crate::proofs::Parts::inner_met, crate::proofs::Parts::inline_met))]
 
-ghost use Rattle.std.specs.Prelude.{List, map, flat_map, option_map, IsTrue};
-ghost use Rattle.wast_tree.specs.Occurrences.{Occurrence, if_there, in_index, in_def, in_type, in_type_use, in_instr, in_expression, in_func_kind, in_func, in_export, in_field};
-ghost use Rattle.wast_tree.specs.Known.{Known};
-ghost use Rattle.wast_tree.specs.WellFormed.{are_settled};
-ghost use Rattle.wast_resolve.specs.Resolved.{at, def_with, type_with, type_use_with, instr_with, expression_with, func_kind_with, func_with, export_with, field_with};
-ghost use Rattle.wast_resolve.specs.Resolvers.{space_of, known_of};
-ghost use Rattle.wast_resolve.specs.Walking.{Walks};
+ghost use Rattle.std.specs.Prelude.{[], ◌∷◌, map, flat_map, option_map};
+ghost use Rattle.wast_tree.specs.Occurrences.{Body, if_there, in_index, in_def, in_type_use, in_instr, in_expression, in_func_kind, in_func, in_export, in_field, in_module};
+ghost use Rattle.wast_resolve.specs.Demands.{Start, ask_demands, step_demands, use_demands};
+ghost use Rattle.wast_resolve.specs.Resolved.{numbered_at, resolved_def, resolved_type_use, resolved_instr, resolved_instrs, resolved_expression, resolved_func_kind, resolved_func, resolved_export, resolved_field};
+ghost use Rattle.wast_resolve.specs.Resolvers.{known_of};
+ghost use Rattle.wast_resolve.specs.Walking.{Walks, Steps};
 
-use crate::resolver::{Ns, Resolver};
+use crate::resolver::Resolver;
 use wast_tree::{
-    Error, Export, ExportKind, Expression, Func, FuncKind, FunctionType, Index, Instruction,
-    ModuleField, Seq, Type, TypeDef, TypeUse,
+    Error, Export, Expression, Func, FuncKind, FunctionType, Index, Instruction, ModuleField, Seq,
+    Space, TypeDef, TypeUse,
 };
 
-/// A part of the tree that is walked in its place.
-pub(crate) trait Walk<'a> {
-    /// What stands in it.
-    ghost occurrences: { Self → List Occurrence };
-
-    /// What it becomes.
-    ghost becomes: { Known → Self → Self };
-
-    /// Replaces each id where an index is wanted by its number. It needs that the generated ones are known.
-    ///
-    /// The error is E4 at the first id that denotes nothing.
-    fn walk(&mut self, names: &Resolver<'a>) -> Result<(), Error<'a>>
-        requires { IsTrue (are_settled (known_of names.now) (occurrences self.old)) }
-        ensures { Walks (known_of names.now) (occurrences self.old) (becomes (known_of names.now) self.old) self.new result };
-}
-
-/// Walks over each item of a list, in order.
-pub(crate) fn walk_each<'a, T: Walk<'a>>(
+/// Walks over an index of a space. The error is E4 at an id that denotes nothing.
+fn walk_index<'a>(
     names: &Resolver<'a>,
-    items: &mut Seq<T>,
+    space: Space,
+    index: &mut Index<'a>,
 ) -> Result<(), Error<'a>>
-    requires { IsTrue (are_settled (known_of names.now) (flat_map T.occurrences items.old)) }
-    ensures { Walks (known_of names.now) (flat_map T.occurrences items.old) (map (T.becomes (known_of names.now)) items.old) items.new result }
+    ensures { Walks ⊥ ⊥ (ask_demands (known_of names.now) (in_index space index.old)) (numbered_at (known_of names.now) space index.old) index.new result }
 {
-    for i in 0..items.len() {
-        items.at_mut(i).walk(names)?;
-    }
+    names.number(index, space)?;
     Ok(())
 }
 
-/// Walks over an index of a space.
-#[tactic(auto, using(crate::proofs::Indices::denoted_met))]
-fn walk_index<'a>(names: &Resolver<'a>, ns: Ns, index: &mut Index<'a>) -> Result<(), Error<'a>>
-    requires { IsTrue (are_settled (known_of names.now) (in_index (space_of ns) index.old)) }
-    ensures { Walks (known_of names.now) (in_index (space_of ns) index.old) (at (known_of names.now) (space_of ns) index.old) index.new result }
-{
-    names.resolve(index, ns)?;
-    Ok(())
-}
-
-/// Walks over an index of a space that may be missing.
+/// Walks over an index of a space, if there is one.
 fn walk_optional<'a>(
     names: &Resolver<'a>,
-    ns: Ns,
+    space: Space,
     index: &mut Option<Index<'a>>,
 ) -> Result<(), Error<'a>>
-    requires { IsTrue (are_settled (known_of names.now) (if_there (in_index (space_of ns)) index.old)) }
-    ensures { Walks (known_of names.now) (if_there (in_index (space_of ns)) index.old) (option_map (at (known_of names.now) (space_of ns)) index.old) index.new result }
+    ensures { Walks ⊥ ⊥ (ask_demands (known_of names.now) (if_there (in_index space) index.old)) (option_map (numbered_at (known_of names.now) space) index.old) index.new result }
 {
-    if let Some(index) = index {
-        walk_index(names, ns, index)?;
+    match index {
+        None => Ok(()),
+        Some(index) => walk_index(names, space, index),
     }
-    Ok(())
 }
 
-/// Walks over each of some indices of a space, in order.
+/// Walks over the indices of a space, in order.
 fn walk_indices<'a>(
     names: &Resolver<'a>,
-    ns: Ns,
+    space: Space,
     indices: &mut Seq<Index<'a>>,
 ) -> Result<(), Error<'a>>
-    requires { IsTrue (are_settled (known_of names.now) (flat_map (in_index (space_of ns)) indices.old)) }
-    ensures { Walks (known_of names.now) (flat_map (in_index (space_of ns)) indices.old) (map (at (known_of names.now) (space_of ns)) indices.old) indices.new result }
+    ensures { Walks ⊥ ⊥ (ask_demands (known_of names.now) (flat_map (in_index space) indices.old)) (map (numbered_at (known_of names.now) space) indices.old) indices.new result }
 {
     for i in 0..indices.len() {
-        walk_index(names, ns, indices.at_mut(i))?;
+        walk_index(names, space, indices.at_mut(i))?;
     }
     Ok(())
 }
 
-impl<'a> Walk<'a> for TypeDef<'a> {
-    ghost occurrences = { in_def };
+/// Walks over what a type is defined as.
+fn walk_def<'a>(names: &Resolver<'a>, def: &mut TypeDef<'a>) -> Result<(), Error<'a>>
+    ensures { Walks ⊥ ⊥ (ask_demands (known_of names.now) (in_def def.old)) (resolved_def (known_of names.now) def.old) def.new result }
+{
+    walk_indices(names, Space::Ty, &mut def.parents)?;
+    walk_optional(names, Space::Ty, &mut def.descriptor)?;
+    walk_optional(names, Space::Ty, &mut def.describes)?;
+    Ok(())
+}
 
-    ghost becomes = { def_with };
+/// Walks over a type use.
+fn walk_type_use<'a>(
+    names: &Resolver<'a>,
+    ty: &mut TypeUse<'a, FunctionType<'a>>,
+) -> Result<(), Error<'a>>
+    ensures { Walks ⊥ ⊥ (ask_demands (known_of names.now) (in_type_use ty.old)) (resolved_type_use (known_of names.now) ty.old) ty.new result }
+{
+    walk_optional(names, Space::Ty, &mut ty.index)?;
+    Ok(())
+}
 
-    #[tactic(auto, using(crate::proofs::Parts::both_met, crate::proofs::Parts::first_fails, crate::proofs::Parts::second_fails, crate::proofs::Parts::first_settled, crate::proofs::Parts::second_settled))]
-    fn walk(&mut self, names: &Resolver<'a>) -> Result<(), Error<'a>> {
-        walk_indices(names, Ns::Ty, &mut self.parents)?;
-        walk_optional(names, Ns::Ty, &mut self.descriptor)?;
-        walk_optional(names, Ns::Ty, &mut self.describes)?;
-        Ok(())
+/// Walks over an instruction.
+fn walk_instr<'a>(names: &Resolver<'a>, instr: &mut Instruction<'a>) -> Result<(), Error<'a>>
+    ensures { Steps ⊥ ⊥ (known_of names.now) Start Start (in_instr instr.old) (resolved_instr (known_of names.now) Start instr.old) instr.new result }
+{
+    match instr {
+        Instruction::call(func) => walk_index(names, Space::Func, func),
     }
 }
 
-impl<'a> Walk<'a> for Type<'a> {
-    ghost occurrences = { in_type };
+/// Walks over a body.
+fn walk_expression<'a>(
+    names: &Resolver<'a>,
+    expression: &mut Expression<'a>,
+) -> Result<(), Error<'a>>
+    ensures { Walks ⊥ ⊥ (use_demands (known_of names.now) (Body (in_expression expression.old) ∷ [])) (resolved_expression (known_of names.now) expression.old) expression.new result }
+{
+    walk_instrs(names, &mut expression.instrs)?;
+    Ok(())
+}
 
-    ghost becomes = { type_with };
+/// Walks over instructions, in order.
+fn walk_instrs<'a>(names: &Resolver<'a>, instrs: &mut Seq<Instruction<'a>>) -> Result<(), Error<'a>>
+    ensures { Steps ⊥ ⊥ (known_of names.now) Start Start (flat_map in_instr instrs.old) (resolved_instrs (known_of names.now) Start instrs.old) instrs.new result }
+{
+    for i in 0..instrs.len() {
+        walk_instr(names, instrs.at_mut(i))?;
+    }
+    Ok(())
+}
 
-    fn walk(&mut self, names: &Resolver<'a>) -> Result<(), Error<'a>> {
-        self.def.walk(names)?;
-        Ok(())
+/// Walks over a function: its type use, and then its body.
+fn walk_func<'a>(names: &Resolver<'a>, func: &mut Func<'a>) -> Result<(), Error<'a>>
+    ensures { Walks ⊥ ⊥ (use_demands (known_of names.now) (in_func func.old)) (resolved_func (known_of names.now) func.old) func.new result }
+{
+    walk_type_use(names, &mut func.ty)?;
+    walk_func_kind(names, &mut func.kind)?;
+    Ok(())
+}
+
+/// Walks over what a function is made of.
+fn walk_func_kind<'a>(names: &Resolver<'a>, kind: &mut FuncKind<'a>) -> Result<(), Error<'a>>
+    ensures { Walks ⊥ ⊥ (use_demands (known_of names.now) (in_func_kind kind.old)) (resolved_func_kind (known_of names.now) kind.old) kind.new result }
+{
+    match kind {
+        FuncKind::Inline { expression, .. } => walk_expression(names, expression),
     }
 }
 
-impl<'a> Walk<'a> for TypeUse<'a, FunctionType<'a>> {
-    ghost occurrences = { in_type_use };
+/// Walks over an export.
+fn walk_export<'a>(names: &Resolver<'a>, export: &mut Export<'a>) -> Result<(), Error<'a>>
+    ensures { Walks ⊥ ⊥ (ask_demands (known_of names.now) (in_export export.old)) (resolved_export (known_of names.now) export.old) export.new result }
+{
+    walk_index(names, export.kind.space(), &mut export.item)?;
+    Ok(())
+}
 
-    ghost becomes = { type_use_with };
-
-    fn walk(&mut self, names: &Resolver<'a>) -> Result<(), Error<'a>> {
-        walk_optional(names, Ns::Ty, &mut self.index)?;
-        Ok(())
+/// Walks over a field.
+fn walk_field<'a>(names: &Resolver<'a>, field: &mut ModuleField<'a>) -> Result<(), Error<'a>>
+    ensures { Walks ⊥ ⊥ (use_demands (known_of names.now) (in_field field.old)) (resolved_field (known_of names.now) field.old) field.new result }
+{
+    match field {
+        ModuleField::Ty(ty) => walk_def(names, &mut ty.def),
+        ModuleField::Func(func) => walk_func(names, func),
+        ModuleField::Export(export) => walk_export(names, export),
     }
 }
 
-impl<'a> Walk<'a> for Instruction<'a> {
-    ghost occurrences = { in_instr };
-
-    ghost becomes = { instr_with };
-
-    fn walk(&mut self, names: &Resolver<'a>) -> Result<(), Error<'a>> {
-        match self {
-            Instruction::call(func) => walk_index(names, Ns::Func, func),
-        }
+/// Walks over the fields, in order.
+pub(crate) fn walk_fields<'a>(
+    names: &Resolver<'a>,
+    fields: &mut Seq<ModuleField<'a>>,
+) -> Result<(), Error<'a>>
+    ensures { Walks ⊥ ⊥ (use_demands (known_of names.now) (in_module fields.old)) (map (resolved_field (known_of names.now)) fields.old) fields.new result }
+{
+    for i in 0..fields.len() {
+        walk_field(names, fields.at_mut(i))?;
     }
-}
-
-impl<'a> Walk<'a> for Expression<'a> {
-    ghost occurrences = { in_expression };
-
-    ghost becomes = { expression_with };
-
-    fn walk(&mut self, names: &Resolver<'a>) -> Result<(), Error<'a>> {
-        walk_each(names, &mut self.instrs)?;
-        Ok(())
-    }
-}
-
-impl<'a> Walk<'a> for FuncKind<'a> {
-    ghost occurrences = { in_func_kind };
-
-    ghost becomes = { func_kind_with };
-
-    fn walk(&mut self, names: &Resolver<'a>) -> Result<(), Error<'a>> {
-        match self {
-            FuncKind::Inline { expression, .. } => expression.walk(names),
-        }
-    }
-}
-
-impl<'a> Walk<'a> for Func<'a> {
-    ghost occurrences = { in_func };
-
-    ghost becomes = { func_with };
-
-    #[tactic(auto, using(crate::proofs::Parts::both_met, crate::proofs::Parts::first_fails, crate::proofs::Parts::second_fails, crate::proofs::Parts::first_settled, crate::proofs::Parts::second_settled))]
-    fn walk(&mut self, names: &Resolver<'a>) -> Result<(), Error<'a>> {
-        self.ty.walk(names)?;
-        self.kind.walk(names)?;
-        Ok(())
-    }
-}
-
-impl<'a> Walk<'a> for Export<'a> {
-    ghost occurrences = { in_export };
-
-    ghost becomes = { export_with };
-
-    fn walk(&mut self, names: &Resolver<'a>) -> Result<(), Error<'a>> {
-        let ns = match self.kind {
-            ExportKind::Func => Ns::Func,
-        };
-        walk_index(names, ns, &mut self.item)?;
-        Ok(())
-    }
-}
-
-impl<'a> Walk<'a> for ModuleField<'a> {
-    ghost occurrences = { in_field };
-
-    ghost becomes = { field_with };
-
-    fn walk(&mut self, names: &Resolver<'a>) -> Result<(), Error<'a>> {
-        match self {
-            ModuleField::Ty(ty) => ty.walk(names),
-            ModuleField::Func(func) => func.walk(names),
-            ModuleField::Export(export) => export.walk(names),
-        }
-    }
+    Ok(())
 }

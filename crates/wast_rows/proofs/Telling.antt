@@ -12,7 +12,7 @@ both_tests true n e le = search rules
 both_tests false n e le = cc
 
 -- the line of a module that was encoded
-pub encoded_row : (m after : Module) (answer : Result (Vec ℕ) Error) (line : List ℕ) → is_well_formed m ≡ true → generation_bound m ≤ 0 → Encodes m answer after → Tells answer line
+pub encoded_row : (m after : Module) (counter : ℕ) (answer : Result (Vec ℕ) Error) (line : List ℕ) → is_well_formed m ≡ true → generation_bound m ≤ 0 → Encodes m 1 answer after counter → Tells answer line
     → TellsRow (Some (Ok m)) line
-encoded_row m after answer line well fresh encodes tells =
-    subst (λ b. TellsIf b m line) (sym (both_tests (is_well_formed m) (generation_bound m) well fresh)) (record { answer = answer; after = after; encodes = encodes; tells = tells })
+encoded_row m after counter answer line well fresh encodes tells =
+    subst (λ b. TellsIf b m line) (sym (both_tests (is_well_formed m) (generation_bound m) well fresh)) (record { answer = answer; after = after; counter = counter; encodes = encodes; tells = tells })

@@ -27,7 +27,7 @@ refusal_text_at None text = codes "refused: " ++ text
 abbrev pub refusal_text : Error → List ℕ
 refusal_text e = refusal_text_at (span_of e) (fault_text (fault_of e))
 
--- the line tells what encoding answered, which is not want of memory
+-- the line tells what encoding answered, which is not that memory was refused
 abbrev pub Tells : Result (Vec ℕ) Error → List ℕ → Type 0
 Tells (Ok bytes) line = line ≡ encode_lower bytes.items
 Tells (Err e) line = (fault_of e ≢ fault.Memory) × (line ≡ refusal_text e)
@@ -36,11 +36,12 @@ Tells (Err e) line = (fault_of e ≢ fault.Memory) × (line ≡ refusal_text e)
 abbrev pub is_encodable : Module → Bool
 is_encodable m = is_well_formed m && (generation_bound m == 0)
 
--- the line tells some answer that encoding may give for the module
+-- the line tells some answer that encoding may give for the module, with the counter at 1
 pub record TellsModule (m : Module) (line : List ℕ) : Type 0 where
   pub answer : Result (Vec ℕ) Error
   pub after : Module
-  pub encodes : Encodes m answer after
+  pub counter : ℕ
+  pub encodes : Encodes m 1 answer after counter
   pub tells : Tells answer line
 
 -- the line of a module that can be encoded, and of one that can not

@@ -2,5 +2,5 @@ pub mod Answers
 pub mod Errors
 pub mod Lines
 pub mod Numerals
-pub mod Rows
+pub mod RowNumbers
 pub mod Runs

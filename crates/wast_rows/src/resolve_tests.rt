@@ -1,7 +1,7 @@
 //! The calls of `wast_resolve` on modules, over the worked rows.
 
 ghost use Rattle.std.specs.Prelude.{IsTrue};
-ghost use Rattle.wast_tree.specs.WellFormed.{has_settled_indices};
+ghost use Rattle.wast_tree.specs.WellFormed.{is_well_formed};
 
 use crate::core_tests::{ready, row};
 use crate::samples::{at, module, plain_type, type_at};
@@ -14,7 +14,7 @@ use wast_tree::{
 };
 
 fn fields_of<'a>(rt: &impl Abort, module: Module<'a>) -> Seq<ModuleField<'a>>
-    ensures { IsTrue (has_settled_indices result) }
+    ensures { IsTrue (is_well_formed result) }
 {
     match ready(rt, module).kind {
         ModuleKind::Text(fields) => fields,
@@ -23,7 +23,7 @@ fn fields_of<'a>(rt: &impl Abort, module: Module<'a>) -> Seq<ModuleField<'a>>
 }
 
 fn row_fields<'a>(rt: &impl Abort, alloc: Global, n: u32) -> Seq<ModuleField<'a>>
-    ensures { IsTrue (has_settled_indices result) }
+    ensures { IsTrue (is_well_formed result) }
 {
     fields_of(rt, row(rt, alloc, n))
 }
@@ -68,6 +68,7 @@ fn a_resolved_module_has_numbers(rt: HostRuntime) {
     has_numbers(&rt, &fields);
     discard_fields(fields);
     names_answer(&rt, &names);
+    other_names_do_not_answer(&rt, &names);
 }
 
 fn unknown<'a>(word: &'a str, name: &'a str, offset: usize) -> Result<(), Error<'a>> {
@@ -85,10 +86,17 @@ fn names_answer(rt: &impl Abort, names: &Names<'_>) {
     let mut other = Index::Id(Id::new("x", at(7)));
     assert!(rt; names.resolve_func(&mut other) == unknown("func", "x", 7));
     assert!(rt; other == Index::Id(Id::new("x", at(0))));
-    let mut other = Index::Id(Id::new("f", at(8)));
-    assert!(rt; names.resolve_memory(&mut other) == unknown("memory", "f", 8));
-    assert!(rt; names.resolve_table(&mut other) == unknown("table", "f", 8));
-    assert!(rt; names.resolve_global(&mut other) == unknown("global", "f", 8));
+}
+
+// In row 27 `$f` is no memory, no table and no global.
+fn other_names_do_not_answer(rt: &impl Abort, names: &Names<'_>) {
+    let f = Index::Id(Id::new("f", at(8)));
+    let mut idx = f;
+    assert!(rt; names.resolve_memory(&mut idx) == unknown("memory", "f", 8));
+    let mut idx = f;
+    assert!(rt; names.resolve_table(&mut idx) == unknown("table", "f", 8));
+    let mut idx = f;
+    assert!(rt; names.resolve_global(&mut idx) == unknown("global", "f", 8));
 }
 
 #[test]
@@ -111,7 +119,7 @@ fn a_resolver_goes_on_answering(rt: HostRuntime) {
 }
 
 fn is_refused(rt: &impl Abort, alloc: Global, fields: Seq<ModuleField<'_>>, want: Error<'_>)
-    requires { IsTrue (has_settled_indices fields) }
+    requires { IsTrue (is_well_formed fields) }
 {
     match names::resolve(alloc, fields) {
         Ok((fields, _)) => {

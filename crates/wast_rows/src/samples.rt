@@ -4,8 +4,8 @@ ghost use Rattle.std.specs.Prelude.{◌≡◌, ◌↔◌, IsTrue, IsSome, IfSome
 ghost use Rattle.wast_tree.specs.Faults.{out_of_memory};
 ghost use Rattle.wast_tree.specs.Occurrences.{in_def};
 ghost use Rattle.wast_tree.specs.WellFormed.{is_plain_def};
-ghost use Rattle.wast_core.specs.Encodable.{is_resolved};
-ghost use Rattle.wast_rows.specs.Rows.{row_numbers};
+ghost use Rattle.wast_resolve.specs.Resolved.{is_resolved};
+ghost use Rattle.wast_rows.specs.RowNumbers.{row_numbers};
 
 use std::alloc::Global;
 use wast_core::{Module, ModuleKind};
@@ -141,7 +141,7 @@ fn same_type_twice<'a>(alloc: Global) -> Result<Module<'a>, Error<'a>>
     Ok(module(ModuleKind::Text(fields)))
 }
 
-/// The module of a worked row, or want of memory; `None` where there is no such row.
+/// The module of a worked row, or out of memory; `None` where there is no such row.
 ///
 /// The rows are 1, 27, 31 and 32. Places are offsets in the text of the row's module: of a field that of its keyword,
 /// of an id that of its `$`.

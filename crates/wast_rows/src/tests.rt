@@ -257,6 +257,32 @@ impl Write for FlushFails {
     }
 }
 
+// Takes no byte.
+#[derive(Drop)]
+struct TakesNone {
+    writes: u32,
+}
+
+impl Write for TakesNone {
+    fn write(&mut self, _buf: &[u8]) -> io::Result<usize> {
+        self.writes = self.writes.saturating_add(1);
+        Ok(0)
+    }
+
+    fn flush(&mut self) -> io::Result<()> {
+        Ok(())
+    }
+}
+
+#[test]
+fn a_writer_that_takes_no_byte_has_failed(rt: HostRuntime) {
+    let mut reader = TWO_LINES;
+    let mut writer = TakesNone { writes: 0 };
+    let result = run_odd_rows(rt.alloc(), &mut reader, &mut writer);
+    assert_eq!(rt; result, Err(RunError::Write));
+    assert_eq!(rt; writer.writes, 1);
+}
+
 #[test]
 fn a_flush_that_fails_is_told(rt: HostRuntime) {
     let mut reader = TWO_LINES;

@@ -1,15 +1,15 @@
 -- What the definitions say of worked modules, computed.
 use Rattle.std.proofs.Common.{refl}
-use Rattle.wast_tree.specs.Examples.{SameIds, StandsInRow27, StandsEverywhere, KnownInRows, WellFormedRows, SettledIndices, WellFormedFuncs, WellFormedTypes, GenerationsOfRows}
+use Rattle.wast_tree.specs.Private.Examples.{SameIds, StandsInRow27, StandsEverywhere, KnownInRows, WellFormedRows, SettledIndices, UnsettledIndices, WellFormedFuncs, WellFormedTypes, GenerationsOfRows}
 
 pub same_ids : SameIds
 same_ids a b = (refl, refl, refl, refl, refl, refl, refl, refl)
 
 pub stands_in_row27 : StandsInRow27
-stands_in_row27 a b c d e f = refl
+stands_in_row27 a b c d e f = (refl, refl, refl)
 
 pub stands_everywhere : StandsEverywhere
-stands_everywhere a = refl
+stands_everywhere a = (refl, refl)
 
 pub known_in_rows : KnownInRows
 known_in_rows a b c d e f = (refl, refl, refl, refl, refl, refl, refl, refl)
@@ -20,6 +20,9 @@ well_formed_rows a b c d e f = (refl, refl, refl)
 pub settled_indices : SettledIndices
 settled_indices a = (refl, refl, refl, refl)
 
+pub unsettled_indices : UnsettledIndices
+unsettled_indices = (refl, refl, refl, refl, refl, refl, refl)
+
 pub well_formed_funcs : WellFormedFuncs
 well_formed_funcs a = (refl, refl, refl, refl, refl, refl, refl)
 
@@ -27,4 +30,4 @@ pub well_formed_types : WellFormedTypes
 well_formed_types a = (refl, refl, refl, refl, refl, refl, refl, refl, refl)
 
 pub generations_of_rows : GenerationsOfRows
-generations_of_rows a b c d e f = (refl, refl, refl, refl, refl)
+generations_of_rows a b c d e f = (refl, refl, refl, refl, refl, refl, refl)

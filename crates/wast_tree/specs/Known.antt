@@ -1,20 +1,20 @@
--- What the occurrences of a module make known: the number that a name denotes in each space.
+-- What the items of a module make known: the number that a name denotes in each space.
 use Rattle.std.specs.Prelude.{ℕ, List, [], ◌∷◌, Option, flat_map, if◌then◌else◌}
+use Rattle.wast_tree.specs.Tree.{Space}
 use Rattle.wast_tree.specs.Ids.{Name}
-use Rattle.wast_tree.specs.Spaces.{Space, same_space, name_if, position_of}
-use Rattle.wast_tree.specs.Occurrences.{Occurrence, Item, Use}
+use Rattle.wast_tree.specs.Spaces.{same_space, name_if, position_of}
+use Rattle.wast_tree.specs.Items.{Item}
 
 -- the names of the items of a space, by their positions
-abbrev pub name_in : Space → Occurrence → List (Option Name)
-name_in s (Item t id) = if same_space s t then name_if id ∷ [] else []
-name_in s (Use t m) = []
+abbrev pub name_in : Space → Item → List (Option Name)
+name_in s x = if same_space s x.space then name_if x.id ∷ [] else []
 
-abbrev pub names_in : Space → List Occurrence → List (Option Name)
-names_in s os = flat_map (name_in s) os
+abbrev pub names_in : Space → List Item → List (Option Name)
+names_in s xs = flat_map (name_in s) xs
 
 -- what a module makes known
 pub record Known : Type 0 where
   pub number : Space → Name → Option ℕ
 
-abbrev pub known : List Occurrence → Known
-known os = record { number = λ s name. position_of name (names_in s os) }
+abbrev pub known : List Item → Known
+known xs = record { number = λ s name. position_of name (names_in s xs) }

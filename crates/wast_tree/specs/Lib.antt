@@ -1,11 +1,16 @@
-pub mod Examples
+-- What the contracts cite. The tree, its ids and its spaces come first; then what a list of fields gives: its items, what
+-- it asks, what it makes known, whether it is well formed, and the greatest generation of its ids.
 pub mod Faults
 pub mod Generations
 pub mod Gensym
 pub mod Ids
+pub mod Items
 pub mod Known
 pub mod Lending
 pub mod Occurrences
-pub mod Rows
+pub mod Private
+pub mod WorkedModules
 pub mod Spaces
+pub mod Tree
+pub mod Visits
 pub mod WellFormed

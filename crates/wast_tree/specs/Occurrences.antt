@@ -1,72 +1,106 @@
--- What stands in a module, as one flat list in the order in which it is asked: items and ids where an index is wanted.
-use Rattle.std.specs.Prelude.{List, [], ◌∷◌, ◌++◌, Option, Some, None, flat_map}
-use Rattle.wast_tree.specs.declared.ids.Index.{Index}
-use Rattle.wast_tree.specs.declared.ids.Index.TheVariants as index
-use Rattle.wast_tree.specs.declared.types.TypeUse.{TypeUse}
-use Rattle.wast_tree.specs.declared.types.FunctionType.{FunctionType}
-use Rattle.wast_tree.specs.declared.types.TypeDef.{TypeDef}
-use Rattle.wast_tree.specs.declared.types.Type as ty
-use Rattle.wast_tree.specs.declared.instrs.Instruction.{Instruction}
-use Rattle.wast_tree.specs.declared.instrs.Instruction.TheVariants as instr
-use Rattle.wast_tree.specs.declared.instrs.Expression.{Expression}
-use Rattle.wast_tree.specs.declared.fields.FuncKind.{FuncKind}
-use Rattle.wast_tree.specs.declared.fields.FuncKind.TheVariants as func
-use Rattle.wast_tree.specs.declared.fields.Func.{Func}
-use Rattle.wast_tree.specs.declared.fields.ExportKind.{ExportKind}
-use Rattle.wast_tree.specs.declared.fields.ExportKind.TheVariants as export
-use Rattle.wast_tree.specs.declared.fields.Export.{Export}
-use Rattle.wast_tree.specs.declared.fields.ModuleField.{ModuleField}
-use Rattle.wast_tree.specs.declared.fields.ModuleField.TheVariants as field
-use Rattle.wast_tree.specs.Ids.{Mark, mark_of, marked}
-use Rattle.wast_tree.specs.Spaces.{Space, Funcs, Types}
+-- What stands in a module beside its items, in the order in which it is asked (text format: identifiers, indices).
+use Rattle.std.specs.Prelude.{List, [], ◌∷◌, ◌++◌, map, Option, Some, None, flat_map}
+use Rattle.wast_tree.specs.Tree.{Id, Index, NameAnnotation, Space, ValType, FunctionType, TypeUse, InnerTypeKind, TypeDef, Instruction, Expression, Local, FuncKind, Func, ExportKind, Export, ModuleField}
+use Rattle.wast_tree.specs.Tree.space
+use Rattle.wast_tree.specs.Tree.inner
+use Rattle.wast_tree.specs.Tree.instr
+use Rattle.wast_tree.specs.Tree.func
+use Rattle.wast_tree.specs.Tree.export
+use Rattle.wast_tree.specs.Tree.field
+use Rattle.wast_tree.specs.Ids.{Mark, mark_of}
+
+pub data Ask : Type 0 where
+  -- an index, a number or an id, where one of this space is wanted
+  Wants : Space → Index → Ask
+  -- an id of which nothing is asked
+  Bare : Mark → Ask
+
+-- a step of a body
+pub data Step : Type 0 where
+  -- what is asked of the names of the module alone
+  Named : Ask → Step
 
 pub data Occurrence : Type 0 where
-  -- an item of a space, with the id that it bears
-  Item : Space → Option Mark → Occurrence
-  -- an id where an index of this space is wanted
-  Use : Space → Mark → Occurrence
+  Outside : Ask → Occurrence
+  Body : List Step → Occurrence
 
-abbrev pub if_there : {A : Type 0} → (A → List Occurrence) → Option A → List Occurrence
+abbrev pub steps : List Ask → List Step
+steps asks = map Named asks
+
+abbrev pub outside : List Ask → List Occurrence
+outside asks = map Outside asks
+
+-- Each part of the tree.
+abbrev pub if_there : {A : Type 0} → (A → List Ask) → Option A → List Ask
 if_there f None = []
 if_there f (Some x) = f x
 
--- a number asks nothing
-abbrev pub in_index : Space → Index → List Occurrence
-in_index s (index.Num n span) = []
-in_index s (index.Id id) = Use s (mark_of id) ∷ []
+abbrev pub in_index : Space → Index → List Ask
+in_index s i = Wants s i ∷ []
 
-abbrev pub in_def : TypeDef → List Occurrence
-in_def d = flat_map (in_index Types) d.parents ++ (if_there (in_index Types) d.descriptor ++ if_there (in_index Types) d.describes)
+abbrev pub in_id : Id → List Ask
+in_id id = Bare (mark_of id) ∷ []
 
-abbrev pub in_type : ty.«Type» → List Occurrence
-in_type t = Item Types (marked t.id) ∷ in_def t.def
+abbrev pub in_param : Option Id × Option NameAnnotation × ValType → List Ask
+in_param p = if_there in_id p.0
 
-abbrev pub in_type_use : TypeUse FunctionType → List Occurrence
-in_type_use u = if_there (in_index Types) u.index
+abbrev pub in_signature : FunctionType → List Ask
+in_signature t = flat_map in_param t.params
 
-abbrev pub in_instr : Instruction → List Occurrence
-in_instr (instr.call f) = in_index Funcs f
+abbrev pub in_inner : InnerTypeKind → List Ask
+in_inner (inner.Func t) = in_signature t
 
-abbrev pub in_expression : Expression → List Occurrence
+abbrev pub in_def : TypeDef → List Ask
+in_def d =
+    flat_map (in_index space.Ty) d.parents
+    ++ (if_there (in_index space.Ty) d.descriptor ++ (if_there (in_index space.Ty) d.describes ++ in_inner d.kind))
+
+abbrev pub in_type_use : TypeUse FunctionType → List Ask
+in_type_use u = if_there (in_index space.Ty) u.index ++ if_there in_signature u.inline
+
+abbrev pub in_instr : Instruction → List Step
+in_instr (instr.call f) = steps (in_index space.Func f)
+
+abbrev pub in_expression : Expression → List Step
 in_expression e = flat_map in_instr e.instrs
 
+abbrev pub in_local : Local → List Ask
+in_local l = if_there in_id l.id
+
+abbrev pub in_locals : FuncKind → List Ask
+in_locals (func.Inline locals e) = flat_map in_local locals
+
 abbrev pub in_func_kind : FuncKind → List Occurrence
-in_func_kind (func.Inline locals e) = in_expression e
+in_func_kind (func.Inline locals e) = Body (in_expression e) ∷ []
 
 abbrev pub in_func : Func → List Occurrence
-in_func f = Item Funcs (marked f.id) ∷ (in_type_use f.ty ++ in_func_kind f.kind)
+in_func f = outside (in_type_use f.ty) ++ (outside (in_locals f.kind) ++ in_func_kind f.kind)
 
 abbrev pub exported_space : ExportKind → Space
-exported_space export.Func = Funcs
+exported_space export.Func = space.Func
 
-abbrev pub in_export : Export → List Occurrence
+abbrev pub in_export : Export → List Ask
 in_export e = in_index (exported_space e.kind) e.item
 
 abbrev pub in_field : ModuleField → List Occurrence
-in_field (field.Ty t) = in_type t
+in_field (field.Ty t) = outside (in_def t.def)
 in_field (field.Func f) = in_func f
-in_field (field.Export e) = in_export e
+in_field (field.Export e) = outside (in_export e)
 
 -- each field after the one before it
 abbrev pub in_module : List ModuleField → List Occurrence
 in_module fields = flat_map in_field fields
+
+-- What is asked, wherever it stands.
+abbrev pub asked_in_step : Step → List Ask
+asked_in_step (Named a) = a ∷ []
+
+abbrev pub asked_in_steps : List Step → List Ask
+asked_in_steps ss = flat_map asked_in_step ss
+
+abbrev pub asked_in : Occurrence → List Ask
+asked_in (Outside a) = a ∷ []
+asked_in (Body ss) = asked_in_steps ss
+
+abbrev pub asked : List Occurrence → List Ask
+asked os = flat_map asked_in os

@@ -1,34 +1,30 @@
 -- Which lists of fields are well formed, as a test.
-use Rattle.std.specs.Prelude.{Bool, true, not, ◌&&◌, ◌||◌, ◌==◌, is_none, is_some, length, List, Option, Some, None}
+use Rattle.std.specs.Prelude.{ℕ, Bool, true, not, ◌&&◌, ◌||◌, ◌==◌, is_none, is_some, length, List, Option, Some, None}
 use Rattle.std.specs.List.{list_all}
-use Rattle.wast_tree.specs.declared.ids.Id.{Id}
-use Rattle.wast_tree.specs.declared.ids.NameAnnotation.{NameAnnotation}
-use Rattle.wast_tree.specs.declared.types.ValType.{ValType}
-use Rattle.wast_tree.specs.declared.types.TypeUse.{TypeUse}
-use Rattle.wast_tree.specs.declared.types.FunctionType.{FunctionType}
-use Rattle.wast_tree.specs.declared.types.InnerTypeKind.{InnerTypeKind}
-use Rattle.wast_tree.specs.declared.types.InnerTypeKind.TheVariants as inner
-use Rattle.wast_tree.specs.declared.types.TypeDef.{TypeDef}
-use Rattle.wast_tree.specs.declared.instrs.Expression.{Expression}
-use Rattle.wast_tree.specs.declared.fields.FuncKind.{FuncKind}
-use Rattle.wast_tree.specs.declared.fields.FuncKind.TheVariants as func
-use Rattle.wast_tree.specs.declared.fields.Func.{Func}
-use Rattle.wast_tree.specs.declared.fields.ModuleField.{ModuleField}
-use Rattle.wast_tree.specs.declared.fields.ModuleField.TheVariants as field
-use Rattle.wast_tree.specs.Ids.{is_generated}
-use Rattle.wast_tree.specs.Occurrences.{Occurrence, Item, Use, in_module}
+use Rattle.wast_tree.specs.Tree.{Id, Index, NameAnnotation, ValType, FunctionType, TypeUse, InnerTypeKind, TypeDef, Expression, FuncKind, Func, ModuleField}
+use Rattle.wast_tree.specs.Tree.index
+use Rattle.wast_tree.specs.Tree.inner
+use Rattle.wast_tree.specs.Tree.func
+use Rattle.wast_tree.specs.Tree.field
+use Rattle.wast_tree.specs.Ids.{Name, is_generated, name_of}
+use Rattle.wast_tree.specs.Items.{items}
+use Rattle.wast_tree.specs.Occurrences.{Ask, Wants, Bare, asked, in_module}
 use Rattle.wast_tree.specs.Known.{Known, known}
 
--- A generated id where an index is wanted is borne by an item of the space.
-abbrev pub is_settled : Known → Occurrence → Bool
-is_settled k (Item s id) = true
-is_settled k (Use s m) = not (is_generated m.0) || is_some (k.number s m.0)
+-- A generated id where an index is wanted is that of an item of the space.
+abbrev pub is_settled_index : (Name → Option ℕ) → Index → Bool
+is_settled_index number (index.Num n span) = true
+is_settled_index number (index.Id id) = not (is_generated (name_of id)) || is_some (number (name_of id))
 
-abbrev pub are_settled : Known → List Occurrence → Bool
-are_settled k os = list_all (is_settled k) os
+abbrev pub is_settled : Known → Ask → Bool
+is_settled k (Wants s i) = is_settled_index (k.number s) i
+is_settled k (Bare m) = true
+
+abbrev pub are_settled : Known → List Ask → Bool
+are_settled k asks = list_all (is_settled k) asks
 
 abbrev pub has_settled_indices : List ModuleField → Bool
-has_settled_indices fields = are_settled (known (in_module fields)) (in_module fields)
+has_settled_indices fields = are_settled (known (items fields)) (asked (in_module fields))
 
 -- What follows is what the tree covers today.
 
@@ -69,6 +65,9 @@ is_plain_field (field.Ty t) = is_plain_def t.def
 is_plain_field (field.Func f) = is_plain_func f
 is_plain_field (field.Export e) = true
 
+abbrev pub are_plain : List ModuleField → Bool
+are_plain fields = list_all is_plain_field fields
+
 -- the fields are well formed
 abbrev pub is_well_formed : List ModuleField → Bool
-is_well_formed fields = has_settled_indices fields && list_all is_plain_field fields
+is_well_formed fields = has_settled_indices fields && are_plain fields

@@ -6,7 +6,7 @@ ghost use Rattle.std.specs.Borrow.{sem};
 use std::alloc::{AllocError, Global};
 use std::marker::Model;
 
-/// A `Box` that contracts see as its value.
+/// A `Box` that contracts see as its value. Only [`Boxed::new`] takes memory.
 #[derive(Debug, Drop)]
 pub struct Boxed<T> {
     inner: Box<T>,
@@ -38,7 +38,7 @@ impl<T> Boxed<T> {
         &mut *self.inner
     }
 
-    /// The value, out of its box.
+    /// The value, out of its box, whose memory is given back.
     pub fn into_inner(self) -> T
         ensures { result ≡ self }
     {
@@ -48,7 +48,7 @@ impl<T> Boxed<T> {
 }
 
 impl<T: Drop> Boxed<T> {
-    /// A value in a box, or want of memory.
+    /// A value in a box. It takes memory for the value; where that is refused it answers an error and drops the value.
     pub fn new(alloc: Global, value: T) -> Result<Self, AllocError>
         ensures { IfOk result (λ b. b ≡ value) }
     {

@@ -8,7 +8,7 @@ use crate::ids::Span;
 use std::alloc::{AllocError, AllocFailed};
 use std::fmt;
 
-/// A form that resolving covers and the encoder refuses.
+/// A form of the text format or of a proposal that resolving covers and the encoder refuses. Its text goes into E11's.
 #[derive(Clone, Copy, Debug, PartialEq, Eq)]
 pub enum Form {
     /// Continuations, and instructions on them.
@@ -31,16 +31,17 @@ pub enum Form {
     Beyond,
 }
 
-/// What is wrong with a module, or why a call gave up. The first nine are faults of the text, which have a place.
+/// What is wrong with a module, or why a call gave up. E1 to E9 are faults of the text (text format: identifiers, indices,
+/// type uses, control instructions, modules), which have a place; E10 to E13 are refusals, which have none.
 #[derive(Clone, Copy, Debug, PartialEq, Eq)]
 pub enum Fault<'a> {
     /// E1: an import stands after a definition of this kind.
     ImportAfter(&'a str),
-    /// E2: an id of this kind is borne twice.
+    /// E2: two items of this kind have the same id.
     Duplicate(&'a str),
-    /// E3: an id of this kind and with this name is borne twice.
+    /// E3: two of this kind have the same id, which has this name.
     DuplicateField(&'a str, &'a str),
-    /// E4: nothing of this kind bears this name.
+    /// E4: no item of this kind has this name.
     Unknown(&'a str, &'a str),
     /// E5: the type is no function type.
     NotFunc,
@@ -63,6 +64,9 @@ pub enum Fault<'a> {
 }
 
 /// A fault, with its place where it has one: E1 to E9 have a place, and E10 to E13 have none.
+///
+/// Errors are equal where their faults and their places are. No call on an error takes memory. A refused request
+/// for memory becomes E12 by `?`.
 #[derive(Clone, Copy, Debug, PartialEq, Eq)]
 pub struct Error<'a> {
     pub(crate) span: Option<Span>,
@@ -89,14 +93,14 @@ impl<'a> Error<'a> {
         Error { span: None, fault }
     }
 
-    /// What is wrong.
+    /// What is wrong, without its place.
     pub fn fault(&self) -> Fault<'a>
         ensures { result ≡ fault_of self.now }
     {
         self.fault
     }
 
-    /// The place of the fault, where it has one.
+    /// The place of the fault: there for E1 to E9, and `None` for E10 to E13.
     pub fn span(&self) -> Option<Span>
         ensures { result ≡ span_of self.now }
     {

@@ -16,7 +16,7 @@ pub enum ModuleField<'a> {
     Export(Export<'a>),
 }
 
-/// The names under which a field exports its item: `(export "a")` within the field.
+/// The names under which a field exports its item: `(export "a")` within the field (text format, exports).
 #[derive(Debug, Drop)]
 pub struct InlineExport<'a> {
     /// The names, in the order of the text.
@@ -40,7 +40,7 @@ pub struct Func<'a> {
     pub ty: TypeUse<'a, FunctionType<'a>>,
 }
 
-/// What a function is made of.
+/// What a function is made of (text format, functions).
 #[derive(Debug, Drop)]
 pub enum FuncKind<'a> {
     /// Locals and a body.
@@ -63,7 +63,7 @@ pub struct Local<'a> {
     pub ty: ValType,
 }
 
-/// What an export gives out.
+/// What an export gives out (text format, exports).
 #[derive(Clone, Copy, Debug, PartialEq, Eq)]
 pub enum ExportKind {
     /// A function.
@@ -83,7 +83,7 @@ pub struct Export<'a> {
     pub item: Index<'a>,
 }
 
-/// Lets a list of fields go.
+/// Drops a list of fields, and gives its memory back.
 pub fn discard_fields(fields: Seq<ModuleField<'_>>) {
     drop(fields);
 }

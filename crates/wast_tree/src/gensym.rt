@@ -7,7 +7,9 @@ use crate::faults::{Error, Fault};
 use crate::ids::{Id, Name, Span};
 use std::marker::Model;
 
-/// The counter of generated ids. Contracts see the next generation.
+/// The counter of generated ids (text format, identifiers). Contracts see the generation of its next id, which is above 0.
+///
+/// No call on it takes memory.
 #[derive(Debug, Drop)]
 pub struct Gensym {
     next: u64,
@@ -24,7 +26,7 @@ impl Model for Gensym {
 }
 
 impl Gensym {
-    /// A counter whose first id has this generation. It needs a generation of 1 or more.
+    /// A counter whose first id has this generation. It needs a generation of 1 or more: 0 is that of written ids.
     pub fn new(first: u64) -> Self
         requires { 1 ≤ first }
         ensures { result ≡ first }
@@ -41,7 +43,7 @@ impl Gensym {
 
     /// A new id at a place, of the next generation.
     ///
-    /// At the greatest `u64` it answers E10, and changes nothing.
+    /// Where that is the greatest `u64` it answers E10, and changes nothing.
     pub fn generate<'a>(&mut self, span: Span) -> Result<Id<'a>, Error<'a>>
         ensures { Generates self.old span result self.new }
     {
@@ -58,7 +60,7 @@ impl Gensym {
 
     /// The id that is there, or else a new one at the place, which is put there.
     ///
-    /// At the greatest `u64` an empty slot answers E10, stays empty, and nothing changes.
+    /// Where the slot is empty and the next generation is the greatest `u64`, it answers E10, and changes nothing.
     pub fn fill<'a>(&mut self, span: Span, slot: &mut Option<Id<'a>>) -> Result<Id<'a>, Error<'a>>
         ensures { Fills self.old span slot.old result slot.new self.new }
     {

@@ -3,7 +3,7 @@
 ghost use Rattle.std.specs.Prelude.{◌≡◌};
 ghost use Rattle.wast_tree.specs.Ids.{written, text_of, name_of, place_of, generation_of, is_generated, span_of_index, is_number, same_id, same_index};
 
-/// A place in the text: the offset of a character, in bytes.
+/// A place in the text: the offset of a character, in bytes. Places are equal where their offsets are.
 #[derive(Clone, Copy, Debug, PartialEq, Eq, Hash)]
 pub struct Span {
     /// Bytes before the place.
@@ -20,7 +20,8 @@ pub(crate) enum Name<'a> {
 /// An identifier (text format, identifiers): the name of an item, without its `$`, at a place.
 ///
 /// Ids are equal where their names and generations are, whatever their places. A written id has generation 0. A
-/// generated id, which only a [`Gensym`](crate::Gensym) makes, has a generation above 0 and the name `gensym`.
+/// generated id, which only a [`Gensym`](crate::Gensym) makes, has a generation above 0 and the name `gensym`. No call on
+/// an id takes memory.
 #[derive(Clone, Copy, Debug)]
 #[derive_where(PartialEq, Eq, Hash)]
 pub struct Id<'a> {
@@ -31,7 +32,8 @@ pub struct Id<'a> {
 
 /// A reference to an item (text format, indices): its number, or its id.
 ///
-/// Indices are equal as numbers or as ids, whatever their places.
+/// Indices are equal as numbers or as ids, whatever their places; a number and an id are never equal. No call on an index
+/// takes memory.
 #[derive(Clone, Copy, Debug)]
 #[derive_where(PartialEq, Eq, Hash)]
 pub enum Index<'a> {
@@ -41,7 +43,7 @@ pub enum Index<'a> {
     Id(Id<'a>),
 }
 
-/// A name for the name section (`@name`, name annotations), which goes before the id's.
+/// A name for the name section, `(@name "x")`, which goes before that of the id (custom annotations, name annotations).
 #[derive(Clone, Copy, Debug, PartialEq, Eq)]
 pub struct NameAnnotation<'a> {
     /// The name.
@@ -69,14 +71,14 @@ impl<'a> Id<'a> {
         }
     }
 
-    /// The place of the first character.
+    /// The place of the first character, its `$`; of a generated id, the place that it was made for.
     pub fn span(&self) -> Span
         ensures { result ≡ place_of self.now }
     {
         self.span
     }
 
-    /// Whether the id is generated.
+    /// Whether the id is generated, and not written.
     pub fn is_gensym(&self) -> bool
         ensures { result ≡ is_generated (name_of self.now) }
     {
@@ -102,7 +104,7 @@ impl<'a> Id<'a> {
 }
 
 impl<'a> Index<'a> {
-    /// The place of the first character.
+    /// The place that the number has with it, or that of the id.
     pub fn span(&self) -> Span
         ensures { result ≡ span_of_index self.now }
     {
@@ -112,7 +114,7 @@ impl<'a> Index<'a> {
         }
     }
 
-    /// Whether it is a number.
+    /// Whether it is a number, so that no id is left to be found.
     pub fn is_resolved(&self) -> bool
         ensures { result ≡ is_number self.now }
     {

@@ -11,7 +11,7 @@ pub enum Instruction<'a> {
     call(Index<'a>),
 }
 
-/// A branch hint: `(@metadata.code.branch_hint "\01")`.
+/// A branch hint: `(@metadata.code.branch_hint "\01")` (custom annotations).
 #[derive(Clone, Copy, Debug, PartialEq, Eq)]
 pub struct BranchHint {
     /// The number of the instruction that it stands before, counted from 0.
@@ -29,12 +29,12 @@ pub struct Expression<'a> {
     pub branch_hints: Seq<BranchHint>,
 }
 
-/// Lets an instruction go.
+/// Drops an instruction, and gives its memory back.
 pub fn discard_instruction(instruction: Instruction<'_>) {
     drop(instruction);
 }
 
-/// Lets an expression go.
+/// Drops an expression, and gives its memory back.
 pub fn discard_expression(expression: Expression<'_>) {
     drop(expression);
 }

@@ -1,27 +1,38 @@
 //! The tree of a WebAssembly module in the text format: places, ids, the counter of generated ids, faults, and the
-//! fields of a module, as a parser makes them.
+//! fields of a module, as a parser makes them; and what can be told of the fields without changing them.
+//!
+//! A call takes memory only where its text says so. A call that can fail says when, and with what.
 #![tactic(auto)]
 
+mod bearers;
 mod boxed;
+mod check;
+mod examples;
 mod faults;
 mod fields;
+mod generations;
 mod gensym;
 mod ids;
 mod instrs;
-mod rows;
 mod seq;
+mod spaces;
 mod types;
+mod visits;
 
 pub use boxed::Boxed;
+pub use check::well_formed;
 pub use faults::{Error, Fault, Form};
 pub use fields::{
     Export, ExportKind, Func, FuncKind, InlineExport, Local, ModuleField, discard_fields,
 };
+pub use generations::gensym_bound;
 pub use gensym::Gensym;
 pub use ids::{Id, Index, NameAnnotation, Span};
 pub use instrs::{BranchHint, Expression, Instruction, discard_expression, discard_instruction};
 pub use seq::{IntoIter, Seq};
+pub use spaces::Space;
 pub use types::{FunctionType, InnerTypeKind, Type, TypeDef, TypeUse, ValType};
+pub use visits::{ItemVisitor, visit_items};
 
 #[cfg(test)]
 mod tests;

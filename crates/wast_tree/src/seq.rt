@@ -10,7 +10,8 @@ use std::vec;
 
 /// A `Vec` that contracts see as the list of its elements.
 ///
-/// The lists of the tree are of this type, so that a tree is plain data where contracts speak of it.
+/// The lists of the tree are of this type, so that a tree is plain data where contracts speak of it. Only [`Seq::push`]
+/// takes memory.
 #[derive(Debug, Drop)]
 pub struct Seq<T> {
     items: Vec<T>,
@@ -30,7 +31,7 @@ impl<T> Model for Seq<T> {
 impl<T> Seq<T> {
     ghost use Rattle.wast_tree.specs.Lending.{LendsItem};
 
-    /// No elements. It takes no memory.
+    /// No elements. It takes no memory; `alloc` is what [`Seq::push`] will ask.
     pub fn new(alloc: Global) -> Self
         ensures { result ≡ [] }
     {
@@ -39,14 +40,14 @@ impl<T> Seq<T> {
         }
     }
 
-    /// The elements of a vector. It takes no memory.
+    /// The elements of a vector, in order. It takes no memory.
     pub fn from_vec(items: Vec<T>) -> Self
         ensures { result ≡ items.items }
     {
         Seq { items }
     }
 
-    /// The elements, as a vector. It takes no memory.
+    /// The elements in order, as a vector. It takes no memory.
     pub fn into_vec(self) -> Vec<T>
         ensures { result.items ≡ self }
     {
@@ -54,7 +55,7 @@ impl<T> Seq<T> {
         items
     }
 
-    /// The elements, to read.
+    /// The elements in order, to read.
     pub fn as_slice(&self) -> &[T]
         ensures { result.now ≡ self.now }
     {
@@ -86,7 +87,8 @@ impl<T> Seq<T> {
 }
 
 impl<T: Drop> Seq<T> {
-    /// Puts an element at the end. Where memory is refused the list stays as it was.
+    /// Puts an element at the end. It may take memory; where that is refused it answers an error, the list stays as it was,
+    /// and the element is dropped.
     pub fn push(&mut self, item: T) -> Result<(), AllocError>
         ensures ok { OnOk result (self.new ≡ self.old ++ item ∷ []) }
         ensures err { OnErr result (self.new ≡ self.old) }
@@ -97,7 +99,7 @@ impl<T: Drop> Seq<T> {
 }
 
 impl<T> Seq<T> {
-    /// The elements by value, in order.
+    /// The elements by value, in order. It takes no memory.
     pub fn into_iter(self) -> IntoIter<T>
         ensures { result ≡ self }
     {
@@ -108,7 +110,7 @@ impl<T> Seq<T> {
     }
 }
 
-/// The elements of a `Seq` by value, seen as the list of those that are left.
+/// The elements of a `Seq` by value. Contracts see the list of those that are left. No call on it takes memory.
 #[derive(Drop)]
 pub struct IntoIter<T> {
     rest: vec::IntoIter<T>,

@@ -1,12 +1,15 @@
 //! Printed texts, and calls whose answers come from outside.
 
-ghost use Rattle.std.specs.Prelude.{IsTrue};
+ghost use Rattle.std.specs.Prelude.{⊤, IsTrue};
 ghost use Rattle.wast_tree.specs.Faults.{is_placed};
 
 use crate::{
-    Boxed, BranchHint, Error, Export, ExportKind, Expression, Fault, Form, Gensym, Id, Index,
-    Instruction, ModuleField, Seq, Span, discard_expression, discard_fields, discard_instruction,
+    Boxed, BranchHint, Error, Export, ExportKind, Expression, Fault, Form, Func, FuncKind, Gensym,
+    Id, Index, InlineExport, Instruction, ItemVisitor, ModuleField, Seq, Space, Span, TypeUse,
+    discard_expression, discard_fields, discard_instruction, gensym_bound, visit_items,
+    well_formed,
 };
+use std::alloc::Global;
 use std::hash::{DefaultHasher, Hash, Hasher};
 
 fn at(offset: usize) -> Span {
@@ -111,6 +114,16 @@ fn forms_have_their_texts(rt: HostRuntime) {
         let text = format!(in rt.alloc(); "{form}").expect(&rt, "memory");
         assert!(rt; text.as_str() == *want, "{text}");
     }
+}
+
+#[test]
+fn places_tell_errors_apart(rt: HostRuntime) {
+    let error = fault_at(1, Fault::Labels);
+    assert!(rt; at(1) == at(1) && at(1) != at(2));
+    assert!(rt; error == fault_at(1, Fault::Labels));
+    assert!(rt; error != fault_at(2, Fault::Labels) && error != fault_at(1, Fault::NoMatch));
+    let memory = Error::refusal(Fault::Memory);
+    assert!(rt; memory == Error::refusal(Fault::Memory) && memory != error);
 }
 
 fn hash_of<T: Hash>(value: &T) -> u64 {
@@ -223,7 +236,7 @@ fn lists_and_boxes_hold_their_values(rt: HostRuntime) {
 }
 
 #[test]
-fn trees_are_let_go(rt: HostRuntime) {
+fn trees_are_dropped(rt: HostRuntime) {
     let alloc = rt.alloc();
     let item = Index::Num(0, at(1));
     discard_instruction(Instruction::call(item));
@@ -240,14 +253,92 @@ fn trees_are_let_go(rt: HostRuntime) {
         branch_hints,
     });
     let mut fields = Seq::new(alloc);
-    let export = Export {
+    fields.push(export_field(item)).expect(&rt, "memory");
+    discard_fields(fields);
+}
+
+fn export_field<'a>(item: Index<'a>) -> ModuleField<'a> {
+    ModuleField::Export(Export {
         span: at(0),
         name: "a",
         kind: ExportKind::Func,
         item,
+    })
+}
+
+/// `(func (type 0))`
+fn func_field<'a>(alloc: Global, id: Option<Id<'a>>) -> ModuleField<'a> {
+    let expression = Expression {
+        instrs: Seq::new(alloc),
+        branch_hints: Seq::new(alloc),
     };
+    ModuleField::Func(Func {
+        span: at(0),
+        id,
+        name: None,
+        exports: InlineExport {
+            names: Seq::new(alloc),
+        },
+        kind: FuncKind::Inline {
+            locals: Seq::new(alloc),
+            expression,
+        },
+        ty: TypeUse {
+            index: Some(Index::Num(0, at(0))),
+            inline: None,
+        },
+    })
+}
+
+/// How many items there are in each space, and how many of them have ids.
+#[derive(Drop)]
+struct Counts {
+    items: [u32; 8],
+    named: u32,
+}
+
+impl<'a> ItemVisitor<'a> for Counts {
+    ghost told = { λ _ _ _. ⊤ };
+
+    fn item(&mut self, space: Space, id: &Option<Id<'a>>) {
+        let rank = space.rank();
+        self.items[rank] = self.items[rank].wrapping_add(1);
+        if id.is_some() {
+            self.named = self.named.wrapping_add(1);
+        }
+    }
+}
+
+#[test]
+fn fields_are_read(rt: HostRuntime) {
+    let mut gensym = Gensym::new(5);
+    let id = gensym.generate(at(3)).expect(&rt, "counter");
+    let mut fields = Seq::new(rt.alloc());
+    for field in [func_field(rt.alloc(), None), export_field(Index::Id(id))] {
+        fields.push(field).expect(&rt, "memory");
+    }
+    assert!(rt; !well_formed(fields.as_slice()) && gensym_bound(fields.as_slice()) == 5);
     fields
-        .push(ModuleField::Export(export))
+        .push(func_field(rt.alloc(), Some(id)))
         .expect(&rt, "memory");
+    assert!(rt; well_formed(fields.as_slice()) && gensym_bound(fields.as_slice()) == 5);
+    let mut counts = Counts {
+        items: [0; 8],
+        named: 0,
+    };
+    visit_items(fields.as_slice(), &mut counts);
+    assert!(rt; counts.items == [2, 0, 0, 0, 0, 0, 0, 0] && counts.named == 1);
+    assert!(rt; ExportKind::Func.space() == Space::Func);
     discard_fields(fields);
+}
+
+#[test]
+fn spaces_have_words_and_ranks(rt: HostRuntime) {
+    let words = [
+        "func", "table", "memory", "global", "tag", "elem", "data", "type",
+    ];
+    for rank in 0..8 {
+        let space = Space::ALL[rank];
+        assert!(rt; space.rank() == rank && space.word() == words[rank]);
+    }
 }

@@ -2,7 +2,7 @@ use Rattle.std.proofs.Common.{get_or, sym, ◌∙◌, arith}
 use denote.Enum.Bare.{same_true}
 use Rattle.wasm_ops.specs.contracts.types.ValType.{the_type}
 use Rattle.wasm_ops.specs.declared.types.ValType.TheVariants.{I32}
-use Rattle.wasm_out.specs.Bodies.{runs}
+use Rattle.wasm_out.specs.Bodies.{local_runs}
 use Rattle.wasm_out.proofs.LocalRuns.{same_is, run_grows, run_ends, run_last}
 use Rattle.wasm_out.proofs.bodies.runs_of.Goals as goal
 use Rattle.wasm_out.proofs.bodies.runs_of.Goals.{then-eq, else-eq+in_ok-push}
@@ -11,7 +11,7 @@ pub loop-ty-preserved : goal.loop-ty-preserved
 loop-ty-preserved c =
     let i = c.loop-ty.invariant in
     let made = c.loop-ty.made.items in
-    let all = runs c.args.types.now in
+    let all = local_runs c.args.types.now in
     let rest = c.in-Some.rest.now in
     let next = get_or rest c.loop-ty.ty-index I32 in
     elim c.if-eq.branch [
@@ -34,4 +34,4 @@ loop-ty-preserved c =
 pub returns-clause-ok : goal.returns-clause-ok
 returns-clause-ok c =
     let i = c.loop-ty.invariant in
-    c.in_ok-push-2.ensures.items ∙ run_last c.loop-ty.made.items (runs c.args.types.now) c.loop-ty.count c.loop-ty.ty-index c.loop-ty.current c.in-Some.rest.now i.some c.loop-ty-test.false i.told
+    c.in_ok-push-2.ensures.items ∙ run_last c.loop-ty.made.items (local_runs c.args.types.now) c.loop-ty.count c.loop-ty.ty-index c.loop-ty.current c.in-Some.rest.now i.some c.loop-ty-test.false i.told

@@ -1,6 +1,6 @@
 use Rattle.std.proofs.Common.{◌∷◌, [], ◌++◌, sym, ap, ◌∙◌, subst, append-nil}
 use Rattle.wasm_ops.specs.declared.instrs.IndexOp.TheVariants.{Call}
-use Rattle.wasm_ops.specs.Rows.{index_instr}
+use Rattle.wasm_ops.specs.IndexInstrs.{index_instr}
 use Rattle.wasm_ops.specs.Table.{instr, IsInstr}
 use Rattle.std.proofs.lemmas.List.Elements.{All-nil, All-cons}
 use Rattle.wasm_out.specs.Bodies.{Body, locals, InRangeContent, SpellsInstrs}

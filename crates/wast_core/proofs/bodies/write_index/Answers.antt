@@ -1,6 +1,6 @@
 use Rattle.std.proofs.Common.{rules}
 use Rattle.std.proofs.lemmas.Result.{err_from_is_err_and}
-use Rattle.wasm_ops.specs.Rows.{index_instr}
+use Rattle.wasm_ops.specs.IndexInstrs.{index_instr}
 use Rattle.wasm_ops.specs.Table.{IsInstr}
 use Rattle.wast_core.proofs.Written.{written_one, refused_one_by}
 use Rattle.wast_core.proofs.bodies.write_index.Goals as goal

@@ -2,7 +2,7 @@ use Rattle.std.proofs.Common.{true, refl, Option}
 use Rattle.wast_tree.specs.declared.ids.Id.{Id}
 use Rattle.wast_tree.specs.declared.ids.NameAnnotation.{NameAnnotation}
 use Rattle.wast_tree.specs.declared.types.ValType.{ValType}
-use Rattle.wast_core.proofs.Passes.{all_pass}
+use Rattle.wast_core.proofs.EachPasses.{all_pass}
 use Rattle.wast_core.proofs.conv.func_type.Goals as goal
 
 pub converted-requires : goal.converted-requires

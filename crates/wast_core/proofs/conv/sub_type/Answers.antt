@@ -1,9 +1,9 @@
 use Rattle.std.proofs.Common.{◌∙◌, ap}
 use Rattle.std.specs.List.{list_all}
 use Rattle.wast_tree.specs.Ids.{is_number}
-use Rattle.wast_tree.specs.Spaces.{Types}
-use Rattle.wast_core.proofs.Passes.{numbers_only}
+use Rattle.wast_core.specs.Tree.space
+use Rattle.wast_core.proofs.EachPasses.{numbers_only}
 use Rattle.wast_core.proofs.conv.sub_type.Goals as goal
 
 pub converted-requires : goal.converted-requires
-converted-requires c = ap (list_all is_number) c.as_slice.ensures ∙ numbers_only Types c.args.ty.now.parents _ c.requires
+converted-requires c = ap (list_all is_number) c.as_slice.ensures ∙ numbers_only space.Ty c.args.ty.now.parents _ c.requires

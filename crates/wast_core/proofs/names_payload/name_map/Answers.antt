@@ -1,7 +1,6 @@
 use Rattle.std.proofs.Common.{subst, sym, []}
 use Rattle.std.proofs.lemmas.Result.{err_from_is_err_and}
 use Rattle.wasm_out.specs.Built.{IsRefused}
-use Rattle.wast_resolve.specs.Resolvers.{space_of}
 use Rattle.wast_core.specs.Filling.{InRangeAfter}
 use Rattle.wast_core.specs.Names.{text_seen}
 use Rattle.wast_core.specs.NamesPayload.{names_given, named_from, InRangeNameEntry}
@@ -17,13 +16,13 @@ returns-in_err-add_name-clause-refusal c =
     let p = err_from_is_err_and c.from_residual.result c.from_residual.ensures.1 in
     rw (p.1, p.2)
     (subst (λ z. IsRefused (InRangeAfter InRangeNameEntry 0 (named_from 0 z)) e)
-    (sym (each_around (names_given (space_of c.args.ns)) c.args.fields.now l.field-index c.field-item.result _ c.loop-field-test.true c.field-item.is c.in-Some.ensures))
+    (sym (each_around (names_given c.args.space) c.args.fields.now l.field-index c.field-item.result _ c.loop-field-test.true c.field-item.is c.in-Some.ensures))
     (refused_name _ (text_seen c.in-Some.given) _ l.names l.position l.field-index e l.invariant c.in_err-add_name.ensures))
 
 pub loop-field-preserved : goal.loop-field-preserved
 loop-field-preserved c =
     let l = c.loop-field in
-    let s = space_of c.args.ns in
+    let s = c.args.space in
     elim c.match-name_in_field.branch [
       | in-Some+in_ok-add_name w ↦
           rw (w.names-is, w.position-is, each_more (names_given s) c.args.fields.now l.field-index c.field-item.result _ c.loop-field-test.true c.field-item.is w.in-Some.ensures)

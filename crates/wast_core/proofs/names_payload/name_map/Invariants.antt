@@ -1,9 +1,8 @@
 use Rattle.std.proofs.Common.{take}
 use Rattle.std.specs.List.{flat_map}
-use Rattle.wast_resolve.specs.Resolvers.{space_of}
 use Rattle.wast_core.specs.NamesPayload.{names_given}
 use Rattle.wast_core.proofs.NameMaps.{IsMapped}
 use Rattle.wast_core.proofs.names_payload.name_map.Given as goal
 
 abbrev pub invariant-loop-field : goal.invariant-loop-field
-invariant-loop-field l = IsMapped (flat_map (names_given (space_of l.ns)) (take l.field-index l.fields)) l.names l.position l.field-index
+invariant-loop-field l = IsMapped (flat_map (names_given l.space) (take l.field-index l.fields)) l.names l.position l.field-index

@@ -1,11 +1,8 @@
 use Rattle.std.proofs.Common.{arith}
 use Rattle.std.proofs.lemmas.Result.{err_from_is_err_and}
 use Rattle.wast_tree.specs.Faults.{told}
-use Rattle.wast_resolve.proofs.Each.{item_settled, stops, goes_on}
+use Rattle.wast_resolve.proofs.Each.{stops, goes_on}
 use Rattle.wast_resolve.proofs.walks.walk_indices.Goals as goal
-
-pub walk_index-requires : goal.walk_index-requires
-walk_index-requires c = item_settled c.loop-i.invariant (omega (arith, c.loop-i-test.true, c.len-i-end.ensures)) c.at_mut.ensures.value c.requires
 
 pub returns-in_err-walk_index : goal.returns-in_err-walk_index
 returns-in_err-walk_index c =

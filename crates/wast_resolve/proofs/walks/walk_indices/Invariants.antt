@@ -1,8 +1,9 @@
 use Rattle.wast_tree.specs.Occurrences.{in_index}
-use Rattle.wast_resolve.specs.Resolved.{at}
-use Rattle.wast_resolve.specs.Resolvers.{known_of, space_of}
+use Rattle.wast_resolve.specs.Demands.{ask_demand}
+use Rattle.wast_resolve.specs.Resolved.{numbered_at}
+use Rattle.wast_resolve.specs.Resolvers.{known_of}
 use Rattle.wast_resolve.proofs.Each.{IsHalfway}
 use Rattle.wast_resolve.proofs.walks.walk_indices.Given as goal
 
 abbrev pub invariant-loop-i : goal.invariant-loop-i
-invariant-loop-i l = IsHalfway (known_of l.names) (in_index (space_of l.ns)) (at (known_of l.names) (space_of l.ns)) l.fn.indices l.indices l.i
+invariant-loop-i l = IsHalfway (ask_demand (known_of l.names)) (in_index l.space) (numbered_at (known_of l.names) l.space) l.fn.indices l.indices l.i

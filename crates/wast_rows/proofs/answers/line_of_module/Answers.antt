@@ -1,5 +1,6 @@
-use Rattle.std.proofs.Common.{◌≤◌, sym, arith, ◌∙◌}
+use Rattle.std.proofs.Common.{◌≤◌, sym, subst, arith, ◌∙◌}
 use Rattle.std.proofs.lemmas.Result.{IfOk-weaker}
+use Rattle.wast_core.specs.Headline.{Encodes}
 use Rattle.wast_core.specs.Modules.{generation_bound}
 use Rattle.wast_rows.proofs.Telling.{encoded_row}
 use Rattle.wast_rows.proofs.answers.line_of_module.Goals as goal
@@ -8,4 +9,4 @@ pub returns : goal.returns
 returns c =
     let well = sym c.well_formed-2.ensures ∙ c.if-not-well_formed.false in
     let fresh : generation_bound c.args.module.now ≤ 0 = omega (arith, c.gensym_bound.ensures) in
-    IfOk-weaker c.told.result _ _ (λ line tells. encoded_row _ c.encode_module-answer.new.module _ _ well fresh c.encode_module-answer.ensures.answer tells) c.told.ensures
+    IfOk-weaker c.told.result _ _ (λ line tells. encoded_row _ c.encode_module-answer.new.module _ _ _ well fresh (subst (λ n. Encodes c.args.module.now n c.encode_module-answer.result c.encode_module-answer.new.module c.encode_module-answer.new.gensym) c.new-gensym.ensures c.encode_module-answer.ensures.answer) tells) c.told.ensures

@@ -2,25 +2,25 @@ use Rattle.std.proofs.Common.{◌+◌, ◌≤◌, sym, ◌∙◌, length, take, 
 use Rattle.std.specs.List.{flat_map}
 use Rattle.std.specs.Prelude.{All}
 use Rattle.std.proofs.lemmas.List.Folds.{length-flat_map-take}
-use Rattle.wasm_ops.proofs.Sinking.{cut_back, each_more}
+use Rattle.wasm_ops.proofs.Sinking.{cut_back, one_item_more}
 use Rattle.wasm_ops.proofs.encode.EachEncode.encode.Goals as goal
 
 pub returns-then-is_err : goal.returns-then-is_err
 returns-then-is_err g c =
-    let s = g.S.Sink in
+    let rules = g.S.Sink.rules in
     let xs = c.args.self.now.0.now in
     let k = c.loop-item.item-index in
     let f = g.T.Encode.spelling in
     let x = flat_map f (take k xs) in
     let y = f c.item-item.result in
     let is = c.item-item.is in
-    cut_back s.appended s.fits s.size_of s.is_cut s.refusal (All g.T.Encode.in_range xs) (g.T.Encode.in_range c.item-item.result) c.args.out.now c.loop-item.out c.encode-result.new.out c.cut.new.self x y (flat_map f xs) c.size-start.result c.encode-result.result
+    cut_back rules (All g.T.Encode.in_range xs) (g.T.Encode.in_range c.item-item.result) c.args.out.now c.loop-item.out c.encode-result.new.out c.cut.new.self x y (flat_map f xs) c.size-start.result c.encode-result.result
     g.met.S.Sink.laws (subst (λ v. length x + length (f v) ≤ length (flat_map f xs)) (sym is) (length-flat_map-take f xs k c.item-item.result c.loop-item-test.true)) (λ t. subst g.T.Encode.in_range (sym is) (t k c.item-item.result c.loop-item-test.true)) c.loop-item.invariant.told c.encode-result.ensures (sym c.is_err.ensures.value ∙ c.if-is_err.true) c.size-start.ensures c.cut.ensures
 
 pub loop-item-preserved : goal.loop-item-preserved
 loop-item-preserved g c =
-    let s = g.S.Sink in
+    let rules = g.S.Sink.rules in
     let i = c.loop-item.invariant in
-    let more = each_more s.appended s.fits s.size_of s.is_cut s.refusal g.T.Encode.spelling g.T.Encode.in_range c.args.out.now c.loop-item.out c.encode-result.new.out c.args.self.now.0.now c.loop-item.item-index c.item-item.result c.encode-result.result
+    let more = one_item_more rules g.T.Encode.spelling g.T.Encode.in_range c.args.out.now c.loop-item.out c.encode-result.new.out c.args.self.now.0.now c.loop-item.item-index c.item-item.result c.encode-result.result
     g.met.S.Sink.laws c.loop-item-test.true c.item-item.is i.told i.fitting c.encode-result.ensures (sym c.is_err.ensures.value ∙ c.if-is_err.false) in
     record { told = more.0; fitting = more.1; at = i.at }

@@ -7,6 +7,6 @@ use Rattle.wasm_ops.proofs.instrs.InstructionSink.index.Goals as goal
 
 pub returns-clause-appended : goal.returns-clause-appended
 returns-clause-appended g c =
-    let s = g.S.Sink in
-    index_put s.appended s.fits s.refusal c.args.self.now.out.now c.encode.new.out c.args.op c.args.index c.encode.result
-    (subst (λ byte. Puts s.appended s.fits s.refusal (Unit {0} × InRangeU32 c.args.index) c.args.self.now.out.now c.encode.new.out (byte ∷ unsigned c.args.index) c.encode.result) c.byte.ensures c.encode.ensures)
+    let rules = g.S.Sink.rules in
+    index_put rules c.args.self.now.out.now c.encode.new.out c.args.op c.args.index c.encode.result
+    (subst (λ byte. Puts rules (Unit {0} × InRangeU32 c.args.index) c.args.self.now.out.now c.encode.new.out (byte ∷ unsigned c.args.index) c.encode.result) c.byte.ensures c.encode.ensures)

@@ -1,5 +1,0 @@
-use Rattle.wasm_out.proofs.Worked as worked
-use Rattle.wasm_out.proofs.rows.worked_module.Goals as goal
-
-pub returns : goal.returns
-returns c = worked.worked_module

@@ -1,0 +1,105 @@
+-- The spaces that were filled so far, by their ranks.
+use Rattle.std.proofs.Common.{◌≡◌, ℕ, ◌+◌, ◌<◌, ◌≤◌, ◌^◌, ◌⊎◌, inl, inr, List, [], ◌∷◌, ◌++◌, sym, ap, ◌∙◌, subst, arith, length, map, get_or, length-append}
+use Rattle.std.specs.Prelude.{⊤, Option, Some, None, Contains}
+use Rattle.std.specs.FinMap.{get-empty}
+use Rattle.std.proofs.Math.ListN.{set, length-set, get_or-map, get_or-append}
+use Rattle.std.proofs.Math.Seq.{get_or-append_seam}
+use Rattle.std.proofs.lemmas.List.{get_or-set_same, get_or-set_other}
+use Rattle.std.proofs.lemmas.List.FromFn.{get_or-range_with_len}
+use Rattle.std.proofs.lemmas.List.Elements.{Contains-get_or}
+use Rattle.wast_tree.specs.Ids.{Name}
+use Rattle.wast_tree.specs.Faults.{Told, Refusal}
+use Rattle.wast_tree.specs.Spaces.{spaces, rank_of, position_of}
+use Rattle.wast_tree.specs.Items.{Item, items}
+use Rattle.wast_tree.specs.Known.{known, names_in}
+use Rattle.wast_resolve.specs.Tree.{Space, Span, ModuleField}
+use Rattle.wast_resolve.specs.Tree.space
+use Rattle.wast_resolve.specs.Demands.{Answers, IsCrowded, counts}
+use Rattle.wast_resolve.specs.Namespaces.{NameSpace, key_cmp, key_of, empty_from, number_in}
+use Rattle.wast_resolve.specs.Resolvers.{known_of}
+use Rattle.wast_resolve.specs.Gathers.{Stops}
+use Rattle.wast_resolve.specs.Filling.{HasFirstClash, IsTried}
+
+at_rank : (s d : Space) → get_or spaces (rank_of s) d ≡ s
+at_rank s d = grind (arith)
+
+below_8 : (s : Space) → rank_of s < 8
+below_8 s = grind (arith)
+
+pub rank_at : (i : ℕ) (d : Space) → i < 8 → rank_of (get_or spaces i d) ≡ i
+rank_at i d lt = sym (get_or-map rank_of spaces i d) ∙ (get_or-range_with_len 0 8 i (rank_of d) lt ∙ omega arith)
+
+same_rank : (s t : Space) → rank_of s ≡ rank_of t → s ≡ t
+same_rank s t e = sym (at_rank s space.Func) ∙ (ap (λ i. get_or spaces i space.Func) e ∙ at_rank t space.Func)
+
+-- the names of the items by their spaces
+abbrev pub by_space : List Item → Space → List (Option Name)
+by_space xs s = names_in s xs
+
+-- those of the first i ranks
+pub record AreTried (names : Space → List (Option Name)) (tried : List NameSpace) (clashes : List (Option ℕ)) (i : ℕ) : Type 0 where
+  pub count : length tried ≡ i
+  pub slots : length clashes ≡ 8
+  pub each : (s : Space) → rank_of s < i → IsTried (names s) (get_or tried (rank_of s) (empty_from 0)) (get_or clashes (rank_of s) None)
+
+before_or_at : (r i : ℕ) → r < i + 1 → (r < i) ⊎ (r ≡ i)
+before_or_at r i h = grind (arith)
+
+module _ (names : Space → List (Option Name)) where
+  pub tried_none : (tried : List NameSpace) (clashes : List (Option ℕ)) → tried ≡ [] → length clashes ≡ 8 → AreTried names tried clashes 0
+  tried_none tried clashes none slots = record { count = ap length none; slots = slots; each = λ s lt. absurd (omega arith) }
+
+  as_tried : (s : Space) (a b : NameSpace) (c d : Option ℕ) → a ≡ b → c ≡ d → IsTried (names s) a c → IsTried (names s) b d
+  as_tried s a b c d e f h = subst (λ o. IsTried (names s) b o) f (subst (λ n. IsTried (names s) n c) e h)
+
+  pub tried_more : (tried : List NameSpace) (clashes : List (Option ℕ)) (i : ℕ) (new : NameSpace) (clash : Option ℕ) (t : Space) (more : List NameSpace) → AreTried names tried clashes i → i < 8 → rank_of t ≡ i
+      → IsTried (names t) new clash → more ≡ tried ++ new ∷ [] → AreTried names more (set clashes i clash) (i + 1)
+  tried_more tried clashes i new clash t more p lt at h is = subst (λ (ns : List NameSpace). AreTried names ns (set clashes i clash) (i + 1)) (sym is) record {
+    count = length-append tried (new ∷ []) ∙ omega (arith, p.count);
+    slots = length-set clashes i clash ∙ p.slots;
+    each = λ s below. elim (before_or_at (rank_of s) i below) [
+      | inl before ↦ as_tried s (get_or tried (rank_of s) (empty_from 0)) _ (get_or clashes (rank_of s) None) _
+          (sym (get_or-append tried (new ∷ []) (empty_from 0) (rank_of s) (omega (arith, p.count))))
+          (sym (get_or-set_other clashes i (rank_of s) clash None (λ e. omega arith))) (p.each s before)
+      | inr here ↦ as_tried s new _ clash _
+          (sym (ap (λ r. get_or (tried ++ new ∷ []) r (empty_from 0)) (here ∙ sym p.count) ∙ get_or-append_seam tried new [] (empty_from 0)))
+          (sym (ap (λ r. get_or (set clashes i clash) r None) here ∙ get_or-set_same clashes i clash None (omega (arith, p.slots))))
+          (subst (λ u. IsTried (names u) new clash) (same_rank t s (at ∙ sym here)) h)
+    ];
+  }
+
+  tried_clash : (ns : List (Option Name)) (s : NameSpace) (o : Option ℕ) → IsTried ns s o → HasFirstClash ns o
+  tried_clash ns s None h = h.free
+  tried_clash ns s (Some p) h = h
+
+  pub all_clashes : (tried : List NameSpace) (clashes : List (Option ℕ)) → (i : ℕ) → 8 ≤ i → AreTried names tried clashes i → (s : Space) → HasFirstClash (names s) (get_or clashes (rank_of s) None)
+  all_clashes tried clashes i le p s = tried_clash (names s) (get_or tried (rank_of s) (empty_from 0)) (get_or clashes (rank_of s) None) (p.each s (let b = below_8 s in omega arith))
+
+  -- where no space has a clash each name denotes the position that bears it
+  tried_number : (ns : List (Option Name)) (s : NameSpace) (o : Option ℕ) → IsTried ns s o → o ≡ None → (name : Name) → number_in s name ≡ position_of name ns
+  tried_number ns s None h e = h.number
+  tried_number ns s (Some p) h e = cc
+
+  pub all_numbers : (tried : List NameSpace) (clashes : List (Option ℕ)) → (i : ℕ) → 8 ≤ i → AreTried names tried clashes i → ((s : Space) → get_or clashes (rank_of s) None ≡ None)
+      → (s : Space) (name : Name) → (known_of tried).number s name ≡ position_of name (names s)
+  all_numbers tried clashes i le p free s = tried_number (names s) (get_or tried (rank_of s) (empty_from 0)) (get_or clashes (rank_of s) None) (p.each s (let b = below_8 s in omega arith)) (free s)
+
+pub known_by : (xs : List Item) (tried : List NameSpace) → ((s : Space) (name : Name) → (known_of tried).number s name ≡ position_of name (names_in s xs)) → known_of tried ≡ known xs
+known_by xs tried h = λ i. record { number = λ s name. h s name i }
+
+-- no spaces know what no items make known
+pub nothing_known : known_of [] ≡ known []
+nothing_known = known_by [] [] (λ s name. get-empty key_cmp (key_of name))
+
+counted_space : (f : Space → ℕ) (s : Space) → Contains (map f spaces) (f s)
+counted_space f s = subst (λ n. Contains (map f spaces) n) (get_or-map f spaces (rank_of s) space.Func ∙ ap f (at_rank s space.Func)) (Contains-get_or (map f spaces) (rank_of s) (f space.Func) (below_8 s))
+
+crowded : (fields : List ModuleField) (n : ℕ) → Contains (counts fields) n → 2 ^ 32 ≤ n → IsCrowded fields
+crowded fields n c le = (n, (c, le))
+
+stops_one : (t : Told) (fields : List ModuleField) (o : Option (Refusal × Span)) (n : ℕ) → Contains (counts fields) n → Stops t n → Answers ⊤ (IsCrowded fields) t o
+stops_one t fields o n c h = grind (arith, crowded)
+
+-- what stopped one space is an answer for all
+pub stops_all : (t : Told) (fields : List ModuleField) (s : Space) (o : Option (Refusal × Span)) → Stops t (length (names_in s (items fields))) → Answers ⊤ (IsCrowded fields) t o
+stops_all t fields s o h = stops_one t fields o (length (names_in s (items fields))) (counted_space (λ s. length (names_in s (items fields))) s) h

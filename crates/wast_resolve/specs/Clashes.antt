@@ -1,0 +1,33 @@
+-- Looking for the first clash of all, in the order of the items, where the first one of each space is known.
+use Rattle.std.specs.Prelude.{ℕ, zero, suc, List, Option, Some, None, option_map, slice_index_or, slice_set}
+use Rattle.wast_tree.specs.Faults.{Duplicate, Told, At, told}
+use Rattle.wast_tree.specs.Spaces.{word_of, rank_of}
+use Rattle.wast_tree.specs.Items.{Item}
+use Rattle.wast_resolve.specs.declared.clashes.Finder.{Finder}
+
+-- By the ranks of the spaces, how many items of the space come before its first clash, if one is ahead; and what was
+-- found.
+pub record Countdown : Type 0 where
+  pub ahead : List (Option ℕ)
+  pub found : Option Told
+
+abbrev pub countdown : Finder → Countdown
+countdown f = record { ahead = f.ahead; found = option_map told f.found }
+
+abbrev pub ahead_of : List (Option ℕ) → Item → Option ℕ
+ahead_of ahead x = slice_index_or ahead (rank_of x.space) None
+
+-- what is told of an item that clashes
+abbrev pub clash_told : Item → Option Told
+clash_told x = option_map (λ m. At (Duplicate (word_of x.space)) m.1) x.id
+
+-- by what was found, and by how many items of its space come before the clash
+abbrev pub counted_down_by : Option Told → Option ℕ → List (Option ℕ) → Item → Countdown
+counted_down_by (Some t) n ahead x = record { ahead = ahead; found = Some t }
+counted_down_by None None ahead x = record { ahead = ahead; found = None }
+counted_down_by None (Some zero) ahead x = record { ahead = ahead; found = clash_told x }
+counted_down_by None (Some (suc n)) ahead x = record { ahead = slice_set ahead (rank_of x.space) (Some n); found = None }
+
+-- after one more item
+abbrev pub counted_down : Countdown → Item → Countdown
+counted_down c x = counted_down_by c.found (ahead_of c.ahead x) c.ahead x

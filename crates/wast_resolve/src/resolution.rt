@@ -1,0 +1,125 @@
+//! What the ids of a resolved module denote.
+
+ghost use Rattle.std.specs.Prelude.{◌≡◌, [], None, IsTrue, IfOk, IfErr, OnOk};
+ghost use Rattle.wast_tree.specs.Items.{items};
+ghost use Rattle.wast_tree.specs.Known.{known};
+ghost use Rattle.wast_tree.specs.WellFormed.{is_well_formed};
+ghost use Rattle.wast_resolve.specs.Tree.space;
+ghost use Rattle.wast_resolve.specs.Demands.{first_unmet, demands, IsUnresolved};
+ghost use Rattle.wast_resolve.specs.Resolved.{resolved, numbered_at};
+ghost use Rattle.wast_resolve.specs.Resolvers.{no_bindings, known_to};
+ghost use Rattle.wast_resolve.specs.LookUps.{IsSettledFor, IsMetBy, AnswersFor};
+
+use crate::passes;
+use crate::resolver::Resolver;
+use std::alloc::Global;
+use std::marker::Model;
+use wast_tree::{Error, Gensym, Index, ModuleField, Seq, Space};
+
+/// What the ids of a module denote, for a caller that has indices of its own (text format, indices).
+#[derive(Drop)]
+pub struct Names<'a> {
+    resolver: Resolver<'a>,
+}
+
+impl<'a> Model for Names<'a> {
+    ghost use Rattle.wast_resolve.specs.Resolvers.{Bindings, coded_bindings};
+
+    ghost Value = { Bindings };
+
+    ghost coded = { coded_bindings };
+
+    ghost view = { λ n. record { spaces = n.resolver } };
+}
+
+impl<'a> Names<'a> {
+    /// Binds nothing. It takes no memory.
+    #[tactic(auto, using(crate::proofs::Trying::nothing_known))]
+    pub fn empty(alloc: Global) -> Self
+        ensures names { known_to result ≡ known [] }
+        ensures value { result ≡ no_bindings }
+    {
+        Names {
+            resolver: Resolver::new(Vec::new(alloc)),
+        }
+    }
+
+    /// Replaces the id of a function by its number, at the id's place; a number passes.
+    ///
+    /// It needs that a generated id is known. An unknown id is E4 at its place, and then the index stays. It takes no
+    /// memory.
+    pub fn resolve_func(&self, idx: &mut Index<'a>) -> Result<(), Error<'a>>
+        requires { IsSettledFor (known_to self.now) space.Func idx.old }
+        ensures met { OnOk result (IsMetBy (known_to self.now) space.Func idx.old) }
+        ensures refusal { IfErr result (AnswersFor (known_to self.now) space.Func idx.old) }
+        ensures index { idx.new ≡ numbered_at (known_to self.now) space.Func idx.old }
+    {
+        self.resolver.number(idx, Space::Func)?;
+        Ok(())
+    }
+
+    /// Replaces the id of a memory by its number, at the id's place; a number passes.
+    ///
+    /// It needs that a generated id is known. An unknown id is E4 at its place, and then the index stays. It takes no
+    /// memory.
+    pub fn resolve_memory(&self, idx: &mut Index<'a>) -> Result<(), Error<'a>>
+        requires { IsSettledFor (known_to self.now) space.Memory idx.old }
+        ensures met { OnOk result (IsMetBy (known_to self.now) space.Memory idx.old) }
+        ensures refusal { IfErr result (AnswersFor (known_to self.now) space.Memory idx.old) }
+        ensures index { idx.new ≡ numbered_at (known_to self.now) space.Memory idx.old }
+    {
+        self.resolver.number(idx, Space::Memory)?;
+        Ok(())
+    }
+
+    /// Replaces the id of a table by its number, at the id's place; a number passes.
+    ///
+    /// It needs that a generated id is known. An unknown id is E4 at its place, and then the index stays. It takes no
+    /// memory.
+    pub fn resolve_table(&self, idx: &mut Index<'a>) -> Result<(), Error<'a>>
+        requires { IsSettledFor (known_to self.now) space.Table idx.old }
+        ensures met { OnOk result (IsMetBy (known_to self.now) space.Table idx.old) }
+        ensures refusal { IfErr result (AnswersFor (known_to self.now) space.Table idx.old) }
+        ensures index { idx.new ≡ numbered_at (known_to self.now) space.Table idx.old }
+    {
+        self.resolver.number(idx, Space::Table)?;
+        Ok(())
+    }
+
+    /// Replaces the id of a global by its number, at the id's place; a number passes.
+    ///
+    /// It needs that a generated id is known. An unknown id is E4 at its place, and then the index stays. It takes no
+    /// memory.
+    pub fn resolve_global(&self, idx: &mut Index<'a>) -> Result<(), Error<'a>>
+        requires { IsSettledFor (known_to self.now) space.Global idx.old }
+        ensures met { OnOk result (IsMetBy (known_to self.now) space.Global idx.old) }
+        ensures refusal { IfErr result (AnswersFor (known_to self.now) space.Global idx.old) }
+        ensures index { idx.new ≡ numbered_at (known_to self.now) space.Global idx.old }
+    {
+        self.resolver.number(idx, Space::Global)?;
+        Ok(())
+    }
+}
+
+/// Resolves the fields of a module: each id where an index is wanted becomes its number, at the id's place (text format,
+/// indices).
+///
+/// It gives the fields and what their ids denote. It needs well formed fields, as [`wast_tree::well_formed`] tells. The
+/// error is the first demand that is not met: E2 at the second bearer of an id in a space, in the order of the fields, and
+/// after all of these E4 at an id that denotes nothing. It is E12 where memory was refused, and E10 only where some space
+/// has 2^32 or more items. On an error the fields are dropped. The counter stays.
+pub fn resolve<'a>(
+    alloc: Global,
+    fields: Seq<ModuleField<'a>>,
+    gensym: &mut Gensym,
+) -> Result<(Seq<ModuleField<'a>>, Names<'a>), Error<'a>>
+    requires { IsTrue (is_well_formed fields) }
+    ensures met { OnOk result (first_unmet (demands fields.entry) ≡ None) }
+    ensures list { IfOk result (λ r. r.0 ≡ resolved fields.entry) }
+    ensures names { IfOk result (λ r. known_to r.1 ≡ known (items fields.entry)) }
+    ensures refusal { IfErr result (IsUnresolved fields.entry) }
+    ensures counter { gensym.new ≡ gensym.old }
+{
+    let (fields, resolver) = passes::resolve(alloc, fields)?;
+    Ok((fields, Names { resolver }))
+}

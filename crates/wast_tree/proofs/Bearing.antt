@@ -1,0 +1,89 @@
+-- Which items bear a name.
+use Rattle.std.proofs.Common.{◌≡◌, ℕ, Bool, true, false, ◌||◌, ◌&&◌, ◌+◌, ◌<◌, length, get_or, drop, List, [], ◌∷◌, ◌++◌, Option, Some, refl, sym, ap, ◌∙◌}
+use Rattle.std.specs.Prelude.{is_some, if◌then◌else◌}
+use Rattle.std.specs.List.{list_any, position_from}
+use Rattle.std.proofs.lemmas.Grind.{flat_map-append}
+use Rattle.std.proofs.lemmas.List.{drop_more}
+use Rattle.std.proofs.lemmas.Iterator.Adapters.{position_from-zero}
+use Rattle.wast_tree.specs.Tree.{Space, ModuleField}
+use Rattle.wast_tree.specs.Ids.{Name}
+use Rattle.wast_tree.specs.Spaces.{same_space, name_if, is_called, is_borne}
+use Rattle.wast_tree.specs.Items.{Item, items_in, items}
+use Rattle.wast_tree.specs.Known.{name_in, names_in}
+
+any-append : {A : Type 0} (p : A → Bool) (a b : List A) → list_any p (a ++ b) ≡ list_any p a || list_any p b
+any-append p [] b = refl
+any-append p (n ∷ ns) b = ap (λ c. p n || c) (any-append p ns b) ∙ or_assoc (p n) (list_any p ns) (list_any p b)
+  where
+    or_assoc : (x y z : Bool) → x || (y || z) ≡ (x || y) || z
+    or_assoc true y z = refl
+    or_assoc false y z = refl
+
+found_from : {A : Type 0} (p : A → Bool) (i : ℕ) (ns : List A) → is_some (position_from p i ns) ≡ list_any p ns
+found_from p i [] = refl
+found_from p i (n ∷ ns) = by_test (p n) i (position_from p (i + 1) ns) (list_any p ns) (found_from p (i + 1) ns)
+  where
+    by_test : (b : Bool) (j : ℕ) (o : Option ℕ) (c : Bool) → is_some o ≡ c → is_some (if b then Some j else o) ≡ b || c
+    by_test true j o c e = refl
+    by_test false j o c e = e
+
+pub borne_any : (name : Name) (ns : List (Option Name)) → is_borne name ns ≡ list_any (is_called name) ns
+borne_any name ns = ap is_some (position_from-zero (is_called name) ns) ∙ found_from (is_called name) 0 ns
+
+-- an item of joined lists bears the name where one of either does
+pub borne_by_both : (s : Space) (name : Name) (a b : List Item) → is_borne name (names_in s (a ++ b)) ≡ is_borne name (names_in s a) || is_borne name (names_in s b)
+borne_by_both s name a b =
+    ap (is_borne name) (flat_map-append (name_in s) a b)
+    ∙ rw (borne_any name (names_in s a ++ names_in s b), borne_any name (names_in s a), borne_any name (names_in s b)) (any-append (is_called name) (names_in s a) (names_in s b))
+
+borne_one : (name : Name) (n : Option Name) (c : Bool) → is_called name n ≡ c → is_borne name (n ∷ []) ≡ is_called name n
+borne_one name n true h = rw h refl
+borne_one name n false h = rw h refl
+
+borne_if : (name : Name) (b : Bool) (n : Option Name) → is_borne name ((if b then n ∷ [] else []) ++ []) ≡ b && is_called name n
+borne_if name false n = refl
+borne_if name true n = borne_one name n (is_called name n) refl
+
+-- the items that bear it, one by one
+pub borne_among : (s : Space) (name : Name) (xs : List Item) → is_borne name (names_in s xs) ≡ list_any (λ x. same_space s x.space && is_called name (name_if x.id)) xs
+borne_among s name [] = refl
+borne_among s name (x ∷ xs) =
+    borne_by_both s name (x ∷ []) xs
+    ∙ (ap (λ b. b || is_borne name (names_in s xs)) (borne_if name (same_space s x.space) (name_if x.id)) ∙ ap (λ b. (same_space s x.space && is_called name (name_if x.id)) || b) (borne_among s name xs))
+
+-- the fields from one on: it bears the name, or those after it do
+pub borne_from : (s : Space) (name : Name) (fields : List ModuleField) (i : ℕ) (f : ModuleField) → i < length fields → f ≡ get_or fields i f
+    → is_borne name (names_in s (items (drop i fields))) ≡ is_borne name (names_in s (items_in f)) || is_borne name (names_in s (items (drop (i + 1) fields)))
+borne_from s name fields i f lt is =
+    ap (λ fs. is_borne name (names_in s (items fs))) (drop_more fields i f lt ∙ ap (λ x. x ∷ drop (i + 1) fields) (sym is)) ∙ borne_by_both s name (items_in f) (items (drop (i + 1) fields))
+
+-- one that does, and one that does not
+pub found_here : (b c x y : Bool) → x ≡ b || c → x ≡ y → b ≡ true → true ≡ y
+found_here true c x y e h t = sym e ∙ h
+found_here false c x y e h t = cc
+
+pub passed : (b c x y : Bool) → x ≡ b || c → x ≡ y → b ≡ false → c ≡ y
+passed true c x y e h t = cc
+passed false c x y e h t = sym e ∙ h
+
+-- the fields in two parts
+module _ (s : Space) (name : Name) (fields before after : List ModuleField) (parts : fields ≡ before ++ after) where
+  abbrev borne_in : List ModuleField → Bool
+  borne_in fs = is_borne name (names_in s (items fs))
+
+  borne_around : borne_in fields ≡ borne_in before || borne_in after
+  borne_around = ap borne_in parts ∙ (ap (λ xs. is_borne name (names_in s xs)) (flat_map-append items_in before after) ∙ borne_by_both s name (items before) (items after))
+
+  pub borne_after : true ≡ borne_in after → true ≡ borne_in fields
+  borne_after h = sym (borne_around ∙ (ap (λ b. borne_in before || b) (sym h) ∙ or_true (borne_in before)))
+    where
+      or_true : (b : Bool) → (b || true) ≡ true
+      or_true true = refl
+      or_true false = refl
+
+  pub borne_before : (b : Bool) → false ≡ borne_in after → b ≡ borne_in before → b ≡ borne_in fields
+  borne_before b h k = sym (borne_around ∙ (ap (λ c. borne_in before || c) (sym h) ∙ (or_false (borne_in before) ∙ sym k)))
+    where
+      or_false : (b : Bool) → (b || false) ≡ b
+      or_false true = refl
+      or_false false = refl

@@ -1,0 +1,88 @@
+//! Which item has an id.
+
+ghost use Rattle.std.specs.Prelude.{◌≡◌, ⊤, ◌<◌, ◌≤◌, ◌||◌, length, is_some, MatchOption};
+ghost use Rattle.wast_tree.specs.Ids.{name_of, marked};
+ghost use Rattle.wast_tree.specs.Spaces.{is_borne, is_called, name_if};
+ghost use Rattle.wast_tree.specs.Items.{items_in, items};
+ghost use Rattle.wast_tree.specs.Known.{names_in};
+ghost use Rattle.wast_tree.specs.Private.Bearers.{bears};
+
+use crate::fields::ModuleField;
+use crate::ids::Id;
+use crate::spaces::Space;
+use crate::visits::{ItemVisitor, visit_items_in};
+
+/// An id, and the space in which an item with it is looked for.
+#[derive(Clone, Copy)]
+struct Sought<'i, 'a> {
+    space: Space,
+    id: &'i Id<'a>,
+}
+
+/// Whether an item that it was told of has the id that is sought.
+#[derive(Drop)]
+struct Bearer<'i, 'a> {
+    sought: Sought<'i, 'a>,
+    found: bool,
+}
+
+/// Whether an optional id is this one.
+fn is_called<'a>(bearer: &Option<Id<'a>>, id: &Id<'a>) -> bool
+    ensures { result ≡ is_called (name_of id.now) (name_if (marked bearer.now)) }
+{
+    match bearer {
+        None => false,
+        Some(own) => own.is_same(id),
+    }
+}
+
+impl<'i, 'a> ItemVisitor<'a> for Bearer<'i, 'a> {
+    ghost told = { λ old x new. (new.sought ≡ old.sought) × (new.found ≡ (old.found || bears old.sought x)) };
+
+    fn item(&mut self, space: Space, id: &Option<Id<'a>>) {
+        self.found = self.found || self.sought.space.is(space) && is_called(id, self.sought.id);
+    }
+}
+
+/// Whether an item of the field stands in the space and has the id.
+fn has_bearer<'a>(field: &ModuleField<'a>, space: Space, id: &Id<'a>) -> bool
+    ensures { result ≡ is_borne (name_of id.now) (names_in space (items_in field.now)) }
+{
+    let mut bearer = Bearer {
+        sought: Sought { space, id },
+        found: false,
+    };
+    visit_items_in(field, &mut bearer);
+    bearer.found
+}
+
+/// The first field with an item of the space that has the id.
+fn first_bearer<'a>(fields: &[ModuleField<'a>], space: Space, id: &Id<'a>) -> Option<usize>
+    ensures borne { is_some result ≡ is_borne (name_of id.now) (names_in space (items fields.now)) }
+    ensures below { MatchOption result ⊤ (λ i. i < length fields.now) }
+{
+    for i in 0..fields.len() {
+        if has_bearer(&fields[i], space, id) {
+            return Some(i);
+        }
+    }
+    None
+}
+
+/// A field with an item of the space that has the id: the first one from a place on, or else from the start.
+pub(crate) fn bearer_from<'a>(
+    fields: &[ModuleField<'a>],
+    start: usize,
+    space: Space,
+    id: &Id<'a>,
+) -> Option<usize>
+    requires { start ≤ length fields.now }
+    ensures borne { is_some result ≡ is_borne (name_of id.now) (names_in space (items fields.now)) }
+    ensures below { MatchOption result ⊤ (λ i. i < length fields.now) }
+{
+    let (before, after) = fields.split_at(start);
+    match first_bearer(after, space, id) {
+        Some(at) => Some(start + at),
+        None => first_bearer(before, space, id),
+    }
+}

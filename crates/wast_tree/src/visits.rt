@@ -1,0 +1,256 @@
+//! Walks over the tree to read it: a visitor is told of each item, or of each id and index beside them, in order.
+#![tactic(auto, using(crate::proofs::Visiting::visits_both, crate::proofs::Visiting::visits_one, crate::proofs::Visiting::visits_none, crate::proofs::Visiting::asked_outside, crate::proofs::Visiting::asked_both))]
+
+ghost use Rattle.std.specs.Prelude.{◌≡◌, ◌++◌, List};
+ghost use Rattle.std.specs.Prelude.{flat_map};
+ghost use Rattle.wast_tree.specs.Ids.{mark_of};
+ghost use Rattle.wast_tree.specs.Items.{Item, item, items_in, items};
+ghost use Rattle.wast_tree.specs.Occurrences.{Ask, Wants, Bare, if_there, in_index, in_id, in_param, in_signature, in_inner, in_def, in_type_use, in_instr, in_expression, in_local, in_locals, in_func_kind, outside, in_func, exported_space, in_export, in_field, in_module, asked, asked_in_steps};
+ghost use Rattle.wast_tree.specs.Visits.{Visits};
+
+use crate::fields::{Export, ExportKind, Func, FuncKind, Local, ModuleField};
+use crate::ids::{Id, Index, NameAnnotation};
+use crate::instrs::{Expression, Instruction};
+use crate::seq::Seq;
+use crate::spaces::Space;
+use crate::types::{FunctionType, InnerTypeKind, TypeDef, TypeUse, ValType};
+
+/// What is told of the items of a module (text format, modules), as a count or a list of them.
+pub trait ItemVisitor<'a> {
+    /// How it stands before and after an item.
+    ghost told: { Self → Item → Self → Type 0 };
+
+    /// An item of a space, with its id if it has one.
+    fn item(&mut self, space: Space, id: &Option<Id<'a>>)
+        ensures { told self.old (item space id.now) self.new };
+}
+
+/// What is told of the ids and indices that stand in a module beside its items.
+pub(crate) trait Visitor {
+    /// How it stands before and after one of them.
+    ghost told: { Self → Ask → Self → Type 0 };
+
+    /// An index where one of a space is wanted.
+    fn index(&mut self, space: Space, index: &Index<'_>)
+        ensures { told self.old (Wants space index.now) self.new };
+
+    /// An id of which nothing is asked.
+    fn id(&mut self, id: &Id<'_>)
+        ensures { told self.old (Bare (mark_of id.now)) self.new };
+}
+
+/// Tells a visitor of each item of the fields, also of those without an id, in the order in which they are numbered (text
+/// format, modules). It takes no memory.
+pub fn visit_items<'a, V: ItemVisitor<'a>>(fields: &[ModuleField<'a>], visitor: &mut V)
+    ensures { Visits V.told visitor.old (items fields.now) visitor.new }
+{
+    for field in fields {
+        visit_items_in(field, visitor);
+    }
+}
+
+/// Tells a visitor of the items of a field.
+pub(crate) fn visit_items_in<'a, V: ItemVisitor<'a>>(field: &ModuleField<'a>, visitor: &mut V)
+    ensures { Visits V.told visitor.old (items_in field.now) visitor.new }
+{
+    match field {
+        ModuleField::Ty(ty) => visitor.item(Space::Ty, &ty.id),
+        ModuleField::Func(func) => visitor.item(Space::Func, &func.id),
+        ModuleField::Export(_) => {}
+    }
+}
+
+/// A part of the tree that is read.
+pub(crate) trait Visit {
+    /// What stands in it.
+    ghost asks: { Self → List Ask };
+
+    /// Tells a visitor of it.
+    fn visit<V: Visitor>(&self, visitor: &mut V)
+        ensures { Visits V.told visitor.old (asks self.now) visitor.new };
+}
+
+/// Tells a visitor of each part of a list.
+fn visit_each<T: Visit, V: Visitor>(parts: &[T], visitor: &mut V)
+    ensures { Visits V.told visitor.old (flat_map T.asks parts.now) visitor.new }
+{
+    for part in parts {
+        part.visit(visitor);
+    }
+}
+
+/// Tells a visitor of the indices of a space.
+fn visit_indices<V: Visitor>(space: Space, indices: &[Index<'_>], visitor: &mut V)
+    ensures { Visits V.told visitor.old (flat_map (in_index space) indices.now) visitor.new }
+{
+    for index in indices {
+        visitor.index(space, index);
+    }
+}
+
+/// Tells a visitor of an index of a space, if there is one.
+fn visit_index<V: Visitor>(space: Space, index: &Option<Index<'_>>, visitor: &mut V)
+    ensures { Visits V.told visitor.old (if_there (in_index space) index.now) visitor.new }
+{
+    if let Some(index) = index {
+        visitor.index(space, index);
+    }
+}
+
+impl<T: Visit> Visit for Seq<T> {
+    ghost asks = { λ parts. flat_map T.asks parts };
+
+    fn visit<V: Visitor>(&self, visitor: &mut V) {
+        visit_each(self.as_slice(), visitor);
+    }
+}
+
+impl<T: Visit> Visit for Option<T> {
+    ghost asks = { if_there T.asks };
+
+    fn visit<V: Visitor>(&self, visitor: &mut V) {
+        if let Some(part) = self {
+            part.visit(visitor);
+        }
+    }
+}
+
+impl Visit for Id<'_> {
+    ghost asks = { in_id };
+
+    fn visit<V: Visitor>(&self, visitor: &mut V) {
+        visitor.id(self);
+    }
+}
+
+impl<'a> Visit for (Option<Id<'a>>, Option<NameAnnotation<'a>>, ValType) {
+    ghost asks = { in_param };
+
+    fn visit<V: Visitor>(&self, visitor: &mut V) {
+        self.0.visit(visitor);
+    }
+}
+
+impl Visit for FunctionType<'_> {
+    ghost asks = { in_signature };
+
+    fn visit<V: Visitor>(&self, visitor: &mut V) {
+        self.params.visit(visitor);
+    }
+}
+
+impl Visit for InnerTypeKind<'_> {
+    ghost asks = { in_inner };
+
+    fn visit<V: Visitor>(&self, visitor: &mut V) {
+        match self {
+            InnerTypeKind::Func(ty) => ty.visit(visitor),
+        }
+    }
+}
+
+impl Visit for TypeDef<'_> {
+    ghost asks = { in_def };
+
+    fn visit<V: Visitor>(&self, visitor: &mut V) {
+        visit_indices(Space::Ty, self.parents.as_slice(), visitor);
+        visit_index(Space::Ty, &self.descriptor, visitor);
+        visit_index(Space::Ty, &self.describes, visitor);
+        self.kind.visit(visitor);
+    }
+}
+
+impl<'a> Visit for TypeUse<'a, FunctionType<'a>> {
+    ghost asks = { in_type_use };
+
+    fn visit<V: Visitor>(&self, visitor: &mut V) {
+        visit_index(Space::Ty, &self.index, visitor);
+        self.inline.visit(visitor);
+    }
+}
+
+impl Visit for Instruction<'_> {
+    ghost asks = { λ i. asked_in_steps (in_instr i) };
+
+    fn visit<V: Visitor>(&self, visitor: &mut V) {
+        match self {
+            Instruction::call(func) => visitor.index(Space::Func, func),
+        }
+    }
+}
+
+impl Visit for Expression<'_> {
+    ghost asks = { λ e. asked_in_steps (in_expression e) };
+
+    fn visit<V: Visitor>(&self, visitor: &mut V) {
+        self.instrs.visit(visitor);
+    }
+}
+
+impl Visit for Local<'_> {
+    ghost asks = { in_local };
+
+    fn visit<V: Visitor>(&self, visitor: &mut V) {
+        self.id.visit(visitor);
+    }
+}
+
+impl Visit for FuncKind<'_> {
+    ghost asks = { λ k. asked (outside (in_locals k) ++ in_func_kind k) };
+
+    fn visit<V: Visitor>(&self, visitor: &mut V) {
+        match self {
+            FuncKind::Inline { locals, expression } => {
+                locals.visit(visitor);
+                expression.visit(visitor);
+            }
+        }
+    }
+}
+
+impl Visit for Func<'_> {
+    ghost asks = { λ f. asked (in_func f) };
+
+    fn visit<V: Visitor>(&self, visitor: &mut V) {
+        self.ty.visit(visitor);
+        self.kind.visit(visitor);
+    }
+}
+
+impl ExportKind {
+    /// The space of what is exported. It takes no memory.
+    pub fn space(self) -> Space
+        ensures { result ≡ exported_space self }
+    {
+        match self {
+            ExportKind::Func => Space::Func,
+        }
+    }
+}
+
+impl Visit for Export<'_> {
+    ghost asks = { in_export };
+
+    fn visit<V: Visitor>(&self, visitor: &mut V) {
+        visitor.index(self.kind.space(), &self.item);
+    }
+}
+
+impl Visit for ModuleField<'_> {
+    ghost asks = { λ f. asked (in_field f) };
+
+    fn visit<V: Visitor>(&self, visitor: &mut V) {
+        match self {
+            ModuleField::Ty(ty) => ty.def.visit(visitor),
+            ModuleField::Func(func) => func.visit(visitor),
+            ModuleField::Export(export) => export.visit(visitor),
+        }
+    }
+}
+
+/// Tells a visitor of each id and index of the fields beside their items.
+pub(crate) fn visit_fields<V: Visitor>(fields: &[ModuleField<'_>], visitor: &mut V)
+    ensures { Visits V.told visitor.old (asked (in_module fields.now)) visitor.new }
+{
+    visit_each(fields, visitor);
+}
