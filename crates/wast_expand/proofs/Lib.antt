@@ -1,0 +1,9 @@
+pub mod Bound
+pub mod Adding
+pub mod OneMore
+pub mod Halfway
+pub mod Expanding
+pub mod Covered
+pub mod AtRest
+pub mod AtItsIndex
+pub mod Worked

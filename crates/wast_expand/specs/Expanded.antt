@@ -1,0 +1,99 @@
+-- The list of fields in which each type has an id and each type use an index (text format, type uses: abbreviations).
+use Rattle.std.specs.Prelude.{ℕ, ◌+◌, is_none, length, Bool, false, List, [], ◌∷◌, ◌++◌, map, flat_map, Option, Some, None}
+use Rattle.wast_expand.specs.Tree.{Span, Id, Index, NameAnnotation, ValType, FunctionType, TypeUse, InnerTypeKind, TypeDef, Instruction, Expression, FuncKind, Func, ModuleField}
+use Rattle.wast_expand.specs.Tree.index
+use Rattle.wast_expand.specs.Tree.inner
+use Rattle.wast_expand.specs.Tree.instr
+use Rattle.wast_expand.specs.Tree.func
+use Rattle.wast_expand.specs.Tree.field
+use Rattle.wast_tree.specs.Ids.{generated}
+use Rattle.wast_expand.specs.Signatures.{Signature, signature_of}
+use Rattle.wast_expand.specs.NeedingUses.{inline_signature}
+use Rattle.wast_expand.specs.ImpliedTypes.{implied}
+use Rattle.wast_expand.specs.Filling.{filled, wanted}
+use Rattle.wast_expand.specs.Expanders.{Bindings, LookUp, index_of}
+
+-- A type that has no id wants one.
+abbrev pub lacks_id : ModuleField → Bool
+lacks_id (field.Ty t) = is_none t.id
+lacks_id (field.Func f) = false
+lacks_id (field.Export e) = false
+
+abbrev pub with_id : ℕ → ModuleField → ModuleField
+with_id n (field.Ty t) = field.Ty (record t { id = Some (generated n t.span) })
+with_id n (field.Func f) = field.Func f
+with_id n (field.Export e) = field.Export e
+
+-- the type of a signature: final where nothing else is said, without parents, its parameters without names
+abbrev pub nameless : ValType → Option Id × Option NameAnnotation × ValType
+nameless v = (None, None, v)
+
+abbrev pub def_of : Signature → Bool → TypeDef
+def_of s is_shared = record {
+  kind = inner.Func (record { params = map nameless s.0; results = s.1 });
+  shared = is_shared;
+  parents = [];
+  descriptor = None;
+  describes = None;
+  final_type = None;
+}
+
+abbrev pub start_of_text : Span
+start_of_text = record { offset = 0 }
+
+abbrev pub implied_type : ℕ → Signature → ModuleField
+implied_type n s = field.Ty (record { span = start_of_text; id = Some (generated n start_of_text); name = None; def = def_of s false })
+
+abbrev pub implied_types : ℕ → List Signature → List ModuleField
+implied_types n [] = []
+implied_types n (s ∷ ss) = implied_type n s ∷ implied_types (n + 1) ss
+
+-- each type has an id, and the implied types stand last
+abbrev pub typed : ℕ → List ModuleField → List ModuleField
+typed n fields = filled lacks_id with_id n fields ++ implied_types (n + wanted lacks_id fields) (implied fields)
+
+-- the function types, by their ids
+abbrev pub binding_of : InnerTypeKind → Option Id → Bindings
+binding_of (inner.Func t) None = []
+binding_of (inner.Func t) (Some id) = (signature_of t, index.Id id) ∷ []
+
+abbrev pub bindings_in : ModuleField → Bindings
+bindings_in (field.Ty t) = binding_of t.def.kind t.id
+bindings_in (field.Func f) = []
+bindings_in (field.Export e) = []
+
+abbrev pub bindings : List ModuleField → Bindings
+bindings fields = flat_map bindings_in fields
+
+-- a use without an index has that of its type
+abbrev pub bound_index : LookUp → Option Index → Option FunctionType → Option Index
+bound_index find None inline = find (inline_signature inline)
+bound_index find (Some i) inline = Some i
+
+abbrev pub bound_use : LookUp → TypeUse FunctionType → TypeUse FunctionType
+bound_use find u = record u { index = bound_index find u.index u.inline }
+
+abbrev pub bound_instr : LookUp → Instruction → Instruction
+bound_instr find (instr.call f) = instr.call f
+
+abbrev pub bound_expression : LookUp → Expression → Expression
+bound_expression find e = record e { instrs = map (bound_instr find) e.instrs }
+
+abbrev pub bound_kind : LookUp → FuncKind → FuncKind
+bound_kind find (func.Inline locals e) = func.Inline locals (bound_expression find e)
+
+abbrev pub bound_func : LookUp → Func → Func
+bound_func find f = record f { kind = bound_kind find f.kind; ty = bound_use find f.ty }
+
+abbrev pub bound_field : LookUp → ModuleField → ModuleField
+bound_field find (field.Ty t) = field.Ty t
+bound_field find (field.Func f) = field.Func (bound_func find f)
+bound_field find (field.Export e) = field.Export e
+
+-- The list that expansion gives, from a counter.
+abbrev pub expanded : ℕ → List ModuleField → List ModuleField
+expanded n fields = map (bound_field (index_of (bindings (typed n fields)))) (typed n fields)
+
+-- how many ids it takes
+abbrev pub ids_wanted : List ModuleField → ℕ
+ids_wanted fields = wanted lacks_id fields + length (implied fields)

@@ -1,0 +1,33 @@
+-- What holds of each list that is expanded (text format, type uses: abbreviations).
+use Rattle.std.specs.Prelude.{◌≡◌, ℕ, false, List, [], flat_map}
+use Rattle.std.specs.List.{list_any}
+use Rattle.wast_expand.specs.Tree.{ModuleField}
+use Rattle.wast_expand.specs.Signatures.{Signature}
+use Rattle.wast_expand.specs.NeedingUses.{needed}
+use Rattle.wast_expand.specs.ImpliedTypes.{written, is_among, implied}
+use Rattle.wast_expand.specs.TypeSpace.{types_in, type_space, index_for, type_ids, id_at}
+use Rattle.wast_expand.specs.Expanders.{index_of}
+use Rattle.wast_expand.specs.Expanded.{typed, bindings, expanded, ids_wanted}
+
+-- Each use has an index.
+abbrev pub UsesAreBound : Type 0
+UsesAreBound = (n : ℕ) (fields : List ModuleField) → needed (expanded n fields) ≡ []
+
+-- The types that stand in the expanded list are those of the type space, in its order.
+abbrev pub TypesAreTheSpace : Type 0
+TypesAreTheSpace = (n : ℕ) (fields : List ModuleField) → flat_map types_in (expanded n fields) ≡ type_space fields
+
+-- A signature is bound to the id of the type at its index in the type space.
+abbrev pub TakesTheTypeAtItsIndex : Type 0
+TakesTheTypeAtItsIndex = (n : ℕ) (fields : List ModuleField) (s : Signature) → index_of (bindings (typed n fields)) s ≡ id_at (index_for fields s) (type_ids (typed n fields))
+
+-- No implied type has the signature of a written one.
+abbrev pub ImpliedAreNew : Type 0
+ImpliedAreNew = (fields : List ModuleField) → list_any (is_among (written fields)) (implied fields) ≡ false
+
+-- An expanded list stays as it is, from any counter, and takes no id.
+abbrev pub StaysExpanded : Type 0
+StaysExpanded = (m n : ℕ) (fields : List ModuleField) → expanded m (expanded n fields) ≡ expanded n fields
+
+abbrev pub WantsNoMore : Type 0
+WantsNoMore = (n : ℕ) (fields : List ModuleField) → ids_wanted (expanded n fields) ≡ 0

@@ -1,0 +1,13 @@
+-- What the contracts cite.
+pub mod Tree
+pub mod Signatures
+pub mod SignatureLaws
+pub mod NeedingUses
+pub mod ImpliedTypes
+pub mod TypeSpace
+pub mod Filling
+pub mod Expanders
+pub mod Expanded
+pub mod Binding
+pub mod Laws
+pub mod WorkedExpansions

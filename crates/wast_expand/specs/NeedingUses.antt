@@ -1,0 +1,42 @@
+-- The type uses that have no index, and the signatures that they need (text format, type uses: abbreviations).
+use Rattle.std.specs.Prelude.{List, [], ◌∷◌, ◌++◌, flat_map, Option, Some, None}
+use Rattle.wast_expand.specs.Tree.{Index, FunctionType, TypeUse, Instruction, Expression, FuncKind, Func, ModuleField}
+use Rattle.wast_expand.specs.Tree.instr
+use Rattle.wast_expand.specs.Tree.func
+use Rattle.wast_expand.specs.Tree.field
+use Rattle.wast_expand.specs.Signatures.{Signature, signature_of, empty_signature}
+
+-- No inline type is one without parameters and results.
+abbrev pub inline_signature : Option FunctionType → Signature
+inline_signature None = empty_signature
+inline_signature (Some t) = signature_of t
+
+-- a use needs a type where it has no index
+abbrev pub needed_without : Option Index → Option FunctionType → List Signature
+needed_without None inline = inline_signature inline ∷ []
+needed_without (Some i) inline = []
+
+abbrev pub needed_by_use : TypeUse FunctionType → List Signature
+needed_by_use u = needed_without u.index u.inline
+
+abbrev pub needed_by_instr : Instruction → List Signature
+needed_by_instr (instr.call f) = []
+
+abbrev pub needed_by_expression : Expression → List Signature
+needed_by_expression e = flat_map needed_by_instr e.instrs
+
+abbrev pub needed_by_kind : FuncKind → List Signature
+needed_by_kind (func.Inline locals e) = needed_by_expression e
+
+-- the type use stands before the body
+abbrev pub needed_by_func : Func → List Signature
+needed_by_func f = needed_by_use f.ty ++ needed_by_kind f.kind
+
+abbrev pub needed_by_field : ModuleField → List Signature
+needed_by_field (field.Ty t) = []
+needed_by_field (field.Func f) = needed_by_func f
+needed_by_field (field.Export e) = []
+
+-- each field after the one before it
+abbrev pub needed : List ModuleField → List Signature
+needed fields = flat_map needed_by_field fields

@@ -1,0 +1,23 @@
+-- The types of the tree under one roof, as in wast_tree: each type by its name, the variants of an enum behind a word.
+pub use Rattle.wast_tree.specs.declared.ids.Span.{Span}
+pub use Rattle.wast_tree.specs.declared.ids.Id.{Id}
+pub use Rattle.wast_tree.specs.declared.ids.Index.{Index}
+pub use Rattle.wast_tree.specs.declared.ids.Index.TheVariants as index
+pub use Rattle.wast_tree.specs.declared.ids.NameAnnotation.{NameAnnotation}
+pub use Rattle.wast_tree.specs.declared.types.ValType.{ValType}
+pub use Rattle.wast_tree.specs.declared.types.ValType.TheVariants as value
+pub use Rattle.wast_tree.specs.declared.types.FunctionType.{FunctionType}
+pub use Rattle.wast_tree.specs.declared.types.TypeUse.{TypeUse}
+pub use Rattle.wast_tree.specs.declared.types.InnerTypeKind.{InnerTypeKind}
+pub use Rattle.wast_tree.specs.declared.types.InnerTypeKind.TheVariants as inner
+pub use Rattle.wast_tree.specs.declared.types.TypeDef.{TypeDef}
+pub use Rattle.wast_tree.specs.declared.types.Type as ty
+pub use Rattle.wast_tree.specs.declared.instrs.Instruction.{Instruction}
+pub use Rattle.wast_tree.specs.declared.instrs.Instruction.TheVariants as instr
+pub use Rattle.wast_tree.specs.declared.instrs.Expression.{Expression}
+pub use Rattle.wast_tree.specs.declared.fields.FuncKind.{FuncKind}
+pub use Rattle.wast_tree.specs.declared.fields.FuncKind.TheVariants as func
+pub use Rattle.wast_tree.specs.declared.fields.Func.{Func}
+pub use Rattle.wast_tree.specs.declared.fields.Export.{Export}
+pub use Rattle.wast_tree.specs.declared.fields.ModuleField.{ModuleField}
+pub use Rattle.wast_tree.specs.declared.fields.ModuleField.TheVariants as field

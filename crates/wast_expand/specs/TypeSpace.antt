@@ -1,0 +1,46 @@
+-- The type space: the written types, and then the implied ones (text format: indices, type uses).
+use Rattle.std.specs.Prelude.{ℕ, Bool, false, List, [], ◌∷◌, ◌++◌, map, flat_map, Option, Some, None, position, slice_get}
+use Rattle.wast_expand.specs.Tree.{Id, Index, InnerTypeKind, ModuleField}
+use Rattle.wast_expand.specs.Tree.index
+use Rattle.wast_expand.specs.Tree.inner
+use Rattle.wast_expand.specs.Tree.field
+use Rattle.wast_expand.specs.Signatures.{Signature, signature_of, same_signature}
+use Rattle.wast_expand.specs.ImpliedTypes.{implied}
+
+-- the signature of a type that a use may take: a function type that is a field of its own
+abbrev pub taken_kind : InnerTypeKind → Option Signature
+taken_kind (inner.Func t) = Some (signature_of t)
+
+abbrev pub types_in : ModuleField → List (Option Signature)
+types_in (field.Ty t) = taken_kind t.def.kind ∷ []
+types_in (field.Func f) = []
+types_in (field.Export e) = []
+
+abbrev pub type_space : List ModuleField → List (Option Signature)
+type_space fields = flat_map types_in fields ++ map Some (implied fields)
+
+abbrev pub has_signature : Signature → Option Signature → Bool
+has_signature s None = false
+has_signature s (Some t) = same_signature s t
+
+-- the index of the type of a use that needs one: the least that has its signature
+abbrev pub index_for : List ModuleField → Signature → Option ℕ
+index_for fields s = position (has_signature s) (type_space fields)
+
+-- the id that stands at an index of a list of types
+abbrev pub ids_in : ModuleField → List (Option Id)
+ids_in (field.Ty t) = t.id ∷ []
+ids_in (field.Func f) = []
+ids_in (field.Export e) = []
+
+abbrev pub type_ids : List ModuleField → List (Option Id)
+type_ids fields = flat_map ids_in fields
+
+abbrev pub by_id : Option (Option Id) → Option Index
+by_id None = None
+by_id (Some None) = None
+by_id (Some (Some id)) = Some (index.Id id)
+
+abbrev pub id_at : Option ℕ → List (Option Id) → Option Index
+id_at None ids = None
+id_at (Some k) ids = by_id (slice_get ids k)

@@ -1,0 +1,137 @@
+-- What the definitions say of worked modules (text format, type uses: abbreviations). Texts of names may lie anywhere.
+use Rattle.std.specs.Prelude.{◌≡◌, ℕ, ◌+◌, true, false, List, [], ◌∷◌, ◌++◌, map, Option, Some, None, codes}
+use Rattle.wast_expand.specs.Tree.{Id, Index, ValType, FunctionType, ModuleField}
+use Rattle.wast_expand.specs.Tree.index
+use Rattle.wast_expand.specs.Tree.value
+use Rattle.wast_expand.specs.Tree.inner
+use Rattle.wast_expand.specs.Tree.func
+use Rattle.wast_expand.specs.Tree.field
+use Rattle.wast_tree.specs.Ids.{generated}
+use Rattle.wast_tree.specs.WorkedModules.{Address, place, id_at, by_number, plain_def, plain_type}
+use Rattle.wast_expand.specs.Signatures.{empty_signature, same_signature}
+use Rattle.wast_expand.specs.NeedingUses.{needed}
+use Rattle.wast_expand.specs.ImpliedTypes.{implied}
+use Rattle.wast_expand.specs.TypeSpace.{index_for}
+use Rattle.wast_expand.specs.Expanded.{implied_type, expanded, ids_wanted}
+
+-- the id of a generation for a type that no text defines, and as an index
+abbrev pub made : ℕ → Id
+made n = generated n (place 0)
+
+abbrev pub by_made : ℕ → Index
+by_made n = index.Id (made n)
+
+-- `(func ..)` without an id and with an empty body, which begins at n
+abbrev pub func_at : ℕ → Option Index → Option FunctionType → ModuleField
+func_at n type inline = field.Func (record {
+  span = place (n + 1);
+  id = None;
+  name = None;
+  exports = record { names = [] };
+  kind = func.Inline [] (record { instrs = []; branch_hints = [] });
+  ty = record { index = type; inline = inline };
+})
+
+-- a function type that is written with nameless parameters
+abbrev pub function_type : List ValType → List ValType → FunctionType
+function_type params results = record { params = map (λ v. (None, None, v)) params; results = results }
+
+-- `(type .. (func ..))`, which begins at n
+abbrev pub type_at : Option Id → ℕ → FunctionType → ModuleField
+type_at id n t = field.Ty (record (plain_type id n) { def = record plain_def { kind = inner.Func t } })
+
+-- Parameters and results count, each in its place and order; the one is not the other.
+abbrev pub SameSignatures : Type 0
+SameSignatures =
+    (same_signature (value.I32 ∷ [], value.F64 ∷ value.V128 ∷ []) (value.I32 ∷ [], value.F64 ∷ value.V128 ∷ []) ≡ true)
+    × (same_signature (value.I32 ∷ [], []) ([], value.I32 ∷ []) ≡ false)
+    × (same_signature (value.I32 ∷ [], []) (value.I64 ∷ [], []) ≡ false)
+    × (same_signature (value.F32 ∷ value.F64 ∷ [], []) (value.F64 ∷ value.F32 ∷ [], []) ≡ false)
+    × (same_signature ([], value.I32 ∷ []) ([], []) ≡ false)
+
+-- `(module (func))`: the type `(func)` is implied, and is type 0.
+abbrev pub row2 : List ModuleField
+row2 = func_at 8 None None ∷ []
+
+abbrev pub Row2 : Type 0
+Row2 =
+    (needed row2 ≡ empty_signature ∷ [])
+    × (implied row2 ≡ empty_signature ∷ [])
+    × (index_for row2 empty_signature ≡ Some 0)
+    × (ids_wanted row2 ≡ 1)
+    × (expanded 5 row2 ≡ func_at 8 (Some (by_made 5)) None ∷ implied_type 5 empty_signature ∷ [])
+
+-- `(module (func (result i32 i64)) (type $t (func (result i32 i64))))`: a use takes a type that is written later.
+abbrev pub results7 : List ValType
+results7 = value.I32 ∷ value.I64 ∷ []
+
+abbrev pub row7_with : Address → Option Index → List ModuleField
+row7_with a type = func_at 8 type (Some (function_type [] results7)) ∷ type_at (Some (id_at a (codes "t") 38)) 32 (function_type [] results7) ∷ []
+
+abbrev pub row7 : Address → List ModuleField
+row7 a = row7_with a None
+
+abbrev pub Row7 : Type 0
+Row7 = (a : Address) →
+    (needed (row7 a) ≡ ([], results7) ∷ [])
+    × (implied (row7 a) ≡ [])
+    × (index_for (row7 a) ([], results7) ≡ Some 0)
+    × (ids_wanted (row7 a) ≡ 0)
+    × (expanded 5 (row7 a) ≡ row7_with a (Some (index.Id (id_at a (codes "t") 38))))
+
+-- `(module (type (func)) (func (type 0) (param i32)))`: a use with an index needs no type, and the type has an id.
+abbrev pub row23_with : Option Id → List ModuleField
+row23_with id = type_at id 8 (function_type [] []) ∷ func_at 22 (Some (by_number 0 34)) (Some (function_type (value.I32 ∷ []) [])) ∷ []
+
+abbrev pub Row23 : Type 0
+Row23 =
+    (needed (row23_with None) ≡ [])
+    × (implied (row23_with None) ≡ [])
+    × (index_for (row23_with None) empty_signature ≡ Some 0)
+    × (index_for (row23_with None) (value.I32 ∷ [], []) ≡ None)
+    × (ids_wanted (row23_with None) ≡ 1)
+    × (expanded 5 (row23_with None) ≡ row23_with (Some (generated 5 (place 9))))
+
+-- `(module (type (sub (func))) (func))`: an open type is taken.
+abbrev pub row37_with : Option Id → Option Index → List ModuleField
+row37_with id type = field.Ty (record (plain_type id 8) { def = record plain_def { final_type = Some false } }) ∷ func_at 28 type None ∷ []
+
+abbrev pub Row37 : Type 0
+Row37 =
+    (implied (row37_with None None) ≡ [])
+    × (index_for (row37_with None None) empty_signature ≡ Some 0)
+    × (expanded 5 (row37_with None None) ≡ row37_with (Some (generated 5 (place 9))) (Some (index.Id (generated 5 (place 9)))))
+
+-- `(module (func (param $p i32)) (func (result i32)) (type (func)) (func (param i32)))`: a type for each signature, in the
+-- order of first use and behind those that are written; names of parameters do not count.
+abbrev pub named_param : Address → FunctionType
+named_param a = record { params = (Some (id_at a (codes "p") 21), None, value.I32) ∷ []; results = [] }
+
+abbrev pub several_with : Address → Option Id → Option Index → Option Index → List ModuleField
+several_with a id param result =
+    func_at 8 param (Some (named_param a)) ∷ func_at 30 result (Some (function_type [] (value.I32 ∷ [])))
+    ∷ type_at id 50 (function_type [] []) ∷ func_at 64 param (Some (function_type (value.I32 ∷ []) [])) ∷ []
+
+abbrev pub several : Address → List ModuleField
+several a = several_with a None None None
+
+abbrev pub Several : Type 0
+Several = (a : Address) →
+    (needed (several a) ≡ (value.I32 ∷ [], []) ∷ ([], value.I32 ∷ []) ∷ (value.I32 ∷ [], []) ∷ [])
+    × (implied (several a) ≡ (value.I32 ∷ [], []) ∷ ([], value.I32 ∷ []) ∷ [])
+    × (index_for (several a) empty_signature ≡ Some 0)
+    × (index_for (several a) (value.I32 ∷ [], []) ≡ Some 1)
+    × (index_for (several a) ([], value.I32 ∷ []) ≡ Some 2)
+    × (ids_wanted (several a) ≡ 3)
+    × (expanded 5 (several a)
+    ≡ several_with a (Some (generated 5 (place 51))) (Some (by_made 6)) (Some (by_made 7))
+    ++ (implied_type 6 (value.I32 ∷ [], []) ∷ implied_type 7 ([], value.I32 ∷ []) ∷ []))
+
+-- `(module (type $a (func)) (type $b (func)) (func))`: the first type of the signature is taken.
+abbrev pub twice_with : Address → Address → Option Index → List ModuleField
+twice_with a b type = type_at (Some (id_at a (codes "a") 14)) 8 (function_type [] []) ∷ type_at (Some (id_at b (codes "b") 31)) 25 (function_type [] []) ∷ func_at 42 type None ∷ []
+
+abbrev pub FirstOfTwo : Type 0
+FirstOfTwo = (a b : Address) →
+    (index_for (twice_with a b None) empty_signature ≡ Some 0)
+    × (expanded 5 (twice_with a b None) ≡ twice_with a b (Some (index.Id (id_at a (codes "a") 14))))

@@ -1,0 +1,243 @@
+//! Type uses are bound in their place, and types are made for the signatures that none has.
+
+ghost use Rattle.std.specs.Prelude.{◌≡◌, ◌≤◌, ◌+◌, ◌++◌, ◌∷◌, [], Some, List, map, flat_map, IfOk, IfErr, OnOk};
+ghost use Rattle.wast_tree.specs.Ids.{generated};
+ghost use Rattle.wast_tree.specs.Faults.{out_of_memory};
+ghost use Rattle.wast_expand.specs.Tree.index;
+ghost use Rattle.wast_expand.specs.Signatures.{Signature};
+ghost use Rattle.wast_expand.specs.NeedingUses.{needed_by_use, needed_by_instr, needed_by_expression, needed_by_kind, needed_by_func, needed_by_field, inline_signature};
+ghost use Rattle.wast_expand.specs.Filling.{RunsOut};
+ghost use Rattle.wast_expand.specs.Expanders.{Bindings, LookUp, index_of, with_more, Extends};
+ghost use Rattle.wast_expand.specs.Expanded.{start_of_text, implied_type, bound_use, bound_instr, bound_expression, bound_kind, bound_func, bound_field};
+ghost use Rattle.wast_expand.specs.Binding.{state, next_after, Adds};
+
+use crate::expanders::Expander;
+use crate::keys::{FuncKey, TypeKey, TypeReference};
+use std::alloc::Global;
+use wast_tree::{
+    Error, Expression, Func, FuncKind, FunctionType, Gensym, Index, Instruction, ModuleField, Seq,
+    Span, Type, TypeUse,
+};
+
+/// A part of the tree in which type uses may stand.
+pub(crate) trait Bind<'a> {
+    /// The signatures of the uses in it that have no index.
+    ghost needed: { Self → List Signature };
+
+    /// What it becomes, where signatures are bound so.
+    ghost bound: { LookUp → Self → Self };
+
+    /// Binds each use in it that has no index.
+    fn bind(
+        &mut self,
+        alloc: Global,
+        cx: &mut Expander<'a>,
+        implied: &mut Seq<ModuleField<'a>>,
+        gensym: &mut Gensym,
+    ) -> Result<(), Error<'a>>
+        ensures bound { OnOk result ((more : Bindings) → self.new ≡ bound (with_more (index_of cx.new) more) self.old) }
+        ensures adds { OnOk result (Adds (state cx.old implied.old gensym.old) (state cx.new implied.new gensym.new) (needed self.old)) }
+        ensures refusal { IfErr result (RunsOut (next_after (state cx.old implied.old gensym.old) (needed self.old))) }
+        ensures rising { gensym.old ≤ gensym.new };
+}
+
+/// Binds in each part of a list, in order.
+pub(crate) fn bind_each<'a, T: Bind<'a>>(
+    parts: &mut Seq<T>,
+    alloc: Global,
+    cx: &mut Expander<'a>,
+    implied: &mut Seq<ModuleField<'a>>,
+    gensym: &mut Gensym,
+) -> Result<(), Error<'a>>
+    ensures bound { OnOk result ((more : Bindings) → parts.new ≡ map (T.bound (with_more (index_of cx.new) more)) parts.old) }
+    ensures adds { OnOk result (Adds (state cx.old implied.old gensym.old) (state cx.new implied.new gensym.new) (flat_map T.needed parts.old)) }
+    ensures refusal { IfErr result (RunsOut (next_after (state cx.old implied.old gensym.old) (flat_map T.needed parts.old))) }
+    ensures rising { gensym.old ≤ gensym.new }
+{
+    for i in 0..parts.len() {
+        parts.at_mut(i).bind(alloc, cx, implied, gensym)?;
+    }
+    Ok(())
+}
+
+impl<'a> Bind<'a> for ModuleField<'a> {
+    ghost needed = { needed_by_field };
+
+    ghost bound = { bound_field };
+
+    fn bind(
+        &mut self,
+        alloc: Global,
+        cx: &mut Expander<'a>,
+        implied: &mut Seq<ModuleField<'a>>,
+        gensym: &mut Gensym,
+    ) -> Result<(), Error<'a>> {
+        match self {
+            ModuleField::Ty(_) => Ok(()),
+            ModuleField::Func(func) => {
+                func.bind(alloc, cx, implied, gensym)?;
+                Ok(())
+            }
+            ModuleField::Export(_) => Ok(()),
+        }
+    }
+}
+
+impl<'a> Bind<'a> for Func<'a> {
+    ghost needed = { needed_by_func };
+
+    ghost bound = { bound_func };
+
+    fn bind(
+        &mut self,
+        alloc: Global,
+        cx: &mut Expander<'a>,
+        implied: &mut Seq<ModuleField<'a>>,
+        gensym: &mut Gensym,
+    ) -> Result<(), Error<'a>> {
+        self.ty.bind(alloc, cx, implied, gensym)?;
+        self.kind.bind(alloc, cx, implied, gensym)?;
+        Ok(())
+    }
+}
+
+impl<'a> Bind<'a> for FuncKind<'a> {
+    ghost needed = { needed_by_kind };
+
+    ghost bound = { bound_kind };
+
+    fn bind(
+        &mut self,
+        alloc: Global,
+        cx: &mut Expander<'a>,
+        implied: &mut Seq<ModuleField<'a>>,
+        gensym: &mut Gensym,
+    ) -> Result<(), Error<'a>> {
+        match self {
+            FuncKind::Inline { expression, .. } => {
+                expression.bind(alloc, cx, implied, gensym)?;
+                Ok(())
+            }
+        }
+    }
+}
+
+impl<'a> Bind<'a> for Expression<'a> {
+    ghost needed = { needed_by_expression };
+
+    ghost bound = { bound_expression };
+
+    fn bind(
+        &mut self,
+        alloc: Global,
+        cx: &mut Expander<'a>,
+        implied: &mut Seq<ModuleField<'a>>,
+        gensym: &mut Gensym,
+    ) -> Result<(), Error<'a>> {
+        bind_each(&mut self.instrs, alloc, cx, implied, gensym)?;
+        Ok(())
+    }
+}
+
+impl<'a> Bind<'a> for Instruction<'a> {
+    ghost needed = { needed_by_instr };
+
+    ghost bound = { bound_instr };
+
+    fn bind(
+        &mut self,
+        _alloc: Global,
+        _cx: &mut Expander<'a>,
+        _implied: &mut Seq<ModuleField<'a>>,
+        _gensym: &mut Gensym,
+    ) -> Result<(), Error<'a>> {
+        match self {
+            Instruction::call(_) => Ok(()),
+        }
+    }
+}
+
+impl<'a> Bind<'a> for TypeUse<'a, FunctionType<'a>> {
+    ghost needed = { needed_by_use };
+
+    ghost bound = { bound_use };
+
+    fn bind(
+        &mut self,
+        alloc: Global,
+        cx: &mut Expander<'a>,
+        implied: &mut Seq<ModuleField<'a>>,
+        gensym: &mut Gensym,
+    ) -> Result<(), Error<'a>> {
+        match self.index {
+            Some(_) => Ok(()),
+            None => {
+                let key = inline_key(alloc, &self.inline)?;
+                let index = key_to_idx(alloc, key, cx, implied, gensym)?;
+                self.index = Some(index);
+                Ok(())
+            }
+        }
+    }
+}
+
+/// The key of an inline type; that of `(func)` where there is none.
+fn inline_key<'a>(alloc: Global, inline: &Option<FunctionType<'a>>) -> Result<FuncKey, Error<'a>>
+    ensures ok { IfOk result (λ key. key ≡ inline_signature inline.now) }
+    ensures refusal { IfErr result (λ e. e ≡ out_of_memory) }
+{
+    match inline {
+        Some(ty) => ty.key(alloc),
+        None => Ok(FuncKey(Seq::new(alloc), Seq::new(alloc))),
+    }
+}
+
+/// The index of the first type with the key: a new one where no type has it.
+fn key_to_idx<'a>(
+    alloc: Global,
+    key: FuncKey,
+    cx: &mut Expander<'a>,
+    implied: &mut Seq<ModuleField<'a>>,
+    gensym: &mut Gensym,
+) -> Result<Index<'a>, Error<'a>>
+    ensures index { IfOk result (λ i. index_of cx.new key ≡ Some i) }
+    ensures adds { OnOk result (Adds (state cx.old implied.old gensym.old) (state cx.new implied.new gensym.new) (key ∷ [])) }
+    ensures refusal { IfErr result (RunsOut (next_after (state cx.old implied.old gensym.old) (key ∷ []))) }
+    ensures rising { gensym.old ≤ gensym.new }
+{
+    match cx.get(&key) {
+        Some(index) => Ok(index),
+        None => {
+            let index = add_type(alloc, key, cx, implied, gensym)?;
+            Ok(index)
+        }
+    }
+}
+
+/// A type of its own for a key.
+fn add_type<'a>(
+    alloc: Global,
+    key: FuncKey,
+    cx: &mut Expander<'a>,
+    implied: &mut Seq<ModuleField<'a>>,
+    gensym: &mut Gensym,
+) -> Result<Index<'a>, Error<'a>>
+    ensures index { IfOk result (λ i. i ≡ index.Id (generated gensym.old start_of_text)) }
+    ensures types { OnOk result (Extends cx.old cx.new ((key, index.Id (generated gensym.old start_of_text)) ∷ [])) }
+    ensures implied { OnOk result (implied.new ≡ implied.old ++ implied_type gensym.old key ∷ []) }
+    ensures counted { OnOk result (gensym.new ≡ gensym.old + 1) }
+    ensures refusal { IfErr result (RunsOut (gensym.old + 1)) }
+    ensures rising { gensym.old ≤ gensym.new }
+{
+    let span = Span { offset: 0 };
+    let id = gensym.generate(span)?;
+    let def = key.to_def(alloc, span, false)?;
+    implied.push(ModuleField::Ty(Type {
+        span,
+        id: Some(id),
+        name: None,
+        def,
+    }))?;
+    cx.put(key, Index::Id(id))?;
+    Ok(Index::Id(id))
+}
