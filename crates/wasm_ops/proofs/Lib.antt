@@ -6,3 +6,4 @@ pub mod Numbers
 pub mod SignedNumbers
 pub mod Sinking
 pub mod TypeCodes
+pub mod Everywhere

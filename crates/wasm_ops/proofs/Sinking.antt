@@ -1,17 +1,20 @@
 -- One append after another, and what is cut back.
 use Rattle.std.proofs.Common.{◌≡◌, ◌≤◌, ◌<◌, ◌+◌, ◌-◌, ℕ, Bool, true, false, List, [], ◌∷◌, ◌++◌, Result, Ok, Err, is_err, refl, sym, ap, ◌∙◌, subst, inl, inr, arith, length, take, get_or, append-nil}
-use Rattle.std.specs.Prelude.{All}
+use Rattle.std.specs.Prelude.{All, Option, Some, None, option_map}
 use Rattle.std.specs.List.{flat_map, list_all}
 use Rattle.std.proofs.lemmas.Grind.{flat_map-append}
 use Rattle.std.proofs.lemmas.List.{take_more}
 use Rattle.std.proofs.lemmas.List.Concat.{flat_map-cons}
-use Rattle.std.proofs.lemmas.List.Elements.{All-more}
+use Rattle.std.proofs.lemmas.List.Elements.{All-nil, All-head, All-more}
+use Rattle.std.specs.Option.{option_to_list}
+use Rattle.wasm_ops.proofs.Everywhere.{all_one, flat_one}
 use Rattle.wast_tree.specs.declared.faults.Error.{Error}
-use Rattle.wasm_ops.specs.Sinks.{SinkRules, IsRefusal, Puts, AppendLaws}
+use Rattle.wasm_ops.specs.declared.sink.Refusal.{Refusal}
+use Rattle.wasm_ops.specs.Sinks.{SinkRules, IsRefusal, Writes, Puts, Skips, AppendLaws, refused_as}
 
 -- what has no room behind x has none where x is a part
-refused_behind : {S : Type 0} (rules : SinkRules S) (all part : Type 0) (a b : S) (x y whole : List ℕ) (e : Error)
-    → AppendLaws rules → length x + length y ≤ length whole → (all → part) → rules.appended a b x → IsRefusal rules.refusal (rules.fits b (length y)) part e → IsRefusal rules.refusal (rules.fits a (length whole)) all e
+refused_behind : {S : Type 0} (rules : SinkRules S) (all part : Type 0) (a b : S) (x y whole : List ℕ) (e : Refusal)
+    → AppendLaws rules → length x + length y ≤ length whole → (all → part) → rules.appended a b x → IsRefusal rules b (length y) part e → IsRefusal rules a (length whole) all e
 refused_behind rules all part a b x y whole e laws le has h r =
     elim r [
       | inl p ↦ inl (p.0, λ f. p.1 (laws.fits_less b (length y) (length whole - length x) (omega arith) (laws.fits_rest a b x (length whole) (omega arith) f h)))
@@ -19,8 +22,8 @@ refused_behind rules all part a b x y whole e laws le has h r =
     ]
 
 -- after x, y was refused: the sink is cut back to its size before x
-pub cut_back : {S A : Type 0} (rules : SinkRules S) (all part : Type 0) (a b c d : S) (x y whole : List ℕ) (n : ℕ) (r : Result A Error)
-    → AppendLaws rules → length x + length y ≤ length whole → (all → part) → rules.appended a b x → Puts rules part b c y r → is_err r ≡ true → n ≡ rules.size_of a → rules.is_cut c n d → Puts rules all a d whole r
+pub cut_back : {S A : Type 0} (rules : SinkRules S) (all part : Type 0) (a b c d : S) (x y whole : List ℕ) (n : ℕ) (r : Result A Refusal)
+    → AppendLaws rules → length x + length y ≤ length whole → (all → part) → rules.appended a b x → Writes rules part b c y r → is_err r ≡ true → n ≡ rules.size_of a → rules.is_cut c n d → Writes rules all a d whole r
 cut_back rules all part a b c d x y whole n (Ok t) laws le has h p bad s k = absurd cc
 cut_back rules all part a b c d x y whole n (Err e) laws le has h p bad s k = (
   laws.cuts_back a c d (x ++ []) (laws.joins a b c x [] h p.0) (subst (λ (m : ℕ). rules.is_cut c m d) s k),
@@ -28,15 +31,20 @@ cut_back rules all part a b c d x y whole n (Err e) laws le has h p bad s k = (
 )
 
 -- the range said another way
-pub puts_as : {S A : Type 0} (rules : SinkRules S) (one other : Type 0) (a b : S) (x : List ℕ) (r : Result A Error)
-    → (one → other) → (other → one) → Puts rules one a b x r → Puts rules other a b x r
+pub puts_as : {S A : Type 0} (rules : SinkRules S) (one other : Type 0) (a b : S) (x : List ℕ) (r : Result A Refusal)
+    → (one → other) → (other → one) → Writes rules one a b x r → Writes rules other a b x r
 puts_as rules one other a b x (Ok t) f g p = (p.0, f p.1)
 puts_as rules one other a b x (Err e) f g p =
     (p.0, elim p.1 [ inl q ↦ inl q | inr q ↦ inr (q.0, λ s. q.1 (g s)) ])
 
+-- the range and the bytes said another way
+pub written_as : {S A : Type 0} (rules : SinkRules S) (one other : Type 0) (a b : S) (x y : List ℕ) (r : Result A Refusal)
+    → (one → other) → (other → one) → x ≡ y → Writes rules one a b x r → Writes rules other a b y r
+written_as rules one other a b x y r f g is p = subst (λ z. Writes rules other a b z r) is (puts_as rules one other a b x r f g p)
+
 -- what was no error was appended, and is in range
-was_put : {S A : Type 0} (rules : SinkRules S) (in_range : Type 0) (a b : S) (x : List ℕ) (r : Result A Error)
-    → Puts rules in_range a b x r → is_err r ≡ false → rules.appended a b x × in_range
+was_put : {S A : Type 0} (rules : SinkRules S) (in_range : Type 0) (a b : S) (x : List ℕ) (r : Result A Refusal)
+    → Writes rules in_range a b x r → is_err r ≡ false → rules.appended a b x × in_range
 was_put rules in_range a b x (Ok t) p good = p
 was_put rules in_range a b x (Err e) p good = absurd cc
 
@@ -48,8 +56,8 @@ flat_map-take-more f xs k x lt is =
     ∙ ap (flat_map f) (sym (take_more xs k x lt))
 
 -- one item more
-pub one_item_more : {S A X : Type 0} (rules : SinkRules S) (spell : X → List ℕ) (in_range : X → Type 0) (a b c : S) (xs : List X) (k : ℕ) (x : X) (r : Result A Error)
-    → AppendLaws rules → k < length xs → x ≡ get_or xs k x → rules.appended a b (flat_map spell (take k xs)) → All in_range (take k xs) → Puts rules (in_range x) b c (spell x) r → is_err r ≡ false
+pub one_item_more : {S A X : Type 0} (rules : SinkRules S) (spell : X → List ℕ) (in_range : X → Type 0) (a b c : S) (xs : List X) (k : ℕ) (x : X) (r : Result A Refusal)
+    → AppendLaws rules → k < length xs → x ≡ get_or xs k x → rules.appended a b (flat_map spell (take k xs)) → All in_range (take k xs) → Writes rules (in_range x) b c (spell x) r → is_err r ≡ false
     → rules.appended a c (flat_map spell (take (k + 1) xs)) × All in_range (take (k + 1) xs)
 one_item_more rules spell in_range a b c xs k x r laws lt is has all p good =
     let one = was_put rules (in_range x) b c (spell x) r p good in (
@@ -61,3 +69,39 @@ one_item_more rules spell in_range a b c xs k x r laws lt is has all p good =
 pub all_covered : {X : Type 0} (is_covered : X → Bool) (xs : List X) → ((x : X) → is_covered x ≡ true) → list_all is_covered xs ≡ true
 all_covered is_covered [] each = refl
 all_covered is_covered (x ∷ xs) each = rw (each x, all_covered is_covered xs each) refl
+
+-- who said no stays as it was
+said_no : {S : Type 0} (rules : SinkRules S) (a b : S) (count : ℕ) (says : Bool) → Skips rules a b count says → says ≡ false → b ≡ a
+said_no rules a b count true p says_no = absurd cc
+said_no rules a b count false p says_no = p
+
+-- after x and a no, y was refused: the sink is cut back to its size before x
+pub cut_after_no : {S A : Type 0} (rules : SinkRules S) (all part : Type 0) (a b s c d : S) (x y whole : List ℕ) (n count : ℕ) (says : Bool) (r : Result A Refusal)
+    → AppendLaws rules → length x + length y ≤ length whole → (all → part) → rules.appended a b x → Skips rules b s count says → says ≡ false → Writes rules part s c y r → is_err r ≡ true → n ≡ rules.size_of a → rules.is_cut c n d → Writes rules all a d whole r
+cut_after_no rules all part a b s c d x y whole n count says r laws le has h told says_no p bad at k =
+    cut_back rules all part a s c d x y whole n r laws le has (subst (λ t. rules.appended a t x) (sym (said_no rules b s count says told says_no)) h) p bad at k
+
+-- a call that tells a refusal by its error
+pub told_as : {S : Type 0} (rules : SinkRules S) (in_range : Type 0) (a b : S) (x : List ℕ) (r : Refusal) (e : Error)
+    → Writes {A = Unit {0}} rules in_range a b x (Err r) → e ≡ refused_as r → Puts {A = Unit {0}} rules in_range a b x (Err e)
+told_as rules in_range a b x r e p is = (
+  p.0,
+  elim p.1 [
+    | inl q ↦ inl (is ∙ ap refused_as q.0, q.1)
+    | inr q ↦ inr (is ∙ ap refused_as q.0, q.1)
+  ],
+)
+
+-- a list of one
+pub one_written : {S A X : Type 0} (rules : SinkRules S) (spell : X → List ℕ) (InRange : X → Type 0) (a b : S) (x : X) (r : Result A Refusal)
+    → Writes rules (InRange x) a b (spell x) r → Writes rules (All InRange (x ∷ [])) a b (flat_map spell (x ∷ [])) r
+one_written rules spell InRange a b x r p =
+    written_as rules (InRange x) (All InRange (x ∷ [])) a b (spell x) (flat_map spell (x ∷ [])) r (all_one InRange x) (All-head InRange x []) (sym (flat_one spell x)) p
+
+-- what is there, as values of another type
+pub option_written : {S A X Y : Type 0} (rules : SinkRules S) (spell : Y → List ℕ) (InRange : Y → Type 0) (f : X → Y) (a b : S) (o : Option X) (r : Result A Refusal)
+    → Writes rules (All (λ x. InRange (f x)) (option_to_list o)) a b (flat_map (λ x. spell (f x)) (option_to_list o)) r → Writes rules (All InRange (option_to_list (option_map f o))) a b (flat_map spell (option_to_list (option_map f o))) r
+option_written rules spell InRange f a b None r p = written_as rules (All (λ x. InRange (f x)) []) (All InRange []) a b [] [] r (λ h. All-nil InRange) (λ h. All-nil (λ x. InRange (f x))) refl p
+option_written rules spell InRange f a b (Some x) r p =
+    written_as rules (All (λ x. InRange (f x)) (x ∷ [])) (All InRange (f x ∷ [])) a b (flat_map (λ x. spell (f x)) (x ∷ [])) (flat_map spell (f x ∷ [])) r
+    (λ h. all_one InRange (f x) (All-head (λ x. InRange (f x)) x [] h)) (λ h. all_one (λ x. InRange (f x)) x (All-head InRange (f x) [] h)) (flat_one (λ x. spell (f x)) x ∙ sym (flat_one spell (f x))) p

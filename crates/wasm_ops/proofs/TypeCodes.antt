@@ -1,5 +1,5 @@
 -- The spellings of types show their value.
-use Rattle.std.proofs.Common.{◌≡◌, ◌&&◌, ℕ, Bool, true, false, Option, Some, None, List, [], ◌∷◌, ◌++◌, refl, sym, ap, ◌∙◌, arith}
+use Rattle.std.proofs.Common.{◌≡◌, ◌<◌, ◌&&◌, ℕ, Bool, true, false, Option, Some, None, List, [], ◌∷◌, ◌++◌, refl, sym, ap, ◌∙◌, arith}
 use Rattle.std.specs.Prelude.{IsTrue, not, is_none}
 use Rattle.wasm_ops.specs.Codes.{IsCode}
 use Rattle.wasm_ops.specs.Leb128.{unsigned}
@@ -111,3 +111,12 @@ sub_type_code = record {
       let g : Below → SubType = λ p. record { is_final = y.is_final; supertype_idxs = p.0; composite_type = p.1 } in
       (ap f one.0 ∙ ap g one.1, one.2);
 }
+
+-- no type begins with the byte of a group
+pub sub_front : (s : SubType) (r : List ℕ) → 0x4e < front (sub_type s ++ r)
+sub_front s r = sub_bytes_front s.is_final s.supertype_idxs s.composite_type.inner r
+  where
+    sub_bytes_front : (m : Bool) (ps : List ℕ) (i : CompositeInnerType) (r : List ℕ) → 0x4e < front (sub_bytes m ps (composite_inner_type i) ++ r)
+    sub_bytes_front true [] i r = omega (arith, composite_front i r)
+    sub_bytes_front true (p ∷ ps) i r = omega arith
+    sub_bytes_front false ps i r = omega arith

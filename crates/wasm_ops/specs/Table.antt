@@ -77,10 +77,17 @@ kinds_of opcode [] = None
 kinds_of opcode (r ∷ rs) =
     elim (same_opcode r.opcode opcode) [ true ↦ Some r.kinds | false ↦ kinds_of opcode rs ]
 
--- the row stands in the table, and the numbers are in range
+-- the numbers of an instruction are in range
+abbrev pub InRangeInstr : Instr → Type 0
+InRangeInstr i = InRangeFields i.row.kinds i.numbers
+
+-- its row stands in the table
+abbrev pub HasRow : Instr → Type 0
+HasRow i = kinds_of i.row.opcode table ≡ Some i.row.kinds
+
 pub record IsInstr (i : Instr) : Type 0 where
-  pub row : kinds_of i.row.opcode table ≡ Some i.row.kinds
-  pub numbers : InRangeFields i.row.kinds i.numbers
+  pub row : HasRow i
+  pub numbers : InRangeInstr i
 
 -- where an opcode stands among all: the bytes, and then the numbers behind each prefix
 abbrev pub opcode_order : Opcode → ℕ

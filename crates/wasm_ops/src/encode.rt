@@ -1,14 +1,14 @@
 //! What has a spelling, and how spellings are put together: pairs, lists, counts and sizes.
 
-ghost use Rattle.std.specs.Prelude.{ℕ, Bool, true, ◌&&◌, List, [], ◌∷◌, ◌++◌, IsTrue};
+ghost use Rattle.std.specs.Prelude.{◌≡◌, ℕ, Bool, length, true, ◌&&◌, List, [], ◌∷◌, ◌++◌, IsTrue};
 ghost use Rattle.std.specs.List.{All, flat_map, list_all};
+ghost use Rattle.std.specs.Option.{option_to_list};
 ghost use Rattle.wasm_ops.specs.Leb128.{unsigned};
-ghost use Rattle.wasm_ops.specs.Sinks.{Puts};
+ghost use Rattle.wasm_ops.specs.Sinks.{Writes, Puts};
 ghost use Rattle.wasm_ops.specs.Spelling.{Any, InRangeU32, vec, InRangeVec, sized, InRangeSized, name, InRangeName};
 
-use crate::leb128::write_u32;
-use crate::sink::{Length, Sink};
-use wast_tree::{Error, Fault};
+use crate::sink::{Length, Refusal, Sink};
+use wast_tree::Error;
 
 /// What has a spelling in the binary format.
 pub trait Encode {
@@ -18,16 +18,16 @@ pub trait Encode {
     /// Its numbers, counts and lengths are in the range that the binary format gives them.
     ghost in_range: { Self → Type 0 };
 
-    /// It is of a form that the encoder covers.
-    ghost is_covered: { Self → Bool };
+    /// It can be spelled: it is of a form that the encoder covers, and its indices are numbers.
+    ghost is_ready: { Self → Bool };
 
-    /// Appends the spelling. It needs a value that is covered.
+    /// Appends the spelling. It needs a value that can be spelled.
     ///
-    /// The errors are the sink's refusal, where it has no room, and too large, where a number, count or length is out
-    /// of range; then nothing was appended.
-    fn encode<'e, S: Sink>(&self, out: &mut S) -> Result<(), Error<'e>>
-        requires { IsTrue (is_covered self.now) }
-        ensures { Puts S.rules (in_range self.now) out.old out.new (spelling self.now) result };
+    /// It refuses as the sink does, where the spelling does not fit, and as too large, where a number, count or length
+    /// is out of range; then nothing was appended.
+    fn encode<S: Sink>(&self, out: &mut S) -> Result<(), Refusal>
+        requires { IsTrue (is_ready self.now) }
+        ensures { Writes S.rules (in_range self.now) out.old out.new (spelling self.now) result };
 }
 
 /// A byte (binary format, bytes).
@@ -36,35 +36,35 @@ impl Encode for u8 {
 
     ghost in_range = { Any };
 
-    ghost is_covered = { λ _. true };
+    ghost is_ready = { λ _. true };
 
-    fn encode<'e, S: Sink>(&self, out: &mut S) -> Result<(), Error<'e>> {
-        out.put(&[*self])
+    fn encode<S: Sink>(&self, out: &mut S) -> Result<(), Refusal> {
+        out.push_bytes(&[*self])
     }
 }
 
-/// An unsigned number, as of an index (binary format, integers: `u32`).
+/// An unsigned number, as an index is, by its shortest bytes (binary format, integers: `u32`).
 impl Encode for u32 {
     ghost spelling = { unsigned };
 
     ghost in_range = { InRangeU32 };
 
-    ghost is_covered = { λ _. true };
+    ghost is_ready = { λ _. true };
 
-    fn encode<'e, S: Sink>(&self, out: &mut S) -> Result<(), Error<'e>> {
-        write_u32(out, *self)
+    fn encode<S: Sink>(&self, out: &mut S) -> Result<(), Refusal> {
+        out.push_number(u64::from(*self))
     }
 }
 
-/// One after the other.
+/// One value after the other (binary format, grammar).
 impl<A: Encode, B: Encode> Encode for (A, B) {
     ghost spelling = { λ p. A.spelling p.0 ++ B.spelling p.1 };
 
     ghost in_range = { λ p. A.in_range p.0 × B.in_range p.1 };
 
-    ghost is_covered = { λ p. A.is_covered p.0 && B.is_covered p.1 };
+    ghost is_ready = { λ p. A.is_ready p.0 && B.is_ready p.1 };
 
-    fn encode<'e, S: Sink>(&self, out: &mut S) -> Result<(), Error<'e>> {
+    fn encode<S: Sink>(&self, out: &mut S) -> Result<(), Refusal> {
         let start = out.size();
         self.0.encode(out)?;
         let second = self.1.encode(out);
@@ -75,34 +75,102 @@ impl<A: Encode, B: Encode> Encode for (A, B) {
     }
 }
 
-/// What a reference leads to.
+/// A reference is spelled as what it leads to.
 impl<'a, T: Encode> Encode for &'a T {
     ghost spelling = { λ x. T.spelling x.now };
 
     ghost in_range = { λ x. T.in_range x.now };
 
-    ghost is_covered = { λ x. T.is_covered x.now };
+    ghost is_ready = { λ x. T.is_ready x.now };
 
-    fn encode<'e, S: Sink>(&self, out: &mut S) -> Result<(), Error<'e>> {
+    fn encode<S: Sink>(&self, out: &mut S) -> Result<(), Refusal> {
         (**self).encode(out)
     }
 }
 
-/// Items one after another, without their number (binary format, grammar).
+/// A way to spell values of a type, as items of a list: by their own spelling ([`Itself`]), or by another.
+pub trait Spell<T> {
+    /// The bytes of an item.
+    ghost spelling: { Self → T → List ℕ };
+
+    /// Its numbers, counts and lengths are in the range that the binary format gives them.
+    ghost in_range: { Self → T → Type 0 };
+
+    /// It can be spelled: it is of a form that the encoder covers, and its indices are numbers.
+    ghost is_ready: { Self → T → Bool };
+
+    /// Appends the spelling of an item. It needs an item that can be spelled.
+    ///
+    /// It refuses as [`Encode::encode`] does; then nothing was appended.
+    fn spell<S: Sink>(&self, item: &T, out: &mut S) -> Result<(), Refusal>
+        requires { IsTrue (is_ready self.now item.now) }
+        ensures { Writes S.rules (in_range self.now item.now) out.old out.new (spelling self.now item.now) result };
+}
+
+/// The way to spell each item by its own spelling.
+#[derive(Clone, Copy, Debug)]
+pub struct Itself;
+
+impl<T: Encode> Spell<T> for Itself {
+    ghost spelling = { λ _ x. T.spelling x };
+
+    ghost in_range = { λ _ x. T.in_range x };
+
+    ghost is_ready = { λ _ x. T.is_ready x };
+
+    fn spell<S: Sink>(&self, item: &T, out: &mut S) -> Result<(), Refusal> {
+        item.encode(out)
+    }
+}
+
+/// `By(item, way)`: one item, spelled in that way.
 #[derive(Clone, Copy)]
-pub struct Each<'a, T>(pub &'a [T]);
+pub struct By<'a, T, W>(pub &'a T, pub W);
 
-impl<'a, T: Encode> Encode for Each<'a, T> {
-    ghost spelling = { λ s. flat_map T.spelling s.0.now };
+impl<'a, T, W: Spell<T>> Encode for By<'a, T, W> {
+    ghost spelling = { λ s. W.spelling s.1 s.0.now };
 
-    ghost in_range = { λ s. All T.in_range s.0.now };
+    ghost in_range = { λ s. W.in_range s.1 s.0.now };
 
-    ghost is_covered = { λ s. list_all T.is_covered s.0.now };
+    ghost is_ready = { λ s. W.is_ready s.1 s.0.now };
 
-    fn encode<'e, S: Sink>(&self, out: &mut S) -> Result<(), Error<'e>> {
+    fn encode<S: Sink>(&self, out: &mut S) -> Result<(), Refusal> {
+        self.1.spell(self.0, out)
+    }
+}
+
+/// What is there, or no bytes.
+impl<T: Encode> Encode for Option<T> {
+    ghost spelling = { λ o. flat_map T.spelling (option_to_list o) };
+
+    ghost in_range = { λ o. All T.in_range (option_to_list o) };
+
+    ghost is_ready = { λ o. list_all T.is_ready (option_to_list o) };
+
+    fn encode<S: Sink>(&self, out: &mut S) -> Result<(), Refusal> {
+        match self {
+            None => Ok(()),
+            Some(value) => value.encode(out),
+        }
+    }
+}
+
+/// `Each(items, way)`: the items one after another, without their number, each spelled in that way (binary format,
+/// grammar).
+#[derive(Clone, Copy)]
+pub struct Each<'a, T, W>(pub &'a [T], pub W);
+
+impl<'a, T, W: Spell<T>> Encode for Each<'a, T, W> {
+    ghost spelling = { λ s. flat_map (W.spelling s.1) s.0.now };
+
+    ghost in_range = { λ s. All (W.in_range s.1) s.0.now };
+
+    ghost is_ready = { λ s. list_all (W.is_ready s.1) s.0.now };
+
+    fn encode<S: Sink>(&self, out: &mut S) -> Result<(), Refusal> {
         let start = out.size();
         for item in self.0 {
-            let result = item.encode(out);
+            let result = self.1.spell(item, out);
             if result.is_err() {
                 out.cut(start);
                 return result;
@@ -112,22 +180,23 @@ impl<'a, T: Encode> Encode for Each<'a, T> {
     }
 }
 
-/// The number of the items, and the items (binary format, lists).
+/// `Counted(items, way)`: the number of the items, and the items, each spelled in that way (binary format, lists). From
+/// 2^32 on their number is out of range.
 #[derive(Clone, Copy)]
-pub struct Counted<'a, T>(pub &'a [T]);
+pub struct Counted<'a, T, W>(pub &'a [T], pub W);
 
-impl<'a, T: Encode> Encode for Counted<'a, T> {
-    ghost spelling = { λ s. vec T.spelling s.0.now };
+impl<'a, T, W: Spell<T> + Copy> Encode for Counted<'a, T, W> {
+    ghost spelling = { λ s. vec (W.spelling s.1) s.0.now };
 
-    ghost in_range = { λ s. InRangeVec T.in_range s.0.now };
+    ghost in_range = { λ s. InRangeVec (W.in_range s.1) s.0.now };
 
-    ghost is_covered = { λ s. list_all T.is_covered s.0.now };
+    ghost is_ready = { λ s. list_all (W.is_ready s.1) s.0.now };
 
-    fn encode<'e, S: Sink>(&self, out: &mut S) -> Result<(), Error<'e>> {
+    fn encode<S: Sink>(&self, out: &mut S) -> Result<(), Refusal> {
         let Ok(count) = u32::try_from(self.0.len()) else {
-            return Err(Error::refusal(Fault::TooLarge));
+            return Err(Refusal::TooLarge);
         };
-        (count, Each(self.0)).encode(out)
+        (count, Each(self.0, self.1)).encode(out)
     }
 }
 
@@ -140,35 +209,58 @@ impl<'a> Encode for Raw<'a> {
 
     ghost in_range = { Any };
 
-    ghost is_covered = { λ _. true };
+    ghost is_ready = { λ _. true };
 
-    fn encode<'e, S: Sink>(&self, out: &mut S) -> Result<(), Error<'e>> {
-        out.put(self.0)
+    fn encode<S: Sink>(&self, out: &mut S) -> Result<(), Refusal> {
+        out.push_bytes(self.0)
     }
 }
 
-/// A value behind the number of its bytes, as in a section or a body (binary format, sections).
+/// A value behind the number of its bytes, as in a section or a body (binary format, sections). From 2^32 on that
+/// number is out of range.
 #[derive(Clone, Copy)]
 pub struct WithLength<T>(pub T);
+
+/// Appends the length of a value, and the value; a sink that skips is told the length alone. It needs the length of the
+/// value, which can be spelled and is in range.
+fn put_sized<T: Encode, S: Sink>(out: &mut S, size: u64, value: &T) -> Result<(), Refusal>
+    requires ready { IsTrue (T.is_ready value.now) }
+    requires range { T.in_range value.now }
+    requires size { size ≡ length (T.spelling value.now) }
+    ensures { Writes S.rules (Unit {0}) out.old out.new (sized T.spelling value.now) result }
+{
+    let start = out.size();
+    out.push_number(size)?;
+    if out.skip(size) {
+        return Ok(());
+    }
+    let second = value.encode(out);
+    if second.is_err() {
+        out.cut(start);
+    }
+    second
+}
 
 impl<T: Encode> Encode for WithLength<T> {
     ghost spelling = { λ s. sized T.spelling s.0 };
 
     ghost in_range = { λ s. InRangeSized T.in_range T.spelling s.0 };
 
-    ghost is_covered = { λ s. T.is_covered s.0 };
+    ghost is_ready = { λ s. T.is_ready s.0 };
 
-    fn encode<'e, S: Sink>(&self, out: &mut S) -> Result<(), Error<'e>> {
+    fn encode<S: Sink>(&self, out: &mut S) -> Result<(), Refusal> {
         let mut length = Length::new();
         self.0.encode(&mut length)?;
-        let Ok(size) = u32::try_from(length.count()) else {
-            return Err(Error::refusal(Fault::TooLarge));
-        };
-        (size, &self.0).encode(out)
+        let length = length.count();
+        if u32::try_from(length).is_err() {
+            return Err(Refusal::TooLarge);
+        }
+        put_sized(out, length, &self.0)
     }
 }
 
-/// A text as a name: the number of its bytes, and its bytes (binary format, names).
+/// A text as a name: the number of its bytes, and its bytes (binary format, names). From 2^32 on that number is out of
+/// range.
 #[derive(Clone, Copy)]
 pub struct Name<'a>(pub &'a str);
 
@@ -177,19 +269,23 @@ impl<'a> Encode for Name<'a> {
 
     ghost in_range = { λ n. InRangeName n.0.now };
 
-    ghost is_covered = { λ _. true };
+    ghost is_ready = { λ _. true };
 
-    fn encode<'e, S: Sink>(&self, out: &mut S) -> Result<(), Error<'e>> {
-        WithLength(Raw(self.0.as_bytes())).encode(out)
+    fn encode<S: Sink>(&self, out: &mut S) -> Result<(), Refusal> {
+        let length = self.0.len() as u64;
+        if u32::try_from(length).is_err() {
+            return Err(Refusal::TooLarge);
+        }
+        put_sized(out, length, &Raw(self.0.as_bytes()))
     }
 }
 
 /// Appends a name: the number of its bytes, and its bytes (binary format, names).
 ///
-/// The errors are the sink's refusal, where it has no room, and too large, where the name has 2^32 bytes or more; then
-/// nothing was appended.
+/// The errors are the sink's refusal, where the name does not fit, and too large, E10, where it has 2^32 bytes or more;
+/// then nothing was appended.
 pub fn write_name<'e, S: Sink>(out: &mut S, text: &str) -> Result<(), Error<'e>>
     ensures { Puts S.rules (InRangeName text.now) out.old out.new (name text.now) result }
 {
-    Name(text).encode(out)
+    Ok(Name(text).encode(out)?)
 }

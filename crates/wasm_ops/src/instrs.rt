@@ -1,12 +1,12 @@
 //! Instructions of the binary format.
 
-ghost use Rattle.std.specs.Prelude.{◌≡◌};
+ghost use Rattle.std.specs.Prelude.{◌≡◌, true};
 ghost use Rattle.wasm_ops.specs.IndexInstrs.{index_byte, index_instr};
 ghost use Rattle.wasm_ops.specs.Sinks.{Puts};
-ghost use Rattle.wasm_ops.specs.Table.{instr, IsInstr};
+ghost use Rattle.wasm_ops.specs.Table.{instr, InRangeInstr, IsInstr};
 
 use crate::encode::Encode;
-use crate::sink::Sink;
+use crate::sink::{Refusal, Sink};
 use wast_tree::Error;
 
 /// An instruction whose one immediate is an index (binary format, instructions).
@@ -22,6 +22,27 @@ impl IndexOp {
         ensures { result ≡ index_byte self }
     {
         self as u8
+    }
+}
+
+/// An instruction with an index: `call 3` (binary format, instructions).
+#[derive(Clone, Copy, Debug, PartialEq, Eq)]
+pub struct IndexInstr {
+    /// Which instruction it is.
+    pub op: IndexOp,
+    /// The index.
+    pub index: u32,
+}
+
+impl Encode for IndexInstr {
+    ghost spelling = { λ i. instr (index_instr i.op i.index) };
+
+    ghost in_range = { λ i. InRangeInstr (index_instr i.op i.index) };
+
+    ghost is_ready = { λ _. true };
+
+    fn encode<S: Sink>(&self, out: &mut S) -> Result<(), Refusal> {
+        (self.op.byte(), self.index).encode(out)
     }
 }
 
@@ -50,6 +71,6 @@ impl<'s, S: Sink> InstructionSink<'s, S> {
             (instr (index_instr op index)) result }
         ensures same { self.new.out.ghost_name ≡ self.old.out.ghost_name }
     {
-        (op.byte(), index).encode(self.out)
+        Ok(IndexInstr { op, index }.encode(self.out)?)
     }
 }

@@ -1,6 +1,6 @@
 //! Numbers as bytes: LEB128, unsigned and signed.
 
-ghost use Rattle.std.specs.Prelude.{◌≡◌, ◌≤◌, ◌<◌, ◌^◌, ◌≤ℤ◌, pos, negsuc, take};
+ghost use Rattle.std.specs.Prelude.{◌≡◌, ◌≤◌, ◌<◌, ◌^◌, ◌≤ℤ◌, pos, negsuc, take, length};
 ghost use Rattle.wasm_ops.specs.Leb128.{unsigned, signed, digits, turned};
 ghost use Rattle.wasm_ops.specs.Sinks.{Puts};
 
@@ -8,7 +8,7 @@ use crate::sink::Sink;
 use wast_tree::Error;
 
 /// The bytes of a number, and how many they are.
-fn unsigned_bytes(n: u64) -> ([u8; 10], usize)
+pub(crate) fn unsigned_bytes(n: u64) -> ([u8; 10], usize)
     ensures within { result.1 ≤ 10 }
     ensures bytes { take result.1 result.0 ≡ unsigned n }
 {
@@ -24,6 +24,19 @@ fn unsigned_bytes(n: u64) -> ([u8; 10], usize)
     (bytes, len + 1)
 }
 
+/// How many bytes a number has.
+pub(crate) fn width(n: u64) -> u64
+    ensures { result ≡ length (unsigned n) }
+{
+    let mut len = 1;
+    let mut rest = n;
+    'digits: while rest >= 128 {
+        rest /= 128;
+        len += 1;
+    }
+    len
+}
+
 /// Appends an unsigned number (binary format, integers: `u64`).
 ///
 /// It appends the one spelling of the number, the shortest. The only error is the sink's refusal; then nothing was
@@ -31,8 +44,7 @@ fn unsigned_bytes(n: u64) -> ([u8; 10], usize)
 pub fn write_u64<'e, S: Sink>(out: &mut S, n: u64) -> Result<(), Error<'e>>
     ensures { Puts S.rules (Unit {0}) out.old out.new (unsigned n) result }
 {
-    let (bytes, len) = unsigned_bytes(n);
-    out.put(&bytes[..len])
+    Ok(out.push_number(n)?)
 }
 
 /// Appends an unsigned number (binary format, integers: `u32`).

@@ -1,50 +1,104 @@
-//! What takes bytes: a vector of them, or a count.
+//! What takes bytes: a vector of them, a count, or room that was reserved.
 
 ghost use Rattle.std.specs.Prelude.{◌≡◌, ◌≤◌, ◌<◌, ◌+◌, ◌^◌, ℕ, List, ◌++◌, take, length};
-ghost use Rattle.wast_tree.specs.Faults.{too_large, out_of_memory};
-ghost use Rattle.wasm_ops.specs.Sinks.{SinkRules, Puts, AppendLaws};
+ghost use Rattle.wasm_ops.specs.Leb128.{unsigned};
 ghost use Rattle.wasm_ops.specs.SinkLaws as laws;
+ghost use Rattle.wasm_ops.specs.Sinks.{SinkRules, Writes, Puts, Skips, AppendLaws};
+ghost use Rattle.wasm_ops.specs.declared.sink.Refusal.TheVariants as refusal;
 
+use crate::leb128::{unsigned_bytes, width};
 use std::marker::Model;
 use wast_tree::{Error, Fault};
 
-/// Takes bytes at its end.
+/// Why nothing was appended. It is small, so that each write can answer it; `?` makes an [`Error`] of it.
+#[derive(Clone, Copy, Debug, PartialEq, Eq)]
+pub enum Refusal {
+    /// E10: a number, count or length is out of range, or the bytes are more than a [`Length`] counts or a room holds.
+    TooLarge,
+    /// E12: memory was refused.
+    Memory,
+}
+
+impl From<Refusal> for Error<'_> {
+    ghost use Rattle.std.specs.Prelude.{◌≡◌};
+    ghost use Rattle.wasm_ops.specs.Sinks.{refused_as};
+
+    ghost from_gives = { λ r e. e ≡ refused_as r };
+
+    fn from(refusal: Refusal) -> Self {
+        match refusal {
+            Refusal::TooLarge => Error::refusal(Fault::TooLarge),
+            Refusal::Memory => Error::refusal(Fault::Memory),
+        }
+    }
+}
+
+/// Takes bytes at its end. Sizes and counts are numbers of bytes.
 ///
 /// A writer appends all that it writes, or leaves the sink as it was.
 pub trait Sink {
-    /// What it holds and takes, and the error where it has no room.
+    /// What it holds, how many bytes fit, and the refusal where they do not.
     ghost rules: { SinkRules Self };
 
-    /// Appends bytes. The only error is the sink's refusal, where it does not fit so many.
-    fn put<'e>(&mut self, bytes: &[u8]) -> Result<(), Error<'e>>
-        ensures { Puts rules (Unit {0}) self.old self.new bytes.now result };
+    /// Appends bytes. It refuses only where so many do not fit; then nothing was appended.
+    fn push_bytes(&mut self, bytes: &[u8]) -> Result<(), Refusal>
+        ensures { Writes rules (Unit {0}) self.old self.new bytes.now result };
+
+    /// Appends the bytes of an unsigned number, the shortest (binary format, integers: `u64`). It refuses only where so
+    /// many do not fit; then nothing was appended.
+    fn push_number(&mut self, n: u64) -> Result<(), Refusal>
+        ensures { Writes rules (Unit {0}) self.old self.new (unsigned n) result };
+
+    /// Takes a count of bytes without the bytes. `true` says that the sink now stands as if any bytes of that count had
+    /// been appended; `false` says that it took none, and stays as it was.
+    fn skip(&mut self, count: u64) -> bool
+        ensures { Skips rules self.old self.new count result };
 
     /// How many bytes stand in the sink.
     fn size(&self) -> u64
         ensures { result ≡ rules.size_of self.now };
 
-    /// Takes bytes off the end, down to a size. It needs a size that is not above the present one.
+    /// Takes bytes off the end, down to a size. It needs a size that is not above [`Sink::size`]; so many bytes stay.
     fn cut(&mut self, size: u64)
         requires { size ≤ rules.size_of self.old }
         ensures { rules.is_cut self.old size self.new };
+
+    /// Appends bytes, as [`Sink::push_bytes`]. The only error is the sink's refusal, where so many do not fit; then
+    /// nothing was appended.
+    fn put<'e>(&mut self, bytes: &[u8]) -> Result<(), Error<'e>>
+        ensures { Puts rules (Unit {0}) self.old self.new bytes.now result }
+    {
+        Ok(self.push_bytes(bytes)?)
+    }
 
     /// What was appended can be joined and cut back.
     ghost laws: { AppendLaws rules };
 }
 
-/// Bytes stand at the end of the vector. Any number of them may be refused, where memory runs out.
+/// Bytes stand at the end of the vector. Any number of them may be refused, where memory is: E12.
 impl Sink for Vec<u8> {
     ghost rules = { record {
       appended = λ a b x. b.items ≡ a.items ++ x;
       fits = λ _ _. ⊥;
       size_of = λ a. length a.items;
       is_cut = λ a n b. b.items ≡ take n a.items;
-      refusal = out_of_memory;
+      refusal = refusal.Memory;
     } };
 
-    fn put<'e>(&mut self, bytes: &[u8]) -> Result<(), Error<'e>> {
-        self.extend_from_slice(bytes)?;
-        Ok(())
+    fn push_bytes(&mut self, bytes: &[u8]) -> Result<(), Refusal> {
+        match self.extend_from_slice(bytes) {
+            Ok(()) => Ok(()),
+            Err(_) => Err(Refusal::Memory),
+        }
+    }
+
+    fn push_number(&mut self, n: u64) -> Result<(), Refusal> {
+        let (bytes, len) = unsigned_bytes(n);
+        self.push_bytes(&bytes[..len])
+    }
+
+    fn skip(&mut self, _count: u64) -> bool {
+        false
     }
 
     fn size(&self) -> u64 {
@@ -65,7 +119,7 @@ impl Sink for Vec<u8> {
     } };
 }
 
-/// Counts the bytes that it takes, and keeps none. Contracts see it as the count.
+/// Counts the bytes that it takes, and keeps none. Contracts see it as the count. No call on it takes memory.
 #[derive(Debug, Drop)]
 pub struct Length {
     count: u64,
@@ -80,14 +134,14 @@ impl Model for Length {
 }
 
 impl Length {
-    /// A count of no bytes.
+    /// A count of no bytes: 0.
     pub fn new() -> Length
         ensures { result ≡ 0 }
     {
         Length { count: 0 }
     }
 
-    /// How many bytes it took.
+    /// How many bytes it took, without those that were cut off.
     pub fn count(&self) -> u64
         ensures { result ≡ self.now }
     {
@@ -96,22 +150,38 @@ impl Length {
     }
 }
 
-/// A count below 2^64 fits; from there on bytes are refused as too large.
+/// Bytes fit where the count stays below 2^64; others are refused as too large: E10. Bytes that are skipped count too.
 impl Sink for Length {
     ghost rules = { record {
       appended = λ a b x. b ≡ a + length x;
       fits = λ a n. a + n < 2 ^ 64;
       size_of = λ a. a;
       is_cut = λ a n b. b ≡ n;
-      refusal = too_large;
+      refusal = refusal.TooLarge;
     } };
 
-    fn put<'e>(&mut self, bytes: &[u8]) -> Result<(), Error<'e>> {
+    fn push_bytes(&mut self, bytes: &[u8]) -> Result<(), Refusal> {
         let Some(count) = self.count.checked_add(bytes.len() as u64) else {
-            return Err(Error::refusal(Fault::TooLarge));
+            return Err(Refusal::TooLarge);
         };
         self.count = count;
         Ok(())
+    }
+
+    fn push_number(&mut self, n: u64) -> Result<(), Refusal> {
+        let Some(count) = self.count.checked_add(width(n)) else {
+            return Err(Refusal::TooLarge);
+        };
+        self.count = count;
+        Ok(())
+    }
+
+    fn skip(&mut self, count: u64) -> bool {
+        let Some(count) = self.count.checked_add(count) else {
+            return false;
+        };
+        self.count = count;
+        true
     }
 
     fn size(&self) -> u64 {

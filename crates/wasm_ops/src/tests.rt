@@ -4,18 +4,18 @@ ghost use Rattle.std.specs.Prelude.{IsTrue};
 ghost use Rattle.wasm_ops.specs.Covered.{is_covered_sub_type};
 
 use crate::{
-    CompositeInnerType, CompositeType, Counted, Each, Encode, ExportKind, FuncType, IndexOp,
-    InstructionSink, Length, Raw, Sink, SubType, ValType, WithLength, instruction_law, signed_law,
-    type_spelling_law, unsigned_law, write_name, write_s32, write_s33, write_s64, write_u32,
-    write_u64,
+    CompositeInnerType, CompositeType, Counted, Each, Encode, ExportKind, FuncType, IndexInstr,
+    IndexOp, InstructionSink, Itself, Length, Raw, Refusal, Room, Sink, SubType, ValType,
+    WithLength, instruction_law, signed_law, type_spelling_law, unsigned_law, write_name,
+    write_s32, write_s33, write_s64, write_u32, write_u64,
 };
 use std::alloc::Global;
 use std::process::Abort;
-use wast_tree::Seq;
+use wast_tree::{Error, Seq};
 
 /// The value is spelled by these bytes.
 fn is_spelled<T: Encode>(rt: &impl Abort, alloc: Global, value: &T, bytes: &[u8])
-    requires { IsTrue (T.is_covered value.now) }
+    requires { IsTrue (T.is_ready value.now) }
 {
     let mut out = Vec::new(alloc);
     assert!(rt; value.encode(&mut out).is_ok(), "for {bytes:?}");
@@ -132,18 +132,27 @@ fn instructions_have_their_bytes(rt: HostRuntime) {
     let mut sink = InstructionSink::new(&mut out);
     assert!(rt; sink.index(IndexOp::Call, 300).is_ok());
     assert!(rt; out.as_slice() == [0x10, 0xac, 0x02].as_slice());
+    let op = IndexOp::Call;
+    let calls = [IndexInstr { op, index: 0 }, IndexInstr { op, index: 128 }];
+    is_spelled(
+        &rt,
+        rt.alloc(),
+        &Each(&calls, Itself),
+        &[0x10, 0x00, 0x10, 0x80, 0x01],
+    );
 }
 
 #[test]
 fn pairs_and_lists_have_their_bytes(rt: HostRuntime) {
     let alloc = rt.alloc();
+    assert!(rt; ExportKind::Tag.is_covered());
     is_spelled(&rt, alloc, &(ExportKind::Tag, &7u8), &[0x04, 7]);
-    is_spelled(&rt, alloc, &Each(&[300u32]), &[0xac, 0x02]);
+    is_spelled(&rt, alloc, &Each(&[300u32], Itself), &[0xac, 0x02]);
     let types = [ValType::F32, ValType::F64, ValType::V128];
     is_spelled(
         &rt,
         alloc,
-        &WithLength(Counted(&types)),
+        &WithLength(Counted(&types, Itself)),
         &[4, 3, 0x7d, 0x7c, 0x7b],
     );
     is_spelled(&rt, alloc, &Raw(&[9, 8]), &[9, 8]);
@@ -167,6 +176,54 @@ fn a_length_counts_bytes(rt: HostRuntime) {
     length.cut(2);
     assert!(rt; length.put(&[1]).is_ok());
     assert!(rt; length.count() == 3);
+}
+
+#[test]
+fn a_length_from_128_on_has_two_bytes(rt: HostRuntime) {
+    let bytes = [7; 128];
+    let nested = WithLength(WithLength(WithLength(Raw(&bytes))));
+    let mut length = Length::new();
+    assert!(rt; nested.encode(&mut length).is_ok());
+    assert!(rt; length.count() == 134);
+    let mut room = Room::reserve(rt.alloc(), 134).expect(&rt, "memory");
+    assert!(rt; nested.encode(&mut room).is_ok());
+    assert!(rt; room.left() == 0);
+    let start = [0x84, 0x01, 0x82, 0x01, 0x80, 0x01, 7];
+    assert!(rt; room.finish().starts_with(&start));
+}
+
+#[test]
+fn a_room_takes_what_was_reserved(rt: HostRuntime) {
+    let mut room = Room::reserve(rt.alloc(), 3).expect(&rt, "memory");
+    assert!(rt; room.put(&[7, 8, 9]).is_ok());
+    assert!(rt; room.left() == 0);
+    let number = match room.put(&[10]) {
+        Ok(()) => 0,
+        Err(error) => error.number(),
+    };
+    assert!(rt; number == 10);
+    assert!(rt; room.size() == 3 && room.left() == 0);
+    room.cut(1);
+    assert!(rt; room.left() == 2);
+    assert!(rt; room.push_number(300).is_ok());
+    assert!(rt; room.finish().as_slice() == [7, 0xac, 0x02].as_slice());
+}
+
+#[test]
+fn only_a_length_takes_bytes_that_it_is_not_given(rt: HostRuntime) {
+    let mut length = Length::new();
+    assert!(rt; length.skip(300) && length.count() == 300);
+    assert!(rt; !length.skip(u64::MAX) && length.count() == 300);
+    let mut bytes: Vec<u8> = Vec::new(rt.alloc());
+    assert!(rt; !bytes.skip(1) && bytes.is_empty());
+    let mut room = Room::reserve(rt.alloc(), 3).expect(&rt, "memory");
+    assert!(rt; !room.skip(1) && room.left() == 3);
+}
+
+#[test]
+fn a_refusal_becomes_the_error_of_its_number(rt: HostRuntime) {
+    assert!(rt; Error::from(Refusal::TooLarge).number() == 10);
+    assert!(rt; Error::from(Refusal::Memory).number() == 12);
 }
 
 #[test]

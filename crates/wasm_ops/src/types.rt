@@ -4,9 +4,9 @@ ghost use Rattle.std.specs.Prelude.{◌≡◌, true};
 ghost use Rattle.wasm_ops.specs.Covered.{is_covered_composite_type, is_covered_sub_type};
 ghost use Rattle.wasm_ops.specs.Spelling.{Any, val_type, export_kind, func_type, InRangeFuncType, composite_inner_type, InRangeCompositeInnerType, composite_type, InRangeCompositeType, sub_type, InRangeSubType};
 
-use crate::encode::{Counted, Encode};
-use crate::sink::Sink;
-use wast_tree::{Error, Seq};
+use crate::encode::{Counted, Encode, Itself};
+use crate::sink::{Refusal, Sink};
+use wast_tree::Seq;
 
 /// A value type (binary format, value types).
 #[derive(Clone, Copy, Debug, PartialEq, Eq, Hash)]
@@ -39,9 +39,9 @@ impl Encode for ValType {
 
     ghost in_range = { Any };
 
-    ghost is_covered = { λ _. true };
+    ghost is_ready = { λ _. true };
 
-    fn encode<'e, S: Sink>(&self, out: &mut S) -> Result<(), Error<'e>> {
+    fn encode<S: Sink>(&self, out: &mut S) -> Result<(), Refusal> {
         match self {
             ValType::I32 => 0x7fu8.encode(out),
             ValType::I64 => 0x7eu8.encode(out),
@@ -67,14 +67,23 @@ pub enum ExportKind {
     Tag,
 }
 
+impl ExportKind {
+    /// Whether the encoder covers it. It covers each one.
+    pub fn is_covered(self) -> bool
+        ensures { result ≡ true }
+    {
+        true // since no kind is a form that is not covered
+    }
+}
+
 impl Encode for ExportKind {
     ghost spelling = { export_kind };
 
     ghost in_range = { Any };
 
-    ghost is_covered = { λ _. true };
+    ghost is_ready = { λ _. true };
 
-    fn encode<'e, S: Sink>(&self, out: &mut S) -> Result<(), Error<'e>> {
+    fn encode<S: Sink>(&self, out: &mut S) -> Result<(), Refusal> {
         (*self as u8).encode(out)
     }
 }
@@ -102,11 +111,11 @@ impl Encode for FuncType {
 
     ghost in_range = { InRangeFuncType };
 
-    ghost is_covered = { λ _. true };
+    ghost is_ready = { λ _. true };
 
-    fn encode<'e, S: Sink>(&self, out: &mut S) -> Result<(), Error<'e>> {
-        let params = Counted(self.params.as_slice());
-        let results = Counted(self.results.as_slice());
+    fn encode<S: Sink>(&self, out: &mut S) -> Result<(), Refusal> {
+        let params = Counted(self.params.as_slice(), Itself);
+        let results = Counted(self.results.as_slice(), Itself);
         (0x60u8, (params, results)).encode(out)
     }
 }
@@ -134,9 +143,9 @@ impl Encode for CompositeInnerType {
 
     ghost in_range = { InRangeCompositeInnerType };
 
-    ghost is_covered = { λ _. true };
+    ghost is_ready = { λ _. true };
 
-    fn encode<'e, S: Sink>(&self, out: &mut S) -> Result<(), Error<'e>> {
+    fn encode<S: Sink>(&self, out: &mut S) -> Result<(), Refusal> {
         match self {
             CompositeInnerType::Func(ty) => ty.encode(out),
         }
@@ -170,9 +179,9 @@ impl Encode for CompositeType {
 
     ghost in_range = { InRangeCompositeType };
 
-    ghost is_covered = { is_covered_composite_type };
+    ghost is_ready = { is_covered_composite_type };
 
-    fn encode<'e, S: Sink>(&self, out: &mut S) -> Result<(), Error<'e>> {
+    fn encode<S: Sink>(&self, out: &mut S) -> Result<(), Refusal> {
         self.inner.encode(out)
     }
 }
@@ -203,10 +212,10 @@ impl Encode for SubType {
 
     ghost in_range = { InRangeSubType };
 
-    ghost is_covered = { is_covered_sub_type };
+    ghost is_ready = { is_covered_sub_type };
 
-    fn encode<'e, S: Sink>(&self, out: &mut S) -> Result<(), Error<'e>> {
-        let parents = Counted(self.supertype_idxs.as_slice());
+    fn encode<S: Sink>(&self, out: &mut S) -> Result<(), Refusal> {
+        let parents = Counted(self.supertype_idxs.as_slice(), Itself);
         if !self.is_final {
             return (0x50u8, (parents, &self.composite_type)).encode(out);
         }

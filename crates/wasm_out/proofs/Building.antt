@@ -4,7 +4,7 @@ use Rattle.std.specs.List.{flat_map}
 use Rattle.std.proofs.lemmas.List.{flat_map_more}
 use Rattle.std.proofs.lemmas.List.Elements.{All-nil, All-cons}
 use Rattle.wasm_ops.specs.Table.{Instr, instr, instrs, IsInstr}
-use Rattle.wasm_out.specs.Bodies.{Body, locals, InRangeContent, SpellsInstrs, SpellsBody}
+use Rattle.wasm_out.specs.Bodies.{Body, locals, IsSpellableContent, SpellsInstrs, SpellsBody}
 use Rattle.wasm_out.specs.Built.{Built, built_with, built}
 
 -- one item more
@@ -19,5 +19,5 @@ pub spells_instr : (i : Instr) → IsInstr i → SpellsInstrs (instr i)
 spells_instr i p = record { list = i ∷ []; in_range = All-cons IsInstr i [] p (All-nil IsInstr); spelled = sym (append-nil (instr i)) }
 
 -- locals, instructions and an end
-pub spells_body : (b : Body) (bytes : List ℕ) → InRangeContent b → bytes ≡ (locals b.locals ++ instrs b.instrs) ++ (0x0b ∷ []) → SpellsBody bytes
+pub spells_body : (b : Body) (bytes : List ℕ) → IsSpellableContent b → bytes ≡ (locals b.locals ++ instrs b.instrs) ++ (0x0b ∷ []) → SpellsBody bytes
 spells_body b bytes p e = record { body = b; in_range = p; spelled = e ∙ append_assoc (locals b.locals) (instrs b.instrs) (0x0b ∷ []) }

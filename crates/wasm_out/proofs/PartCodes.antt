@@ -1,17 +1,21 @@
 -- The parts of a module show their value: bytes are read as one module.
 use Rattle.std.proofs.Common.{◌≡◌, ◌≢◌, ◌<◌, ℕ, List, [], ◌∷◌, ◌++◌, length, refl, sym, ap, ◌∙◌, subst, arith}
-use Rattle.std.specs.Prelude.{All}
-use Rattle.std.specs.List.{flat_map}
+use Rattle.std.specs.Prelude.{All, IsTrue}
+use Rattle.std.specs.List.{flat_map, list_all}
 use Rattle.std.proofs.lemmas.List.{append_cancel_right}
 use Rattle.wasm_ops.specs.declared.types.ValType.{ValType}
 use Rattle.wasm_ops.specs.Codes.{IsCode, IsWhole}
-use Rattle.wasm_ops.specs.Spelling.{Any, InRangeU32, sized, InRangeSized}
-use Rattle.wasm_ops.specs.Table.{Instr, instrs, IsInstr}
-use Rattle.wasm_ops.proofs.Codes.{index_code, code_within, code_whole, whole_within, pair_code, pair_whole, code_by, whole_by, vec_code, sized_code, filled_whole, name_code, bytes_whole}
-use Rattle.wasm_ops.proofs.TypeCodes.{val_type_code, export_kind_code, sub_type_code}
+use Rattle.wasm_ops.specs.declared.types.SubType.{SubType}
+use Rattle.wasm_ops.specs.Covered.{is_covered_sub_type, IsSpellableSubType}
+use Rattle.wasm_ops.specs.Spelling.{Any, InRangeU32, vec, InRangeVec, sized, InRangeSized, sub_type, InRangeSubType}
+use Rattle.wasm_ops.specs.Table.{Instr, instrs, InRangeInstr, HasRow, IsInstr}
+use Rattle.wasm_ops.proofs.Codes.{index_code, code_within, code_whole, after_byte, whole_within, pair_code, pair_whole, code_by, whole_by, vec_code, sized_code, filled_whole, name_code, bytes_whole}
+use Rattle.wasm_ops.proofs.Everywhere.{all_both, all_tested}
+use Rattle.wasm_ops.proofs.TypeCodes.{front, val_type_code, export_kind_code, sub_type_code, sub_front}
 use Rattle.wasm_ops.proofs.InstrCodes.{instr_code, instr-nonempty}
-use Rattle.wasm_out.specs.Bodies.{Body, LocalRun, local_run, local_runs, locals, content, InRangeContent}
-use Rattle.wasm_out.specs.Parts.{SectionKind, Types, Functions, Exports, Code, TypeEntry, Single, ExportEntry, Entry, type_entry, export_entry, entry, InRangeTypeEntry, InRangeExport, InRangeEntry, PartKind, Custom, Start, Listed, CustomPart, PartItems, custom, payload, InRangePartItems, section_id, part_id, Part, part, InRangePart}
+use Rattle.wasm_out.specs.Bodies.{Body, LocalRun, local_run, local_runs, locals, content, IsSpellableContent}
+use Rattle.wasm_out.specs.Parts.{SectionKind, Types, Functions, Exports, Code, TypeEntry, Single, Group, ExportEntry, Entry, type_entry, export_entry, entry, InRangeExport, InRangeEntry, PartKind, Custom, Start, Listed, CustomPart, PartItems, custom, payload, InRangePartItems, section_id, part_id, Part, part, InRangePart}
+use Rattle.wasm_out.specs.Readable.{IsReadable, AreReadable, IsReadablePart, IsSpellable, AreSpellable, IsSpellablePart}
 use Rattle.wasm_out.specs.Reads.{header, Reads}
 use Rattle.wasm_out.proofs.LocalRuns.{expanded, expanded-local_runs, runs_in_range}
 
@@ -29,32 +33,50 @@ instrs_whole = filled_whole (λ i p. instr-nonempty i) instr_code
 ended_whole : IsWhole (List Instr) (All IsInstr) (λ is. instrs is ++ (0x0b ∷ []))
 ended_whole = record { same = λ x y p q e. instrs_whole.same x y p q (append_cancel_right (instrs x) (instrs y) (0x0b ∷ []) e) }
 
-content_whole : IsWhole Body InRangeContent content
+content_whole : IsWhole Body IsSpellableContent content
 content_whole = whole_within (λ b p. (p.locals, p.instrs)) (whole_by (λ (b : Body). (b.locals, b.instrs)) (λ p. record { locals = p.0; instrs = p.1 }) (λ b. refl) (pair_whole locals_code ended_whole))
 
 -- ---- entries
 
-type_entry_code : IsCode TypeEntry InRangeTypeEntry type_entry
+-- types of a group, each covered and in range
+spellable_types : (ts : List SubType) → IsTrue (list_all is_covered_sub_type ts) → InRangeVec InRangeSubType ts → InRangeVec IsSpellableSubType ts
+spellable_types ts c r = (r.0, all_both (λ t. IsTrue (is_covered_sub_type t)) InRangeSubType IsSpellableSubType (λ t p q. (p, q)) ts (all_tested is_covered_sub_type ts c) r.1)
+
+types_code : IsCode (List SubType) (InRangeVec IsSpellableSubType) (vec sub_type)
+types_code = vec_code sub_type_code
+
+type_entry_code : IsCode TypeEntry (IsSpellable Types) type_entry
 type_entry_code = record { begins = type_begins }
   where
-    type_begins : (x y : TypeEntry) (r s : List ℕ) → InRangeTypeEntry x → InRangeTypeEntry y → type_entry x ++ r ≡ type_entry y ++ s → (x ≡ y) × (r ≡ s)
-    type_begins (Single x) (Single y) r s p q e = let one = sub_type_code.begins x y r s p q e in (ap Single one.0, one.1)
+    type_begins : (x y : TypeEntry) (r s : List ℕ) → IsSpellable Types x → IsSpellable Types y → type_entry x ++ r ≡ type_entry y ++ s → (x ≡ y) × (r ≡ s)
+    type_begins (Single x) (Single y) r s p q e =
+        let one = sub_type_code.begins x y r s (p.covered, p.in_range) (q.covered, q.in_range) e in
+        (ap Single one.0, one.1)
+    type_begins (Group x) (Group y) r s p q e =
+        let one = (after_byte 0x4e types_code).begins x y r s (spellable_types x p.covered p.in_range) (spellable_types y q.covered q.in_range) e in
+        (ap Group one.0, one.1)
+    type_begins (Single x) (Group y) r s p q e = absurd (omega (arith, sub_front x r, ap front e))
+    type_begins (Group x) (Single y) r s p q e = absurd (omega (arith, sub_front y s, ap front e))
 
 export_entry_code : IsCode ExportEntry InRangeExport export_entry
 export_entry_code = code_within (λ e p. (p.0, (tt, p.1))) (code_by (λ (e : ExportEntry). (e.name, (e.kind, e.index))) (λ p. record { name = p.0; kind = p.1.0; index = p.1.1 }) (λ e. refl) (pair_code name_code (pair_code export_kind_code index_code)))
 
-pub entry_code : (kind : SectionKind) → IsCode (Entry kind) (InRangeEntry kind) (entry kind)
+-- a body whose instructions are rows of the table
+spellable_body : (b : Body) → IsSpellable Code b → InRangeSized IsSpellableContent content b
+spellable_body b p = (p.in_range.0, record { locals = p.in_range.1.locals; instrs = all_both HasRow InRangeInstr IsInstr (λ i q r. record { row = q; numbers = r }) b.instrs p.rows p.in_range.1.instrs })
+
+pub entry_code : (kind : SectionKind) → IsCode (Entry kind) (IsSpellable kind) (entry kind)
 entry_code Types = type_entry_code
-entry_code Functions = index_code
-entry_code Exports = export_entry_code
-entry_code Code = sized_code content_whole
+entry_code Functions = code_within (λ n p. p.in_range) index_code
+entry_code Exports = code_within (λ e p. p.in_range) export_entry_code
+entry_code Code = code_within spellable_body (sized_code content_whole)
 
 -- ---- parts
 
-custom_whole : IsWhole CustomPart (InRangePartItems Custom) custom
+custom_whole : IsWhole CustomPart (AreSpellable Custom) custom
 custom_whole = whole_within (λ c p. (p, tt)) (whole_by (λ (c : CustomPart). (c.name, c.bytes)) (λ p. record { name = p.0; bytes = p.1 }) (λ c. refl) (pair_whole name_code bytes_whole))
 
-pub payload_whole : (kind : PartKind) → IsWhole (PartItems kind) (InRangePartItems kind) (payload kind)
+pub payload_whole : (kind : PartKind) → IsWhole (PartItems kind) (AreSpellable kind) (payload kind)
 payload_whole Custom = custom_whole
 payload_whole Start = code_whole index_code
 payload_whole (Listed kind) = code_whole (vec_code (entry_code kind))
@@ -85,17 +107,17 @@ id_shows Start (Listed l) e = absurd ((listed_apart l).1 (sym e))
 abbrev part_of : (kind : PartKind) → PartItems kind → Part
 part_of kind items = record { kind = kind; items = items }
 
-abbrev InRangePayload : (kind : PartKind) → PartItems kind → Type 0
-InRangePayload kind items = InRangeSized (InRangePartItems kind) (payload kind) items
+abbrev IsSpellablePayload : (kind : PartKind) → PartItems kind → Type 0
+IsSpellablePayload kind items = InRangeSized (AreSpellable kind) (payload kind) items
 
 -- items of two kinds that are one
-payloads_begin : (k l : PartKind) (x : PartItems k) (y : PartItems l) (r s : List ℕ) → k ≡ l → InRangePayload k x → InRangePayload l y → sized (payload k) x ++ r ≡ sized (payload l) y ++ s → (part_of k x ≡ part_of l y) × (r ≡ s)
+payloads_begin : (k l : PartKind) (x : PartItems k) (y : PartItems l) (r s : List ℕ) → k ≡ l → IsSpellablePayload k x → IsSpellablePayload l y → sized (payload k) x ++ r ≡ sized (payload l) y ++ s → (part_of k x ≡ part_of l y) × (r ≡ s)
 payloads_begin k l x y r s e p q h =
-    let Motive : PartKind → Type 0 = λ m. (z : PartItems m) → InRangePayload m z → sized (payload k) x ++ r ≡ sized (payload m) z ++ s → (part_of k x ≡ part_of m z) × (r ≡ s) in
+    let Motive : PartKind → Type 0 = λ m. (z : PartItems m) → IsSpellablePayload m z → sized (payload k) x ++ r ≡ sized (payload m) z ++ s → (part_of k x ≡ part_of m z) × (r ≡ s) in
     let here : Motive k = λ z t f. let one = (sized_code (payload_whole k)).begins x z r s p t f in (ap (part_of k) one.0, one.1) in
     subst Motive e here y q h
 
-pub part_code : IsCode Part InRangePart part
+pub part_code : IsCode Part IsSpellablePart part
 part_code = record {
   begins = λ x y r s p q e.
       let h : part_id x.kind ≡ part_id y.kind = cc in
@@ -105,11 +127,20 @@ part_code = record {
 
 -- ---- modules
 
+-- what is in range and readable is spellable
+spellable_items : (kind : PartKind) (items : PartItems kind) → InRangePartItems kind items → AreReadable kind items → AreSpellable kind items
+spellable_items Custom c r p = r
+spellable_items Start n r p = r
+spellable_items (Listed kind) items r p = (r.0, all_both (InRangeEntry kind) (IsReadable kind) (IsSpellable kind) (λ e q h. record { in_range = q; covered = h.covered; rows = h.rows }) items r.1 p)
+
+are_spellable : {bytes : List ℕ} (p : List Part) → Reads bytes p → All IsSpellablePart p
+are_spellable p h = all_both InRangePart IsReadablePart IsSpellablePart (λ x r q. (r.0, spellable_items x.kind x.items r.1 q)) p h.in_range h.readable
+
 pub one_module : (bytes : List ℕ) (p q : List Part) → Reads bytes p → Reads bytes q → p ≡ q
 one_module bytes p q a b =
     let e : header ++ flat_map part p ≡ header ++ flat_map part q = sym a.spelled ∙ b.spelled in
     let f : flat_map part p ≡ flat_map part q = cc in
-    (filled_whole (λ x h. omega arith) part_code).same p q a.each b.each f
+    (filled_whole (λ x h. omega arith) part_code).same p q (are_spellable p a) (are_spellable q b) f
 
 pub one_spelling : (b c : List ℕ) (p : List Part) → Reads b p → Reads c p → b ≡ c
 one_spelling b c p x y = x.spelled ∙ sym y.spelled

@@ -1,14 +1,15 @@
 -- Why a builder refuses.
-use Rattle.std.proofs.Common.{◌≡◌, ℕ, false, Result, Ok, Err, List, inl, inr, ◌∙◌}
+use Rattle.std.proofs.Common.{◌≡◌, ◌⊎◌, ℕ, false, Result, Ok, Err, List, inl, inr, ◌∙◌}
 use Rattle.std.specs.Result.{IsErrAnd, OkIff, is_err}
 use Rattle.wast_tree.specs.declared.faults.Error.{Error}
 use Rattle.wast_tree.specs.Faults.{out_of_memory}
-use Rattle.wasm_ops.specs.Sinks.{IsRefusal}
+use Rattle.wasm_ops.specs.declared.sink.Refusal.{Refusal}
+use Rattle.wasm_ops.specs.declared.sink.Refusal.TheVariants as small
 use Rattle.wasm_out.specs.Built.{Makes}
 
 -- what is in range is refused where memory was refused, and nowhere else
-pub only_memory : {Room InRange : Type 0} (e : Error) → InRange → IsRefusal out_of_memory Room InRange e → e ≡ out_of_memory
-only_memory e fits refusal =
+pub only_memory : {Room InRange : Type 0} (r : Refusal) → InRange → ((r ≡ small.Memory) × Room) ⊎ ((r ≡ small.TooLarge) × (InRange → ⊥)) → r ≡ small.Memory
+only_memory r fits refusal =
     elim refusal [
       | inl memory ↦ memory.0
       | inr large ↦ absurd (large.1 fits)

@@ -4,7 +4,7 @@ use Rattle.std.specs.Cmp.Lexicographic.{pointwise}
 use Rattle.wasm_ops.specs.Leb128.{unsigned}
 use Rattle.wasm_ops.specs.declared.types.ValType.{ValType}
 use Rattle.wasm_ops.specs.Spelling.{InRangeU32, vec, val_type}
-use Rattle.wasm_ops.specs.Table.{Instr, instrs, IsInstr}
+use Rattle.wasm_ops.specs.Table.{Instr, instrs, InRangeInstr, IsInstr}
 
 -- locals and instructions, one by one
 pub record Body : Type 0 where
@@ -42,8 +42,13 @@ locals types = vec local_run (local_runs types)
 abbrev pub content : Body → List ℕ
 content b = locals b.locals ++ (instrs b.instrs ++ 0x0b ∷ [])
 
--- there are less than 2^32 locals, and the instructions stand in the table with numbers in range
+-- there are less than 2^32 locals, and the numbers of the instructions are in range
 pub record InRangeContent (b : Body) : Type 0 where
+  pub locals : InRangeU32 (length b.locals)
+  pub instrs : All InRangeInstr b.instrs
+
+-- the instructions are rows of the table, too
+pub record IsSpellableContent (b : Body) : Type 0 where
   pub locals : InRangeU32 (length b.locals)
   pub instrs : All IsInstr b.instrs
 
@@ -56,5 +61,5 @@ pub record SpellsInstrs (bytes : List ℕ) : Type 0 where
 -- the bytes spell a body
 pub record SpellsBody (bytes : List ℕ) : Type 0 where
   pub body : Body
-  pub in_range : InRangeContent body
+  pub in_range : IsSpellableContent body
   pub spelled : bytes ≡ content body

@@ -2,7 +2,7 @@
 use Rattle.std.specs.Prelude.{ℕ, List, ◌∷◌, ◌++◌, length, codes, Result}
 use Rattle.wast_tree.specs.declared.faults.Error.{Error}
 use Rattle.wasm_ops.specs.Leb128.{unsigned}
-use Rattle.wasm_ops.specs.Spelling.{InRangeU32, name}
+use Rattle.wasm_ops.specs.Spelling.{InRangeU32, vec, InRangeVec, InRangeSized, name, InRangeName}
 use Rattle.wasm_out.specs.Built.{Built, behind_count, Appends}
 
 -- what the names are names of
@@ -51,6 +51,42 @@ AppendsNames named names old new result =
 -- a name map's entry: an index and a name
 abbrev pub name_entry : ℕ × List ℕ → List ℕ
 name_entry e = unsigned e.0 ++ name e.1
+
+-- what a subsection holds: one name, names by index, or maps of names by index
+pub data NameContent : Type 0 where
+  One : List ℕ → NameContent
+  Direct : List (ℕ × List ℕ) → NameContent
+  Indirect : List (ℕ × List (ℕ × List ℕ)) → NameContent
+
+pub record NameSubsection : Type 0 where
+  pub of : Named
+  pub content : NameContent
+
+abbrev pub map_entry : ℕ × List (ℕ × List ℕ) → List ℕ
+map_entry e = unsigned e.0 ++ vec name_entry e.1
+
+abbrev pub name_content : NameContent → List ℕ
+name_content (One text) = name text
+name_content (Direct names) = vec name_entry names
+name_content (Indirect maps) = vec map_entry maps
+
+abbrev pub name_subsection : NameSubsection → List ℕ
+name_subsection s = subsection s.of (name_content s.content)
+
+-- the numbers, counts and lengths in a subsection are in range
+abbrev pub InRangeNameEntry : ℕ × List ℕ → Type 0
+InRangeNameEntry e = InRangeU32 e.0 × InRangeName e.1
+
+abbrev pub InRangeMapEntry : ℕ × List (ℕ × List ℕ) → Type 0
+InRangeMapEntry e = InRangeU32 e.0 × InRangeVec InRangeNameEntry e.1
+
+abbrev pub InRangeNameContent : NameContent → Type 0
+InRangeNameContent (One text) = InRangeName text
+InRangeNameContent (Direct names) = InRangeVec InRangeNameEntry names
+InRangeNameContent (Indirect maps) = InRangeVec InRangeMapEntry maps
+
+abbrev pub InRangeNameSubsection : NameSubsection → Type 0
+InRangeNameSubsection s = InRangeSized InRangeNameContent name_content s.content
 
 -- the payload of the name section, of its subsections
 abbrev pub name_payload : List ℕ → List ℕ

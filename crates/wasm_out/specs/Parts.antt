@@ -1,7 +1,5 @@
 -- The parts of a module, and their bytes: an id, the length of the payload, and the payload (binary format, modules: sections).
-use Rattle.std.specs.Prelude.{ℕ, List, ◌∷◌, ◌++◌, length, All, IsTrue}
-use Rattle.std.specs.Str.{is_utf8}
-use Rattle.wasm_ops.specs.Covered.{is_covered_sub_type}
+use Rattle.std.specs.Prelude.{ℕ, List, ◌∷◌, ◌++◌, length}
 use Rattle.wasm_ops.specs.Leb128.{unsigned}
 use Rattle.wasm_ops.specs.declared.types.ExportKind.{ExportKind}
 use Rattle.wasm_ops.specs.declared.types.SubType.{SubType}
@@ -15,8 +13,10 @@ pub data SectionKind : Type 0 where
   Exports : SectionKind
   Code : SectionKind
 
+-- a type on its own, or a group of types that may name one another
 pub data TypeEntry : Type 0 where
   Single : SubType → TypeEntry
+  Group : List SubType → TypeEntry
 
 pub record ExportEntry : Type 0 where
   pub name : List ℕ
@@ -32,6 +32,7 @@ Entry Code = Body
 
 abbrev pub type_entry : TypeEntry → List ℕ
 type_entry (Single t) = sub_type t
+type_entry (Group ts) = 0x4e ∷ vec sub_type ts
 
 -- the name, the kind, and the index
 abbrev pub export_entry : ExportEntry → List ℕ
@@ -49,7 +50,8 @@ entry Exports e = export_entry e
 entry Code b = body b
 
 abbrev pub InRangeTypeEntry : TypeEntry → Type 0
-InRangeTypeEntry (Single t) = IsTrue (is_covered_sub_type t) × InRangeSubType t
+InRangeTypeEntry (Single t) = InRangeSubType t
+InRangeTypeEntry (Group ts) = InRangeVec InRangeSubType ts
 
 abbrev pub InRangeExport : ExportEntry → Type 0
 InRangeExport e = InRangeName e.name × InRangeU32 e.index
@@ -57,7 +59,7 @@ InRangeExport e = InRangeName e.name × InRangeU32 e.index
 abbrev pub InRangeBody : Body → Type 0
 InRangeBody b = InRangeSized InRangeContent content b
 
--- an item's numbers, counts and lengths are in range, its type is covered, and its instructions stand in the table
+-- an item's numbers, counts and lengths are in range
 abbrev pub InRangeEntry : (kind : SectionKind) → Entry kind → Type 0
 InRangeEntry Types t = InRangeTypeEntry t
 InRangeEntry Functions n = InRangeU32 n
@@ -117,19 +119,3 @@ part p = section (part_id p.kind) (payload p.kind p.items)
 
 abbrev pub InRangePart : Part → Type 0
 InRangePart p = InRangeSized (InRangePartItems p.kind) (payload p.kind) p.items
-
--- the name of an item, where it has one, is UTF-8 (binary format, names)
-abbrev pub HasUtf8Name : (kind : SectionKind) → Entry kind → Type 0
-HasUtf8Name Types t = Unit {0}
-HasUtf8Name Functions n = Unit {0}
-HasUtf8Name Exports e = IsTrue (is_utf8 e.name)
-HasUtf8Name Code b = Unit {0}
-
-abbrev pub HaveUtf8Names : (kind : PartKind) → PartItems kind → Type 0
-HaveUtf8Names Custom c = IsTrue (is_utf8 c.name)
-HaveUtf8Names Start n = Unit {0}
-HaveUtf8Names (Listed kind) items = All (HasUtf8Name kind) items
-
--- the names in a part are UTF-8
-abbrev pub HasUtf8Names : Part → Type 0
-HasUtf8Names p = HaveUtf8Names p.kind p.items

@@ -8,7 +8,7 @@ ghost use Rattle.wasm_out.specs.Bodies.{SpellsInstrs, locals, local_runs};
 
 use std::alloc::Global;
 use std::marker::Model;
-use wasm_ops::{Counted, Encode, Sink, ValType};
+use wasm_ops::{Counted, Encode, Itself, Sink, ValType};
 use wast_tree::{Error, Fault};
 
 /// The maximal runs of equal types, each as its length and its type. The only error is E12, where memory is refused.
@@ -65,7 +65,7 @@ impl Function {
         }
         let made = runs_of(alloc, types)?;
         let mut bytes = Vec::new(alloc);
-        Counted(&made).encode(&mut bytes)?;
+        Counted(&made, Itself).encode(&mut bytes)?;
         Ok(Function { bytes })
     }
 

@@ -1,13 +1,13 @@
 //! The sections that are lists: types, functions, exports and code.
 
 ghost use Rattle.std.specs.Prelude.{◌≡◌, ◌+◌, ◌++◌, length, refl, IsTrue};
-ghost use Rattle.std.specs.Str.{is_utf8};
+ghost use Rattle.std.specs.List.{list_all};
 ghost use Rattle.wasm_ops.specs.Covered.{is_covered_sub_type};
 ghost use Rattle.wasm_ops.specs.Leb128.{unsigned};
 ghost use Rattle.wasm_ops.specs.Spelling.{InRangeU32, InRangeName, InRangeSubType, sub_type};
 ghost use Rattle.wasm_out.specs.Built.{Adds, behind_count};
 ghost use Rattle.wasm_out.specs.Bodies.{SpellsBody};
-ghost use Rattle.wasm_out.specs.Parts.{SectionKind, section_id, export_entry};
+ghost use Rattle.wasm_out.specs.Parts.{SectionKind, section_id, Group, type_entry, InRangeTypeEntry, export_entry};
 ghost use Rattle.wasm_out.specs.Parts as parts;
 
 use crate::bodies::Function;
@@ -15,7 +15,7 @@ use crate::built_items::BuiltItems;
 use crate::sections::{Build, CODE_ID, EXPORT_ID, FUNCTION_ID, Section, TYPE_ID};
 use std::alloc::Global;
 use std::marker::{Model, PhantomData};
-use wasm_ops::{Encode, ExportKind, Name, Raw, SubType, WithLength};
+use wasm_ops::{Counted, Encode, ExportKind, Itself, Name, Raw, SubType, WithLength};
 use wast_tree::Error;
 
 /// A kind of sections whose content is a list.
@@ -55,7 +55,7 @@ impl<K: ListKind> Section for ListSection<K> {
     }
 
     fn append_to<'e>(&self, out: &mut Vec<u8>) -> Result<(), Error<'e>> {
-        self.items.encode(out)
+        Ok(self.items.encode(out)?)
     }
 }
 
@@ -102,6 +102,18 @@ impl TypeSection {
             (sub_type ty.now) result }
     {
         self.items.push(ty)
+    }
+
+    /// Adds a group of types, which may name one another. It needs covered ones.
+    ///
+    /// E10 comes only where there would be 2^32 types and groups, or where the group or a list in one of its types has
+    /// 2^32 items or more; E12 where memory is refused. Then the section stays as it was.
+    pub fn rec<'e>(&mut self, types: &[SubType]) -> Result<(), Error<'e>>
+        requires { IsTrue (list_all is_covered_sub_type types.now) }
+        ensures { Adds (InRangeU32 (self.old.count + 1) × InRangeTypeEntry (Group types.now)) self.old self.new
+            (type_entry (Group types.now)) result }
+    {
+        self.items.push(&(0x4eu8, Counted(types, Itself)))
     }
 }
 
@@ -153,9 +165,8 @@ impl ExportSection {
     /// E10 comes only where there would be 2^32 exports, or where the name has 2^32 bytes or more; E12 where memory is
     /// refused. Then the section stays as it was.
     pub fn export<'e>(&mut self, text: &str, kind: ExportKind, index: u32) -> Result<(), Error<'e>>
-        ensures added { Adds (InRangeU32 (self.old.count + 1) × InRangeName text.now) self.old self.new
+        ensures { Adds (InRangeU32 (self.old.count + 1) × InRangeName text.now) self.old self.new
             (export_entry (record { name = text.now; kind = kind; index = index })) result }
-        ensures text { IsTrue (is_utf8 text.now) }
     {
         self.items.push(&(Name(text), (kind, index)))
     }

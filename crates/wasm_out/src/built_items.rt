@@ -6,7 +6,7 @@ ghost use Rattle.wasm_out.specs.Built.{Adds, behind_count, empty};
 
 use std::alloc::Global;
 use std::marker::Model;
-use wasm_ops::{Encode, Raw, Sink};
+use wasm_ops::{Encode, Raw, Refusal, Sink};
 use wast_tree::{Error, Fault};
 
 /// Items as bytes, and how many they are.
@@ -54,7 +54,7 @@ impl BuiltItems {
 
     /// Adds an item. It needs one that is covered.
     pub(crate) fn push<'e, T: Encode>(&mut self, item: &T) -> Result<(), Error<'e>>
-        requires { IsTrue (T.is_covered item.now) }
+        requires { IsTrue (T.is_ready item.now) }
         ensures { Adds (InRangeU32 (self.old.count + 1) × T.in_range item.now) self.old self.new
             (T.spelling item.now) result }
     {
@@ -73,9 +73,9 @@ impl Encode for BuiltItems {
 
     ghost in_range = { λ _. Unit {0} };
 
-    ghost is_covered = { λ _. true };
+    ghost is_ready = { λ _. true };
 
-    fn encode<'e, S: Sink>(&self, out: &mut S) -> Result<(), Error<'e>> {
+    fn encode<S: Sink>(&self, out: &mut S) -> Result<(), Refusal> {
         (self.count, Raw(&self.bytes)).encode(out)
     }
 }

@@ -3,7 +3,8 @@
 ghost use Rattle.std.specs.Prelude.{◌≡◌, ◌∷◌, ◌++◌, [], ℕ, List};
 ghost use Rattle.wasm_ops.specs.Codes.{IsCode, IsWhole};
 ghost use Rattle.wasm_out.specs.Built.{built_with, built, behind_count};
-ghost use Rattle.wasm_out.specs.Parts.{SectionKind, Entry, entry, InRangeEntry, PartKind, Listed, PartItems, payload, InRangePartItems, Part, part, InRangePart};
+ghost use Rattle.wasm_out.specs.Parts.{SectionKind, Entry, entry, PartKind, Listed, PartItems, payload, Part, part};
+ghost use Rattle.wasm_out.specs.Readable.{IsSpellable, AreSpellable, IsSpellablePart};
 ghost use Rattle.wasm_out.specs.Reads.{Reads};
 
 /// The law of builders: a builder to which items were added one by one holds their list, and its payload is that of the
@@ -18,9 +19,9 @@ pub fn building_law()
 /// The law of parts: an item of a section shows its value and where it ends, a payload shows its items, and no part
 /// begins another (binary format, modules: sections).
 pub fn part_spelling_law()
-    ensures entries { (kind : SectionKind) → IsCode (Entry kind) (InRangeEntry kind) (entry kind) }
-    ensures payloads { (kind : PartKind) → IsWhole (PartItems kind) (InRangePartItems kind) (payload kind) }
-    ensures parts { IsCode Part InRangePart part }
+    ensures entries { (kind : SectionKind) → IsCode (Entry kind) (IsSpellable kind) (entry kind) }
+    ensures payloads { (kind : PartKind) → IsWhole (PartItems kind) (AreSpellable kind) (payload kind) }
+    ensures parts { IsCode Part IsSpellablePart part }
 {}
 
 /// The law of modules: no bytes are read as two lists of parts, and no list of parts is read from two lists of bytes

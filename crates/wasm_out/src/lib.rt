@@ -18,6 +18,6 @@ pub use builders::{
     TypeSection, Types,
 };
 pub use laws::{building_law, part_spelling_law, reading_laws};
-pub use modules::Module;
+pub use modules::{HEADER, Module};
 pub use names::{Direct, IndexedNames, Indirect, IndirectNameMap, NameMap, NameSection};
 pub use sections::{Build, CustomSection, Section, StartSection};

@@ -12,6 +12,9 @@ use std::marker::Model;
 use wasm_ops::{Encode, Raw, Sink, WithLength};
 use wast_tree::Error;
 
+/// The magic and the version, which begin each module (binary format, modules).
+pub const HEADER: [u8; 8] = [0x00, 0x61, 0x73, 0x6d, 0x01, 0x00, 0x00, 0x00];
+
 /// A module: the header, and sections (binary format, modules). Contracts see it as its bytes.
 #[derive(Debug, Drop)]
 pub struct Module {
@@ -33,7 +36,7 @@ impl Module {
         ensures { Makes (Unit {0}) header result }
     {
         let mut bytes = Vec::new(alloc);
-        bytes.put(&[0x00, 0x61, 0x73, 0x6d, 0x01, 0x00, 0x00, 0x00])?;
+        bytes.put(&HEADER)?;
         Ok(Module { alloc, bytes })
     }
 
@@ -47,7 +50,7 @@ impl Module {
     {
         let mut payload = Vec::new(self.alloc);
         content.append_to(&mut payload)?;
-        (content.id(), WithLength(Raw(&payload))).encode(&mut self.bytes)
+        Ok((content.id(), WithLength(Raw(&payload))).encode(&mut self.bytes)?)
     }
 
     /// The bytes of the module. It takes no memory.

@@ -125,11 +125,11 @@ impl NameSection {
 
     /// Appends a subsection: its id, the length of its content, and its content.
     fn subsection<'e, T: Encode>(&mut self, id: u8, content: &T) -> Result<(), Error<'e>>
-        requires { IsTrue (T.is_covered content.now) }
+        requires { IsTrue (T.is_ready content.now) }
         ensures { Appends (InRangeSized T.in_range T.spelling content.now) self.old self.new
             (section id (T.spelling content.now)) result }
     {
-        (id, WithLength(content)).encode(&mut self.bytes)
+        Ok((id, WithLength(content)).encode(&mut self.bytes)?)
     }
 
     /// Appends the name of the module. E10 comes also where the name has 2^32 bytes or more.
@@ -244,6 +244,6 @@ impl Section for NameSection {
     }
 
     fn append_to<'e>(&self, out: &mut Vec<u8>) -> Result<(), Error<'e>> {
-        (Name("name"), Raw(&self.bytes)).encode(out)
+        Ok((Name("name"), Raw(&self.bytes)).encode(out)?)
     }
 }

@@ -86,7 +86,7 @@ impl Section for StartSection {
     }
 
     fn append_to<'e>(&self, out: &mut Vec<u8>) -> Result<(), Error<'e>> {
-        self.function_index.encode(out)
+        Ok(self.function_index.encode(out)?)
     }
 }
 
@@ -111,6 +111,6 @@ impl<'a> Section for CustomSection<'a> {
     }
 
     fn append_to<'e>(&self, out: &mut Vec<u8>) -> Result<(), Error<'e>> {
-        (Name(self.name), Raw(&self.bytes)).encode(out)
+        Ok((Name(self.name), Raw(&self.bytes)).encode(out)?)
     }
 }

@@ -1,17 +1,10 @@
 -- A test that each item of a list passes.
-use native.Mathlib.Omega.{arith}
-use Rattle.std.specs.Prelude.{not, is_none, ◌==◌}
-use Rattle.std.proofs.Common.{subst, IsTrue, ◌≡◌, ℕ, ◌<◌, Bool, true, false, ◌&&◌, List, [], ◌∷◌, ◌++◌, length, get_or, refl, sym, ap, ◌∙◌}
+use Rattle.std.proofs.Common.{◌≡◌, ℕ, ◌<◌, Bool, true, false, ◌&&◌, List, [], ◌∷◌, ◌++◌, length, get_or, take, drop, take-append-drop, refl, sym, ap, ◌∙◌}
 use Rattle.std.specs.List.{list_all, flat_map}
 use Rattle.std.proofs.lemmas.List.Folds.{list_all_at, list_all-append}
 use Rattle.wast_tree.specs.Ids.{is_number}
-use Rattle.wast_tree.specs.Occurrences.{Ask, in_index, in_def, outside, asked}
-use Rattle.wast_tree.specs.WellFormed.{is_final, is_plain_inner, is_plain_def}
-use Rattle.wast_tree.proofs.Visiting.{asked_outside}
-use Rattle.wast_core.specs.Tree.{Index, Space, ModuleField}
-use Rattle.wast_core.specs.Tree.ty
-use Rattle.wast_core.specs.Tree.field
-use Rattle.wast_core.specs.Encodable.{is_encodable_def, is_encodable_field}
+use Rattle.wast_tree.specs.Occurrences.{Ask, in_index}
+use Rattle.wast_core.specs.Tree.{Index, Space}
 use Rattle.wast_core.specs.Tree.index
 use Rattle.wast_resolve.specs.Resolved.{is_numbered, is_resolved}
 
@@ -36,7 +29,7 @@ all_pass p [] h = refl
 all_pass p (x ∷ xs) h = ap (λ b. b && list_all p xs) (h x) ∙ all_pass p xs h
 
 -- indices in which no id is left are numbers
-index_is_number : (s : Space) (x : Index) → is_resolved (in_index s x) ≡ is_number x
+pub index_is_number : (s : Space) (x : Index) → is_resolved (in_index s x) ≡ is_number x
 index_is_number s (index.Num n span) = refl
 index_is_number s (index.Id id) = refl
 
@@ -49,13 +42,6 @@ numbers_only s xs rest h =
     let first = (both_pass _ _ (sym (list_all-append is_numbered (flat_map (in_index s) xs) rest) ∙ h)).0 in
     sym (same_each (λ x. is_resolved (in_index s x)) is_number (index_is_number s) xs) ∙ (sym (each_passes is_numbered (in_index s) xs) ∙ first)
 
--- a type whose field may be encoded
-pub encodable_type : (f : ModuleField) (t : ty.«Type») → f ≡ field.Ty t → IsTrue (is_encodable_field f) → IsTrue (is_encodable_def t.def)
-encodable_type f t is h =
-    let d = t.def in
-    let whole : (is_plain_def d && is_resolved (asked (outside (in_def d)))) ≡ true = subst (λ x. IsTrue (is_encodable_field x)) is h in
-    let both : (is_plain_def d && is_resolved (in_def d)) ≡ true = ap (λ asks. is_plain_def d && is_resolved asks) (sym (asked_outside (in_def d))) ∙ whole in
-    by_tests (length d.parents == 0) d.shared (is_none d.descriptor) (is_none d.describes) (is_final d.final_type && is_plain_inner d.kind) (is_resolved (in_def d)) both
-  where
-    by_tests : (p s a b r i : Bool) → ((p && (not s && (a && (b && r)))) && i) ≡ true → ((not s && (a && b)) && i) ≡ true
-    by_tests p s a b r i h = grind (arith)
+-- the first of a list pass where all do
+pub first_pass : {A : Type 0} (p : A → Bool) (xs : List A) (i : ℕ) → list_all p xs ≡ true → list_all p (take i xs) ≡ true
+first_pass p xs i h = (both_pass _ _ (sym (list_all-append p (take i xs) (drop i xs)) ∙ ap (list_all p) (take-append-drop i xs) ∙ h)).0

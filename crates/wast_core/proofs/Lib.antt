@@ -1,10 +1,8 @@
-pub mod Appended
 pub mod Each
 pub mod Encoded
-pub mod Filled
-pub mod Listing
 pub mod NameMaps
+pub mod Readings
+pub mod Listed
+pub mod Spelled
 pub mod EachPasses
 pub mod Worked
-pub mod Written
-pub mod Whole

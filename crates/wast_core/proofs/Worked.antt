@@ -1,22 +1,119 @@
 -- The worked modules, computed.
-use Rattle.std.proofs.Common.{◌≡◌, ℕ, ◌<◌, [], get_or, refl, arith}
-use Rattle.std.proofs.lemmas.List.Elements.{All-nil}
-use Rattle.std.proofs.lemmas.List.{get_or-replicate}
-use Rattle.wasm_out.specs.Parts.{InRangePart}
+use Rattle.std.proofs.Common.{◌≡◌, ℕ, ◌<◌, ◌^◌, true, List, [], ◌∷◌, Option, None, codes, refl, arith}
+use Rattle.std.specs.Prelude.{All, nat_lt}
+use Rattle.std.specs.List.{list_all}
+use Rattle.std.specs.Str.{is_utf8}
+use Rattle.std.proofs.lemmas.Bool.{ltb-true}
+use Rattle.std.proofs.lemmas.List.Elements.{All-nil, All-from_recursion}
+use Rattle.std.proofs.lemmas.Str.{is_utf8-from_IsUtf8}
+use lib.Utf8.{encode}
 use Rattle.wasm_ops.specs.Leb128.{unsigned, unsigned_in}
+use Rattle.wasm_ops.specs.Spelling.{Any, InRangeU32, InRangeVec}
+use Rattle.wasm_ops.specs.Table.{InRangeInstr}
+use Rattle.wasm_ops.proofs.Everywhere.{all_each, all_one, all_both, all_of_flat, all_tested}
+use Rattle.wasm_out.specs.NameSubsections.{InRangeNameEntry, InRangeNameSubsection}
+use Rattle.wasm_out.specs.Parts.{Types, Functions, Exports, Code, InRangeEntry, InRangePart}
+use Rattle.wasm_out.specs.Reads.{Reads}
+use Rattle.wasm_out.specs.WorkedBytes as out
+use Rattle.wast_tree.specs.WorkedModules as worked
+use Rattle.wast_tree.specs.WorkedModules.{Address}
 use Rattle.wast_resolve.specs.Demands.{counts, IsCrowded}
-use Rattle.wast_core.specs.WorkedMeanings.{Row1, Row27}
+use Rattle.wast_resolve.specs.Resolved.{resolved}
+use Rattle.wast_core.specs.Tree.{ModuleField}
+use Rattle.wast_core.specs.declared.slots.Slot.{Slot}
+use Rattle.wast_core.specs.declared.slots.Slot.TheVariants as slot
+use Rattle.wast_core.specs.Bounded.{InRangeHeld, InRangeSlot, InRangeModule, IsBounded}
+use Rattle.wast_core.specs.Meaning.{in_slot, parts, meaning}
+use Rattle.wast_core.specs.Names.{HasUtf8Names}
+use Rattle.wast_core.specs.NamesPayload.{InRangeNames, name_subsections}
+use Rattle.wast_core.specs.Slots.{order}
+use Rattle.wast_core.specs.WorkedMeanings.{Row1, Row27, AnnotatedFunction, SecondNamed, LongSection}
+use Rattle.wast_core.proofs.Readings.{reads_module}
 
--- of nothing there are none
-none_counted : (k n : ℕ) → k < 8 → get_or (counts []) k n ≡ 0
-none_counted k n lt = get_or-replicate 8 k 0 n lt
+-- what is tested of each number
+below : (bound : ℕ) (xs : List ℕ) → list_all (λ x. nat_lt x bound) xs ≡ true → All (λ x. x < bound) xs
+below bound xs e = λ k d lt. ltb-true _ _ (all_tested (λ x. nat_lt x bound) xs e k d lt)
 
-not_crowded : IsCrowded [] → ⊥
-not_crowded c = let at = c.1.0 in let none = none_counted at.0 c.0 at.1 in let some = c.1.1 in let same = at.2 in absurd (omega arith)
+not_crowded : (fields : List ModuleField) → list_all (λ n. nat_lt n (2 ^ 32)) (counts fields) ≡ true → IsCrowded fields → ⊥
+not_crowded fields e c = let at = c.1.0 in let few = below (2 ^ 32) (counts fields) e at.0 c.0 at.1 in let many = c.1.1 in let same = at.2 in absurd (omega arith)
+
+-- a list of none, and of one
+none : {A : Type 0} (P : A → Type 0) → InRangeVec P []
+none P = (omega arith, All-nil P)
+
+one : {A : Type 0} (P : A → Type 0) (x : A) → P x → InRangeVec P (x ∷ [])
+one P x h = (omega arith, all_one P x h)
+
+-- what is in range in the parts and in the names is so in each place
+each_place : (name : Option (List ℕ)) (fields : List ModuleField) → All InRangePart (parts name fields) → InRangeNames name fields → InRangeModule name fields
+each_place name fields h names = all_both (λ s. All InRangePart (in_slot name fields s)) (InRangeHeld name fields) (InRangeSlot name fields) (λ s p q. (p, q)) order (all_of_flat InRangePart (in_slot name fields) order h) (all_each (InRangeHeld name fields) held order)
+  where
+    held : (s : Slot) → InRangeHeld name fields s
+    held slot.BeforeFirst = tt
+    held (slot.Before kind) = tt
+    held (slot.Section kind) = tt
+    held slot.Hints = tt
+    held (slot.After kind) = tt
+    held slot.AfterLast = tt
+    held slot.Names = names
 
 pub row1 : Row1
-row1 = (record { spaces = not_crowded; written = record { parts = All-nil InRangePart; names = record { whole = tt; functions = tt; types = tt } } }, refl)
+row1 = (record { spaces = not_crowded [] refl; written = record { in_range = each_place None [] (All-nil InRangePart) (All-nil InRangeNameSubsection); length = omega arith } }, refl)
+
+parts27 : All InRangePart out.worked_parts
+unfolding unsigned unsigned_in
+parts27 = All-from_recursion InRangePart out.worked_parts (
+  (omega arith, one (InRangeEntry Types) _ (none InRangeU32, (none Any, none Any))),
+  (
+    (omega arith, one (InRangeEntry Functions) _ (omega arith)),
+    (
+      (omega arith, one (InRangeEntry Exports) _ (omega arith, omega arith)),
+      (
+        (omega arith, one (InRangeEntry Code) _ (omega arith, record { locals = omega arith; instrs = all_one InRangeInstr _ (omega arith, tt) })),
+        ((omega arith, omega arith), tt),
+      ),
+    ),
+  ),
+)
+
+names27 : (a b c d e f : Address) → InRangeNames None (resolved (worked.row27 a b c d e f))
+unfolding unsigned unsigned_in
+names27 a b c d e f = All-from_recursion InRangeNameSubsection (name_subsections None (resolved (worked.row27 a b c d e f))) (
+  (omega arith, one InRangeNameEntry _ (omega arith, omega arith)),
+  ((omega arith, one InRangeNameEntry _ (omega arith, omega arith)), tt),
+)
+
+a_is_text : is_utf8 (codes "a") ≡ true
+unfolding encode
+a_is_text = is_utf8-from_IsUtf8 (codes "a") (codes "a", (refl, refl))
+
+texts27 : (a b c d e f : Address) → All HasUtf8Names (resolved (worked.row27 a b c d e f))
+texts27 a b c d e f = All-from_recursion HasUtf8Names (resolved (worked.row27 a b c d e f)) (tt, (tt, (a_is_text, tt)))
+
+bounded27 : (a b c d e f : Address) → IsBounded None (worked.row27 a b c d e f)
+unfolding unsigned unsigned_in
+bounded27 a b c d e f =
+    let fields = worked.row27 a b c d e f in
+    record { spaces = not_crowded fields refl; written = record { in_range = each_place None (resolved fields) parts27 (names27 a b c d e f); length = omega arith } }
+
+reads27 : (a b c d e f : Address) → Reads out.worked_bytes (meaning None (worked.row27 a b c d e f))
+unfolding unsigned unsigned_in
+reads27 a b c d e f =
+    let bounded = bounded27 a b c d e f in
+    reads_module None (resolved (worked.row27 a b c d e f)) out.worked_bytes refl (texts27 a b c d e f) bounded.written.in_range refl (below 256 out.worked_bytes refl)
 
 pub row27 : Row27
 unfolding unsigned unsigned_in
-row27 a b c d e f = (refl, refl, refl)
+row27 a b c d e f = (refl, refl, refl, bounded27 a b c d e f, reads27 a b c d e f)
+
+pub annotated_function : AnnotatedFunction
+unfolding unsigned unsigned_in
+annotated_function a b = (refl, refl)
+
+pub second_named : SecondNamed
+unfolding unsigned unsigned_in
+second_named a = (refl, refl)
+
+pub long_section : LongSection
+unfolding unsigned unsigned_in
+long_section a = ((refl, refl), (refl, refl))

@@ -1,16 +1,42 @@
--- Which text modules are small enough: every count, length and position that the binary format writes is below 2^32.
-use Rattle.std.specs.Prelude.{ℕ, List, Option, All}
-use Rattle.wasm_out.specs.Parts.{InRangePart}
+-- Which text modules are small enough: every count, length and position that the binary format writes is below 2^32, and all bytes are at most the greatest usize.
+use Rattle.std.specs.Prelude.{ℕ, ◌<◌, ◌^◌, ◌++◌, List, length, Option, All}
+use Rattle.std.specs.List.{flat_map}
+use Rattle.wasm_out.specs.Parts.{part, InRangePart}
+use Rattle.wasm_out.specs.Reads.{header}
 use Rattle.wast_resolve.specs.Demands.{IsCrowded}
 use Rattle.wast_resolve.specs.Resolved.{resolved}
 use Rattle.wast_core.specs.Tree.{ModuleField}
-use Rattle.wast_core.specs.Meaning.{parts}
+use Rattle.wast_core.specs.Meaning.{in_slot, parts}
+use Rattle.wast_core.specs.Slots.{order}
+use Rattle.wast_core.specs.declared.slots.Slot.{Slot}
+use Rattle.wast_core.specs.declared.slots.Slot.TheVariants as slot
 use Rattle.wast_core.specs.NamesPayload.{InRangeNames}
 
--- the parts of a resolved list, and the payload of its name section, can be written
+-- the bytes of a resolved list, of a module with this name
+abbrev pub bytes_of : Option (List ℕ) → List ModuleField → List ℕ
+bytes_of name fields = header ++ flat_map part (parts name fields)
+
+-- the numbers, counts and lengths in a place are in range, those in the payload of the name section too
+abbrev pub InRangeHeld : Option (List ℕ) → List ModuleField → Slot → Type 0
+InRangeHeld name fields slot.BeforeFirst = Unit {0}
+InRangeHeld name fields (slot.Before kind) = Unit {0}
+InRangeHeld name fields (slot.Section kind) = Unit {0}
+InRangeHeld name fields slot.Hints = Unit {0}
+InRangeHeld name fields (slot.After kind) = Unit {0}
+InRangeHeld name fields slot.AfterLast = Unit {0}
+InRangeHeld name fields slot.Names = InRangeNames name fields
+
+abbrev pub InRangeSlot : Option (List ℕ) → List ModuleField → Slot → Type 0
+InRangeSlot name fields s = All InRangePart (in_slot name fields s) × InRangeHeld name fields s
+
+-- the numbers, counts and lengths in these bytes are in range
+abbrev pub InRangeModule : Option (List ℕ) → List ModuleField → Type 0
+InRangeModule name fields = All (InRangeSlot name fields) order
+
+-- and so is how many bytes they are
 pub record IsWritable (name : Option (List ℕ)) (fields : List ModuleField) : Type 0 where
-  pub parts : All InRangePart (parts name fields)
-  pub names : InRangeNames name fields
+  pub in_range : InRangeModule name fields
+  pub length : length (bytes_of name fields) < 2 ^ 64
 
 pub record IsBounded (name : Option (List ℕ)) (fields : List ModuleField) : Type 0 where
   pub spaces : IsCrowded fields → ⊥

@@ -1,10 +1,12 @@
 -- What resolving and encoding a module answer, and what they leave.
-use Rattle.std.specs.Prelude.{◌≡◌, ℕ, List, [], Option, None, Result, Ok, Err, ◌⊎◌}
+use Rattle.std.specs.Prelude.{◌≡◌, ℕ, List, [], Option, Some, None, Result, Ok, Err, ◌⊎◌}
 use Rattle.std.specs.List.{flat_map}
 use Rattle.std.specs.Borrow.{Bor}
 use Rattle.std.specs.Global.{Vec}
 use Rattle.wast_tree.specs.declared.faults.Error.{Error}
-use Rattle.wast_tree.specs.Faults.{too_large, out_of_memory}
+use Rattle.wast_tree.specs.declared.faults.Fault.TheVariants as fault
+use Rattle.wast_tree.specs.declared.faults.Form.{Form}
+use Rattle.wast_tree.specs.Faults.{refused, too_large, out_of_memory}
 use Rattle.wast_tree.specs.Known.{known}
 use Rattle.wast_tree.specs.Items.{items}
 use Rattle.wasm_out.specs.Reads.{Reads}
@@ -18,6 +20,7 @@ use Rattle.wast_core.specs.declared.module.ModuleKind.TheVariants as kind
 use Rattle.wast_core.specs.NamesPayload.{given_name}
 use Rattle.wast_core.specs.Meaning.{meaning}
 use Rattle.wast_core.specs.Bounded.{IsBounded}
+use Rattle.wast_core.specs.Uncovered.{first, uncovered, IsCovered}
 
 -- each demand of the fields is met
 abbrev pub IsMet : List ModuleField → Type 0
@@ -45,15 +48,20 @@ name_of_module m = given_name m.name m.id
 abbrev pub joined : List (Bor (List ℕ)) → List ℕ
 joined pieces = flat_map (λ p. p.now) pieces
 
--- Why a text module gives no bytes: it is not resolved, and keeps why; or it is resolved, and memory was refused or it is too large.
+-- why resolved fields give no bytes: a form is not covered; else memory was refused, or they are too large
+abbrev pub IsUnwritten : Option Form → Type 0 → Error → Type 0
+IsUnwritten (Some form) small e = e ≡ refused (fault.Uncovered form)
+IsUnwritten None small e = (e ≡ out_of_memory) ⊎ ((e ≡ too_large) × (small → ⊥))
+
+-- Why a text module gives no bytes: it is not resolved, and keeps why; or it is resolved, and gives none.
 abbrev pub IsUnencoded : Option (List ℕ) → List ModuleField → Error → ModuleKind → Type 0
 IsUnencoded name fields e new =
     (IsUnresolved fields e × (new ≡ kind.Refused e))
-    ⊎ (IsMet fields × ((e ≡ out_of_memory) ⊎ ((e ≡ too_large) × (IsBounded name fields → ⊥))) × (new ≡ kind.Text (resolved fields)))
+    ⊎ (IsMet fields × IsUnwritten (first (uncovered (resolved fields))) (IsBounded name fields) e × (new ≡ kind.Text (resolved fields)))
 
--- A text module gives bytes only where each demand is met, and then bytes that are read as what it means.
+-- A text module gives bytes only where each demand is met and each form covered, and then bytes that are read as what it means.
 abbrev pub EncodesKind : Option (List ℕ) → ModuleKind → Result (Vec ℕ) Error → ModuleKind → Type 0
-EncodesKind name (kind.Text fields) (Ok bytes) new = IsMet fields × Reads bytes.items (meaning name fields) × (new ≡ kind.Text (resolved fields))
+EncodesKind name (kind.Text fields) (Ok bytes) new = IsMet fields × IsCovered (resolved fields) × Reads bytes.items (meaning name fields) × (new ≡ kind.Text (resolved fields))
 EncodesKind name (kind.Text fields) (Err e) new = IsUnencoded name fields e new
 EncodesKind name (kind.Binary pieces) (Ok bytes) new = (bytes.items ≡ joined pieces) × (new ≡ kind.Binary pieces)
 EncodesKind name (kind.Binary pieces) (Err e) new = (e ≡ out_of_memory) × (new ≡ kind.Binary pieces)

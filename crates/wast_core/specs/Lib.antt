@@ -1,13 +1,15 @@
 pub mod Encodable
-pub mod Filling
+pub mod Slots
+pub mod Uncovered
 pub mod Bounded
+pub mod Contributing
 pub mod Headline
 pub mod Entries
 pub mod Meaning
 pub mod Modules
 pub mod Names
 pub mod NamesPayload
-pub mod Writing
 pub mod WorkedMeanings
 pub mod Tree
 pub mod Wats
+pub mod Writing

@@ -1,9 +1,10 @@
 -- What a text module means: its parts, in the order of the sections, with the numbers of its resolved list (binary format, modules).
-use Rattle.std.specs.Prelude.{ℕ, List, [], ◌∷◌, ◌++◌, map, Option, unwrap_or, option_map, codes}
+use Rattle.std.specs.Prelude.{ℕ, List, [], ◌∷◌, map, Option, unwrap_or, option_map, codes}
 use Rattle.std.specs.List.{flat_map}
 use Rattle.wast_tree.specs.WellFormed.{is_final}
 use Rattle.wast_core.specs.Tree as tree
-use Rattle.wast_core.specs.Tree.{Index, FunctionType, TypeUse, InnerTypeKind, TypeDef, Instruction, FuncKind, Export, ModuleField}
+use Rattle.wast_core.specs.Tree.{Index, FunctionType, TypeUse, InnerTypeKind, TypeDef, Instruction, Local, FuncKind, Func, Export, ModuleField}
+use Rattle.wast_core.specs.Tree.ty
 use Rattle.wast_core.specs.Tree.index
 use Rattle.wast_core.specs.Tree.value as val
 use Rattle.wast_core.specs.Tree.inner
@@ -23,9 +24,13 @@ use Rattle.wasm_ops.specs.declared.instrs.IndexOp.TheVariants.{Call}
 use Rattle.wasm_ops.specs.IndexInstrs.{index_instr}
 use Rattle.wasm_ops.specs.Table.{Instr}
 use Rattle.wasm_out.specs.Bodies.{Body}
-use Rattle.wasm_out.specs.Parts.{SectionKind, Types, Functions, Exports, Code, Entry, Single, ExportEntry, Custom, Listed, Part}
+use Rattle.wasm_out.specs.Parts.{SectionKind, Types, Functions, Exports, Code, Entry, TypeEntry, Single, ExportEntry, Custom, Listed, Part}
+use Rattle.wasm_out.specs.NameSubsections.{NameSubsection, name_subsection}
 use Rattle.wast_resolve.specs.Resolved.{resolved}
-use Rattle.wast_core.specs.NamesPayload.{names_payload}
+use Rattle.wast_core.specs.NamesPayload.{name_subsections}
+use Rattle.wast_core.specs.declared.slots.Slot.{Slot}
+use Rattle.wast_core.specs.declared.slots.Slot.TheVariants as slot
+use Rattle.wast_core.specs.Slots.{kind_of, order}
 
 -- the number of an index; a resolved list has no ids left, and one would read 0
 abbrev pub number : Index → ℕ
@@ -60,8 +65,12 @@ type_index u = unwrap_or (option_map number u.index) 0
 abbrev pub instr : Instruction → Instr
 instr (instruction.call f) = index_instr Call (number f)
 
+-- the body of locals and instructions
+abbrev pub body_of : List Local → List Instruction → Body
+body_of locals instrs = record { locals = map (λ l. val_type l.ty) locals; instrs = map instr instrs }
+
 abbrev pub body : FuncKind → Body
-body (func.Inline locals e) = record { locals = map (λ l. val_type l.ty) locals; instrs = map instr e.instrs }
+body (func.Inline locals e) = body_of locals e.instrs
 
 abbrev pub export_kind : tree.ExportKind → ExportKind
 export_kind export.Func = kind.Func
@@ -69,20 +78,39 @@ export_kind export.Func = kind.Func
 abbrev pub export_entry : Export → ExportEntry
 export_entry e = record { name = e.name.now; kind = export_kind e.kind; index = number e.item }
 
--- what a field puts into a section
+-- what a field puts into the sections
+pub record Contribution : Type 0 where
+  pub types : List TypeEntry
+  pub functions : List ℕ
+  pub exports : List ExportEntry
+  pub code : List Body
+
+abbrev pub nothing : Contribution
+nothing = record { types = []; functions = []; exports = []; code = [] }
+
+abbrev pub of_type : ty.«Type» → Contribution
+of_type t = record nothing { types = Single (sub_type t.def) ∷ [] }
+
+abbrev pub of_func : Func → Contribution
+of_func f = record nothing { functions = type_index f.ty ∷ []; code = body f.kind ∷ [] }
+
+abbrev pub of_export : Export → Contribution
+of_export e = record nothing { exports = export_entry e ∷ [] }
+
+abbrev pub contributed : ModuleField → Contribution
+contributed (field.Ty t) = of_type t
+contributed (field.Func f) = of_func f
+contributed (field.Export e) = of_export e
+
+-- what is put into the section of a kind
+abbrev pub of_kind : (kind : SectionKind) → Contribution → List (Entry kind)
+of_kind Types c = c.types
+of_kind Functions c = c.functions
+of_kind Exports c = c.exports
+of_kind Code c = c.code
+
 abbrev pub entries_in : (kind : SectionKind) → ModuleField → List (Entry kind)
-entries_in Types (field.Ty t) = Single (sub_type t.def) ∷ []
-entries_in Types (field.Func f) = []
-entries_in Types (field.Export e) = []
-entries_in Functions (field.Ty t) = []
-entries_in Functions (field.Func f) = type_index f.ty ∷ []
-entries_in Functions (field.Export e) = []
-entries_in Exports (field.Ty t) = []
-entries_in Exports (field.Func f) = []
-entries_in Exports (field.Export e) = export_entry e ∷ []
-entries_in Code (field.Ty t) = []
-entries_in Code (field.Func f) = body f.kind ∷ []
-entries_in Code (field.Export e) = []
+entries_in kind f = of_kind kind (contributed f)
 
 abbrev pub entries : (kind : SectionKind) → List ModuleField → List (Entry kind)
 entries kind fields = flat_map (entries_in kind) fields
@@ -92,17 +120,24 @@ abbrev pub listed : (kind : SectionKind) → List (Entry kind) → List Part
 listed kind [] = []
 listed kind (item ∷ items) = record { kind = Listed kind; items = item ∷ items } ∷ []
 
-abbrev pub sections : List ModuleField → List Part
-sections fields = listed Types (entries Types fields) ++ (listed Functions (entries Functions fields) ++ (listed Exports (entries Exports fields) ++ listed Code (entries Code fields)))
-
--- the name section, left out where its payload is empty
-abbrev pub names_part : List ℕ → List Part
+-- the name section, left out where it has no subsections
+abbrev pub names_part : List NameSubsection → List Part
 names_part [] = []
-names_part (b ∷ bs) = record { kind = Custom; items = record { name = codes "name"; bytes = b ∷ bs } } ∷ []
+names_part (s ∷ ss) = record { kind = Custom; items = record { name = codes "name"; bytes = flat_map name_subsection (s ∷ ss) } } ∷ []
+
+-- the parts in a place of a module with this name, of these fields
+abbrev pub in_slot : Option (List ℕ) → List ModuleField → Slot → List Part
+in_slot name fields slot.BeforeFirst = []
+in_slot name fields (slot.Before kind) = []
+in_slot name fields (slot.Section kind) = listed (kind_of kind) (entries (kind_of kind) fields)
+in_slot name fields slot.Hints = []
+in_slot name fields (slot.After kind) = []
+in_slot name fields slot.AfterLast = []
+in_slot name fields slot.Names = names_part (name_subsections name fields)
 
 -- the parts of a resolved list, of a module with this name
 abbrev pub parts : Option (List ℕ) → List ModuleField → List Part
-parts name fields = sections fields ++ names_part (names_payload name fields)
+parts name fields = flat_map (in_slot name fields) order
 
 -- what a text module means
 abbrev pub meaning : Option (List ℕ) → List ModuleField → List Part

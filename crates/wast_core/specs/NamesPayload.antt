@@ -1,13 +1,12 @@
 -- The payload of the name section: the names of the module and of the items of each space (custom sections, name section).
-use Rattle.std.specs.Prelude.{ℕ, ◌+◌, List, [], ◌∷◌, ◌++◌, Option, Some, None, if◌then◌else◌}
+use Rattle.std.specs.Prelude.{ℕ, ◌+◌, List, [], ◌∷◌, ◌++◌, Option, Some, None, All, if◌then◌else◌}
 use Rattle.std.specs.List.{flat_map}
 use Rattle.wast_tree.specs.Ids.{Name, Written, Generated, name_of}
 use Rattle.wast_tree.specs.Spaces.{same_space}
 use Rattle.wast_core.specs.Tree.{Id, NameAnnotation, Space, ModuleField}
 use Rattle.wast_core.specs.Tree.space
 use Rattle.wast_core.specs.Tree.field
-use Rattle.wasm_ops.specs.Spelling.{InRangeU32, vec, InRangeVec, InRangeSized, name, InRangeName}
-use Rattle.wasm_out.specs.NameSubsections.{Named, Whole, subsection, name_entry}
+use Rattle.wasm_out.specs.NameSubsections.{Named, One, Direct, NameSubsection, InRangeNameSubsection}
 use Rattle.wasm_out.specs.NameSubsections as named
 
 -- a name is the annotation, else a written id, never a generated one
@@ -47,9 +46,9 @@ abbrev pub named_items : Space → List ModuleField → List (ℕ × List ℕ)
 named_items s fields = named_from 0 (flat_map (names_given s) fields)
 
 -- a subsection of names stands only where there is one
-abbrev pub name_map : Named → List (ℕ × List ℕ) → List ℕ
-name_map of [] = []
-name_map of (e ∷ es) = subsection of (vec name_entry (e ∷ es))
+abbrev pub direct : Named → List (ℕ × List ℕ) → List NameSubsection
+direct of [] = []
+direct of (e ∷ es) = record { of = of; content = Direct (e ∷ es) } ∷ []
 
 -- the subsection of the names of a space
 abbrev pub named_of : Space → Named
@@ -62,29 +61,21 @@ named_of space.Elem = named.Elements
 named_of space.Data = named.DataSegments
 named_of space.Ty = named.Types
 
-abbrev pub item_names : Space → List ModuleField → List ℕ
-item_names s fields = name_map (named_of s) (named_items s fields)
+abbrev pub item_names : List ModuleField → Space → List NameSubsection
+item_names fields s = direct (named_of s) (named_items s fields)
 
-abbrev pub module_name : Option (List ℕ) → List ℕ
+abbrev pub module_name : Option (List ℕ) → List NameSubsection
 module_name None = []
-module_name (Some text) = subsection Whole (name text)
+module_name (Some text) = record { of = named.Whole; content = One text } ∷ []
 
-abbrev pub names_payload : Option (List ℕ) → List ModuleField → List ℕ
-names_payload text fields = module_name text ++ (item_names space.Func fields ++ item_names space.Ty fields)
+-- the spaces whose items have names, in the order of their subsections
+abbrev pub named_spaces : List Space
+named_spaces = space.Func ∷ space.Ty ∷ []
 
--- The numbers, counts and lengths in it are in range.
-abbrev pub InRangeNameEntry : ℕ × List ℕ → Type 0
-InRangeNameEntry e = InRangeU32 e.0 × InRangeName e.1
+-- the subsections of a module with this name, of these fields
+abbrev pub name_subsections : Option (List ℕ) → List ModuleField → List NameSubsection
+name_subsections text fields = module_name text ++ flat_map (item_names fields) named_spaces
 
-abbrev pub InRangeNameMap : List (ℕ × List ℕ) → Type 0
-InRangeNameMap [] = Unit {0}
-InRangeNameMap (e ∷ es) = InRangeSized (InRangeVec InRangeNameEntry) (vec name_entry) (e ∷ es)
-
-abbrev pub InRangeModuleName : Option (List ℕ) → Type 0
-InRangeModuleName None = Unit {0}
-InRangeModuleName (Some text) = InRangeSized InRangeName name text
-
-pub record InRangeNames (text : Option (List ℕ)) (fields : List ModuleField) : Type 0 where
-  pub whole : InRangeModuleName text
-  pub functions : InRangeNameMap (named_items space.Func fields)
-  pub types : InRangeNameMap (named_items space.Ty fields)
+-- their numbers, counts and lengths are in range
+abbrev pub InRangeNames : Option (List ℕ) → List ModuleField → Type 0
+InRangeNames text fields = All InRangeNameSubsection (name_subsections text fields)

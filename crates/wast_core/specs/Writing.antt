@@ -1,34 +1,54 @@
--- What is appended to bytes: instructions, bodies made of them, and parts.
-use Rattle.std.specs.Prelude.{◌≡◌, ℕ, List, ◌++◌, All, map, Result, Ok, Err}
-use Rattle.std.specs.List.{flat_map}
+-- What encoding a module that is resolved gives, and what it appends to a sink.
+use Rattle.std.specs.Prelude.{◌≡◌, ◌⊎◌, ℕ, List, [], length, Option, Some, None, Result, Ok, Err, IsTrue}
+use Rattle.std.specs.Global.{Vec}
 use Rattle.wast_tree.specs.declared.faults.Error.{Error}
-use Rattle.wast_core.specs.Tree.{Local, Instruction}
-use Rattle.wasm_ops.specs.Table.{Instr, instrs, IsInstr}
-use Rattle.wasm_out.specs.Bodies.{Body, content, InRangeContent}
-use Rattle.wasm_out.specs.Built.{IsRefused}
-use Rattle.wasm_out.specs.Parts.{Part, part, InRangePart, HasUtf8Names}
-use Rattle.wast_core.specs.Meaning as meaning
+use Rattle.wast_tree.specs.declared.faults.Fault.TheVariants as fault
+use Rattle.wast_tree.specs.declared.faults.Form.{Form}
+use Rattle.wast_tree.specs.Faults.{refused, too_large, out_of_memory}
+use Rattle.wasm_ops.specs.Sinks.{SinkRules, refused_as}
+use Rattle.wasm_out.specs.Reads.{Reads}
+use Rattle.wast_core.specs.Tree.{ModuleField}
+use Rattle.wast_core.specs.declared.module.ModuleKind.{ModuleKind}
+use Rattle.wast_core.specs.declared.module.ModuleKind.TheVariants as kind
+use Rattle.wast_core.specs.Bounded.{bytes_of, InRangeModule, IsWritable}
+use Rattle.wast_core.specs.Encodable.{are_encodable}
+use Rattle.wast_core.specs.Headline.{IsUnwritten, joined}
+use Rattle.wast_core.specs.Meaning.{parts}
+use Rattle.wast_core.specs.Uncovered.{first, uncovered, IsCovered}
 
--- the instructions stand at the end of the new bytes, and each is a row of the table with numbers in range
-pub record IsWritten (old new : List ℕ) (list : List Instr) : Type 0 where
-  pub bytes : new ≡ old ++ instrs list
-  pub rows : All IsInstr list
+-- a text module as a successful resolving leaves it
+abbrev pub IsEncodable : ModuleKind → Type 0
+IsEncodable (kind.Text fields) = IsTrue (are_encodable fields)
+IsEncodable (kind.Binary pieces) = ⊥
+IsEncodable (kind.Refused e) = ⊥
 
-abbrev pub body_of : List Local → List Instruction → Body
-body_of locals instructions = record { locals = map (λ l. meaning.val_type l.ty) locals; instrs = map meaning.instr instructions }
+-- a text module has to be so; of the others nothing is asked
+abbrev pub IsAtRest : ModuleKind → Type 0
+IsAtRest (kind.Text fields) = IsTrue (are_encodable fields)
+IsAtRest (kind.Binary pieces) = Unit {0}
+IsAtRest (kind.Refused e) = Unit {0}
 
--- the bytes spell the body, which is in range
-pub record IsBodyOf (body : Body) (bytes : List ℕ) : Type 0 where
-  pub spelled : bytes ≡ content body
-  pub in_range : InRangeContent body
+-- encoding what a module with this name holds, where it is resolved
+abbrev pub EncodesResolved : Option (List ℕ) → ModuleKind → Result (Vec ℕ) Error → Type 0
+EncodesResolved name (kind.Text fields) (Ok bytes) = IsCovered fields × Reads bytes.items (parts name fields)
+EncodesResolved name (kind.Text fields) (Err e) = IsUnwritten (first (uncovered fields)) (IsWritable name fields) e
+EncodesResolved name (kind.Binary pieces) (Ok bytes) = bytes.items ≡ joined pieces
+EncodesResolved name (kind.Binary pieces) (Err e) = e ≡ out_of_memory
+EncodesResolved name (kind.Refused e) (Ok bytes) = ⊥
+EncodesResolved name (kind.Refused e) (Err d) = d ≡ e
 
--- the parts stand at the end of the new bytes, are in range, and their names are UTF-8
-pub record IsAppended (old new : List ℕ) (parts : List Part) : Type 0 where
-  pub bytes : new ≡ old ++ flat_map part parts
-  pub in_range : All InRangePart parts
-  pub names : All HasUtf8Names parts
+-- why nothing was appended: a form is not covered; else the sink has no room, or a number, count or length is out of range
+abbrev pub IsNotPut : {S : Type 0} → Option Form → SinkRules S → S → Option (List ℕ) → List ModuleField → Error → Type 0
+IsNotPut (Some form) rules old name fields e = e ≡ refused (fault.Uncovered form)
+IsNotPut None rules old name fields e =
+    ((e ≡ refused_as rules.refusal) × (rules.fits old (length (bytes_of name fields)) → ⊥)) ⊎ ((e ≡ too_large) × (InRangeModule name fields → ⊥))
 
--- the parts were appended; else memory was refused, or they are not in range
-abbrev pub AppendsParts : List ℕ → List ℕ → List Part → Result (Unit {0}) Error → Type 0
-AppendsParts old new parts (Ok x) = IsAppended old new parts
-AppendsParts old new parts (Err e) = IsRefused (All InRangePart parts) e
+-- the bytes of a module with this name, of these fields, were appended, where each form is covered; or none were
+abbrev pub PutsFields : {S : Type 0} → SinkRules S → Option (List ℕ) → List ModuleField → S → S → Result (Unit {0}) Error → Type 0
+PutsFields rules name fields old new (Ok x) = IsCovered fields × rules.appended old new (bytes_of name fields) × InRangeModule name fields
+PutsFields rules name fields old new (Err e) = rules.appended old new [] × IsNotPut (first (uncovered fields)) rules old name fields e
+
+abbrev pub PutsModule : {S : Type 0} → SinkRules S → Option (List ℕ) → ModuleKind → S → S → Result (Unit {0}) Error → Type 0
+PutsModule rules name (kind.Text fields) old new result = PutsFields rules name fields old new result
+PutsModule rules name (kind.Binary pieces) old new result = ⊥
+PutsModule rules name (kind.Refused e) old new result = ⊥

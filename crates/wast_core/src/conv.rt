@@ -11,9 +11,7 @@ ghost use Rattle.wast_core.specs.Meaning as meaning;
 
 use std::alloc::Global;
 use wasm_ops::{CompositeInnerType, CompositeType, FuncType, SubType};
-use wast_tree::{
-    Error, FunctionType, Id, Index, InnerTypeKind, Local, NameAnnotation, Seq, TypeDef,
-};
+use wast_tree::{Error, FunctionType, Id, Index, InnerTypeKind, NameAnnotation, Seq, TypeDef};
 
 /// A part of the tree that stands for a value of the binary format, and takes no memory for it.
 pub(crate) trait Convert {
@@ -108,18 +106,6 @@ impl<'a> Convert
 
     fn convert(&self) -> wasm_ops::ValType {
         val_type(&self.2)
-    }
-}
-
-impl Convert for Local<'_> {
-    type Out = wasm_ops::ValType;
-
-    ghost becomes = { λ l. meaning.val_type l.ty };
-
-    ghost is_ready = { λ _. true };
-
-    fn convert(&self) -> wasm_ops::ValType {
-        val_type(&self.ty)
     }
 }
 

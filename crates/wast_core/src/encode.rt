@@ -6,19 +6,22 @@ ghost use Rattle.wasm_out.specs.Built.{IsRefused};
 ghost use Rattle.wasm_out.specs.Reads.{Reads};
 ghost use Rattle.wast_core.specs.Bounded.{IsWritable};
 ghost use Rattle.wast_core.specs.Encodable.{are_encodable};
-ghost use Rattle.wast_core.specs.Headline.{Encodes, joined};
+ghost use Rattle.wast_core.specs.Headline.{Encodes, joined, name_of_module};
 ghost use Rattle.wast_core.specs.Meaning.{parts};
 ghost use Rattle.wast_core.specs.Modules.{IsReady};
 ghost use Rattle.wast_core.specs.Names.{text_seen};
+ghost use Rattle.wast_core.specs.Writing.{IsEncodable, IsAtRest, EncodesResolved, PutsModule};
 
+use crate::covered;
 use crate::module::{Module, ModuleKind};
-use crate::names_payload::{append_names, given_name};
-use crate::sections::append_sections;
+use crate::names_payload::given_name;
+use crate::sections::BinaryModule;
 use std::alloc::Global;
-use wast_resolve::resolved_laws;
-use wast_tree::{Error, Gensym, ModuleField};
+use wasm_ops::{Encode, Length, Room, Sink};
+use wast_resolve::discard_names;
+use wast_tree::{Error, Fault, Gensym, ModuleField};
 
-/// The bytes of a module with these resolved fields.
+/// The bytes of a module with this name, of these resolved fields.
 fn encode_fields<'e>(
     alloc: Global,
     name: Option<&str>,
@@ -28,10 +31,13 @@ fn encode_fields<'e>(
     ensures bytes { IfOk result (λ v. Reads v.items (parts (text_seen name.entry) fields.now)) }
     ensures refusal { IfErr result (IsRefused (IsWritable (text_seen name.entry) fields.now)) }
 {
-    let mut module = wasm_out::Module::new(alloc)?;
-    append_sections(alloc, &mut module, fields)?;
-    append_names(alloc, &mut module, name, fields)?;
-    let bytes = module.finish();
+    covered::names(fields);
+    let module = BinaryModule { name, fields };
+    let mut length = Length::new();
+    module.encode(&mut length)?;
+    let mut room = Room::reserve(alloc, length.count() as usize)?;
+    module.encode(&mut room)?;
+    let bytes = room.finish();
     Ok(bytes)
 }
 
@@ -45,6 +51,22 @@ fn join<'e>(alloc: Global, pieces: &[&[u8]]) -> Result<Vec<u8>, Error<'e>>
         out.extend_from_slice(piece)?;
     }
     Ok(out)
+}
+
+/// The bytes of a module that is resolved, or the refusal that it keeps. The module cannot change.
+fn encode_resolved<'a>(alloc: Global, module: &Module<'a>) -> Result<Vec<u8>, Error<'a>>
+    requires { IsAtRest «module».now.kind }
+    ensures { EncodesResolved (name_of_module «module».now) «module».now.kind result }
+{
+    let name = given_name(&module.name, &module.id);
+    match &module.kind {
+        ModuleKind::Text(fields) => match covered::uncovered(fields.as_slice()) {
+            Some(form) => Err(Error::refusal(Fault::Uncovered(form))),
+            None => encode_fields(alloc, name, fields.as_slice()),
+        },
+        ModuleKind::Binary(pieces) => join(alloc, pieces.as_slice()),
+        ModuleKind::Refused(error) => Err(*error),
+    }
 }
 
 /// How modules are encoded: there is one way.
@@ -61,7 +83,8 @@ impl EncodeOptions {
     ///
     /// It needs what [`Module::resolve`] needs. The bytes of a text module are read as what its fields mean. A refusal
     /// of resolving is answered and kept, and a refused module answers what it keeps; a refusal of encoding leaves the
-    /// module resolved: E10 where a count, length or position is 2^32 or more, E12 where memory is refused. A binary
+    /// module resolved: E11 where a form is not covered, E10 where a count, length or position is 2^32 or more or
+    /// the bytes are more than the greatest usize, E12 where memory is refused. A binary
     /// module gives its pieces, one after another, and stays as it is. The module is well formed afterwards, its span,
     /// id and name stay, and so does the counter.
     pub fn encode_module<'a>(
@@ -75,13 +98,29 @@ impl EncodeOptions {
         ensures stays { «module».new ≡ record «module».old { kind = «module».new.kind } }
         ensures ready { IsReady «module».new gensym.new }
     {
-        resolved_laws();
-        module.resolve(alloc, gensym)?;
+        discard_names(module.resolve(alloc, gensym)?);
+        encode_resolved(alloc, module)
+    }
+
+    /// Appends the bytes of a resolved text module to a sink (binary format, modules). It takes no memory of its own.
+    ///
+    /// It needs a text module as [`Module::resolve`] leaves it: its indices are numbers, and each type use has one. E11
+    /// comes exactly where a form is not covered. Else the errors are the sink's refusal, where all the bytes do not
+    /// fit, and E10, where a count, length or position is 2^32 or more. Then the sink stays as it was.
+    pub fn put_module<'e, S: Sink>(&self, module: &Module, out: &mut S) -> Result<(), Error<'e>>
+        requires { IsEncodable «module».now.kind }
+        ensures { PutsModule S.rules (name_of_module «module».now) «module».now.kind out.old out.new result }
+    {
         let name = given_name(&module.name, &module.id);
         match &module.kind {
-            ModuleKind::Text(fields) => Ok(encode_fields(alloc, name, fields.as_slice())?),
-            ModuleKind::Binary(pieces) => Ok(join(alloc, pieces.as_slice())?),
-            ModuleKind::Refused(error) => Err(*error),
+            ModuleKind::Text(fields) => match covered::uncovered(fields.as_slice()) {
+                Some(form) => Err(Error::refusal(Fault::Uncovered(form))),
+                None => {
+                    let fields = fields.as_slice();
+                    Ok(BinaryModule { name, fields }.encode(out)?)
+                }
+            },
+            ModuleKind::Binary(_) | ModuleKind::Refused(_) => unreachable!(),
         }
     }
 }

@@ -1,13 +1,13 @@
 //! Worked modules, whose meaning the definitions compute.
 
-ghost use Rattle.wast_core.specs.WorkedMeanings.{Row1, Row27};
+ghost use Rattle.wast_core.specs.WorkedMeanings.{Row1, Row27, AnnotatedFunction, SecondNamed, LongSection};
 
-/// A module without fields is small enough, and is its header.
-pub(crate) fn row1()
-    ensures { Row1 }
-{}
-
-/// A type, a function that calls itself and its export are well formed, and have the bytes of the worked row.
-pub(crate) fn row27()
-    ensures { Row27 }
+/// The modules of the rows 1 and 27 are small enough and read from their bytes; a name annotation stands before an id;
+/// an item without a name counts; and a length takes two bytes from 128 on.
+pub(crate) fn worked_modules()
+    ensures row1 { Row1 }
+    ensures row27 { Row27 }
+    ensures annotated { AnnotatedFunction }
+    ensures second { SecondNamed }
+    ensures long { LongSection }
 {}

@@ -1,14 +1,17 @@
 //! Modules of the text format, and their encoding as binary modules.
 #![tactic(auto)]
 
-mod bodies;
 pub mod conv;
+mod covered;
 mod encode;
+mod entries;
 mod examples;
 mod module;
 mod names_payload;
 mod section_items;
 mod sections;
+mod slots;
+mod values;
 mod wat;
 
 pub use encode::EncodeOptions;

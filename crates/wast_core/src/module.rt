@@ -1,8 +1,9 @@
 //! Modules of the text format.
 
-ghost use Rattle.std.specs.Prelude.{◌≡◌};
-ghost use Rattle.wast_core.specs.Modules.{is_well_formed, generation_bound, IsReady};
-ghost use Rattle.wast_core.specs.Headline.{Resolves};
+ghost use Rattle.std.specs.Prelude.{◌≡◌, ◌<◌, OnOk, IsTrue};
+ghost use Rattle.wast_core.specs.Modules.{is_well_formed, is_well_formed_kind, generation_bound, bound_of_kind, IsReady};
+ghost use Rattle.wast_core.specs.Headline.{Resolves, ResolvesKind};
+ghost use Rattle.wast_core.specs.Writing.{IsAtRest};
 
 use std::alloc::Global;
 use std::mem;
@@ -60,7 +61,11 @@ impl<'a> Module<'a> {
             ModuleKind::Text(fields) => gensym_bound(fields.as_slice()),
             ModuleKind::Binary(_) | ModuleKind::Refused(_) => 0,
         };
-        self.id.map_or(0, |id| id.generation()).max(held)
+        let own = match &self.id {
+            Some(id) => id.generation(),
+            None => 0,
+        };
+        own.max(held)
     }
 
     /// Gives each index the number of what it names, and answers what the names of the module denote (text format,
@@ -77,36 +82,50 @@ impl<'a> Module<'a> {
         ensures answer { Resolves self.old.kind gensym.old result self.new.kind gensym.new }
         ensures stays { self.new ≡ record self.old { kind = self.new.kind } }
         ensures ready { IsReady self.new gensym.new }
+        ensures at_rest { OnOk result (IsAtRest self.new.kind) }
     {
-        resolved_laws();
         let placeholder = ModuleKind::Refused(Error::refusal(Fault::Memory));
-        match mem::replace(&mut self.kind, placeholder) {
-            ModuleKind::Text(fields) => match wast_resolve::resolve(alloc, fields, gensym) {
-                Ok((fields, names)) => {
-                    self.kind = ModuleKind::Text(fields);
-                    Ok(names)
-                }
-                Err(error) => {
-                    self.kind = ModuleKind::Refused(error);
-                    Err(error)
-                }
-            },
-            ModuleKind::Binary(pieces) => {
-                self.kind = ModuleKind::Binary(pieces);
-                Ok(Names::empty(alloc))
-            }
-            ModuleKind::Refused(error) => {
-                self.kind = ModuleKind::Refused(error);
-                Err(error)
-            }
-        }
+        let kind = mem::replace(&mut self.kind, placeholder);
+        let (kind, answer) = resolve_kind(alloc, kind, gensym);
+        discard_kind(mem::replace(&mut self.kind, kind));
+        answer
+    }
+}
+
+/// What a module holds once it is resolved, and what resolving it answers.
+fn resolve_kind<'a>(
+    alloc: Global,
+    kind: ModuleKind<'a>,
+    gensym: &mut Gensym,
+) -> (ModuleKind<'a>, Result<Names<'a>, Error<'a>>)
+    requires well_formed { IsTrue (is_well_formed_kind kind) }
+    requires above { bound_of_kind kind < gensym.old }
+    ensures held { ResolvesKind kind.entry result.1 result.0 }
+    ensures counter { gensym.new ≡ gensym.old }
+    ensures well_formed { IsTrue (is_well_formed_kind result.0) }
+    ensures above { bound_of_kind result.0 < gensym.new }
+    ensures at_rest { OnOk result.1 (IsAtRest result.0) }
+{
+    resolved_laws();
+    match kind {
+        ModuleKind::Text(fields) => match wast_resolve::resolve(alloc, fields, gensym) {
+            Ok((fields, names)) => (ModuleKind::Text(fields), Ok(names)),
+            Err(error) => (ModuleKind::Refused(error), Err(error)),
+        },
+        ModuleKind::Binary(pieces) => (ModuleKind::Binary(pieces), Ok(Names::empty(alloc))),
+        ModuleKind::Refused(error) => (ModuleKind::Refused(error), Err(error)),
+    }
+}
+
+/// Drops what a module holds.
+fn discard_kind(kind: ModuleKind<'_>) {
+    match kind {
+        ModuleKind::Text(fields) => discard_fields(fields),
+        ModuleKind::Binary(_) | ModuleKind::Refused(_) => {}
     }
 }
 
 /// Drops a module.
 pub fn discard_module(module: Module<'_>) {
-    match module.kind {
-        ModuleKind::Text(fields) => discard_fields(fields),
-        ModuleKind::Binary(_) | ModuleKind::Refused(_) => {}
-    }
+    discard_kind(module.kind);
 }

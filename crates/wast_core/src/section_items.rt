@@ -1,8 +1,8 @@
 //! Items of sections, as the encoder writes them.
 
-ghost use Rattle.std.specs.Prelude.{◌+◌, ℕ, List, Bool, OnOk, IsTrue};
-ghost use Rattle.std.specs.Str.{is_utf8};
+ghost use Rattle.std.specs.Prelude.{◌+◌, ℕ, List, Bool, IsTrue};
 ghost use Rattle.wasm_ops.specs.Leb128.{unsigned};
+ghost use Rattle.wasm_ops.specs.Sinks.{Puts};
 ghost use Rattle.wasm_ops.specs.Spelling.{InRangeU32};
 ghost use Rattle.wasm_out.specs.Built.{Adds};
 ghost use Rattle.wasm_out.specs.Parts.{type_entry, InRangeTypeEntry, export_entry, InRangeExport};
@@ -11,7 +11,9 @@ ghost use Rattle.wast_core.specs.Encodable.{is_encodable_def, is_encodable_type_
 ghost use Rattle.wast_core.specs.Meaning as meaning;
 
 use crate::conv;
+use crate::values::Resolved;
 use std::alloc::Global;
+use wasm_ops::{Sink, Spell};
 use wasm_out::{Build, ExportSection, FunctionSection, TypeSection};
 use wast_tree::{Error, Export, FunctionType, Type, TypeUse};
 
@@ -26,9 +28,6 @@ pub trait SectionItem {
     /// The numbers, counts and lengths in its spelling are in range.
     ghost in_range: { Self → Type 0 };
 
-    /// Its name, where it has one, is UTF-8.
-    ghost has_utf8_name: { Self → Type 0 };
-
     /// It is resolved, and of a form that the encoder covers.
     ghost is_encodable: { Self → Bool };
 
@@ -39,8 +38,15 @@ pub trait SectionItem {
     /// where memory is refused. Then the section stays as it was.
     fn encode<'e>(&self, alloc: Global, section: &mut Self::Section) -> Result<(), Error<'e>>
         requires { IsTrue (is_encodable self.now) }
-        ensures added { Adds (InRangeU32 ((Self.Section.built section.old).count + 1) × in_range self.now) (Self.Section.built section.old) (Self.Section.built section.new) (spelling self.now) result }
-        ensures name { OnOk result (has_utf8_name self.now) };
+        ensures { Adds (InRangeU32 ((Self.Section.built section.old).count + 1) × in_range self.now) (Self.Section.built section.old) (Self.Section.built section.new) (spelling self.now) result };
+
+    /// Appends the item's spelling to a sink. It needs a resolved item of a form that the encoder covers.
+    ///
+    /// The errors are the sink's refusal, where it has no room, and E10, where a count or length in the item is 2^32 or
+    /// more; then the sink stays as it was.
+    fn put<'e, S: Sink>(&self, out: &mut S) -> Result<(), Error<'e>>
+        requires { IsTrue (is_encodable self.now) }
+        ensures { Puts S.rules (in_range self.now) out.old out.new (spelling self.now) result };
 }
 
 impl<T: SectionItem> SectionItem for &T {
@@ -50,12 +56,14 @@ impl<T: SectionItem> SectionItem for &T {
 
     ghost in_range = { λ item. T.in_range item.now };
 
-    ghost has_utf8_name = { λ item. T.has_utf8_name item.now };
-
     ghost is_encodable = { λ item. T.is_encodable item.now };
 
     fn encode<'e>(&self, alloc: Global, section: &mut T::Section) -> Result<(), Error<'e>> {
         (**self).encode(alloc, section)
+    }
+
+    fn put<'e, S: Sink>(&self, out: &mut S) -> Result<(), Error<'e>> {
+        (**self).put(out)
     }
 }
 
@@ -75,13 +83,17 @@ impl SectionItem for RecOrType<'_, '_> {
 
     ghost in_range = { λ item. InRangeTypeEntry (entry_of item) };
 
-    ghost has_utf8_name = { λ _. Unit {0} };
-
     ghost is_encodable = { λ item. is_encodable_def (type_of item).def };
 
     fn encode<'e>(&self, alloc: Global, section: &mut TypeSection) -> Result<(), Error<'e>> {
         match self {
             RecOrType::Ty(ty) => section.subtype(&conv::sub_type(alloc, &ty.def)?),
+        }
+    }
+
+    fn put<'e, S: Sink>(&self, out: &mut S) -> Result<(), Error<'e>> {
+        match self {
+            RecOrType::Ty(ty) => Ok(Resolved.spell(&ty.def, out)?),
         }
     }
 }
@@ -97,8 +109,6 @@ impl SectionItem for FuncSectionTy<'_, '_> {
 
     ghost in_range = { λ item. InRangeU32 (meaning.type_index item.0.now) };
 
-    ghost has_utf8_name = { λ _. Unit {0} };
-
     ghost is_encodable = { λ item. is_encodable_type_use item.0.now };
 
     fn encode<'e>(&self, _alloc: Global, section: &mut FunctionSection) -> Result<(), Error<'e>> {
@@ -106,6 +116,10 @@ impl SectionItem for FuncSectionTy<'_, '_> {
             Some(index) => section.function(conv::index(index)),
             None => unreachable!(),
         }
+    }
+
+    fn put<'e, S: Sink>(&self, out: &mut S) -> Result<(), Error<'e>> {
+        Ok(Resolved.spell(self.0, out)?)
     }
 }
 
@@ -116,8 +130,6 @@ impl SectionItem for Export<'_> {
 
     ghost in_range = { λ item. InRangeExport (meaning.export_entry item) };
 
-    ghost has_utf8_name = { λ item. IsTrue (is_utf8 item.name.now) };
-
     ghost is_encodable = { λ item. is_number item.item };
 
     fn encode<'e>(&self, _alloc: Global, section: &mut ExportSection) -> Result<(), Error<'e>> {
@@ -126,5 +138,9 @@ impl SectionItem for Export<'_> {
             conv::export_kind(self.kind),
             conv::index(&self.item),
         )
+    }
+
+    fn put<'e, S: Sink>(&self, out: &mut S) -> Result<(), Error<'e>> {
+        Ok(Resolved.spell(self, out)?)
     }
 }

@@ -17,7 +17,7 @@ mod walks;
 
 pub use laws::resolved_laws;
 pub use namespace::{Namespace, resolve_error};
-pub use resolution::{Names, resolve};
+pub use resolution::{Names, discard_names, resolve};
 pub use resolver::{Ns, Resolver};
 
 /// The two passes over a list of fields.

@@ -123,3 +123,8 @@ pub fn resolve<'a>(
     let (fields, resolver) = passes::resolve(alloc, fields)?;
     Ok((fields, Names { resolver }))
 }
+
+/// Drops names, and gives their memory back.
+pub fn discard_names(names: Names<'_>) {
+    drop(names);
+}

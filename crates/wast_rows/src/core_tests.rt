@@ -2,17 +2,20 @@
 
 ghost use Rattle.std.specs.Prelude.{◌≡◌, IsTrue};
 ghost use Rattle.wast_core.specs.Modules.{is_well_formed, generation_bound};
+ghost use Rattle.wast_core.specs.Writing.{IsEncodable};
 
 use crate::sample;
 use crate::samples::{at, func, module, plain_type, type_at};
 use crate::tests::BYTES_OF_27;
 use std::alloc::Global;
 use std::process::Abort;
+use wasm_ops::{Length, Room};
 use wasm_out::{Build, ExportSection, FunctionSection, Section, TypeSection};
 use wast_core::{
     EncodeOptions, FuncSectionTy, Module, ModuleKind, RecOrType, SectionItem, Wat, conv,
     discard_module,
 };
+use wast_resolve::discard_names;
 use wast_tree::{
     Error, Export, ExportKind, Fault, FunctionType, Gensym, Id, Index, InnerTypeKind, ModuleField,
     Seq, TypeDef, TypeUse, ValType,
@@ -139,6 +142,44 @@ fn named_module<'a>(rt: &impl Abort, alloc: Global) -> Module<'a> {
     named
 }
 
+// Row 27, resolved.
+fn resolved_row<'a>(rt: &impl Abort, alloc: Global) -> Module<'a>
+    ensures { IsEncodable result.kind }
+{
+    let mut module = row(rt, alloc, 27);
+    let names = module.resolve(alloc, &mut Gensym::new(1));
+    discard_names(names.expect(rt, "names"));
+    assert!(rt; matches!(&module.kind, ModuleKind::Text(_)));
+    module
+}
+
+#[test]
+fn a_resolved_module_is_put_into_sinks(rt: HostRuntime) {
+    let alloc = rt.alloc();
+    let module = resolved_row(&rt, alloc);
+    let options = EncodeOptions::new();
+    let mut length = Length::new();
+    assert!(rt; options.put_module(&module, &mut length).is_ok() && length.count() == 52);
+    let mut out = Vec::new(alloc);
+    assert!(rt; options.put_module(&module, &mut out).is_ok());
+    assert!(rt; in_hex(&rt, alloc, Ok(out)).as_str() == BYTES_OF_27);
+    discard_module(module);
+}
+
+#[test]
+fn a_room_holds_a_module_or_nothing(rt: HostRuntime) {
+    let alloc = rt.alloc();
+    let module = resolved_row(&rt, alloc);
+    let options = EncodeOptions::new();
+    let mut room = Room::reserve(alloc, 52).expect(&rt, "memory");
+    assert!(rt; options.put_module(&module, &mut room).is_ok() && room.left() == 0);
+    assert!(rt; in_hex(&rt, alloc, Ok(room.finish())).as_str() == BYTES_OF_27);
+    let mut small = Room::reserve(alloc, 51).expect(&rt, "memory");
+    let refusal = options.put_module(&module, &mut small).err();
+    assert!(rt; refusal == Some(Error::refusal(Fault::TooLarge)) && small.left() == 51);
+    discard_module(module);
+}
+
 #[test]
 fn a_named_module_has_its_bytes(rt: HostRuntime) {
     let alloc = rt.alloc();
@@ -178,6 +219,9 @@ fn a_type_is_an_item(rt: HostRuntime) {
     let mut types = TypeSection::new(alloc);
     assert!(rt; RecOrType::Ty(&ty).encode(alloc, &mut types).is_ok());
     assert!(rt; payload(&rt, alloc, &types).as_slice() == [1, 0x60, 0, 0].as_slice());
+    let mut out = Vec::new(alloc);
+    assert!(rt; RecOrType::Ty(&ty).put(&mut out).is_ok());
+    assert!(rt; out.as_slice() == [0x60, 0, 0].as_slice());
 }
 
 #[test]
@@ -193,6 +237,10 @@ fn a_type_use_is_an_item(rt: HostRuntime) {
     let again = <&FuncSectionTy as SectionItem>::encode(&&item, alloc, &mut functions);
     assert!(rt; again.is_ok());
     assert!(rt; payload(&rt, alloc, &functions).as_slice() == [2, 3, 3].as_slice());
+    let mut out = Vec::new(alloc);
+    assert!(rt; item.put(&mut out).is_ok());
+    assert!(rt; <&FuncSectionTy as SectionItem>::put(&&item, &mut out).is_ok());
+    assert!(rt; out.as_slice() == [3, 3].as_slice());
 }
 
 #[test]
@@ -207,4 +255,7 @@ fn an_export_is_an_item(rt: HostRuntime) {
     let mut exports = ExportSection::new(alloc);
     assert!(rt; export.encode(alloc, &mut exports).is_ok());
     assert!(rt; payload(&rt, alloc, &exports).as_slice() == [1, 1, b'a', 0, 2].as_slice());
+    let mut out = Vec::new(alloc);
+    assert!(rt; export.put(&mut out).is_ok());
+    assert!(rt; out.as_slice() == [1, b'a', 0, 2].as_slice());
 }

@@ -3,7 +3,7 @@ use Rattle.wasm_ops.specs.declared.instrs.IndexOp.TheVariants.{Call}
 use Rattle.wasm_ops.specs.IndexInstrs.{index_instr}
 use Rattle.wasm_ops.specs.Table.{instr, IsInstr}
 use Rattle.std.proofs.lemmas.List.Elements.{All-nil, All-cons}
-use Rattle.wasm_out.specs.Bodies.{Body, locals, InRangeContent, SpellsInstrs}
+use Rattle.wasm_out.specs.Bodies.{Body, locals, IsSpellableContent, SpellsInstrs}
 use Rattle.wasm_out.proofs.Building.{spells_instr, spells_body}
 use Rattle.wasm_out.proofs.tests.calling.Goals as goal
 
@@ -15,6 +15,6 @@ returns c =
     let i = index_instr Call c.args.index in
     let b : Body = record { locals = c.args.types.now; instrs = i ∷ [] } in
     let front = locals c.args.types.now in
-    let fits : InRangeContent b = record { locals = c.in_ok-function.ensures.1; instrs = All-cons IsInstr i [] c.in_ok-bytes.ensures.in_range (All-nil IsInstr) } in
+    let fits : IsSpellableContent b = record { locals = c.in_ok-function.ensures.1; instrs = All-cons IsInstr i [] c.in_ok-bytes.ensures.in_range (All-nil IsInstr) } in
     let told = c.in_ok-end.ensures.0 ∙ ap (λ l. l ++ (0x0b ∷ [])) (c.in_ok-raw.ensures.0 ∙ ap (λ l. l ++ c.deref.result.now) c.in_ok-function.ensures.0 ∙ ap (λ l. front ++ l) (c.deref.ensures.value ∙ c.in_ok-bytes.ensures.bytes)) in
     spells_body b c.end.new.self fits (told ∙ ap (λ l. (front ++ l) ++ (0x0b ∷ [])) (sym (append-nil (instr i))))

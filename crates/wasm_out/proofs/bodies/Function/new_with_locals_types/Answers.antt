@@ -1,4 +1,5 @@
-use Rattle.std.proofs.Common.{length, true, refl, sym, ◌∙◌, subst}
+use Rattle.std.proofs.Common.{length, true, refl, sym, ap, ◌∙◌, subst}
+use Rattle.wasm_ops.specs.Sinks.{refused_as}
 use Rattle.wasm_ops.specs.Spelling.{InRangeVec, InRangeU32, Any}
 use Rattle.wasm_ops.proofs.Sinking.{all_covered}
 use Rattle.wasm_out.specs.Bodies.{LocalRun, locals}
@@ -13,4 +14,5 @@ pub returns-in_err-encode : goal.returns-in_err-encode
 returns-in_err-encode c =
     let few : InRangeU32 (length c.args.types.now) = told_ok c.try_from.result (InRangeU32 (length c.args.types.now)) (length c.args.types.now) c.try_from.ensures (sym c.is_err.ensures.value ∙ c.if-is_err.false) in
     let fits = subst (InRangeVec (λ (r : LocalRun). InRangeU32 r.0 × Any r.1)) (sym (c.deref.ensures.value ∙ c.in_ok-made.ensures.ok)) (runs_in_range c.args.types.now few) in
-    makes_none (InRangeU32 (length c.args.types.now)) (locals c.args.types.now) c.from_residual-in_err-encode.result c.in_err-encode.field-0.0 (only_memory c.in_err-encode.field-0.0 fits c.in_err-encode.ensures.1) c.from_residual-in_err-encode.ensures.1
+    let r = c.in_err-encode.field-0.0 in
+    makes_none (InRangeU32 (length c.args.types.now)) (locals c.args.types.now) c.from_residual-in_err-encode.result (refused_as r) (ap refused_as (only_memory r fits c.in_err-encode.ensures.1)) c.from_residual-in_err-encode.ensures.1

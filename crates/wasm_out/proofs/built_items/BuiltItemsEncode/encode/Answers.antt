@@ -1,6 +1,6 @@
 use Rattle.std.proofs.Common.{◌≡◌, ◌++◌, ap, ◌∙◌, subst}
 use Rattle.wasm_ops.specs.Leb128.{unsigned}
-use Rattle.wasm_ops.specs.Sinks.{Puts}
+use Rattle.wasm_ops.specs.Sinks.{Writes}
 use Rattle.wasm_ops.specs.Spelling.{InRangeU32}
 use Rattle.wasm_ops.proofs.Sinking.{puts_as}
 use Rattle.wasm_out.specs.Built.{behind_count}
@@ -13,4 +13,4 @@ returns g c =
     let bytes = unsigned count ++ c.deref.result.now in
     let is_counted : bytes ≡ behind_count c.args.self.now = ap (λ l. unsigned count ++ l) c.deref.ensures.value ∙ ap behind_count c.self.view_is in
     let put = puts_as rules (InRangeU32 count × Unit {0}) (Unit {0}) c.args.out.now c.encode.new.out bytes c.encode.result (λ r. tt) (λ r. (c.self.invariant, tt)) c.encode.ensures in
-    subst (λ l. Puts rules (Unit {0}) c.args.out.now c.encode.new.out l c.encode.result) is_counted put
+    subst (λ l. Writes rules (Unit {0}) c.args.out.now c.encode.new.out l c.encode.result) is_counted put

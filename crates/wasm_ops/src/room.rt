@@ -1,0 +1,127 @@
+//! Room for bytes, reserved beforehand.
+
+ghost use Rattle.std.specs.Prelude.{◌≡◌, ◌≤◌, ◌+◌, ℕ, [], ◌++◌, length, vec_len, vec_capacity, IfOk, IfErr};
+ghost use Rattle.wast_tree.specs.Faults.{out_of_memory};
+ghost use Rattle.wasm_ops.specs.Rooms as rooms;
+
+use crate::leb128::unsigned_bytes;
+use crate::sink::{Refusal, Sink};
+use std::alloc::Global;
+use std::marker::Model;
+use wast_tree::Error;
+
+/// Bytes, and room for so many more, with the memory for them. Contracts see it as both: `items` and `left`.
+#[derive(Debug, Drop)]
+pub struct Room {
+    bytes: Vec<u8>,
+    left: usize,
+}
+
+impl Model for Room {
+    ghost use Rattle.std.specs.Prelude.{◌+◌, ◌≤◌, vec_len, vec_capacity};
+    ghost use Rattle.wasm_ops.specs.Rooms.{Filled, filled_code};
+
+    ghost Value = { Filled };
+
+    ghost coded = { filled_code };
+
+    ghost view = { λ r. record { items = r.bytes.items; left = r.left } };
+
+    ghost invariant = { λ r. vec_len r.bytes + r.left ≤ vec_capacity r.bytes };
+}
+
+impl Room {
+    /// Room for so many bytes as `size` says, and none in it yet. It takes their memory at once. The only error is E12,
+    /// where that is refused.
+    pub fn reserve<'e>(alloc: Global, size: usize) -> Result<Room, Error<'e>>
+        ensures ok { IfOk result (λ r. r ≡ record { items = []; left = size }) }
+        ensures err { IfErr result (λ e. e ≡ out_of_memory) }
+    {
+        let mut bytes = Vec::new(alloc);
+        bytes.reserve(size)?;
+        Ok(Room { bytes, left: size })
+    }
+
+    /// How many more bytes it takes.
+    pub fn left(&self) -> usize
+        ensures { result ≡ self.now.left }
+    {
+        self.left
+    }
+
+    /// Its bytes, in the order in which they were appended. It takes no memory.
+    pub fn finish(self) -> Vec<u8>
+        ensures { result.items ≡ self.items }
+    {
+        self.bytes
+    }
+}
+
+/// Appends to a vector that has the room. It takes no memory.
+fn push_reserved(out: &mut Vec<u8>, bytes: &[u8])
+    requires { vec_len out.old + length bytes.now ≤ vec_capacity out.old }
+    ensures items { out.new.items ≡ out.old.items ++ bytes.now }
+    ensures capacity { vec_capacity out.old ≤ vec_capacity out.new }
+{
+    match out.extend_from_slice(bytes) {
+        Ok(()) => {}
+        Err(_) => unreachable!(),
+    }
+}
+
+/// Bytes fit where there is room for all of them, and take no memory; others are refused as too large: E10. Cutting
+/// frees the room of what it takes off.
+impl Sink for Room {
+    ghost rules = { rooms.rules };
+
+    fn push_bytes(&mut self, bytes: &[u8]) -> Result<(), Refusal> {
+        let Some(left) = self.left.checked_sub(bytes.len()) else {
+            return Err(Refusal::TooLarge);
+        };
+        push_reserved(&mut self.bytes, bytes);
+        self.left = left;
+        Ok(())
+    }
+
+    fn push_number(&mut self, n: u64) -> Result<(), Refusal> {
+        if n < 128 {
+            return self.push_bytes(&[n as u8]);
+        }
+        if n < 16384 {
+            return self.push_bytes(&[128 + (n % 128) as u8, (n / 128) as u8]);
+        }
+        if n < 2097152 {
+            let rest = n / 128;
+            return self.push_bytes(&[
+                128 + (n % 128) as u8,
+                128 + (rest % 128) as u8,
+                (rest / 128) as u8,
+            ]);
+        }
+        let (bytes, len) = unsigned_bytes(n);
+        self.push_bytes(&bytes[..len])
+    }
+
+    fn skip(&mut self, _count: u64) -> bool {
+        false
+    }
+
+    fn size(&self) -> u64 {
+        self.bytes.len() as u64
+    }
+
+    fn cut(&mut self, size: u64) {
+        let size = size as usize;
+        self.left += self.bytes.len() - size;
+        self.bytes.truncate(size);
+    }
+
+    ghost laws = { record {
+      none = rooms.none;
+      grows = rooms.grows;
+      joins = rooms.joins;
+      cuts_back = rooms.cuts_back;
+      fits_less = λ a m n. rooms.fits_less a m n;
+      fits_rest = rooms.fits_rest;
+    } };
+}

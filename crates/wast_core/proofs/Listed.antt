@@ -1,0 +1,54 @@
+-- The section of a list, as a part of the module.
+use Rattle.std.proofs.Common.{◌≡◌, ℕ, length, List, [], ◌∷◌, ◌++◌, Result, refl, sym, ap, ◌∙◌, subst, arith}
+use Rattle.std.specs.Prelude.{All, Option, Some, None, option_map}
+use Rattle.std.specs.Option.{option_to_list}
+use Rattle.std.specs.List.{flat_map}
+use Rattle.std.proofs.lemmas.List.Elements.{All-head}
+use Rattle.wasm_ops.specs.declared.sink.Refusal.{Refusal}
+use Rattle.wasm_ops.specs.Leb128.{unsigned}
+use Rattle.wasm_ops.specs.Sinks.{SinkRules, Writes}
+use Rattle.wasm_ops.specs.Spelling.{InRangeU32, vec, InRangeVec}
+use Rattle.wasm_ops.proofs.Everywhere.{flat_in_flat, all_in_flat, all_of_flat}
+use Rattle.wasm_ops.proofs.Sinking.{written_as, one_written}
+use Rattle.wasm_out.specs.Parts.{SectionKind, Entry, entry, InRangeEntry, Listed, section_id, Part, part, InRangePart}
+use Rattle.wast_core.specs.Tree.{ModuleField}
+use Rattle.wast_core.specs.Meaning.{entries_in, entries, listed}
+
+-- behind its id and its length, what spells the list
+part_written : {S A : Type 0} (rules : SinkRules S) (k : SectionKind) (es : List (Entry k)) (R : Type 0) (a b : S) (id : ℕ) (body : List ℕ) (r : Result A Refusal)
+    → id ≡ section_id k → (length es ≡ 0 → ⊥) → body ≡ vec (entry k) es → (R → InRangeVec (InRangeEntry k) es) → (InRangeVec (InRangeEntry k) es → R)
+    → Writes rules (Unit {0} × (InRangeU32 (length body) × R)) a b (id ∷ (unsigned (length body) ++ body)) r
+    → Writes rules (All InRangePart (listed k es)) a b (flat_map part (listed k es)) r
+part_written rules k [] R a b id body r e some is f g p = absurd (some refl)
+part_written rules k (x ∷ xs) R a b id body r e some is f g p =
+    let here : Part = record { kind = Listed k; items = x ∷ xs } in
+    one_written rules part InRangePart a b here r
+    (written_as rules (Unit {0} × (InRangeU32 (length body) × R)) (InRangePart here) a b (id ∷ (unsigned (length body) ++ body)) (part here) r
+    (λ h. (subst (λ (bs : List ℕ). InRangeU32 (length bs)) is h.1.0, f h.1.1)) (λ h. (tt, (subst (λ (bs : List ℕ). InRangeU32 (length bs)) (sym is) h.0, g h.1)))
+    (ap (λ (i : ℕ). i ∷ (unsigned (length body) ++ body)) e ∙ ap (λ (bs : List ℕ). section_id k ∷ (unsigned (length bs) ++ bs)) is) p)
+
+-- the number of entries, and what each field puts there
+abbrev pub held : SectionKind → ℕ → List ModuleField → List ℕ
+held k n fields = unsigned n ++ flat_map (λ f. flat_map (entry k) (entries_in k f)) fields
+
+abbrev pub InRangeHeld : SectionKind → ℕ → List ModuleField → Type 0
+InRangeHeld k n fields = InRangeU32 n × All (λ f. All (InRangeEntry k) (entries_in k f)) fields
+
+pub listed_written : {S A : Type 0} (rules : SinkRules S) (k : SectionKind) (fields : List ModuleField) (a b : S) (id n : ℕ) (r : Result A Refusal)
+    → id ≡ section_id k → n ≡ length (entries k fields) → (n ≡ 0 → ⊥)
+    → Writes rules (Unit {0} × (InRangeU32 (length (held k n fields)) × InRangeHeld k n fields)) a b (id ∷ (unsigned (length (held k n fields)) ++ held k n fields)) r
+    → Writes rules (All InRangePart (listed k (entries k fields))) a b (flat_map part (listed k (entries k fields))) r
+listed_written rules k fields a b id n r e count some p =
+    part_written rules k (entries k fields) (InRangeHeld k n fields) a b id (held k n fields) r e (λ z. some (count ∙ z))
+    (ap (λ (m : ℕ). unsigned m ++ flat_map (λ f. flat_map (entry k) (entries_in k f)) fields) count ∙ ap (λ (bs : List ℕ). unsigned (length (entries k fields)) ++ bs) (flat_in_flat (entry k) (entries_in k) fields))
+    (λ h. (subst InRangeU32 count h.0, all_in_flat (InRangeEntry k) (entries_in k) fields h.1)) (λ h. (subst InRangeU32 (sym count) h.0, all_of_flat (InRangeEntry k) (entries_in k) fields h.1)) p
+
+-- a part that is in range has less than 2^32 items
+pub counted_in_range : (k : SectionKind) (es : List (Entry k)) → All InRangePart (listed k es) → InRangeU32 (length es)
+counted_in_range k [] h = omega arith
+counted_in_range k (x ∷ xs) h = (All-head InRangePart (record { kind = Listed k; items = x ∷ xs }) [] h).1.0
+
+-- as many as are there
+pub counted_as : {A B : Type 0} (f : A → B) (o : Option A) → length (option_to_list o) ≡ length (option_to_list (option_map f o))
+counted_as f None = refl
+counted_as f (Some x) = refl

@@ -1,0 +1,167 @@
+//! What fields put into the sections that are lists.
+
+ghost use Rattle.std.specs.Prelude.{◌≡◌, ◌≤◌, length, take, All, IfSome, IsNone, IsTrue};
+ghost use Rattle.std.specs.List.{flat_map};
+ghost use Rattle.std.specs.Option.{option_to_list};
+ghost use Rattle.wasm_ops.specs.Sinks.{Writes};
+ghost use Rattle.wasm_ops.specs.Spelling.{InRangeU32};
+ghost use Rattle.wasm_out.specs.Parts.{entry, InRangeEntry, part, InRangePart};
+ghost use Rattle.wast_core.specs.Encodable.{is_encodable_field, are_encodable};
+ghost use Rattle.wast_core.specs.Contributing.{seen, AreReady};
+ghost use Rattle.wast_core.specs.Meaning.{of_kind, contributed, entries_in, entries, listed};
+ghost use Rattle.wast_core.specs.Slots.{kind_of};
+
+use crate::slots::SectionKind;
+use crate::values::Resolved;
+use wasm_ops::{By, Each, Encode, Refusal, Sink, Spell, WithLength};
+use wast_tree::{Export, FuncKind, FunctionType, ModuleField, TypeDef, TypeUse};
+
+/// What a field puts into the sections, at most one entry each.
+#[derive(Drop)]
+pub(crate) struct Contributed<'b, 'a> {
+    types: Option<By<'b, TypeDef<'a>, Resolved>>,
+    functions: Option<By<'b, TypeUse<'a, FunctionType<'a>>, Resolved>>,
+    exports: Option<By<'b, Export<'a>, Resolved>>,
+    code: Option<WithLength<By<'b, FuncKind<'a>, Resolved>>>,
+}
+
+/// One, where something is there.
+fn count_of<T>(entry: &Option<T>) -> u32
+    ensures { result ≡ length (option_to_list entry.now) }
+{
+    match entry {
+        Some(_) => 1,
+        None => 0,
+    }
+}
+
+impl<'b, 'a> Contributed<'b, 'a> {
+    /// What a field puts into the sections.
+    fn of(field: &'b ModuleField<'a>) -> Self
+        ensures same { seen result ≡ contributed field.now }
+        ensures ready { IsTrue (is_encodable_field field.now) → AreReady result }
+    {
+        let nothing = Contributed {
+            types: None,
+            functions: None,
+            exports: None,
+            code: None,
+        };
+        match field {
+            ModuleField::Ty(ty) => Contributed {
+                types: Some(By(&ty.def, Resolved)),
+                ..nothing
+            },
+            ModuleField::Func(func) => Contributed {
+                functions: Some(By(&func.ty, Resolved)),
+                code: Some(WithLength(By(&func.kind, Resolved))),
+                ..nothing
+            },
+            ModuleField::Export(export) => Contributed {
+                exports: Some(By(export, Resolved)),
+                ..nothing
+            },
+        }
+    }
+
+    /// How many entries it has for the section of a kind.
+    fn count(&self, kind: SectionKind) -> u32
+        ensures { result ≡ length (of_kind (kind_of kind) (seen self.now)) }
+    {
+        match kind {
+            SectionKind::Types => count_of(&self.types),
+            SectionKind::Functions => count_of(&self.functions),
+            SectionKind::Exports => count_of(&self.exports),
+            SectionKind::Code => count_of(&self.code),
+        }
+    }
+
+    /// Appends the entry that it has for the section of a kind.
+    fn put<S: Sink>(&self, kind: SectionKind, out: &mut S) -> Result<(), Refusal>
+        requires { AreReady self.now }
+        ensures { Writes S.rules (All (InRangeEntry (kind_of kind)) (of_kind (kind_of kind) (seen self.now))) out.old out.new (flat_map (entry (kind_of kind)) (of_kind (kind_of kind) (seen self.now))) result }
+    {
+        match kind {
+            SectionKind::Types => self.types.encode(out),
+            SectionKind::Functions => self.functions.encode(out),
+            SectionKind::Exports => self.exports.encode(out),
+            SectionKind::Code => self.code.encode(out),
+        }
+    }
+}
+
+/// What a field puts into the section of this kind.
+#[derive(Clone, Copy)]
+struct EntriesOf(SectionKind);
+
+impl Spell<ModuleField<'_>> for EntriesOf {
+    ghost spelling = { λ w f. flat_map (entry (kind_of w.0)) (entries_in (kind_of w.0) f) };
+
+    ghost in_range = { λ w f. All (InRangeEntry (kind_of w.0)) (entries_in (kind_of w.0) f) };
+
+    ghost is_ready = { λ _ f. is_encodable_field f };
+
+    fn spell<S: Sink>(&self, field: &ModuleField, out: &mut S) -> Result<(), Refusal> {
+        Contributed::of(field).put(self.0, out)
+    }
+}
+
+/// How many entries the section of a kind has, where these are less than 2^32.
+fn count(kind: SectionKind, fields: &[ModuleField]) -> Option<u32>
+    ensures some { IfSome result (λ n. n ≡ length (entries (kind_of kind) fields.now)) }
+    ensures none { IsNone result → InRangeU32 (length (entries (kind_of kind) fields.now)) → ⊥ }
+{
+    let mut sum = 0u32;
+    for field in fields {
+        let Some(next) = sum.checked_add(Contributed::of(field).count(kind)) else {
+            return None;
+        };
+        sum = next;
+    }
+    Some(sum)
+}
+
+/// Where the last field with an entry for the section of a kind ends.
+fn end_of(kind: SectionKind, fields: &[ModuleField]) -> usize
+    ensures within { result ≤ length fields.now }
+    ensures same { entries (kind_of kind) (take result fields.now) ≡ entries (kind_of kind) fields.now }
+{
+    let mut end = fields.len();
+    'trim: while end > 0 {
+        if Contributed::of(&fields[end - 1]).count(kind) != 0 {
+            return end;
+        }
+        end -= 1;
+    }
+    end
+}
+
+/// The section of a kind, where it has entries.
+pub(crate) fn put_section<S: Sink>(
+    kind: SectionKind,
+    fields: &[ModuleField],
+    out: &mut S,
+) -> Result<(), Refusal>
+    requires { IsTrue (are_encodable fields.now) }
+    ensures { Writes S.rules (All InRangePart (listed (kind_of kind) (entries (kind_of kind) fields.now))) out.old out.new (flat_map part (listed (kind_of kind) (entries (kind_of kind) fields.now))) result }
+{
+    put_entries(kind, &fields[..end_of(kind, fields)], out)
+}
+/// The section of a kind, where these fields have entries.
+fn put_entries<S: Sink>(
+    kind: SectionKind,
+    fields: &[ModuleField],
+    out: &mut S,
+) -> Result<(), Refusal>
+    requires { IsTrue (are_encodable fields.now) }
+    ensures { Writes S.rules (All InRangePart (listed (kind_of kind) (entries (kind_of kind) fields.now))) out.old out.new (flat_map part (listed (kind_of kind) (entries (kind_of kind) fields.now))) result }
+{
+    let Some(count) = count(kind, fields) else {
+        return Err(Refusal::TooLarge);
+    };
+    if count == 0 {
+        return Ok(());
+    }
+    let entries = Each(fields, EntriesOf(kind));
+    (kind.id(), WithLength((count, entries))).encode(out)
+}
