@@ -1,13 +1,15 @@
 -- How spellings that show their value are put together.
-use Rattle.std.proofs.Common.{◌≡◌, ◌<◌, ℕ, List, [], ◌∷◌, ◌++◌, length, refl, sym, ap, ◌∙◌, append_assoc, arith}
-use Rattle.std.specs.Prelude.{All}
+use Rattle.std.proofs.Common.{◌≡◌, ◌<◌, ℕ, Bool, List, [], ◌∷◌, ◌++◌, length, refl, sym, ap, ◌∙◌, append_assoc, arith}
+use Rattle.std.specs.Prelude.{All, IsTrue}
 use Rattle.std.proofs.lemmas.List.{length-append}
 use Rattle.std.proofs.lemmas.List.Concat.{flat_map-cons}
 use Rattle.std.proofs.lemmas.List.Elements.{All-head, All-tail}
-use Rattle.std.specs.List.{flat_map}
+use Rattle.std.specs.List.{flat_map, list_all}
 use Rattle.wasm_ops.specs.Codes.{IsCode, IsWhole}
+use Rattle.wasm_ops.specs.Covered.{Spellable}
 use Rattle.wasm_ops.specs.Leb128.{unsigned}
 use Rattle.wasm_ops.specs.Spelling.{Any, InRangeU32, vec, InRangeVec, sized, InRangeSized, name, InRangeName}
+use Rattle.wasm_ops.proofs.Everywhere.{all_both, all_tested}
 use Rattle.wasm_ops.proofs.Numbers.{unsigned_begins}
 
 -- numbers, below any range
@@ -16,6 +18,9 @@ number_code = record { begins = λ m n r s p q e. unsigned_begins m n r s e }
 
 pub index_code : IsCode ℕ InRangeU32 unsigned
 index_code = number_code
+
+pub byte_code : IsCode ℕ Any (λ b. b ∷ [])
+byte_code = record { begins = λ x y r s p q e. (cc, cc) }
 
 -- fewer values
 pub code_within : {A : Type 0} {F G : A → Type 0} {f : A → List ℕ} → ((x : A) → G x → F x) → IsCode A F f → IsCode A G f
@@ -83,6 +88,10 @@ vec_code {F = F} {f = f} c = record {
       let one = unsigned_begins (length xs) (length ys) (flat_map f xs ++ r) (flat_map f ys ++ s) (sym (append_assoc (unsigned (length xs)) (flat_map f xs) r) ∙ e ∙ append_assoc (unsigned (length ys)) (flat_map f ys) s) in
       items_begin F f c xs ys r s one.0 p.1 q.1 one.1;
 }
+
+-- items that are covered each, and in range
+pub spellable_vec : {A : Type 0} (is_covered : A → Bool) (InRange : A → Type 0) (xs : List A) → IsTrue (list_all is_covered xs) → InRangeVec InRange xs → InRangeVec (Spellable is_covered InRange) xs
+spellable_vec is_covered InRange xs c r = (r.0, all_both (λ x. IsTrue (is_covered x)) InRange (Spellable is_covered InRange) (λ x p q. (p, q)) xs (all_tested is_covered xs c) r.1)
 
 -- items that fill the rest, none of them empty
 filled : {A : Type 0} (F : A → Type 0) (f : A → List ℕ) → ((x : A) → F x → 0 < length (f x)) → IsCode A F f → (xs ys : List A) → All F xs → All F ys → flat_map f xs ≡ flat_map f ys → xs ≡ ys

@@ -3,6 +3,7 @@ pub mod Codes
 pub mod InstrCodes
 pub mod Instructing
 pub mod Numbers
+pub mod RefTypeCodes
 pub mod SignedNumbers
 pub mod Sinking
 pub mod TypeCodes

@@ -1,36 +1,73 @@
 -- The spellings of types show their value.
-use Rattle.std.proofs.Common.{◌≡◌, ◌<◌, ◌&&◌, ℕ, Bool, true, false, Option, Some, None, List, [], ◌∷◌, ◌++◌, refl, sym, ap, ◌∙◌, arith}
-use Rattle.std.specs.Prelude.{IsTrue, not, is_none}
+use Rattle.std.proofs.Common.{◌≡◌, ◌≢◌, ◌<◌, ◌&&◌, ℕ, Bool, true, false, Option, Some, None, List, [], ◌∷◌, ◌++◌, refl, sym, ap, ◌∙◌, arith}
+use Rattle.std.specs.Prelude.{nat_eq, IsTrue, not, is_none}
+use Rattle.std.specs.List.{list_all}
 use Rattle.wasm_ops.specs.Codes.{IsCode}
 use Rattle.wasm_ops.specs.Leb128.{unsigned}
-use Rattle.wasm_ops.specs.Covered.{is_covered_composite_type, IsSpellableCompositeType, IsSpellableSubType}
-use Rattle.wasm_ops.specs.Spelling.{Any, InRangeU32, vec, InRangeVec, val_type, export_kind, func_type, InRangeFuncType, composite_inner_type, InRangeCompositeInnerType, composite_type, sub_bytes, sub_type}
+use Rattle.wasm_ops.specs.Covered.{is_covered_val_type, is_covered_field_type, is_covered_composite_inner_type, is_covered_composite_type, IsSpellableValType, IsSpellableStorageType, IsSpellableFieldType, IsSpellableFuncType, IsSpellableStructType, IsSpellableArrayType, IsSpellableCompositeInnerType, IsSpellableCompositeType, IsSpellableSubType}
+use Rattle.wasm_ops.specs.Spelling.{Any, InRangeU32, vec, InRangeVec, val_type, InRangeValType, storage_type, mutability, field_type, InRangeFieldType, export_kind, func_type, struct_type, array_type, composite_inner_type, composite_type, sub_bytes, sub_type}
 use Rattle.wasm_ops.specs.declared.types.ValType.{ValType}
 use Rattle.wasm_ops.specs.declared.types.ValType.TheVariants as val
+use Rattle.wasm_ops.specs.declared.types.StorageType.{StorageType}
+use Rattle.wasm_ops.specs.declared.types.StorageType.TheVariants as storage
+use Rattle.wasm_ops.specs.declared.types.FieldType.{FieldType}
 use Rattle.wasm_ops.specs.declared.types.ExportKind.{ExportKind}
 use Rattle.wasm_ops.specs.declared.types.ExportKind.TheVariants as kind
 use Rattle.wasm_ops.specs.declared.types.FuncType.{FuncType}
+use Rattle.wasm_ops.specs.declared.types.StructType.{StructType}
+use Rattle.wasm_ops.specs.declared.types.ArrayType.{ArrayType}
 use Rattle.wasm_ops.specs.declared.types.CompositeInnerType.{CompositeInnerType}
 use Rattle.wasm_ops.specs.declared.types.CompositeInnerType.TheVariants as inner
 use Rattle.wasm_ops.specs.declared.types.CompositeType.{CompositeType}
 use Rattle.wasm_ops.specs.declared.types.SubType.{SubType}
-use Rattle.wasm_ops.proofs.Codes.{index_code, pair_code, code_by, after_byte, vec_code}
+use Rattle.wasm_ops.proofs.RefTypeCodes.{front, ref_type_code, ref_front}
+use Rattle.wasm_ops.proofs.Codes.{index_code, byte_code, pair_code, code_by, code_within, after_byte, vec_code, spellable_vec}
+use Rattle.wasm_ops.proofs.Everywhere.{both_true}
 
--- the first byte
-abbrev pub front : List ℕ → ℕ
-front [] = 0
-front (b ∷ bs) = b
+-- ---- value types, storage types and fields
 
-val_begins : (x y : ValType) (r s : List ℕ) → Any x → Any y → val_type x ++ r ≡ val_type y ++ s → (x ≡ y) × (r ≡ s)
+val_begins : (x y : ValType) (r s : List ℕ) → IsSpellableValType x → IsSpellableValType y → val_type x ++ r ≡ val_type y ++ s → (x ≡ y) × (r ≡ s)
 val_begins val.I32 val.I32 r s p q e = (refl, cc)
 val_begins val.I64 val.I64 r s p q e = (refl, cc)
 val_begins val.F32 val.F32 r s p q e = (refl, cc)
 val_begins val.F64 val.F64 r s p q e = (refl, cc)
 val_begins val.V128 val.V128 r s p q e = (refl, cc)
+val_begins (val.Ref x) (val.Ref y) r s p q e = let one = ref_type_code.begins x y r s p q e in (ap val.Ref one.0, one.1)
+val_begins (val.Ref x) y r s p q e = absurd (omega (arith, ap front e, (ref_front x r p).1))
+val_begins x (val.Ref y) r s p q e = absurd (omega (arith, ap front e, (ref_front y s q).1))
 val_begins x y r s p q e = absurd (omega (arith, ap front e))
 
-pub val_type_code : IsCode ValType Any val_type
+pub val_type_code : IsCode ValType IsSpellableValType val_type
 val_type_code = record { begins = val_begins }
+
+-- no value type begins with the byte of a packed type
+val_front : (t : ValType) (r : List ℕ) → IsSpellableValType t → (front (val_type t ++ r) ≢ 0x77) × (front (val_type t ++ r) ≢ 0x78)
+val_front val.I32 r p = (omega arith, omega arith)
+val_front (val.Ref t) r p = let one = ref_front t r p in (omega (arith, one.1), omega (arith, one.1))
+val_front t r p = (omega arith, omega arith)
+
+storage_begins : (x y : StorageType) (r s : List ℕ) → IsSpellableStorageType x → IsSpellableStorageType y → storage_type x ++ r ≡ storage_type y ++ s → (x ≡ y) × (r ≡ s)
+storage_begins storage.I8 storage.I8 r s p q e = (refl, cc)
+storage_begins storage.I16 storage.I16 r s p q e = (refl, cc)
+storage_begins (storage.Val x) (storage.Val y) r s p q e = let one = val_begins x y r s p q e in (ap storage.Val one.0, one.1)
+storage_begins (storage.Val x) y r s p q e = absurd (omega (arith, ap front e, (val_front x r p).0, (val_front x r p).1))
+storage_begins x (storage.Val y) r s p q e = absurd (omega (arith, ap front e, (val_front y s q).0, (val_front y s q).1))
+storage_begins x y r s p q e = absurd (omega (arith, ap front e))
+
+pub storage_type_code : IsCode StorageType IsSpellableStorageType storage_type
+storage_type_code = record { begins = storage_begins }
+
+mutability_shown : (m : Bool) → nat_eq (mutability m) 1 ≡ m
+mutability_shown false = refl
+mutability_shown true = refl
+
+mutability_code : IsCode Bool Any (λ m. mutability m ∷ [])
+mutability_code = code_by mutability (λ byte. nat_eq byte 1) mutability_shown byte_code
+
+pub field_type_code : IsCode FieldType IsSpellableFieldType field_type
+field_type_code = code_within (λ f p. (p, tt)) (code_by (λ (f : FieldType). (f.element_type, f.mutable)) (λ p. record { element_type = p.0; mutable = p.1 }) (λ f. refl) (pair_code storage_type_code mutability_code))
+
+-- ---- kinds of exports
 
 kind_begins : (x y : ExportKind) (r s : List ℕ) → Any x → Any y → export_kind x ++ r ≡ export_kind y ++ s → (x ≡ y) × (r ≡ s)
 kind_begins kind.Func kind.Func r s p q e = (refl, cc)
@@ -43,11 +80,26 @@ kind_begins x y r s p q e = absurd (omega (arith, ap front e))
 pub export_kind_code : IsCode ExportKind Any export_kind
 export_kind_code = record { begins = kind_begins }
 
-pub func_type_code : IsCode FuncType InRangeFuncType func_type
-func_type_code = code_by (λ f. (f.params, f.results)) (λ p. record { params = p.0; results = p.1 }) (λ x. refl) (after_byte 0x60 (pair_code (vec_code val_type_code) (vec_code val_type_code)))
+-- ---- composite types
 
-inner_begins : (x y : CompositeInnerType) (r s : List ℕ) → InRangeCompositeInnerType x → InRangeCompositeInnerType y → composite_inner_type x ++ r ≡ composite_inner_type y ++ s → (x ≡ y) × (r ≡ s)
-inner_begins (inner.Func f) (inner.Func g) r s p q e = let one = func_type_code.begins f g r s p q e in (ap inner.Func one.0, one.1)
+pub func_type_code : IsCode FuncType IsSpellableFuncType func_type
+func_type_code =
+    code_within (λ f p. let both = both_true (list_all is_covered_val_type f.params) (list_all is_covered_val_type f.results) p.0 in (spellable_vec is_covered_val_type InRangeValType f.params both.0 p.1.0, spellable_vec is_covered_val_type InRangeValType f.results both.1 p.1.1))
+    (code_by (λ (f : FuncType). (f.params, f.results)) (λ p. record { params = p.0; results = p.1 }) (λ x. refl) (after_byte 0x60 (pair_code (vec_code val_type_code) (vec_code val_type_code))))
+
+pub struct_type_code : IsCode StructType IsSpellableStructType struct_type
+struct_type_code =
+    code_within (λ t p. spellable_vec is_covered_field_type InRangeFieldType t.fields p.0 p.1)
+    (code_by (λ (t : StructType). t.fields) (λ fields. record { fields = fields }) (λ x. refl) (after_byte 0x5f (vec_code field_type_code)))
+
+pub array_type_code : IsCode ArrayType IsSpellableArrayType array_type
+array_type_code = code_by (λ (a : ArrayType). a.0) (λ f. record { 0 = f }) (λ a. refl) (after_byte 0x5e field_type_code)
+
+inner_begins : (x y : CompositeInnerType) (r s : List ℕ) → IsSpellableCompositeInnerType x → IsSpellableCompositeInnerType y → composite_inner_type x ++ r ≡ composite_inner_type y ++ s → (x ≡ y) × (r ≡ s)
+inner_begins (inner.Func x) (inner.Func y) r s p q e = let one = func_type_code.begins x y r s p q e in (ap inner.Func one.0, one.1)
+inner_begins (inner.Struct x) (inner.Struct y) r s p q e = let one = struct_type_code.begins x y r s p q e in (ap inner.Struct one.0, one.1)
+inner_begins (inner.Array x) (inner.Array y) r s p q e = let one = array_type_code.begins x y r s p q e in (ap inner.Array one.0, one.1)
+inner_begins x y r s p q e = absurd (omega (arith, ap front e))
 
 -- a composite type that is covered is what it is made of
 abbrev plain : CompositeInnerType → CompositeType
@@ -59,18 +111,24 @@ plain_by i true descriptor describes e = absurd cc
 plain_by i false (Some n) describes e = absurd cc
 plain_by i false None (Some n) e = absurd cc
 
+-- what is asked of it, and of what it is made of
+covered_both : (x : CompositeType) → IsTrue (is_covered_composite_type x) → IsTrue (not x.shared && (is_none x.descriptor && is_none x.describes)) × IsTrue (is_covered_composite_inner_type x.inner)
+covered_both x e = both_true (not x.shared && (is_none x.descriptor && is_none x.describes)) (is_covered_composite_inner_type x.inner) e
+
 is_plain : (x : CompositeType) → IsTrue (is_covered_composite_type x) → x ≡ plain x.inner
-is_plain x e = plain_by x.inner x.shared x.descriptor x.describes e
+is_plain x e = plain_by x.inner x.shared x.descriptor x.describes (covered_both x e).0
 
 pub composite_type_code : IsCode CompositeType IsSpellableCompositeType composite_type
 composite_type_code = record {
   begins = λ x y r s p q e.
-      let one = inner_begins x.inner y.inner r s p.1 q.1 e in
+      let one = inner_begins x.inner y.inner r s ((covered_both x p.0).1, p.1) ((covered_both y q.0).1, q.1) e in
       (is_plain x p.0 ∙ ap plain one.0 ∙ sym (is_plain y q.0), one.1);
 }
 
-composite_front : (i : CompositeInnerType) (r : List ℕ) → front (composite_inner_type i ++ r) ≡ 0x60
-composite_front (inner.Func f) r = refl
+composite_front : (i : CompositeInnerType) (r : List ℕ) → 0x50 < front (composite_inner_type i ++ r)
+composite_front (inner.Func f) r = omega arith
+composite_front (inner.Struct t) r = omega arith
+composite_front (inner.Array t) r = omega arith
 
 -- the types above it and the composite type, behind a byte
 abbrev Below : Type 0

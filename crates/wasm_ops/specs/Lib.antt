@@ -2,6 +2,7 @@ pub mod Codes
 pub mod Covered
 pub mod Leb128
 pub mod IndexInstrs
+pub mod PlainInstrs
 pub mod Rooms
 pub mod SinkLaws
 pub mod Sinks

@@ -1,12 +1,22 @@
 -- The spellings of values and types, and that their numbers, counts and lengths are in range (binary format, values and types).
-use Rattle.std.specs.Prelude.{ℕ, ◌<◌, ◌^◌, Bool, true, false, List, [], ◌∷◌, ◌++◌, length, All}
+use Rattle.std.specs.Prelude.{ℕ, ◌<◌, ◌^◌, pos, Bool, true, false, List, [], ◌∷◌, ◌++◌, length, All}
 use Rattle.std.specs.List.{flat_map}
-use Rattle.wasm_ops.specs.Leb128.{unsigned}
+use Rattle.wasm_ops.specs.Leb128.{unsigned, signed}
+use Rattle.wasm_ops.specs.declared.ref_types.AbstractHeapType.{AbstractHeapType}
+use Rattle.wasm_ops.specs.declared.ref_types.AbstractHeapType.TheVariants as heaps
+use Rattle.wasm_ops.specs.declared.ref_types.HeapType.{HeapType}
+use Rattle.wasm_ops.specs.declared.ref_types.HeapType.TheVariants as heap
+use Rattle.wasm_ops.specs.declared.ref_types.RefType.{RefType}
 use Rattle.wasm_ops.specs.declared.types.ValType.{ValType}
 use Rattle.wasm_ops.specs.declared.types.ValType.TheVariants as val
+use Rattle.wasm_ops.specs.declared.types.StorageType.{StorageType}
+use Rattle.wasm_ops.specs.declared.types.StorageType.TheVariants as storage
+use Rattle.wasm_ops.specs.declared.types.FieldType.{FieldType}
 use Rattle.wasm_ops.specs.declared.types.ExportKind.{ExportKind}
 use Rattle.wasm_ops.specs.declared.types.ExportKind.TheVariants as kind
 use Rattle.wasm_ops.specs.declared.types.FuncType.{FuncType}
+use Rattle.wasm_ops.specs.declared.types.StructType.{StructType}
+use Rattle.wasm_ops.specs.declared.types.ArrayType.{ArrayType}
 use Rattle.wasm_ops.specs.declared.types.CompositeInnerType.{CompositeInnerType}
 use Rattle.wasm_ops.specs.declared.types.CompositeInnerType.TheVariants as inner
 use Rattle.wasm_ops.specs.declared.types.CompositeType.{CompositeType}
@@ -41,12 +51,88 @@ name text = unsigned (length text) ++ text
 abbrev pub InRangeName : List ℕ → Type 0
 InRangeName text = InRangeU32 (length text)
 
+abbrev pub abstract_byte : AbstractHeapType → ℕ
+abstract_byte heaps.Func = 0x70
+abstract_byte heaps.Extern = 0x6f
+abstract_byte heaps.Exn = 0x69
+abstract_byte heaps.NoExn = 0x74
+abstract_byte heaps.Any = 0x6e
+abstract_byte heaps.Eq = 0x6d
+abstract_byte heaps.Struct = 0x6b
+abstract_byte heaps.Array = 0x6a
+abstract_byte heaps.NoFunc = 0x73
+abstract_byte heaps.NoExtern = 0x72
+abstract_byte heaps.None = 0x71
+abstract_byte heaps.I31 = 0x6c
+
+-- an index is a signed number; what is shared or exact is not covered, and has no bytes
+abbrev pub heap_type : HeapType → List ℕ
+heap_type (heap.Abstract false ty) = abstract_byte ty ∷ []
+heap_type (heap.Abstract true ty) = []
+heap_type (heap.Concrete index) = signed (pos index)
+heap_type (heap.Exact index) = []
+
+abbrev pub InRangeHeapType : HeapType → Type 0
+InRangeHeapType (heap.Abstract shared ty) = Unit {0}
+InRangeHeapType (heap.Concrete index) = InRangeU32 index
+InRangeHeapType (heap.Exact index) = InRangeU32 index
+
+-- func and extern are short: a nullable reference to one of them is the heap type alone
+abbrev pub is_short : HeapType → Bool
+is_short (heap.Abstract shared heaps.Func) = true
+is_short (heap.Abstract shared heaps.Extern) = true
+is_short (heap.Abstract shared ty) = false
+is_short (heap.Concrete index) = false
+is_short (heap.Exact index) = false
+
+-- whether it is nullable, whether its heap type is short, and the bytes of its heap type
+abbrev pub ref_bytes : Bool → Bool → List ℕ → List ℕ
+ref_bytes true true bytes = bytes
+ref_bytes true false bytes = 0x63 ∷ bytes
+ref_bytes false short bytes = 0x64 ∷ bytes
+
+abbrev pub ref_type : RefType → List ℕ
+ref_type r = ref_bytes r.nullable (is_short r.heap_type) (heap_type r.heap_type)
+
+abbrev pub InRangeRefType : RefType → Type 0
+InRangeRefType r = InRangeHeapType r.heap_type
+
 abbrev pub val_type : ValType → List ℕ
 val_type val.I32 = 0x7f ∷ []
 val_type val.I64 = 0x7e ∷ []
 val_type val.F32 = 0x7d ∷ []
 val_type val.F64 = 0x7c ∷ []
 val_type val.V128 = 0x7b ∷ []
+val_type (val.Ref r) = ref_type r
+
+abbrev pub InRangeValType : ValType → Type 0
+InRangeValType val.I32 = Unit {0}
+InRangeValType val.I64 = Unit {0}
+InRangeValType val.F32 = Unit {0}
+InRangeValType val.F64 = Unit {0}
+InRangeValType val.V128 = Unit {0}
+InRangeValType (val.Ref r) = InRangeRefType r
+
+abbrev pub storage_type : StorageType → List ℕ
+storage_type storage.I8 = 0x78 ∷ []
+storage_type storage.I16 = 0x77 ∷ []
+storage_type (storage.Val t) = val_type t
+
+abbrev pub InRangeStorageType : StorageType → Type 0
+InRangeStorageType storage.I8 = Unit {0}
+InRangeStorageType storage.I16 = Unit {0}
+InRangeStorageType (storage.Val t) = InRangeValType t
+
+-- a byte that says whether it can be changed
+abbrev pub mutability : Bool → ℕ
+mutability false = 0x00
+mutability true = 0x01
+
+abbrev pub field_type : FieldType → List ℕ
+field_type f = storage_type f.element_type ++ mutability f.mutable ∷ []
+
+abbrev pub InRangeFieldType : FieldType → Type 0
+InRangeFieldType f = InRangeStorageType f.element_type
 
 abbrev pub export_kind : ExportKind → List ℕ
 export_kind kind.Func = 0x00 ∷ []
@@ -59,13 +145,29 @@ abbrev pub func_type : FuncType → List ℕ
 func_type f = 0x60 ∷ (vec val_type f.params ++ vec val_type f.results)
 
 abbrev pub InRangeFuncType : FuncType → Type 0
-InRangeFuncType f = InRangeVec Any f.params × InRangeVec Any f.results
+InRangeFuncType f = InRangeVec InRangeValType f.params × InRangeVec InRangeValType f.results
+
+abbrev pub struct_type : StructType → List ℕ
+struct_type s = 0x5f ∷ vec field_type s.fields
+
+abbrev pub InRangeStructType : StructType → Type 0
+InRangeStructType s = InRangeVec InRangeFieldType s.fields
+
+abbrev pub array_type : ArrayType → List ℕ
+array_type a = 0x5e ∷ field_type a.0
+
+abbrev pub InRangeArrayType : ArrayType → Type 0
+InRangeArrayType a = InRangeFieldType a.0
 
 abbrev pub composite_inner_type : CompositeInnerType → List ℕ
 composite_inner_type (inner.Func f) = func_type f
+composite_inner_type (inner.Struct s) = struct_type s
+composite_inner_type (inner.Array a) = array_type a
 
 abbrev pub InRangeCompositeInnerType : CompositeInnerType → Type 0
 InRangeCompositeInnerType (inner.Func f) = InRangeFuncType f
+InRangeCompositeInnerType (inner.Struct s) = InRangeStructType s
+InRangeCompositeInnerType (inner.Array a) = InRangeArrayType a
 
 abbrev pub composite_type : CompositeType → List ℕ
 composite_type c = composite_inner_type c.inner

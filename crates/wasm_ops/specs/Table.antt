@@ -64,7 +64,7 @@ consecutive opcode first (suc count) kinds =
 
 -- the rows, in the order of their opcodes
 unfoldable pub table : List Row
-table = consecutive Byte 0x10 1 (Index ∷ [])
+table = consecutive Byte 0x00 2 [] ++ (consecutive Byte 0x10 1 (Index ∷ []) ++ consecutive Byte 0x1a 1 [])
 
 abbrev pub same_opcode : Opcode → Opcode → Bool
 same_opcode (Byte a) (Byte b) = nat_eq a b

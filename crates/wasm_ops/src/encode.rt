@@ -1,10 +1,11 @@
 //! What has a spelling, and how spellings are put together: pairs, lists, counts and sizes.
 
-ghost use Rattle.std.specs.Prelude.{◌≡◌, ℕ, Bool, length, true, ◌&&◌, List, [], ◌∷◌, ◌++◌, IsTrue};
+ghost use Rattle.std.specs.Prelude.{◌≡◌, ℕ, Bool, length, true, ◌&&◌, List, [], ◌∷◌, ◌++◌, IsTrue, IfOk, IfErr};
 ghost use Rattle.std.specs.List.{All, flat_map, list_all};
 ghost use Rattle.std.specs.Option.{option_to_list};
 ghost use Rattle.wasm_ops.specs.Leb128.{unsigned};
 ghost use Rattle.wasm_ops.specs.Sinks.{Writes, Puts};
+ghost use Rattle.wasm_ops.specs.declared.sink.Refusal.TheVariants as refusal;
 ghost use Rattle.wasm_ops.specs.Spelling.{Any, InRangeU32, vec, InRangeVec, sized, InRangeSized, name, InRangeName};
 
 use crate::sink::{Length, Refusal, Sink};
@@ -216,6 +217,22 @@ impl<'a> Encode for Raw<'a> {
     }
 }
 
+/// How many bytes a value is spelled by. It needs a value that can be spelled, and takes no memory.
+///
+/// It refuses as too large, where these are 2^32 or more, or a number, count or length in the value is out of range.
+pub fn length_of<T: Encode>(value: &T) -> Result<u32, Refusal>
+    requires { IsTrue (T.is_ready value.now) }
+    ensures ok { IfOk result (λ n. (n ≡ length (T.spelling value.now)) × T.in_range value.now) }
+    ensures err { IfErr result (λ e. (e ≡ refusal.TooLarge) × (InRangeSized T.in_range T.spelling value.now → ⊥)) }
+{
+    let mut length = Length::new();
+    value.encode(&mut length)?;
+    match u32::try_from(length.count()) {
+        Ok(count) => Ok(count),
+        Err(_) => Err(Refusal::TooLarge),
+    }
+}
+
 /// A value behind the number of its bytes, as in a section or a body (binary format, sections). From 2^32 on that
 /// number is out of range.
 #[derive(Clone, Copy)]
@@ -249,13 +266,8 @@ impl<T: Encode> Encode for WithLength<T> {
     ghost is_ready = { λ s. T.is_ready s.0 };
 
     fn encode<S: Sink>(&self, out: &mut S) -> Result<(), Refusal> {
-        let mut length = Length::new();
-        self.0.encode(&mut length)?;
-        let length = length.count();
-        if u32::try_from(length).is_err() {
-            return Err(Refusal::TooLarge);
-        }
-        put_sized(out, length, &self.0)
+        let length = length_of(&self.0)?;
+        put_sized(out, u64::from(length), &self.0)
     }
 }
 

@@ -2,12 +2,13 @@
 
 ghost use Rattle.std.specs.Prelude.{◌≡◌, true};
 ghost use Rattle.wasm_ops.specs.IndexInstrs.{index_byte, index_instr};
+ghost use Rattle.wasm_ops.specs.PlainInstrs.{plain_opcode, plain_instr};
 ghost use Rattle.wasm_ops.specs.Sinks.{Puts};
-ghost use Rattle.wasm_ops.specs.Table.{instr, InRangeInstr, IsInstr};
+ghost use Rattle.wasm_ops.specs.Table.{Byte, instr, InRangeInstr, IsInstr};
 
 use crate::encode::Encode;
 use crate::sink::{Refusal, Sink};
-use wast_tree::Error;
+use wast_tree::{Error, Plain};
 
 /// An instruction whose one immediate is an index (binary format, instructions).
 #[derive(Clone, Copy, Debug, PartialEq, Eq)]
@@ -46,6 +47,28 @@ impl Encode for IndexInstr {
     }
 }
 
+/// The byte of an instruction without immediates.
+fn plain_byte(op: &Plain) -> u8
+    ensures { Byte result ≡ plain_opcode op.now }
+{
+    match op {
+        Plain::Bare(op) => *op as u8,
+    }
+}
+
+/// An instruction without immediates: `drop` (binary format, instructions).
+impl Encode for Plain {
+    ghost spelling = { λ p. instr (plain_instr p) };
+
+    ghost in_range = { λ p. InRangeInstr (plain_instr p) };
+
+    ghost is_ready = { λ _. true };
+
+    fn encode<S: Sink>(&self, out: &mut S) -> Result<(), Refusal> {
+        plain_byte(self).encode(out)
+    }
+}
+
 /// Appends instructions to a sink (binary format, instructions).
 #[derive(Drop)]
 pub struct InstructionSink<'s, S> {
@@ -60,6 +83,18 @@ impl<'s, S: Sink> InstructionSink<'s, S> {
         ensures unchanged { result.out.now ≡ out.old }
     {
         InstructionSink { out }
+    }
+
+    /// Appends an instruction without immediates: `drop` (binary format, instructions).
+    ///
+    /// It appends the spelling of that row of the table. The only error is the sink's refusal; then nothing was
+    /// appended.
+    pub fn plain<'e>(&mut self, op: Plain) -> Result<(), Error<'e>>
+        ensures appended { Puts S.rules (IsInstr (plain_instr op)) self.old.out.now self.new.out.now
+            (instr (plain_instr op)) result }
+        ensures same { self.new.out.ghost_name ≡ self.old.out.ghost_name }
+    {
+        Ok(op.encode(self.out)?)
     }
 
     /// Appends an instruction with an index: `call 3` (binary format, instructions).

@@ -2,13 +2,19 @@
 
 ghost use Rattle.std.specs.Prelude.{◌≡◌, ℕ, ℤ, true, List, ◌++◌};
 ghost use Rattle.wasm_ops.specs.Codes.{IsCode};
-ghost use Rattle.wasm_ops.specs.Covered.{IsSpellableCompositeType, IsSpellableSubType};
+ghost use Rattle.wasm_ops.specs.Covered.{IsSpellableHeapType, IsSpellableRefType, IsSpellableValType, IsSpellableStorageType, IsSpellableFieldType, IsSpellableFuncType, IsSpellableStructType, IsSpellableArrayType, IsSpellableCompositeType, IsSpellableSubType};
 ghost use Rattle.wasm_ops.specs.Leb128.{SpellsUnsigned, SpellsSigned, unsigned, signed};
-ghost use Rattle.wasm_ops.specs.Spelling.{Any, name, InRangeName, val_type, export_kind, func_type, InRangeFuncType, composite_type, sub_type};
+ghost use Rattle.wasm_ops.specs.Spelling.{Any, name, InRangeName, heap_type, ref_type, val_type, storage_type, field_type, export_kind, func_type, struct_type, array_type, composite_type, sub_type};
 ghost use Rattle.wasm_ops.specs.Table.{Instr, instr, IsInstr, table, ascends, all_apart};
+ghost use Rattle.wasm_ops.specs.declared.ref_types.HeapType.{HeapType};
+ghost use Rattle.wasm_ops.specs.declared.ref_types.RefType.{RefType};
 ghost use Rattle.wasm_ops.specs.declared.types.ValType.{ValType};
+ghost use Rattle.wasm_ops.specs.declared.types.StorageType.{StorageType};
+ghost use Rattle.wasm_ops.specs.declared.types.FieldType.{FieldType};
 ghost use Rattle.wasm_ops.specs.declared.types.ExportKind.{ExportKind};
 ghost use Rattle.wasm_ops.specs.declared.types.FuncType.{FuncType};
+ghost use Rattle.wasm_ops.specs.declared.types.StructType.{StructType};
+ghost use Rattle.wasm_ops.specs.declared.types.ArrayType.{ArrayType};
 ghost use Rattle.wasm_ops.specs.declared.types.CompositeType.{CompositeType};
 ghost use Rattle.wasm_ops.specs.declared.types.SubType.{SubType};
 
@@ -29,12 +35,18 @@ pub fn signed_law()
 {}
 
 /// The law of names and types: bytes that begin with a spelling begin with that of one value only (binary format,
-/// values and types). Of composite types and sub types it speaks where the encoder covers them.
+/// values and types). Of types it speaks where the encoder covers them.
 pub fn type_spelling_law()
     ensures names { IsCode (List ℕ) InRangeName name }
-    ensures val_types { IsCode ValType Any val_type }
+    ensures heap_types { IsCode HeapType IsSpellableHeapType heap_type }
+    ensures ref_types { IsCode RefType IsSpellableRefType ref_type }
+    ensures val_types { IsCode ValType IsSpellableValType val_type }
+    ensures storage_types { IsCode StorageType IsSpellableStorageType storage_type }
+    ensures field_types { IsCode FieldType IsSpellableFieldType field_type }
     ensures export_kinds { IsCode ExportKind Any export_kind }
-    ensures func_types { IsCode FuncType InRangeFuncType func_type }
+    ensures func_types { IsCode FuncType IsSpellableFuncType func_type }
+    ensures struct_types { IsCode StructType IsSpellableStructType struct_type }
+    ensures array_types { IsCode ArrayType IsSpellableArrayType array_type }
     ensures composite_types { IsCode CompositeType IsSpellableCompositeType composite_type }
     ensures sub_types { IsCode SubType IsSpellableSubType sub_type }
 {}

@@ -2,9 +2,9 @@
 
 ghost use Rattle.std.specs.Prelude.{◌≡◌, ◌≤◌, ◌<◌, ◌^◌, ◌≤ℤ◌, pos, negsuc, take, length};
 ghost use Rattle.wasm_ops.specs.Leb128.{unsigned, signed, digits, turned};
-ghost use Rattle.wasm_ops.specs.Sinks.{Puts};
+ghost use Rattle.wasm_ops.specs.Sinks.{Writes, Puts};
 
-use crate::sink::Sink;
+use crate::sink::{Refusal, Sink};
 use wast_tree::Error;
 
 /// The bytes of a number, and how many they are.
@@ -24,10 +24,19 @@ pub(crate) fn unsigned_bytes(n: u64) -> ([u8; 10], usize)
     (bytes, len + 1)
 }
 
-/// How many bytes a number has.
-pub(crate) fn width(n: u64) -> u64
+/// How many bytes an unsigned number has (binary format, integers: `u64`).
+pub fn width(n: u64) -> u64
     ensures { result ≡ length (unsigned n) }
 {
+    if n < 128 {
+        return 1;
+    }
+    if n < 16384 {
+        return 2;
+    }
+    if n < 2097152 {
+        return 3;
+    }
     let mut len = 1;
     let mut rest = n;
     'digits: while rest >= 128 {
@@ -96,6 +105,14 @@ fn signed_bytes(n: i64) -> ([u8; 10], usize)
     }
 }
 
+/// Appends the bytes of a signed number, the shortest.
+pub(crate) fn push_signed<S: Sink>(out: &mut S, n: i64) -> Result<(), Refusal>
+    ensures { Writes S.rules (Unit {0}) out.old out.new (signed n) result }
+{
+    let (bytes, len) = signed_bytes(n);
+    out.push_bytes(&bytes[..len])
+}
+
 /// Appends a signed number (binary format, integers: `s64`).
 ///
 /// It appends the one spelling of the number, the shortest. The only error is the sink's refusal; then nothing was
@@ -103,8 +120,7 @@ fn signed_bytes(n: i64) -> ([u8; 10], usize)
 pub fn write_s64<'e, S: Sink>(out: &mut S, n: i64) -> Result<(), Error<'e>>
     ensures { Puts S.rules (Unit {0}) out.old out.new (signed n) result }
 {
-    let (bytes, len) = signed_bytes(n);
-    out.put(&bytes[..len])
+    Ok(push_signed(out, n)?)
 }
 
 /// Appends a signed number (binary format, integers: `s32`).

@@ -5,17 +5,24 @@ mod encode;
 mod instrs;
 mod laws;
 mod leb128;
+mod ref_types;
 mod room;
 mod sink;
 mod types;
 
-pub use encode::{By, Counted, Each, Encode, Itself, Name, Raw, Spell, WithLength, write_name};
+pub use encode::{
+    By, Counted, Each, Encode, Itself, Name, Raw, Spell, WithLength, length_of, write_name,
+};
 pub use instrs::{IndexInstr, IndexOp, InstructionSink};
 pub use laws::{instruction_law, signed_law, type_spelling_law, unsigned_law};
-pub use leb128::{write_s32, write_s33, write_s64, write_u32, write_u64};
+pub use leb128::{width, write_s32, write_s33, write_s64, write_u32, write_u64};
+pub use ref_types::{AbstractHeapType, HeapType, RefType};
 pub use room::Room;
 pub use sink::{Length, Refusal, Sink};
-pub use types::{CompositeInnerType, CompositeType, ExportKind, FuncType, SubType, ValType};
+pub use types::{
+    ArrayType, CompositeInnerType, CompositeType, ExportKind, FieldType, FuncType, StorageType,
+    StructType, SubType, ValType,
+};
 
 #[cfg(test)]
 mod tests;

@@ -2,7 +2,9 @@
 
 ghost use Rattle.std.specs.Prelude.{◌≡◌, ◌≤◌, ◌+◌, ℕ, [], ◌++◌, length, vec_len, vec_capacity, IfOk, IfErr};
 ghost use Rattle.wast_tree.specs.Faults.{out_of_memory};
+ghost use Rattle.wasm_ops.specs.Leb128.{unsigned};
 ghost use Rattle.wasm_ops.specs.Rooms as rooms;
+ghost use Rattle.wasm_ops.specs.Sinks.{Writes};
 
 use crate::leb128::unsigned_bytes;
 use crate::sink::{Refusal, Sink};
@@ -63,10 +65,24 @@ fn push_reserved(out: &mut Vec<u8>, bytes: &[u8])
     ensures items { out.new.items ≡ out.old.items ++ bytes.now }
     ensures capacity { vec_capacity out.old ≤ vec_capacity out.new }
 {
+    // Told so, the compiler leaves out what would make the vector grow.
+    if out.capacity() - out.len() < bytes.len() {
+        unreachable!();
+    }
     match out.extend_from_slice(bytes) {
         Ok(()) => {}
         Err(_) => unreachable!(),
     }
+}
+
+/// Appends the bytes of a number, digit by digit. It stands apart so that short numbers are quick.
+#[cold]
+#[inline(never)]
+fn push_long(room: &mut Room, n: u64) -> Result<(), Refusal>
+    ensures { Writes rooms.rules (Unit {0}) room.old room.new (unsigned n) result }
+{
+    let (bytes, len) = unsigned_bytes(n);
+    room.push_bytes(&bytes[..len])
 }
 
 /// Bytes fit where there is room for all of them, and take no memory; others are refused as too large: E10. Cutting
@@ -98,8 +114,7 @@ impl Sink for Room {
                 (rest / 128) as u8,
             ]);
         }
-        let (bytes, len) = unsigned_bytes(n);
-        self.push_bytes(&bytes[..len])
+        push_long(self, n)
     }
 
     fn skip(&mut self, _count: u64) -> bool {

@@ -1,11 +1,12 @@
 //! The bytes of worked examples.
 
 ghost use Rattle.std.specs.Prelude.{IsTrue};
-ghost use Rattle.wasm_ops.specs.Covered.{is_covered_sub_type};
+ghost use Rattle.wasm_ops.specs.Covered.{is_covered_func_type, is_covered_sub_type};
 
 use crate::{
-    CompositeInnerType, CompositeType, Counted, Each, Encode, ExportKind, FuncType, IndexInstr,
-    IndexOp, InstructionSink, Itself, Length, Raw, Refusal, Room, Sink, SubType, ValType,
+    AbstractHeapType, ArrayType, CompositeInnerType, CompositeType, Counted, Each, Encode,
+    ExportKind, FieldType, FuncType, HeapType, IndexInstr, IndexOp, InstructionSink, Itself,
+    Length, Raw, RefType, Refusal, Room, Sink, StorageType, StructType, SubType, ValType,
     WithLength, instruction_law, signed_law, type_spelling_law, unsigned_law, write_name,
     write_s32, write_s33, write_s64, write_u32, write_u64,
 };
@@ -23,7 +24,9 @@ fn is_spelled<T: Encode>(rt: &impl Abort, alloc: Global, value: &T, bytes: &[u8]
 }
 
 /// The type of functions from `i32` to `i64`.
-fn func_type(rt: &impl Abort, alloc: Global) -> FuncType {
+fn func_type(rt: &impl Abort, alloc: Global) -> FuncType
+    ensures { IsTrue (is_covered_func_type result) }
+{
     let params = vec![in alloc; ValType::I32].expect(rt, "memory");
     let results = vec![in alloc; ValType::I64].expect(rt, "memory");
     FuncType {
@@ -103,12 +106,104 @@ fn a_name_stands_behind_its_length(rt: HostRuntime) {
     assert!(rt; out.as_slice() == [0x01, 0x66].as_slice());
 }
 
+/// A reference to an abstract heap type that is not shared.
+fn abstract_ref(nullable: bool, ty: AbstractHeapType) -> StorageType {
+    let heap_type = HeapType::Abstract { shared: false, ty };
+    StorageType::Val(ValType::Ref(RefType {
+        nullable,
+        heap_type,
+    }))
+}
+
+/// A reference to the type at an index.
+fn concrete_ref(nullable: bool, index: u32) -> StorageType {
+    let heap_type = HeapType::Concrete(index);
+    StorageType::Val(ValType::Ref(RefType {
+        nullable,
+        heap_type,
+    }))
+}
+
 #[test]
-fn function_types_have_their_bytes(rt: HostRuntime) {
+fn storage_types_have_their_bytes(rt: HostRuntime) {
+    let types: [(StorageType, &[u8]); 26] = [
+        (StorageType::I8, &[0x78]),
+        (StorageType::I16, &[0x77]),
+        (StorageType::Val(ValType::I32), &[0x7f]),
+        (StorageType::Val(ValType::I64), &[0x7e]),
+        (StorageType::Val(ValType::F32), &[0x7d]),
+        (StorageType::Val(ValType::F64), &[0x7c]),
+        (StorageType::Val(ValType::V128), &[0x7b]),
+        (abstract_ref(true, AbstractHeapType::Func), &[0x70]),
+        (abstract_ref(false, AbstractHeapType::Func), &[0x64, 0x70]),
+        (abstract_ref(true, AbstractHeapType::Extern), &[0x6f]),
+        (abstract_ref(false, AbstractHeapType::Extern), &[0x64, 0x6f]),
+        (abstract_ref(true, AbstractHeapType::Any), &[0x63, 0x6e]),
+        (abstract_ref(true, AbstractHeapType::Eq), &[0x63, 0x6d]),
+        (abstract_ref(false, AbstractHeapType::I31), &[0x64, 0x6c]),
+        (abstract_ref(true, AbstractHeapType::Struct), &[0x63, 0x6b]),
+        (abstract_ref(true, AbstractHeapType::Array), &[0x63, 0x6a]),
+        (abstract_ref(true, AbstractHeapType::Exn), &[0x63, 0x69]),
+        (abstract_ref(true, AbstractHeapType::NoExn), &[0x63, 0x74]),
+        (abstract_ref(true, AbstractHeapType::NoFunc), &[0x63, 0x73]),
+        (
+            abstract_ref(true, AbstractHeapType::NoExtern),
+            &[0x63, 0x72],
+        ),
+        (abstract_ref(true, AbstractHeapType::None), &[0x63, 0x71]),
+        (concrete_ref(true, 2), &[0x63, 0x02]),
+        (concrete_ref(false, 63), &[0x64, 0x3f]),
+        (concrete_ref(false, 64), &[0x64, 0xc0, 0x00]),
+        (concrete_ref(true, 127), &[0x63, 0xff, 0x00]),
+        (
+            concrete_ref(true, 4294967295),
+            &[0x63, 0xff, 0xff, 0xff, 0xff, 0x0f],
+        ),
+    ];
+    for (ty, bytes) in &types {
+        assert!(rt; ty.is_covered(), "for {bytes:?}");
+        is_spelled(&rt, rt.alloc(), ty, *bytes);
+    }
+}
+
+#[test]
+fn composite_types_have_their_bytes(rt: HostRuntime) {
     let alloc = rt.alloc();
     let ty = func_type(&rt, alloc);
-    assert!(rt; ty.is_covered() && ValType::I32.is_covered());
+    assert!(rt; ty.is_covered());
     is_spelled(&rt, alloc, &ty, &[0x60, 0x01, 0x7f, 0x01, 0x7e]);
+    let field = FieldType {
+        element_type: StorageType::I8,
+        mutable: true,
+    };
+    let fields = vec![in alloc; field].expect(&rt, "memory");
+    let ty = StructType {
+        fields: Seq::from_vec(fields),
+    };
+    assert!(rt; field.is_covered() && ty.is_covered());
+    is_spelled(&rt, alloc, &ty, &[0x5f, 0x01, 0x78, 0x01]);
+    let ty = ArrayType(FieldType {
+        element_type: StorageType::I16,
+        mutable: false,
+    });
+    assert!(rt; ty.is_covered());
+    is_spelled(&rt, alloc, &ty, &[0x5e, 0x77, 0x00]);
+}
+
+#[test]
+fn shared_and_exact_references_are_not_covered(rt: HostRuntime) {
+    let shared = HeapType::Abstract {
+        shared: true,
+        ty: AbstractHeapType::Any,
+    };
+    for heap_type in [shared, HeapType::Exact(0)] {
+        let nullable = true;
+        let ty = RefType {
+            nullable,
+            heap_type,
+        };
+        assert!(rt; !heap_type.is_covered() && !ty.is_covered() && !ValType::Ref(ty).is_covered());
+    }
 }
 
 #[test]

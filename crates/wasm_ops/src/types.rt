@@ -1,10 +1,12 @@
 //! Types of the binary format, and the kinds of what a module exports.
 
 ghost use Rattle.std.specs.Prelude.{◌≡◌, true};
-ghost use Rattle.wasm_ops.specs.Covered.{is_covered_composite_type, is_covered_sub_type};
-ghost use Rattle.wasm_ops.specs.Spelling.{Any, val_type, export_kind, func_type, InRangeFuncType, composite_inner_type, InRangeCompositeInnerType, composite_type, InRangeCompositeType, sub_type, InRangeSubType};
+ghost use Rattle.std.specs.List.{list_all};
+ghost use Rattle.wasm_ops.specs.Covered.{is_covered_val_type, is_covered_storage_type, is_covered_field_type, is_covered_func_type, is_covered_struct_type, is_covered_array_type, is_covered_composite_inner_type, is_covered_composite_type, is_covered_sub_type};
+ghost use Rattle.wasm_ops.specs.Spelling.{Any, val_type, InRangeValType, storage_type, InRangeStorageType, field_type, InRangeFieldType, export_kind, func_type, InRangeFuncType, struct_type, InRangeStructType, array_type, InRangeArrayType, composite_inner_type, InRangeCompositeInnerType, composite_type, InRangeCompositeType, sub_type, InRangeSubType};
 
 use crate::encode::{Counted, Encode, Itself};
+use crate::ref_types::RefType;
 use crate::sink::{Refusal, Sink};
 use wast_tree::Seq;
 
@@ -21,15 +23,19 @@ pub enum ValType {
     F64,
     /// `v128`
     V128,
+    /// A reference.
+    Ref(RefType),
 }
 
 impl ValType {
-    /// Whether the encoder covers it. It covers each one of today.
+    /// Whether the encoder covers it: it is a number, a vector, or a reference whose heap type is not shared and not
+    /// exact.
     pub fn is_covered(&self) -> bool
-        ensures { result ≡ true }
+        ensures { result ≡ is_covered_val_type self.now }
     {
         match self {
             ValType::I32 | ValType::I64 | ValType::F32 | ValType::F64 | ValType::V128 => true,
+            ValType::Ref(ty) => ty.is_covered(),
         }
     }
 }
@@ -37,9 +43,9 @@ impl ValType {
 impl Encode for ValType {
     ghost spelling = { val_type };
 
-    ghost in_range = { Any };
+    ghost in_range = { InRangeValType };
 
-    ghost is_ready = { λ _. true };
+    ghost is_ready = { is_covered_val_type };
 
     fn encode<S: Sink>(&self, out: &mut S) -> Result<(), Refusal> {
         match self {
@@ -48,7 +54,78 @@ impl Encode for ValType {
             ValType::F32 => 0x7du8.encode(out),
             ValType::F64 => 0x7cu8.encode(out),
             ValType::V128 => 0x7bu8.encode(out),
+            ValType::Ref(ty) => ty.encode(out),
         }
+    }
+}
+
+/// What a field of a struct or an element of an array is stored as (binary format, composite types).
+#[derive(Clone, Copy, Debug, PartialEq, Eq, Hash)]
+pub enum StorageType {
+    /// `i8`
+    I8,
+    /// `i16`
+    I16,
+    /// A value type.
+    Val(ValType),
+}
+
+impl StorageType {
+    /// Whether the encoder covers it: it is packed, or a value type that is covered.
+    pub fn is_covered(&self) -> bool
+        ensures { result ≡ is_covered_storage_type self.now }
+    {
+        match self {
+            StorageType::I8 => true,
+            StorageType::I16 => true,
+            StorageType::Val(ty) => ty.is_covered(),
+        }
+    }
+}
+
+impl Encode for StorageType {
+    ghost spelling = { storage_type };
+
+    ghost in_range = { InRangeStorageType };
+
+    ghost is_ready = { is_covered_storage_type };
+
+    fn encode<S: Sink>(&self, out: &mut S) -> Result<(), Refusal> {
+        match self {
+            StorageType::I8 => 0x78u8.encode(out),
+            StorageType::I16 => 0x77u8.encode(out),
+            StorageType::Val(ty) => ty.encode(out),
+        }
+    }
+}
+
+/// A field of a struct, or what the elements of an array are (binary format, composite types).
+#[derive(Clone, Copy, Debug, PartialEq, Eq, Hash)]
+pub struct FieldType {
+    /// What it is stored as.
+    pub element_type: StorageType,
+    /// Whether it can be changed.
+    pub mutable: bool,
+}
+
+impl FieldType {
+    /// Whether the encoder covers it: it covers its storage type.
+    pub fn is_covered(&self) -> bool
+        ensures { result ≡ is_covered_field_type self.now }
+    {
+        self.element_type.is_covered()
+    }
+}
+
+impl Encode for FieldType {
+    ghost spelling = { field_type };
+
+    ghost in_range = { InRangeFieldType };
+
+    ghost is_ready = { is_covered_field_type };
+
+    fn encode<S: Sink>(&self, out: &mut S) -> Result<(), Refusal> {
+        (self.element_type, u8::from(self.mutable)).encode(out)
     }
 }
 
@@ -88,6 +165,13 @@ impl Encode for ExportKind {
     }
 }
 
+/// Whether the encoder covers each of these types.
+fn are_covered(types: &[ValType]) -> bool
+    ensures { result ≡ list_all is_covered_val_type types.now }
+{
+    types.iter().all(|ty| ty.is_covered())
+}
+
 /// A function type (binary format, composite types).
 #[derive(Debug, Drop)]
 pub struct FuncType {
@@ -98,11 +182,11 @@ pub struct FuncType {
 }
 
 impl FuncType {
-    /// Whether the encoder covers it. It covers each one of today.
+    /// Whether the encoder covers it: it covers the types of its parameters and results.
     pub fn is_covered(&self) -> bool
-        ensures { result ≡ true }
+        ensures { result ≡ is_covered_func_type self.now }
     {
-        true // since each value type is covered
+        are_covered(self.params.as_slice()) && are_covered(self.results.as_slice())
     }
 }
 
@@ -111,7 +195,7 @@ impl Encode for FuncType {
 
     ghost in_range = { InRangeFuncType };
 
-    ghost is_ready = { λ _. true };
+    ghost is_ready = { is_covered_func_type };
 
     fn encode<S: Sink>(&self, out: &mut S) -> Result<(), Refusal> {
         let params = Counted(self.params.as_slice(), Itself);
@@ -120,20 +204,82 @@ impl Encode for FuncType {
     }
 }
 
+/// A struct type (binary format, composite types).
+#[derive(Debug, Drop)]
+pub struct StructType {
+    /// Its fields.
+    pub fields: Seq<FieldType>,
+}
+
+impl StructType {
+    /// Whether the encoder covers it: it covers each of its fields.
+    pub fn is_covered(&self) -> bool
+        ensures { result ≡ is_covered_struct_type self.now }
+    {
+        self.fields
+            .as_slice()
+            .iter()
+            .all(|field| field.is_covered())
+    }
+}
+
+impl Encode for StructType {
+    ghost spelling = { struct_type };
+
+    ghost in_range = { InRangeStructType };
+
+    ghost is_ready = { is_covered_struct_type };
+
+    fn encode<S: Sink>(&self, out: &mut S) -> Result<(), Refusal> {
+        (0x5fu8, Counted(self.fields.as_slice(), Itself)).encode(out)
+    }
+}
+
+/// An array type, by what its elements are (binary format, composite types).
+#[derive(Clone, Copy, Debug, PartialEq, Eq, Hash)]
+pub struct ArrayType(pub FieldType);
+
+impl ArrayType {
+    /// Whether the encoder covers it: it covers what its elements are.
+    pub fn is_covered(&self) -> bool
+        ensures { result ≡ is_covered_array_type self.now }
+    {
+        self.0.is_covered()
+    }
+}
+
+impl Encode for ArrayType {
+    ghost spelling = { array_type };
+
+    ghost in_range = { InRangeArrayType };
+
+    ghost is_ready = { is_covered_array_type };
+
+    fn encode<S: Sink>(&self, out: &mut S) -> Result<(), Refusal> {
+        (0x5eu8, self.0).encode(out)
+    }
+}
+
 /// What a composite type is made of (binary format, composite types).
 #[derive(Debug, Drop)]
 pub enum CompositeInnerType {
     /// A function type.
     Func(FuncType),
+    /// A struct type.
+    Struct(StructType),
+    /// An array type.
+    Array(ArrayType),
 }
 
 impl CompositeInnerType {
-    /// Whether the encoder covers it. It covers each one of today.
+    /// Whether the encoder covers it: it covers each type that stands in it.
     pub fn is_covered(&self) -> bool
-        ensures { result ≡ true }
+        ensures { result ≡ is_covered_composite_inner_type self.now }
     {
         match self {
             CompositeInnerType::Func(ty) => ty.is_covered(),
+            CompositeInnerType::Struct(ty) => ty.is_covered(),
+            CompositeInnerType::Array(ty) => ty.is_covered(),
         }
     }
 }
@@ -143,11 +289,13 @@ impl Encode for CompositeInnerType {
 
     ghost in_range = { InRangeCompositeInnerType };
 
-    ghost is_ready = { λ _. true };
+    ghost is_ready = { is_covered_composite_inner_type };
 
     fn encode<S: Sink>(&self, out: &mut S) -> Result<(), Refusal> {
         match self {
             CompositeInnerType::Func(ty) => ty.encode(out),
+            CompositeInnerType::Struct(ty) => ty.encode(out),
+            CompositeInnerType::Array(ty) => ty.encode(out),
         }
     }
 }
@@ -166,11 +314,15 @@ pub struct CompositeType {
 }
 
 impl CompositeType {
-    /// Whether the encoder covers it: it is not shared, has no descriptor and describes nothing.
+    /// Whether the encoder covers it: it is not shared, has no descriptor and describes nothing, and the encoder covers
+    /// what it is made of.
     pub fn is_covered(&self) -> bool
         ensures { result ≡ is_covered_composite_type self.now }
     {
-        !self.shared && self.descriptor.is_none() && self.describes.is_none()
+        !self.shared
+            && self.descriptor.is_none()
+            && self.describes.is_none()
+            && self.inner.is_covered()
     }
 }
 
@@ -198,7 +350,7 @@ pub struct SubType {
 }
 
 impl SubType {
-    /// Whether the encoder covers it: its composite type is not shared, has no descriptor and describes nothing.
+    /// Whether the encoder covers it: it covers its composite type.
     pub fn is_covered(&self) -> bool
         ensures { result ≡ is_covered_sub_type self.now }
     {

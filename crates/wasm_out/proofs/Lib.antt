@@ -1,5 +1,6 @@
 pub mod Building
 pub mod LocalRuns
 pub mod PartCodes
-pub mod Refusals
+pub mod SameTypes
 pub mod Worked
+pub mod WrittenLists

@@ -1,44 +1,17 @@
 -- Runs of locals: they give the locals back, and are no longer than these.
-use Rattle.std.proofs.Common.{◌≡◌, ◌<◌, ◌≤◌, ◌+◌, ℕ, zero, suc, Bool, true, false, List, [], ◌∷◌, ◌++◌, length, drop, get_or, replicate, refl, sym, ap, ◌∙◌, subst, append_assoc, add-one, arith, drop-cons}
+use Rattle.std.proofs.Common.{◌≡◌, ◌<◌, ◌≤◌, ◌+◌, ◌-◌, ℕ, zero, suc, Bool, true, false, List, [], ◌∷◌, ◌++◌, length, map, drop, get_or, replicate, refl, sym, ap, ◌∙◌, subst, add-one, arith, drop-cons}
 use Rattle.std.specs.Prelude.{All}
 use Rattle.std.specs.List.{flat_map}
-use Rattle.std.specs.Cmp.Lexicographic.{same_text, other_text}
-use Rattle.std.proofs.lemmas.List.{drop_all}
+use Rattle.std.proofs.lemmas.List.{drop_all, length-map}
 use Rattle.std.proofs.lemmas.List.Concat.{flat_map-cons}
 use Rattle.std.proofs.lemmas.List.Elements.{All-nil, All-cons, All-head, All-tail}
-use denote.Enum.Bare.{sameb, same_true, true_same}
-use Rattle.wasm_ops.specs.contracts.types.ValType.{the_type}
 use Rattle.wasm_ops.specs.declared.types.ValType.{ValType}
-use Rattle.wasm_ops.specs.Spelling.{Any, InRangeU32, InRangeVec, val_type}
-use Rattle.wasm_ops.proofs.Codes.{code_whole}
-use Rattle.wasm_ops.proofs.TypeCodes.{val_type_code}
+use Rattle.wasm_ops.specs.Spelling.{InRangeU32, InRangeVec}
+use Rattle.wasm_ops.proofs.Everywhere.{all_one}
 use Rattle.wasm_out.specs.Bodies.{LocalRun, is_same_type, in_front, with_local, local_runs}
+use Rattle.wasm_out.proofs.SameTypes.{type_is, own_type}
 
--- ---- the test of types
-
-type_is : (t u : ValType) → is_same_type t u ≡ true → t ≡ u
-type_is t u e = (code_whole val_type_code).same t u tt tt (same_text (val_type t) (val_type u) (sym e))
-
-not_false : (b : Bool) → (b ≡ false → ⊥) → b ≡ true
-not_false true apart = refl
-not_false false apart = absurd (apart refl)
-
-own_type : (t : ValType) → is_same_type t t ≡ true
-own_type t = not_false (is_same_type t t) (λ e. other_text (val_type t) (val_type t) (sym e) refl)
-
-agree : (a b : Bool) → (a ≡ true → b ≡ true) → (b ≡ true → a ≡ true) → a ≡ b
-agree true b f g = sym (f refl)
-agree false true f g = g refl
-agree false false f g = refl
-
--- the code's test of equality
-pub same_is : (t u : ValType) → sameb the_type t u ≡ is_same_type t u
-same_is t u =
-    agree (sameb the_type t u) (is_same_type t u)
-    (λ e. subst (λ v. is_same_type t v ≡ true) (same_true the_type tt t u e) (own_type t))
-    (λ e. true_same the_type t u (type_is t u e))
-
--- ---- what a loop over the locals knows
+-- ---- what loops over the items know
 
 with_own : (n : ℕ) (t : ValType) (rs : List LocalRun) → with_local t ((n, t) ∷ rs) ≡ (suc n, t) ∷ rs
 with_own n t rs = ap (λ b. in_front b t (n, t) rs) (own_type t) ∙ ap (λ m. (m, t) ∷ rs) (add-one n)
@@ -63,29 +36,40 @@ replicate_more : (n : ℕ) (t : ValType) (us : List ValType) → replicate n t +
 replicate_more zero t us = refl
 replicate_more (suc n) t us = ap (λ l. t ∷ l) (replicate_more n t us)
 
--- the next local is of the type of the run
-pub run_grows : (made all : List LocalRun) (n i : ℕ) (t d : ValType) (rest : List ValType) → i < length rest → get_or rest i d ≡ t
-    → made ++ local_runs (replicate n t ++ drop i rest) ≡ all → made ++ local_runs (replicate (n + 1) t ++ drop (i + 1) rest) ≡ all
-run_grows made all n i t d rest lt same told =
-    let next : drop i rest ≡ t ∷ drop (suc i) rest = drop-cons rest i d lt ∙ ap (λ v. v ∷ drop (suc i) rest) same in
-    let grown : replicate n t ++ drop i rest ≡ replicate (n + 1) t ++ drop (i + 1) rest = rw (next, add-one n, add-one i) (replicate_more n t (drop (suc i) rest)) in
-    ap (λ l. made ++ local_runs l) (sym grown) ∙ told
+-- the next item is of the type of those in front
+pub run_grows : {X : Type 0} (f : X → ValType) (xs : List X) (at n : ℕ) (t : ValType) (x : X) → at + n < length xs → x ≡ get_or xs (at + n) x → is_same_type t (f x) ≡ true
+    → map f (drop at xs) ≡ replicate n t ++ map f (drop (at + n) xs) → map f (drop at xs) ≡ replicate (n + 1) t ++ map f (drop (at + (n + 1)) xs)
+run_grows f xs at n t x lt is same told =
+    let i = at + n in
+    let next : at + (n + 1) ≡ suc i = omega arith in
+    told ∙ ap (λ l. replicate n t ++ map f l) (drop-cons xs i x lt) ∙ ap (λ y. replicate n t ++ (f y ∷ map f (drop (suc i) xs))) (sym is)
+    ∙ ap (λ v. replicate n t ++ (v ∷ map f (drop (suc i) xs))) (sym (type_is t (f x) same)) ∙ replicate_more n t (map f (drop (suc i) xs))
+    ∙ ap (λ m. replicate m t ++ map f (drop (suc i) xs)) (sym (add-one n)) ∙ ap (λ m. replicate (n + 1) t ++ map f (drop m xs)) (sym next)
 
--- the next local is of another type
-pub run_ends : (made all : List LocalRun) (n i : ℕ) (t d : ValType) (rest : List ValType) → 0 < n → i < length rest → is_same_type t (get_or rest i d) ≡ false
-    → made ++ local_runs (replicate n t ++ drop i rest) ≡ all → (made ++ ((n, t) ∷ [])) ++ local_runs (replicate 1 (get_or rest i d) ++ drop (i + 1) rest) ≡ all
-run_ends made all zero i t d rest some lt other told = absurd (omega (arith, some))
-run_ends made all (suc n) i t d rest some lt other told =
-    let u = get_or rest i d in
-    let next : drop i rest ≡ u ∷ drop (suc i) rest = drop-cons rest i d lt in
-    let ended : local_runs (replicate (suc n) t ++ drop i rest) ≡ (suc n, t) ∷ local_runs (u ∷ drop (suc i) rest) = ap (λ l. local_runs (replicate (suc n) t ++ l)) next ∙ runs_then n t u (drop (suc i) rest) other in
-    append_assoc made ((suc n, t) ∷ []) (local_runs (u ∷ drop (i + 1) rest)) ∙ ap (λ j. made ++ ((suc n, t) ∷ local_runs (u ∷ drop j rest))) (add-one i) ∙ ap (λ l. made ++ l) (sym ended) ∙ told
+-- the next item is of another type
+pub run_ends : {X : Type 0} (f : X → ValType) (xs : List X) (at n : ℕ) (t : ValType) (x : X) → 0 < n → at + n < length xs → x ≡ get_or xs (at + n) x → is_same_type t (f x) ≡ false
+    → map f (drop at xs) ≡ replicate n t ++ map f (drop (at + n) xs) → local_runs (map f (drop at xs)) ≡ (n, t) ∷ local_runs (map f (drop (at + n) xs))
+run_ends f xs at zero t x some lt is other told = absurd (omega (arith, some))
+run_ends f xs at (suc n) t x some lt is other told =
+    let i = at + suc n in
+    let next : map f (drop i xs) ≡ f x ∷ map f (drop (suc i) xs) = ap (map f) (drop-cons xs i x lt) ∙ ap (λ y. f y ∷ map f (drop (suc i) xs)) (sym is) in
+    ap local_runs told ∙ ap (λ l. local_runs (replicate (suc n) t ++ l)) next ∙ runs_then n t (f x) (map f (drop (suc i) xs)) other ∙ ap (λ l. (suc n, t) ∷ local_runs l) (sym next)
 
--- no local is left
-pub run_last : (made all : List LocalRun) (n i : ℕ) (t : ValType) (rest : List ValType) → 0 < n → length rest ≤ i
-    → made ++ local_runs (replicate n t ++ drop i rest) ≡ all → made ++ ((n, t) ∷ []) ≡ all
-run_last made all zero i t rest some le told = absurd (omega (arith, some))
-run_last made all (suc n) i t rest some le told = ap (λ l. made ++ l) (sym (ap (λ l. local_runs (replicate (suc n) t ++ l)) (drop_all i rest le) ∙ runs_one n t)) ∙ told
+-- no item is left
+run_whole : {X : Type 0} (f : X → ValType) (xs : List X) (at n : ℕ) (t : ValType) → 0 < n → length xs ≤ at + n
+    → map f (drop at xs) ≡ replicate n t ++ map f (drop (at + n) xs) → local_runs (map f (drop at xs)) ≡ (n, t) ∷ local_runs (map f (drop (at + n) xs))
+run_whole f xs at zero t some le told = absurd (omega (arith, some))
+run_whole f xs at (suc n) t some le told =
+    let none = ap (map f) (drop_all (at + suc n) xs le) in
+    ap local_runs told ∙ ap (λ l. local_runs (replicate (suc n) t ++ l)) none ∙ runs_one n t ∙ ap (λ l. (suc n, t) ∷ local_runs l) (sym none)
+
+pub run_last : {X : Type 0} (f : X → ValType) (xs : List X) (at n : ℕ) (t : ValType) → 0 < n → n ≡ length xs - at
+    → map f (drop at xs) ≡ replicate n t ++ map f (drop (at + n) xs) → local_runs (map f (drop at xs)) ≡ (length xs - at, t) ∷ local_runs (map f (drop (at + (length xs - at)) xs))
+run_last f xs at n t some is told = run_whole f xs at n t some (omega (arith, is)) told ∙ ap (λ m. (m, t) ∷ local_runs (map f (drop (at + m) xs))) is
+
+-- no run is left
+pub no_run_left : {X : Type 0} (f : X → ValType) (xs : List X) (i : ℕ) → length xs ≤ i → local_runs (map f (drop i xs)) ≡ []
+no_run_left f xs i le = ap (λ ys. local_runs (map f ys)) (drop_all i xs le)
 
 -- ---- what runs stand for
 
@@ -129,7 +113,45 @@ runs_below : (ts : List ValType) → (length (local_runs ts) ≤ length ts) × A
 runs_below [] = (omega arith, All-nil (IsNoLonger 0))
 runs_below (t ∷ ts) = let h = runs_below ts in local_below (length ts) t (local_runs ts) h.0 h.1
 
-pub runs_in_range : (ts : List ValType) → InRangeU32 (length ts) → InRangeVec (λ (r : LocalRun). InRangeU32 r.0 × Any r.1) (local_runs ts)
-runs_in_range ts few =
+pub few_runs : {X : Type 0} (f : X → ValType) (xs : List X) → length (local_runs (map f xs)) ≤ length xs
+few_runs f xs = subst (λ n. length (local_runs (map f xs)) ≤ n) (length-map xs f) (runs_below (map f xs)).0
+
+-- ---- what holds of the types of locals holds of those of their runs
+
+abbrev OfType : (ValType → Type 0) → LocalRun → Type 0
+OfType P r = P r.1
+
+front_holds : (P : ValType → Type 0) (b : Bool) (t : ValType) (r : LocalRun) (rs : List LocalRun) → P t → All (OfType P) (r ∷ rs) → All (OfType P) (in_front b t r rs)
+front_holds P true t r rs p h = All-cons (OfType P) (r.0 + 1, t) rs p (All-tail (OfType P) r rs h)
+front_holds P false t r rs p h = All-cons (OfType P) (1, t) (r ∷ rs) p h
+
+local_holds : (P : ValType → Type 0) (t : ValType) (rs : List LocalRun) → P t → All (OfType P) rs → All (OfType P) (with_local t rs)
+local_holds P t [] p h = all_one (OfType P) (1, t) p
+local_holds P t (r ∷ rs) p h = front_holds P (is_same_type t r.1) t r rs p h
+
+pub runs_hold : (P : ValType → Type 0) (ts : List ValType) → All P ts → All (OfType P) (local_runs ts)
+runs_hold P [] h = All-nil (OfType P)
+runs_hold P (t ∷ ts) h = local_holds P t (local_runs ts) (All-head P t ts h) (runs_hold P ts (All-tail P t ts h))
+
+front_held : (P : ValType → Type 0) (b : Bool) (t : ValType) (r : LocalRun) (rs : List LocalRun) → (b ≡ true → t ≡ r.1) → All (OfType P) (in_front b t r rs) → P t × All (OfType P) (r ∷ rs)
+front_held P true t r rs same h =
+    let p = All-head (OfType P) (r.0 + 1, t) rs h in
+    (p, All-cons (OfType P) r rs (subst P (same refl) p) (All-tail (OfType P) (r.0 + 1, t) rs h))
+front_held P false t r rs same h = (All-head (OfType P) (1, t) (r ∷ rs) h, All-tail (OfType P) (1, t) (r ∷ rs) h)
+
+local_held : (P : ValType → Type 0) (t : ValType) (rs : List LocalRun) → All (OfType P) (with_local t rs) → P t × All (OfType P) rs
+local_held P t [] h = (All-head (OfType P) (1, t) [] h, All-nil (OfType P))
+local_held P t (r ∷ rs) h = front_held P (is_same_type t r.1) t r rs (type_is t r.1) h
+
+pub runs_held : (P : ValType → Type 0) (ts : List ValType) → All (OfType P) (local_runs ts) → All P ts
+runs_held P [] h = All-nil P
+runs_held P (t ∷ ts) h = let both = local_held P t (local_runs ts) h in All-cons P t ts both.0 (runs_held P ts both.1)
+
+pub runs_in_range : (P : ValType → Type 0) (ts : List ValType) → InRangeVec P ts → InRangeVec (λ (r : LocalRun). InRangeU32 r.0 × P r.1) (local_runs ts)
+runs_in_range P ts few =
     let h = runs_below ts in
-    (omega (arith, h.0, few), λ k d lt. let one = h.1 k d lt in (omega (arith, one, few), tt))
+    let held = runs_hold P ts few.1 in
+    (omega (arith, h.0, few.0), λ k d lt. let one = h.1 k d lt in (omega (arith, one, few.0), held k d lt))
+
+pub types_in_range : (P : ValType → Type 0) (ts : List ValType) → InRangeU32 (length ts) → InRangeVec (λ (r : LocalRun). InRangeU32 r.0 × P r.1) (local_runs ts) → InRangeVec P ts
+types_in_range P ts few h = (few, runs_held P ts (λ k d lt. (h.1 k d lt).1))

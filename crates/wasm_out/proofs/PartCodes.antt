@@ -1,17 +1,18 @@
 -- The parts of a module show their value: bytes are read as one module.
-use Rattle.std.proofs.Common.{◌≡◌, ◌≢◌, ◌<◌, ℕ, List, [], ◌∷◌, ◌++◌, length, refl, sym, ap, ◌∙◌, subst, arith}
-use Rattle.std.specs.Prelude.{All, IsTrue}
-use Rattle.std.specs.List.{flat_map, list_all}
+use Rattle.std.proofs.Common.{◌≡◌, ◌≢◌, ◌<◌, ℕ, List, [], ◌∷◌, ◌++◌, refl, sym, ap, ◌∙◌, subst, arith}
+use Rattle.std.specs.Prelude.{All}
+use Rattle.std.specs.List.{flat_map}
 use Rattle.std.proofs.lemmas.List.{append_cancel_right}
 use Rattle.wasm_ops.specs.declared.types.ValType.{ValType}
 use Rattle.wasm_ops.specs.Codes.{IsCode, IsWhole}
 use Rattle.wasm_ops.specs.declared.types.SubType.{SubType}
-use Rattle.wasm_ops.specs.Covered.{is_covered_sub_type, IsSpellableSubType}
-use Rattle.wasm_ops.specs.Spelling.{Any, InRangeU32, vec, InRangeVec, sized, InRangeSized, sub_type, InRangeSubType}
+use Rattle.wasm_ops.specs.Covered.{is_covered_val_type, is_covered_sub_type, IsSpellableValType, IsSpellableSubType}
+use Rattle.wasm_ops.specs.Spelling.{InRangeU32, InRangeValType, vec, InRangeVec, sized, InRangeSized, sub_type, InRangeSubType}
 use Rattle.wasm_ops.specs.Table.{Instr, instrs, InRangeInstr, HasRow, IsInstr}
-use Rattle.wasm_ops.proofs.Codes.{index_code, code_within, code_whole, after_byte, whole_within, pair_code, pair_whole, code_by, whole_by, vec_code, sized_code, filled_whole, name_code, bytes_whole}
-use Rattle.wasm_ops.proofs.Everywhere.{all_both, all_tested}
-use Rattle.wasm_ops.proofs.TypeCodes.{front, val_type_code, export_kind_code, sub_type_code, sub_front}
+use Rattle.wasm_ops.proofs.Codes.{index_code, code_within, code_whole, after_byte, whole_within, pair_code, pair_whole, code_by, whole_by, vec_code, sized_code, filled_whole, name_code, bytes_whole, spellable_vec}
+use Rattle.wasm_ops.proofs.Everywhere.{all_both}
+use Rattle.wasm_ops.proofs.RefTypeCodes.{front}
+use Rattle.wasm_ops.proofs.TypeCodes.{val_type_code, export_kind_code, sub_type_code, sub_front}
 use Rattle.wasm_ops.proofs.InstrCodes.{instr_code, instr-nonempty}
 use Rattle.wasm_out.specs.Bodies.{Body, LocalRun, local_run, local_runs, locals, content, IsSpellableContent}
 use Rattle.wasm_out.specs.Parts.{SectionKind, Types, Functions, Exports, Code, TypeEntry, Single, Group, ExportEntry, Entry, type_entry, export_entry, entry, InRangeExport, InRangeEntry, PartKind, Custom, Start, Listed, CustomPart, PartItems, custom, payload, InRangePartItems, section_id, part_id, Part, part, InRangePart}
@@ -21,11 +22,11 @@ use Rattle.wasm_out.proofs.LocalRuns.{expanded, expanded-local_runs, runs_in_ran
 
 -- ---- bodies
 
-run_code : IsCode LocalRun (λ (r : LocalRun). InRangeU32 r.0 × Any r.1) local_run
+run_code : IsCode LocalRun (λ (r : LocalRun). InRangeU32 r.0 × IsSpellableValType r.1) local_run
 run_code = pair_code index_code val_type_code
 
-locals_code : IsCode (List ValType) (λ ts. InRangeU32 (length ts)) locals
-locals_code = code_within runs_in_range (code_by local_runs expanded expanded-local_runs (vec_code run_code))
+locals_code : IsCode (List ValType) (InRangeVec IsSpellableValType) locals
+locals_code = code_within (runs_in_range IsSpellableValType) (code_by local_runs expanded expanded-local_runs (vec_code run_code))
 
 instrs_whole : IsWhole (List Instr) (All IsInstr) instrs
 instrs_whole = filled_whole (λ i p. instr-nonempty i) instr_code
@@ -38,10 +39,6 @@ content_whole = whole_within (λ b p. (p.locals, p.instrs)) (whole_by (λ (b : B
 
 -- ---- entries
 
--- types of a group, each covered and in range
-spellable_types : (ts : List SubType) → IsTrue (list_all is_covered_sub_type ts) → InRangeVec InRangeSubType ts → InRangeVec IsSpellableSubType ts
-spellable_types ts c r = (r.0, all_both (λ t. IsTrue (is_covered_sub_type t)) InRangeSubType IsSpellableSubType (λ t p q. (p, q)) ts (all_tested is_covered_sub_type ts c) r.1)
-
 types_code : IsCode (List SubType) (InRangeVec IsSpellableSubType) (vec sub_type)
 types_code = vec_code sub_type_code
 
@@ -53,7 +50,7 @@ type_entry_code = record { begins = type_begins }
         let one = sub_type_code.begins x y r s (p.covered, p.in_range) (q.covered, q.in_range) e in
         (ap Single one.0, one.1)
     type_begins (Group x) (Group y) r s p q e =
-        let one = (after_byte 0x4e types_code).begins x y r s (spellable_types x p.covered p.in_range) (spellable_types y q.covered q.in_range) e in
+        let one = (after_byte 0x4e types_code).begins x y r s (spellable_vec is_covered_sub_type InRangeSubType x p.covered p.in_range) (spellable_vec is_covered_sub_type InRangeSubType y q.covered q.in_range) e in
         (ap Group one.0, one.1)
     type_begins (Single x) (Group y) r s p q e = absurd (omega (arith, sub_front x r, ap front e))
     type_begins (Group x) (Single y) r s p q e = absurd (omega (arith, sub_front y s, ap front e))
@@ -61,9 +58,9 @@ type_entry_code = record { begins = type_begins }
 export_entry_code : IsCode ExportEntry InRangeExport export_entry
 export_entry_code = code_within (λ e p. (p.0, (tt, p.1))) (code_by (λ (e : ExportEntry). (e.name, (e.kind, e.index))) (λ p. record { name = p.0; kind = p.1.0; index = p.1.1 }) (λ e. refl) (pair_code name_code (pair_code export_kind_code index_code)))
 
--- a body whose instructions are rows of the table
+-- a body whose locals are covered, and whose instructions are rows of the table
 spellable_body : (b : Body) → IsSpellable Code b → InRangeSized IsSpellableContent content b
-spellable_body b p = (p.in_range.0, record { locals = p.in_range.1.locals; instrs = all_both HasRow InRangeInstr IsInstr (λ i q r. record { row = q; numbers = r }) b.instrs p.rows p.in_range.1.instrs })
+spellable_body b p = (p.in_range.0, record { locals = spellable_vec is_covered_val_type InRangeValType b.locals p.covered p.in_range.1.locals; instrs = all_both HasRow InRangeInstr IsInstr (λ i q r. record { row = q; numbers = r }) b.instrs p.rows p.in_range.1.instrs })
 
 pub entry_code : (kind : SectionKind) → IsCode (Entry kind) (IsSpellable kind) (entry kind)
 entry_code Types = type_entry_code

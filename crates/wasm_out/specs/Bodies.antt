@@ -1,9 +1,13 @@
 -- The body of a function: its locals as maximal runs of equal types, its instructions and an end (binary format, code section).
-use Rattle.std.specs.Prelude.{◌≡◌, ◌+◌, ℕ, nat_eq, Bool, true, false, List, [], ◌∷◌, ◌++◌, length, All}
-use Rattle.std.specs.Cmp.Lexicographic.{pointwise}
+use Rattle.std.specs.Prelude.{◌≡◌, ◌==◌, ◌&&◌, ◌+◌, ℕ, Bool, true, false, List, [], ◌∷◌, ◌++◌, All}
+use Rattle.wasm_ops.specs.Covered.{IsSpellableValType}
 use Rattle.wasm_ops.specs.Leb128.{unsigned}
+use Rattle.wasm_ops.specs.declared.ref_types.HeapType.{HeapType}
+use Rattle.wasm_ops.specs.declared.ref_types.HeapType.TheVariants as heap
+use Rattle.wasm_ops.specs.declared.ref_types.RefType.{RefType}
 use Rattle.wasm_ops.specs.declared.types.ValType.{ValType}
-use Rattle.wasm_ops.specs.Spelling.{InRangeU32, vec, val_type}
+use Rattle.wasm_ops.specs.declared.types.ValType.TheVariants as val
+use Rattle.wasm_ops.specs.Spelling.{InRangeU32, InRangeVec, abstract_byte, val_type, InRangeValType, vec}
 use Rattle.wasm_ops.specs.Table.{Instr, instrs, InRangeInstr, IsInstr}
 
 -- locals and instructions, one by one
@@ -15,8 +19,29 @@ pub record Body : Type 0 where
 abbrev pub LocalRun : Type 0
 LocalRun = ℕ × ValType
 
+abbrev pub is_same_flag : Bool → Bool → Bool
+is_same_flag true true = true
+is_same_flag false false = true
+is_same_flag a b = false
+
+-- the same heap types, references and value types: of one form, with the same numbers
+abbrev pub is_same_heap_type : HeapType → HeapType → Bool
+is_same_heap_type (heap.Abstract s a) (heap.Abstract t b) = is_same_flag s t && (abstract_byte a == abstract_byte b)
+is_same_heap_type (heap.Concrete m) (heap.Concrete n) = m == n
+is_same_heap_type (heap.Exact m) (heap.Exact n) = m == n
+is_same_heap_type h k = false
+
+abbrev pub is_same_ref_type : RefType → RefType → Bool
+is_same_ref_type r s = is_same_flag r.nullable s.nullable && is_same_heap_type r.heap_type s.heap_type
+
 abbrev pub is_same_type : ValType → ValType → Bool
-is_same_type t u = pointwise nat_eq (val_type t) (val_type u)
+is_same_type val.I32 val.I32 = true
+is_same_type val.I64 val.I64 = true
+is_same_type val.F32 val.F32 = true
+is_same_type val.F64 val.F64 = true
+is_same_type val.V128 val.V128 = true
+is_same_type (val.Ref r) (val.Ref s) = is_same_ref_type r s
+is_same_type t u = false
 
 -- one local more in front of a run and others: whether it is of the run's type
 abbrev pub in_front : Bool → ValType → LocalRun → List LocalRun → List LocalRun
@@ -35,6 +60,10 @@ local_runs (t ∷ ts) = with_local t (local_runs ts)
 abbrev pub local_run : LocalRun → List ℕ
 local_run r = unsigned r.0 ++ val_type r.1
 
+-- the length of a run, and the numbers of its type
+abbrev pub InRangeRun : LocalRun → Type 0
+InRangeRun r = InRangeU32 r.0 × InRangeValType r.1
+
 abbrev pub locals : List ValType → List ℕ
 locals types = vec local_run (local_runs types)
 
@@ -42,14 +71,14 @@ locals types = vec local_run (local_runs types)
 abbrev pub content : Body → List ℕ
 content b = locals b.locals ++ (instrs b.instrs ++ 0x0b ∷ [])
 
--- there are less than 2^32 locals, and the numbers of the instructions are in range
+-- there are less than 2^32 locals, and the numbers of their types and of the instructions are in range
 pub record InRangeContent (b : Body) : Type 0 where
-  pub locals : InRangeU32 (length b.locals)
+  pub locals : InRangeVec InRangeValType b.locals
   pub instrs : All InRangeInstr b.instrs
 
--- the instructions are rows of the table, too
+-- the types of the locals are covered, and the instructions are rows of the table, too
 pub record IsSpellableContent (b : Body) : Type 0 where
-  pub locals : InRangeU32 (length b.locals)
+  pub locals : InRangeVec IsSpellableValType b.locals
   pub instrs : All IsInstr b.instrs
 
 -- the bytes spell a list of instructions

@@ -2,7 +2,7 @@
 use Rattle.std.specs.Prelude.{Bool, true, All, IsTrue}
 use Rattle.std.specs.List.{list_all}
 use Rattle.std.specs.Str.{is_utf8}
-use Rattle.wasm_ops.specs.Covered.{is_covered_sub_type}
+use Rattle.wasm_ops.specs.Covered.{is_covered_val_type, is_covered_sub_type}
 use Rattle.wasm_ops.specs.Spelling.{InRangeU32, InRangeVec, InRangeSized, InRangeName}
 use Rattle.wasm_ops.specs.Table.{HasRow}
 use Rattle.wasm_out.specs.Parts.{SectionKind, Types, Functions, Exports, Code, TypeEntry, Single, Group, Entry, InRangeEntry, PartKind, Custom, Start, Listed, PartItems, payload, Part}
@@ -16,7 +16,7 @@ abbrev pub is_covered_entry : (kind : SectionKind) → Entry kind → Bool
 is_covered_entry Types t = is_covered_type_entry t
 is_covered_entry Functions n = true
 is_covered_entry Exports e = true
-is_covered_entry Code b = true
+is_covered_entry Code b = list_all is_covered_val_type b.locals
 
 -- the instructions of an item are rows of the table
 abbrev pub HasRows : (kind : SectionKind) → Entry kind → Type 0

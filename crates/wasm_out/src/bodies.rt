@@ -1,40 +1,17 @@
 //! Bodies of functions.
 
-ghost use Rattle.std.specs.Prelude.{◌≡◌, ◌∷◌, [], length, IfOk, IfErr};
-ghost use Rattle.wasm_ops.specs.Spelling.{InRangeU32};
-ghost use Rattle.wast_tree.specs.Faults.{out_of_memory};
+ghost use Rattle.std.specs.Prelude.{◌≡◌, ◌∷◌, [], length, IsTrue};
+ghost use Rattle.std.specs.List.{list_all};
+ghost use Rattle.wasm_ops.specs.Covered.{is_covered_val_type};
+ghost use Rattle.wasm_ops.specs.Spelling.{InRangeVec, InRangeValType};
 ghost use Rattle.wasm_out.specs.Built.{Appends, Makes};
-ghost use Rattle.wasm_out.specs.Bodies.{SpellsInstrs, locals, local_runs};
+ghost use Rattle.wasm_out.specs.Bodies.{SpellsInstrs, locals};
 
+use crate::locals::Locals;
 use std::alloc::Global;
 use std::marker::Model;
-use wasm_ops::{Counted, Encode, Itself, Sink, ValType};
-use wast_tree::{Error, Fault};
-
-/// The maximal runs of equal types, each as its length and its type. The only error is E12, where memory is refused.
-fn runs_of<'e>(alloc: Global, types: &[ValType]) -> Result<Vec<(u32, ValType)>, Error<'e>>
-    requires { InRangeU32 (length types.now) }
-    ensures ok { IfOk result (λ made. made.items ≡ local_runs types.now) }
-    ensures err { IfErr result (λ e. e ≡ out_of_memory) }
-{
-    let mut made = Vec::new(alloc);
-    let Some((first, rest)) = types.split_first() else {
-        return Ok(made);
-    };
-    let mut count = 1;
-    let mut current = *first;
-    for &ty in rest {
-        if current == ty {
-            count += 1;
-        } else {
-            made.push((count, current))?;
-            count = 1;
-            current = ty;
-        }
-    }
-    made.push((count, current))?;
-    Ok(made)
-}
+use wasm_ops::{Encode, Itself, Sink, ValType};
+use wast_tree::Error;
 
 /// The body of a function, without its length (binary format, code section). Contracts see it as its bytes.
 #[derive(Debug, Drop)]
@@ -51,21 +28,18 @@ impl Model for Function {
 }
 
 impl Function {
-    /// A body that has its locals, as maximal runs of equal types, and nothing yet behind them.
+    /// A body that has its locals, as maximal runs of equal types, and nothing yet behind them. It needs covered types.
     ///
     /// E10 comes only where there are 2^32 locals or more, E12 where memory is refused.
     pub fn new_with_locals_types<'e>(
         alloc: Global,
         types: &[ValType],
     ) -> Result<Function, Error<'e>>
-        ensures { Makes (InRangeU32 (length types.now)) (locals types.now) result }
+        requires { IsTrue (list_all is_covered_val_type types.now) }
+        ensures { Makes (InRangeVec InRangeValType types.now) (locals types.now) result }
     {
-        if u32::try_from(types.len()).is_err() {
-            return Err(Error::refusal(Fault::TooLarge));
-        }
-        let made = runs_of(alloc, types)?;
         let mut bytes = Vec::new(alloc);
-        Counted(&made, Itself).encode(&mut bytes)?;
+        Locals(types, Itself).encode(&mut bytes)?;
         Ok(Function { bytes })
     }
 

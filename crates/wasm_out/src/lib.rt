@@ -5,6 +5,7 @@ mod bodies;
 mod builders;
 mod built_items;
 mod laws;
+mod locals;
 mod modules;
 mod names;
 mod sections;
@@ -18,6 +19,7 @@ pub use builders::{
     TypeSection, Types,
 };
 pub use laws::{building_law, part_spelling_law, reading_laws};
+pub use locals::{LocalType, Locals};
 pub use modules::{HEADER, Module};
 pub use names::{Direct, IndexedNames, Indirect, IndirectNameMap, NameMap, NameSection};
 pub use sections::{Build, CustomSection, Section, StartSection};

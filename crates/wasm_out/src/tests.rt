@@ -1,6 +1,8 @@
 //! The bytes of worked examples.
 
-ghost use Rattle.std.specs.Prelude.{◌≡◌, IfOk, OnOk};
+ghost use Rattle.std.specs.Prelude.{◌≡◌, IfOk, OnOk, IsTrue};
+ghost use Rattle.std.specs.List.{list_all};
+ghost use Rattle.wasm_ops.specs.Covered.{is_covered_heap_type, is_covered_val_type};
 ghost use Rattle.wasm_ops.specs.declared.instrs.IndexOp.TheVariants as ops;
 ghost use Rattle.wasm_ops.specs.IndexInstrs.{index_instr};
 ghost use Rattle.wasm_ops.specs.Table.{instr, IsInstr};
@@ -8,14 +10,14 @@ ghost use Rattle.wasm_out.specs.Bodies.{SpellsBody};
 
 use crate::{
     Build, CodeSection, CustomSection, ExportSection, Function, FunctionSection, IndirectNameMap,
-    Module, NameMap, NameSection, Section, StartSection, TypeSection, building_law,
+    Locals, Module, NameMap, NameSection, Section, StartSection, TypeSection, building_law,
     part_spelling_law, reading_laws,
 };
 use std::alloc::Global;
 use std::process::Abort;
 use wasm_ops::{
-    CompositeInnerType, CompositeType, ExportKind, FuncType, IndexOp, InstructionSink, SubType,
-    ValType,
+    AbstractHeapType, CompositeInnerType, CompositeType, Encode, ExportKind, FuncType, HeapType,
+    IndexOp, InstructionSink, Itself, Length, RefType, SubType, ValType,
 };
 use wast_tree::{Error, Seq};
 
@@ -31,6 +33,7 @@ fn call<'e>(alloc: Global, index: u32) -> Result<Vec<u8>, Error<'e>>
 
 /// A body that has these locals and calls the function at an index.
 fn calling<'e>(alloc: Global, types: &[ValType], index: u32) -> Result<Function, Error<'e>>
+    requires { IsTrue (list_all is_covered_val_type types.now) }
     ensures { IfOk result SpellsBody }
 {
     let bytes = call(alloc, index)?;
@@ -96,7 +99,9 @@ fn exports(rt: &impl Abort, alloc: Global) -> ExportSection {
 }
 
 /// A code section with a body that has these locals and calls the function at an index.
-fn code(rt: &impl Abort, alloc: Global, types: &[ValType], index: u32) -> CodeSection {
+fn code(rt: &impl Abort, alloc: Global, types: &[ValType], index: u32) -> CodeSection
+    requires { IsTrue (list_all is_covered_val_type types.now) }
+{
     let body = calling(alloc, types, index).expect(rt, "memory");
     let mut section = CodeSection::new(alloc);
     assert!(rt; section.function(&body).is_ok());
@@ -144,14 +149,60 @@ fn sections_have_the_bytes_of_a_module(rt: HostRuntime) {
     assert!(rt; whole.finish().as_slice() == bytes.as_slice());
 }
 
+/// A nullable reference.
+fn reference(heap_type: HeapType) -> ValType
+    ensures { is_covered_val_type result ≡ is_covered_heap_type heap_type }
+{
+    ValType::Ref(RefType {
+        nullable: true,
+        heap_type,
+    })
+}
+
 #[test]
 fn locals_are_runs_of_equal_types(rt: HostRuntime) {
     let alloc = rt.alloc();
-    let types = [ValType::I32, ValType::I32, ValType::I64, ValType::I32];
+    let func = HeapType::Abstract {
+        shared: false,
+        ty: AbstractHeapType::Func,
+    };
+    let types = [
+        ValType::I32,
+        ValType::I32,
+        ValType::I64,
+        ValType::I32,
+        reference(func),
+        reference(func),
+        reference(HeapType::Concrete(2)),
+        reference(HeapType::Concrete(3)),
+    ];
     let bytes = [
-        0x01, 0x0b, 0x03, 0x02, 0x7f, 0x01, 0x7e, 0x01, 0x7f, 0x10, 0xac, 0x02, 0x0b,
+        0x01, 0x13, 0x06, 0x02, 0x7f, 0x01, 0x7e, 0x01, 0x7f, 0x02, 0x70, 0x01, 0x63, 0x02, 0x01,
+        0x63, 0x03, 0x10, 0xac, 0x02, 0x0b,
     ];
     has_bytes(&rt, alloc, &code(&rt, alloc, &types, 300), 10, &bytes);
+}
+
+/// These locals have these bytes, and their number.
+fn has_locals(rt: &impl Abort, alloc: Global, types: &[ValType], bytes: &[u8])
+    requires { IsTrue (list_all is_covered_val_type types.now) }
+{
+    let locals = Locals(types, Itself);
+    let mut length = Length::new();
+    assert!(rt; locals.encode(&mut length).is_ok(), "for {bytes:?}");
+    assert!(rt; length.count() == bytes.len() as u64, "for {bytes:?}");
+    let mut out = Vec::new(alloc);
+    assert!(rt; locals.encode(&mut out).is_ok(), "for {bytes:?}");
+    assert!(rt; out.as_slice() == bytes, "for {bytes:?}");
+}
+
+#[test]
+fn locals_are_written_into_any_sink(rt: HostRuntime) {
+    let alloc = rt.alloc();
+    let mixed = [ValType::I32, ValType::I32, ValType::I64];
+    has_locals(&rt, alloc, &[], &[0x00]);
+    has_locals(&rt, alloc, &mixed, &[0x02, 0x02, 0x7f, 0x01, 0x7e]);
+    has_locals(&rt, alloc, &[ValType::I32; 128], &[0x01, 0x80, 0x01, 0x7f]);
 }
 
 #[test]

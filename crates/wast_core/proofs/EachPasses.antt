@@ -33,7 +33,7 @@ pub index_is_number : (s : Space) (x : Index) → is_resolved (in_index s x) ≡
 index_is_number s (index.Num n span) = refl
 index_is_number s (index.Id id) = refl
 
-same_each : {A : Type 0} (p q : A → Bool) → ((x : A) → p x ≡ q x) → (xs : List A) → list_all p xs ≡ list_all q xs
+pub same_each : {A : Type 0} (p q : A → Bool) → ((x : A) → p x ≡ q x) → (xs : List A) → list_all p xs ≡ list_all q xs
 same_each p q h [] = refl
 same_each p q h (x ∷ xs) = ap (λ b. b && list_all p xs) (h x) ∙ ap (λ b. q x && b) (same_each p q h xs)
 

@@ -1,14 +1,17 @@
 -- The names of items, with their positions, as they are written.
-use Rattle.std.proofs.Common.{◌≡◌, ◌≤◌, ◌<◌, ◌+◌, ◌==◌, ℕ, Bool, true, false, not, List, [], ◌∷◌, ◌++◌, length, take, drop, get_or, Option, Some, None, Result, Ok, Err, is_err, refl, sym, ap, ◌∙◌, subst, append-nil, arith, length-append}
-use Rattle.std.specs.Prelude.{All, codes, if◌then◌else◌}
+use Rattle.std.proofs.Common.{◌≡◌, ◌≤◌, ◌<◌, ◌+◌, ◌==◌, ℕ, Bool, true, false, not, List, [], ◌∷◌, ◌++◌, length, Option, Some, None, Result, Ok, Err, refl, sym, ap, ◌∙◌, subst, arith, length-append, ◌^◌, map}
+use Rattle.std.specs.Prelude.{All, codes, IfErr}
 use Rattle.std.specs.List.{flat_map}
 use Rattle.std.specs.Str.{is_utf8}
 use lib.Utf8.{encode}
 use Rattle.std.proofs.lemmas.Grind.{flat_map-append}
-use Rattle.std.proofs.lemmas.List.{take_more, take-append-drop}
 use Rattle.std.proofs.lemmas.List.Elements.{All-nil, All-head, All-append}
+use Rattle.std.proofs.lemmas.Bool.{eqb-true, eq-eqb}
+use Rattle.std.proofs.lemmas.List.Concat.{flat_map-cons}
+use Rattle.std.proofs.lemmas.List.Folds.{flat_map-map}
 use Rattle.std.proofs.lemmas.Str.{is_utf8-from_IsUtf8}
 use Rattle.wasm_ops.specs.declared.sink.Refusal.{Refusal}
+use Rattle.wasm_ops.specs.declared.sink.Refusal.TheVariants as refusal
 use Rattle.wasm_ops.specs.Leb128.{unsigned}
 use Rattle.wasm_ops.specs.Spelling.{InRangeU32, sized, InRangeName}
 use Rattle.wasm_ops.specs.Sinks.{SinkRules, Writes, AppendLaws}
@@ -16,11 +19,15 @@ use Rattle.wasm_ops.proofs.Everywhere.{all_left, all_right, all_one, flat_one, a
 use Rattle.wasm_ops.proofs.Sinking.{cut_back, written_as, one_written}
 use Rattle.wasm_out.specs.NameSubsections.{Named, Direct, NameSubsection, subsection_id, name_payload, name_entry, name_content, name_subsection, InRangeNameEntry, InRangeNameContent, InRangeNameSubsection}
 use Rattle.wasm_out.specs.Parts.{Part, Custom, part, InRangePart}
+use Rattle.wasm_ops.proofs.Numbers.{unsigned-nonempty}
+use Rattle.wast_core.specs.Extents.{names_payload_of}
+use Rattle.wast_tree.specs.Spaces.{same_space}
 use Rattle.wast_core.specs.Meaning.{names_part}
-use Rattle.wast_core.specs.Tree.{Space, ModuleField}
+use Rattle.wast_core.specs.Tree.{Space}
 use Rattle.wast_core.specs.Tree.space
-use Rattle.wast_core.specs.Tree.field
-use Rattle.wast_core.specs.NamesPayload.{given_name, named_from, name_in, names_given, direct}
+use Rattle.wast_core.specs.Tree.ty
+use Rattle.wast_core.specs.Names.{counted, WritesNames}
+use Rattle.wast_core.specs.NamesPayload.{named_from, name_in, type_name, direct}
 
 -- items after others are counted on from these
 pub named_append : (n : ℕ) (xs ys : List (Option (List ℕ))) → named_from n (xs ++ ys) ≡ named_from n xs ++ named_from (n + length xs) ys
@@ -32,74 +39,50 @@ pub name_is_text : is_utf8 (codes "name") ≡ true
 unfolding encode
 name_is_text = is_utf8-from_IsUtf8 (codes "name") (codes "name", (refl, refl))
 
--- What is collected of the first items, with one more, and with all.
-pub collected_more : {X A : Type 0} (f : X → List A) (xs : List X) (k : ℕ) (x : X) (ys : List A) → k < length xs → x ≡ get_or xs k x → ys ≡ f x → flat_map f (take k xs) ++ ys ≡ flat_map f (take (k + 1) xs)
-collected_more f xs k x ys lt is same =
-    ap (λ z. flat_map f (take k xs) ++ z) (same ∙ sym (flat_one f x))
-    ∙ sym (flat_map-append f (take k xs) (x ∷ []))
-    ∙ ap (λ y. flat_map f (take k xs ++ y ∷ [])) is
-    ∙ ap (flat_map f) (sym (take_more xs k x lt))
+-- the names of items after those of others
+pub names_after : {S A : Type 0} (rules : SinkRules S) (a b c : S) (names more : List (Option (List ℕ))) (first position : ℕ) (t u v : A)
+    → AppendLaws rules → WritesNames rules names first a b (Ok t) → position ≡ counted (first + length names) → WritesNames rules more position b c (Ok u) → WritesNames rules (names ++ more) first a c (Ok v)
+names_after rules a b c names more first position t u v laws has at p = λ n from.
+    let here : position ≡ counted (n + length names) = omega arith in
+    let one = named_from n names in
+    let next = named_from (n + length names) more in
+    let told = has n from in
+    let one_more = p (n + length names) here in
+    subst (λ z. rules.appended a c (flat_map name_entry z) × All InRangeNameEntry z) (sym (named_append n names more)) (
+      subst (rules.appended a c) (sym (flat_map-append name_entry one next)) (laws.joins a b c (flat_map name_entry one) (flat_map name_entry next) told.0 one_more.0),
+      All-append InRangeNameEntry one next told.1 one_more.1,
+    )
 
-pub collected_rest : {X A : Type 0} (f : X → List A) (xs : List X) (k : ℕ) → flat_map f xs ≡ flat_map f (take k xs) ++ flat_map f (drop k xs)
-collected_rest f xs k = ap (flat_map f) (sym (take-append-drop k xs)) ∙ flat_map-append f (take k xs) (drop k xs)
+-- where the next names were refused, the sink is no shorter than before the first
+pub names_kept : {S A : Type 0} (rules : SinkRules S) (a b c : S) (names more : List (Option (List ℕ))) (first position size : ℕ) (t : A) (e : Refusal)
+    → AppendLaws rules → first < 2 ^ 64 → WritesNames rules names first a b (Ok t) → position ≡ counted (first + length names) → WritesNames {A = A} rules more position b c (Err e) → size ≡ rules.size_of a → size ≤ rules.size_of c
+names_kept rules a b c names more first position size t e laws fits has at p start =
+    let from : first ≡ counted first = omega arith in
+    let before = laws.grows a b (flat_map name_entry (named_from first names)) (has first from).0 in
+    let after = laws.grows b c [] (p (first + length names) at).0 in
+    omega arith
 
--- the names of the first items were appended, the next item stands at this position, and so many fields were read
-pub record IsListed {S : Type 0} (rules : SinkRules S) (a b : S) (names : List (Option (List ℕ))) (position fields : ℕ) : Type 0 where
-  pub told : rules.appended a b (flat_map name_entry (named_from 0 names))
-  pub fitting : All InRangeNameEntry (named_from 0 names)
-  pub counted : position ≡ length names
-  pub bounded : position ≤ fields
-
-pub listed_none : {S : Type 0} (rules : SinkRules S) (a : S) → AppendLaws rules → IsListed rules a a [] 0 0
-listed_none rules a laws = record { told = laws.none a; fitting = All-nil InRangeNameEntry; counted = refl; bounded = omega arith }
-
-named_next : (names : List (Option (List ℕ))) (given : Option (List ℕ)) (position : ℕ) → position ≡ length names → named_from 0 (names ++ given ∷ []) ≡ named_from 0 names ++ named_from position (given ∷ [])
-named_next names given position at = named_append 0 names (given ∷ []) ∙ ap (λ k. named_from 0 names ++ named_from k (given ∷ [])) (let place : 0 + length names ≡ position = omega arith in place)
-
--- an item more of the space, and a field without one
-pub listed_more : {S A : Type 0} (rules : SinkRules S) (a b c : S) (names : List (Option (List ℕ))) (given : Option (List ℕ)) (position fields : ℕ) (r : Result A Refusal)
-    → AppendLaws rules → IsListed rules a b names position fields → Writes rules (All InRangeNameEntry (named_from position (given ∷ []))) b c (flat_map name_entry (named_from position (given ∷ []))) r → is_err r ≡ false
-    → IsListed rules a c (names ++ given ∷ []) (position + 1) (fields + 1)
-listed_more rules a b c names given position fields (Ok t) laws m p good =
-    let next = named_next names given position m.counted in
-    let bounded = m.bounded in
-    let counted = m.counted in
-    record {
-      told = subst (rules.appended a c) (sym (ap (flat_map name_entry) next ∙ flat_map-append name_entry (named_from 0 names) (named_from position (given ∷ []))))
-          (laws.joins a b c (flat_map name_entry (named_from 0 names)) (flat_map name_entry (named_from position (given ∷ []))) m.told p.0);
-      fitting = subst (All InRangeNameEntry) (sym next) (All-append InRangeNameEntry (named_from 0 names) (named_from position (given ∷ [])) m.fitting p.1);
-      counted = omega (arith, length-append names (given ∷ []));
-      bounded = omega arith;
-    }
-listed_more rules a b c names given position fields (Err e) laws m p good = absurd cc
-
-pub listed_same : {S : Type 0} (rules : SinkRules S) (a b : S) (names : List (Option (List ℕ))) (position fields : ℕ) → IsListed rules a b names position fields → IsListed rules a b (names ++ []) position (fields + 1)
-listed_same rules a b names position fields m =
-    let bounded = m.bounded in
-    subst (λ z. IsListed rules a b z position (fields + 1)) (sym (append-nil names))
-    record { told = m.told; fitting = m.fitting; counted = m.counted; bounded = omega arith }
-
--- the next name was refused: the sink is cut back to its size before the first
-pub listed_back : {S A : Type 0} (rules : SinkRules S) (a b c d : S) (names rest all : List (Option (List ℕ))) (given : Option (List ℕ)) (position fields n : ℕ) (r : Result A Refusal)
-    → AppendLaws rules → all ≡ (names ++ given ∷ []) ++ rest → IsListed rules a b names position fields
-    → Writes rules (All InRangeNameEntry (named_from position (given ∷ []))) b c (flat_map name_entry (named_from position (given ∷ []))) r → is_err r ≡ true → n ≡ rules.size_of a → rules.is_cut c n d
-    → Writes rules (All InRangeNameEntry (named_from 0 all)) a d (flat_map name_entry (named_from 0 all)) r
-listed_back rules a b c d names rest all given position fields n r laws parts m p bad at k =
-    let first = named_from 0 names in
-    let one = named_from position (given ∷ []) in
-    let more = named_from (0 + length (names ++ given ∷ [])) rest in
-    let is : named_from 0 all ≡ (first ++ one) ++ more = ap (named_from 0) parts ∙ named_append 0 (names ++ given ∷ []) rest ∙ ap (λ z. z ++ more) (named_next names given position m.counted) in
-    cut_back rules (All InRangeNameEntry (named_from 0 all)) (All InRangeNameEntry one) a b c d (flat_map name_entry first) (flat_map name_entry one) (flat_map name_entry (named_from 0 all)) n r laws
+-- the next names were refused: the sink is cut back to its size before the first
+pub names_back : {S A : Type 0} (rules : SinkRules S) (a b c d : S) (names more rest all : List (Option (List ℕ))) (first position size : ℕ) (t : A) (e : Refusal)
+    → AppendLaws rules → all ≡ (names ++ more) ++ rest → WritesNames rules names first a b (Ok t) → position ≡ counted (first + length names)
+    → WritesNames {A = A} rules more position b c (Err e) → size ≡ rules.size_of a → rules.is_cut c size d → WritesNames {A = A} rules all first a d (Err e)
+names_back {A = A} rules a b c d names more rest all first position size t e laws parts has at p start k = λ n from.
+    let here : position ≡ counted (n + length names) = omega arith in
+    let one = named_from n names in
+    let next = named_from (n + length names) more in
+    let last = named_from (n + length (names ++ more)) rest in
+    let is : named_from n all ≡ (one ++ next) ++ last = ap (named_from n) parts ∙ named_append n (names ++ more) rest ∙ ap (λ z. z ++ last) (named_append n names more) in
+    cut_back {A = A} rules (All InRangeNameEntry (named_from n all)) (All InRangeNameEntry next) a b c d (flat_map name_entry one) (flat_map name_entry next) (flat_map name_entry (named_from n all)) size (Err e) laws
     (omega (
       arith,
       ap (λ z. length (flat_map name_entry z)) is,
-      ap length (flat_map-append name_entry (first ++ one) more),
-      ap length (flat_map-append name_entry first one),
-      length-append (flat_map name_entry (first ++ one)) (flat_map name_entry more),
-      length-append (flat_map name_entry first) (flat_map name_entry one),
+      ap length (flat_map-append name_entry (one ++ next) last),
+      ap length (flat_map-append name_entry one next),
+      length-append (flat_map name_entry (one ++ next)) (flat_map name_entry last),
+      length-append (flat_map name_entry one) (flat_map name_entry next),
     ))
-    (λ h. all_right InRangeNameEntry first one (all_left InRangeNameEntry (first ++ one) more (subst (All InRangeNameEntry) is h)))
-    m.told p bad at k
+    (λ h. all_right InRangeNameEntry one next (all_left InRangeNameEntry (one ++ next) last (subst (All InRangeNameEntry) is h)))
+    (has n from).0 (p (n + length names) here) refl start k
 
 -- how many have a name, wherever they are counted from
 pub as_many : (m n : ℕ) (xs : List (Option (List ℕ))) → length (named_from m xs) ≡ length (named_from n xs)
@@ -107,40 +90,19 @@ as_many m n [] = refl
 as_many m n (None ∷ xs) = as_many (m + 1) (n + 1) xs
 as_many m n (Some text ∷ xs) = omega (arith, as_many (m + 1) (n + 1) xs)
 
-no_more : (n : ℕ) (xs : List (Option (List ℕ))) → length (named_from n xs) ≤ length xs
-no_more n [] = omega arith
-no_more n (None ∷ xs) = omega (arith, no_more (n + 1) xs)
-no_more n (Some text ∷ xs) = omega (arith, no_more (n + 1) xs)
+-- how many of these and of others have a name, as a `u64` counts them
+pub count_more : (names more : List (Option (List ℕ))) (m n : ℕ) → m ≡ counted (length (named_from 0 names)) → n ≡ counted (length (named_from 0 more)) → counted (m + n) ≡ counted (length (named_from 0 (names ++ more)))
+count_more names more m n is also =
+    omega (arith, ap length (named_append 0 names more), length-append (named_from 0 names) (named_from (0 + length names) more), as_many (0 + length names) 0 more)
 
-one_if : {A : Type 0} (b : Bool) (x : A) → length (if b then x ∷ [] else []) ≤ 1
-one_if true x = omega arith
-one_if false x = omega arith
+-- the names of a group's types
+pub group_names : (s : Space) (types : List ty.«Type») (items : List (Space × Option (List ℕ))) → map type_name types ≡ items → flat_map (name_in s) items ≡ flat_map (λ t. name_in s (type_name t)) types
+group_names s types items is = ap (flat_map (name_in s)) (sym is) ∙ flat_map-map (name_in s) type_name types
 
-one_of : (s : Space) (p : Space × Option (List ℕ)) → length (flat_map (name_in s) (p ∷ [])) ≤ 1
-one_of s p = subst (λ z. length z ≤ 1) (sym (flat_one (name_in s) p)) (one_if _ p.1)
-
--- a field has at most one item of a space
-pub one_given : (s : Space) (f : ModuleField) → length (names_given s f) ≤ 1
-one_given s (field.Ty t) = one_of s (space.Ty, given_name t.name t.id)
-one_given s (field.Func f) = one_of s (space.Func, given_name f.name f.id)
-one_given s (field.Export e) = omega arith
-
--- so many of these have a name, and so many fields were read
-pub record IsCounted (names : List (Option (List ℕ))) (sum fields : ℕ) : Type 0 where
-  pub counted : sum ≡ length (named_from 0 names)
-  pub bounded : sum ≤ fields
-
-pub at_most_one : (more : List (Option (List ℕ))) (n : ℕ) → n ≡ length (named_from 0 more) → length more ≤ 1 → n ≤ 1
-at_most_one more n is few = omega (arith, no_more 0 more)
-
-pub counted_more : (names more : List (Option (List ℕ))) (sum n fields : ℕ) → IsCounted names sum fields → n ≡ length (named_from 0 more) → length more ≤ 1 → IsCounted (names ++ more) (sum + n) (fields + 1)
-counted_more names more sum n fields m is few =
-    let counted = m.counted in
-    let bounded = m.bounded in
-    record {
-      counted = omega (arith, ap length (named_append 0 names more), length-append (named_from 0 names) (named_from (0 + length names) more), as_many (0 + length names) 0 more);
-      bounded = omega (arith, no_more 0 more);
-    }
+-- types are items of the type space alone
+pub other_space : (s : Space) (types : List ty.«Type») → same_space s space.Ty ≡ false → flat_map (name_in s) (map type_name types) ≡ []
+other_space s [] h = refl
+other_space s (t ∷ types) h = flat_map-cons (name_in s) (type_name t) (map type_name types) ∙ rw (h, other_space s types h) refl
 
 -- a subsection, of its id and its content behind the length
 pub subsection_written : {S A : Type 0} (rules : SinkRules S) (a b : S) (s : NameSubsection) (id : ℕ) (bytes : List ℕ) (InRange : Type 0) (r : Result A Refusal)
@@ -154,9 +116,9 @@ subsection_written rules a b s id bytes InRange r id_is is to from p =
     (ap (λ z. z ∷ (unsigned (length bytes) ++ bytes)) id_is ∙ ap (λ z. subsection_id s.of ∷ (unsigned (length z) ++ z)) is) p)
 
 -- a subsection of names, where there are some
-pub direct_counted : (of : Named) (names : List (ℕ × List ℕ)) (count : ℕ) → count ≡ length names → 0 < count → All InRangeNameSubsection (direct of names) → InRangeU32 count
+pub direct_counted : (of : Named) (names : List (ℕ × List ℕ)) (count : ℕ) → count ≡ counted (length names) → 0 < count → All InRangeNameSubsection (direct of names) → InRangeU32 count
 direct_counted of [] count is some h = absurd (omega arith)
-direct_counted of (e ∷ es) count is some h = subst InRangeU32 (sym is) (All-head InRangeNameSubsection (record { of = of; content = Direct (e ∷ es) }) [] h).1.0
+direct_counted of (e ∷ es) count is some h = let few : InRangeU32 (length (e ∷ es)) = (All-head InRangeNameSubsection (record { of = of; content = Direct (e ∷ es) }) [] h).1.0 in omega arith
 
 pub direct_written : {S A : Type 0} (rules : SinkRules S) (a b : S) (of : Named) (names : List (ℕ × List ℕ)) (id count : ℕ) (r : Result A Refusal)
     → id ≡ subsection_id of → count ≡ length names → 0 < count
@@ -175,13 +137,52 @@ all_written rules spell InRange f ys xs a b r p =
     (λ h. All-append InRange ys (flat_map f xs) h.0 (all_in_flat InRange f xs h.1)) (λ h. (all_left InRange ys (flat_map f xs) h, all_of_flat InRange f xs (all_right InRange ys (flat_map f xs) h)))
     (ap (λ z. flat_map spell ys ++ z) (flat_in_flat spell f xs) ∙ sym (flat_map-append spell ys (flat_map f xs))) p
 
--- the name section, where there are subsections
-pub names_written : {S A : Type 0} (rules : SinkRules S) (a b : S) (subsections : List NameSubsection) (r : Result A Refusal) → not (length subsections == 0) ≡ true
-    → Writes rules (Unit {0} × (InRangeU32 (length (name_payload (flat_map name_subsection subsections))) × (InRangeName (codes "name") × All InRangeNameSubsection subsections))) a b (0 ∷ (unsigned (length (name_payload (flat_map name_subsection subsections))) ++ name_payload (flat_map name_subsection subsections))) r
+-- whether there are any, as it is tested
+pub tested_none : (n : ℕ) → not (n == 0) ≡ false → n ≡ 0
+tested_none n h = eqb-true n 0 (tested (n == 0) h)
+  where
+    tested : (b : Bool) → not b ≡ false → b ≡ true
+    tested true h = refl
+    tested false h = sym h
+
+pub tested_some : (n : ℕ) → not (n == 0) ≡ true → n ≡ 0 → ⊥
+tested_some n h z = let e = eq-eqb n 0 z in absurd cc
+
+-- there is no name section, or its payload has bytes
+pub names_none : (subsections : List NameSubsection) → length subsections ≡ 0 → 0 ≡ length (names_payload_of subsections)
+names_none [] none = refl
+names_none (s ∷ ss) none = absurd (omega arith)
+
+pub names_some : (subsections : List NameSubsection) → (length subsections ≡ 0 → ⊥) → name_payload (flat_map name_subsection subsections) ≡ names_payload_of subsections
+names_some [] some = absurd (some refl)
+names_some (s ∷ ss) some = refl
+
+pub names_absent : {S : Type 0} (rules : SinkRules S) (a : S) (subsections : List NameSubsection) (size : ℕ) → AppendLaws rules → size ≡ length (names_payload_of subsections) → size ≡ 0
+    → Writes {A = Unit {0}} rules (All InRangePart (names_part subsections) × All InRangeNameSubsection subsections) a a (flat_map part (names_part subsections)) (Ok tt)
+names_absent rules a [] size laws is none = (laws.none a, (All-nil InRangePart, All-nil InRangeNameSubsection))
+names_absent rules a (s ∷ ss) size laws is none =
+    let text = codes "name" in
+    absurd (omega (arith, length-append (unsigned (length text) ++ text) (flat_map name_subsection (s ∷ ss)), length-append (unsigned (length text)) text, unsigned-nonempty (length text)))
+
+pub names_in_range : (subsections : List NameSubsection) → (length subsections ≡ 0 → ⊥) → All InRangePart (names_part subsections) × All InRangeNameSubsection subsections
+    → InRangeU32 (length (name_payload (flat_map name_subsection subsections))) × (InRangeName (codes "name") × All InRangeNameSubsection subsections)
+names_in_range [] some h = absurd (some refl)
+names_in_range (s ∷ ss) some h = let one = All-head InRangePart (record { kind = Custom; items = record { name = codes "name"; bytes = flat_map name_subsection (s ∷ ss) } }) [] h.0 in (one.0, (one.1, h.1))
+
+pub names_refused : (subsections : List NameSubsection) (r : Result ℕ Refusal) → (length subsections ≡ 0 → ⊥)
+    → IfErr r (λ e. (e ≡ refusal.TooLarge) × (InRangeU32 (length (name_payload (flat_map name_subsection subsections))) × (InRangeName (codes "name") × All InRangeNameSubsection subsections) → ⊥))
+    → IfErr r (λ e. (e ≡ refusal.TooLarge) × (All InRangePart (names_part subsections) × All InRangeNameSubsection subsections → ⊥))
+names_refused subsections (Ok n) some h = h
+names_refused subsections (Err e) some h = (h.0, λ all. h.1 (names_in_range subsections some all))
+
+-- the name section, where there are subsections, of how long its payload is
+pub names_written : {S A : Type 0} (rules : SinkRules S) (a b : S) (subsections : List NameSubsection) (size : ℕ) (r : Result A Refusal) → size ≡ length (names_payload_of subsections) → (size ≡ 0 → ⊥)
+    → Writes rules (Unit {0} × (InRangeU32 size × (InRangeName (codes "name") × All InRangeNameSubsection subsections))) a b (0 ∷ (unsigned size ++ name_payload (flat_map name_subsection subsections))) r
     → Writes rules (All InRangePart (names_part subsections) × All InRangeNameSubsection subsections) a b (flat_map part (names_part subsections)) r
-names_written rules a b [] r some p = absurd cc
-names_written rules a b (s ∷ ss) r some p =
+names_written rules a b [] size r is some p = absurd (some is)
+names_written rules a b (s ∷ ss) size r is some p =
     let bytes = flat_map name_subsection (s ∷ ss) in
     let it : Part = record { kind = Custom; items = record { name = codes "name"; bytes = bytes } } in
     written_as rules (Unit {0} × (InRangeU32 (length (name_payload bytes)) × (InRangeName (codes "name") × All InRangeNameSubsection (s ∷ ss)))) (All InRangePart (it ∷ []) × All InRangeNameSubsection (s ∷ ss)) a b (part it) (flat_map part (it ∷ [])) r
-    (λ h. (all_one InRangePart it (h.1.0, h.1.1.0), h.1.1.1)) (λ h. let one = All-head InRangePart it [] h.0 in (tt, (one.0, (one.1, h.1)))) (sym (flat_one part it)) p
+    (λ h. (all_one InRangePart it (h.1.0, h.1.1.0), h.1.1.1)) (λ h. (tt, names_in_range (s ∷ ss) (λ z. omega arith) h)) (sym (flat_one part it))
+    (subst (λ (m : ℕ). Writes rules (Unit {0} × (InRangeU32 m × (InRangeName (codes "name") × All InRangeNameSubsection (s ∷ ss)))) a b (0 ∷ (unsigned m ++ name_payload bytes)) r) is p)

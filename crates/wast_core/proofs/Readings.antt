@@ -1,22 +1,21 @@
 -- The bytes of an encoded module are read as its parts.
 use native.Mathlib.Omega.{arith}
-use Rattle.std.proofs.Common.{◌≡◌, ◌<◌, ℕ, Bool, ◌&&◌, List, [], ◌∷◌, map, Option, refl, ◌∙◌}
-use Rattle.std.specs.Prelude.{All, IsTrue, not, is_none, None, Some, option_map}
+use Rattle.std.proofs.Common.{◌≡◌, ◌<◌, ℕ, List, [], ◌∷◌, map, Option, refl}
+use Rattle.std.specs.Prelude.{All, IsTrue}
 use Rattle.std.proofs.lemmas.List.Elements.{All-nil, All-map}
-use Rattle.wasm_ops.specs.Covered.{is_covered_sub_type}
 use Rattle.wasm_ops.specs.Table.{HasRow, kinds_of, table}
 use Rattle.wasm_ops.proofs.Everywhere.{all_each, all_one, all_both, all_tested, all_in_flat}
 use Rattle.wasm_out.specs.NameSubsections.{NameSubsection}
 use Rattle.wasm_out.specs.Parts.{SectionKind, Types, Functions, Exports, Code, Single, Entry, Listed, InRangePart}
-use Rattle.wasm_out.specs.Readable.{HasRows, IsReadable, IsReadablePart}
+use Rattle.wasm_out.specs.Readable.{is_covered_entry, HasRows, IsReadable, IsReadablePart}
 use Rattle.wasm_out.specs.Reads.{Reads}
-use Rattle.wast_core.specs.Tree.{Index, Instruction, TypeDef, FuncKind, ModuleField}
+use Rattle.wast_core.specs.Tree.{Instruction, FuncKind, ModuleField}
 use Rattle.wast_core.specs.Tree.func
 use Rattle.wast_core.specs.Tree.field
 use Rattle.wast_core.specs.declared.slots.Slot.{Slot}
 use Rattle.wast_core.specs.declared.slots.Slot.TheVariants as slot
 use Rattle.wast_core.specs.Bounded.{bytes_of, InRangeSlot, InRangeModule}
-use Rattle.wast_core.specs.Encodable.{is_encodable_def, is_encodable_field, are_encodable}
+use Rattle.wast_core.specs.Encodable.{is_encodable_kind, is_encodable_field, are_encodable}
 use Rattle.wast_core.specs.Meaning as meaning
 use Rattle.wast_core.specs.Meaning.{Contribution, of_kind, contributed, entries_in, entries, listed, names_part, in_slot, parts}
 use Rattle.wast_core.specs.Names.{HasUtf8Names}
@@ -24,6 +23,7 @@ use Rattle.wast_core.specs.NamesPayload.{name_subsections}
 use Rattle.wast_core.specs.Slots.{kind_of, order}
 use Rattle.wast_core.proofs.EachPasses.{both_pass}
 use Rattle.wast_core.proofs.NameMaps.{name_is_text}
+use Rattle.wast_core.proofs.TypesReady.{def_covered, locals_covered, types_covered}
 
 -- each instruction is a row of the table
 instr_row : (i : Instruction) → HasRow (meaning.instr i)
@@ -36,14 +36,9 @@ instrs_rows is = All-map HasRow meaning.instr is (all_each (λ i. HasRow (meanin
 body_rows : (k : FuncKind) → HasRows Code (meaning.body k)
 body_rows (func.Inline locals e) = instrs_rows e.instrs
 
--- a type is covered as its numbers are
-def_covered : (d : TypeDef) → IsTrue (is_encodable_def d) → IsTrue (is_covered_sub_type (meaning.sub_type d))
-def_covered d h = covered d.shared d.descriptor d.describes ∙ (both_pass _ _ h).0
-  where
-    covered : (s : Bool) (a b : Option Index) → (not s && (is_none (option_map meaning.number a) && is_none (option_map meaning.number b))) ≡ (not s && (is_none a && is_none b))
-    covered s None None = refl
-    covered s None (Some y) = refl
-    covered s (Some x) b = refl
+-- the types of locals are covered
+kind_covered : (k : FuncKind) → IsTrue (is_encodable_kind k) → IsTrue (is_covered_entry Code (meaning.body k))
+kind_covered (func.Inline locals e) h = locals_covered locals (both_pass _ _ h).0
 
 -- what a field puts into the sections is readable
 record AreReadable (c : Contribution) : Type 0 where
@@ -65,11 +60,17 @@ field_readable (field.Ty t) e h = record {
   exports = All-nil (IsReadable Exports);
   code = All-nil (IsReadable Code);
 }
+field_readable (field.Rec g) e h = record {
+  types = all_one (IsReadable Types) (meaning.group_of g) record { covered = types_covered g.types e; rows = tt; name = tt };
+  functions = All-nil (IsReadable Functions);
+  exports = All-nil (IsReadable Exports);
+  code = All-nil (IsReadable Code);
+}
 field_readable (field.Func f) e h = record {
   types = All-nil (IsReadable Types);
   functions = all_one (IsReadable Functions) (meaning.type_index f.ty) record { covered = refl; rows = tt; name = tt };
   exports = All-nil (IsReadable Exports);
-  code = all_one (IsReadable Code) (meaning.body f.kind) record { covered = refl; rows = body_rows f.kind; name = tt };
+  code = all_one (IsReadable Code) (meaning.body f.kind) record { covered = kind_covered f.kind (both_pass _ _ e).1; rows = body_rows f.kind; name = tt };
 }
 field_readable (field.Export x) e h = record {
   types = All-nil (IsReadable Types);

@@ -1,5 +1,5 @@
 -- Parts of the tree that are spelled one after another are spelled as their lists are.
-use Rattle.std.proofs.Common.{◌≡◌, ◌==◌, ◌&&◌, Option, ℕ, Bool, true, false, length, map, List, [], ◌∷◌, ◌++◌, Result, refl, sym, ap, ◌∙◌, subst, arith}
+use Rattle.std.proofs.Common.{◌≡◌, ◌==◌, ◌&&◌, Option, ℕ, Bool, true, false, length, map, List, [], ◌∷◌, ◌++◌, Result, refl, sym, ap, ◌∙◌, subst}
 use Rattle.std.specs.Prelude.{All, None, Some, unwrap_or}
 use Rattle.std.specs.List.{flat_map}
 use Rattle.std.proofs.lemmas.List.Folds.{flat_map-map}
@@ -10,12 +10,11 @@ use Rattle.wasm_ops.specs.Leb128.{unsigned}
 use Rattle.wasm_ops.specs.Sinks.{SinkRules, Writes}
 use Rattle.wasm_ops.specs.declared.types.ValType as ops
 use Rattle.wast_tree.specs.WellFormed.{is_final}
-use Rattle.wasm_ops.specs.Spelling.{Any, InRangeU32, vec, InRangeVec, val_type, func_type, InRangeFuncType, composite_inner_type, InRangeCompositeInnerType, sub_bytes, sub_type, InRangeSubType}
+use Rattle.wasm_ops.specs.Spelling.{InRangeU32, vec, InRangeVec, val_type, InRangeValType, func_type, InRangeFuncType, composite_inner_type, InRangeCompositeInnerType, sub_bytes, sub_type, InRangeSubType}
 use Rattle.wasm_ops.specs.Table.{instr, InRangeInstr}
 use Rattle.wasm_ops.proofs.Everywhere.{all_unmap}
-use Rattle.wasm_ops.proofs.Numbers.{unsigned-small}
 use Rattle.wasm_ops.proofs.Sinking.{written_as}
-use Rattle.wasm_out.specs.Bodies.{content, InRangeContent}
+use Rattle.wasm_out.specs.Bodies.{locals, content, InRangeContent}
 use Rattle.wast_core.specs.Tree.{Id, Index, NameAnnotation, ValType, FunctionType, TypeDef, Local, Instruction}
 use Rattle.wast_core.specs.Meaning as meaning
 
@@ -29,29 +28,38 @@ in_range_mapped P f xs h = (subst InRangeU32 (sym (length-map xs f)) h.0, All-ma
 pub in_range_unmapped : {A B : Type 0} (P : B → Type 0) (f : A → B) (xs : List A) → InRangeVec P (map f xs) → InRangeVec (λ x. P (f x)) xs
 in_range_unmapped P f xs h = (subst InRangeU32 (length-map xs f) h.0, all_unmap P f xs h.1)
 
--- a body without locals, of its instructions
-pub body_written : {S A : Type 0} (rules : SinkRules S) (a b : S) (locals : List Local) (is : List Instruction) (r : Result A Refusal) → length locals ≡ 0
-    → Writes rules (Unit {0} × (All (λ i. InRangeInstr (meaning.instr i)) is × Unit {0})) a b ((0 ∷ []) ++ (flat_map (λ i. instr (meaning.instr i)) is ++ (0x0b ∷ []))) r
-    → Writes rules (InRangeContent (meaning.body_of locals is)) a b (content (meaning.body_of locals is)) r
-body_written rules a b [] is r none p =
-    written_as rules (Unit {0} × (All (λ i. InRangeInstr (meaning.instr i)) is × Unit {0})) (InRangeContent (meaning.body_of [] is)) a b ((0 ∷ []) ++ (flat_map (λ i. instr (meaning.instr i)) is ++ (0x0b ∷ []))) (content (meaning.body_of [] is)) r
-    (λ h. record { locals = omega arith; instrs = All-map InRangeInstr meaning.instr is h.1.0 })
-    (λ h. (tt, (all_unmap InRangeInstr meaning.instr is h.instrs, tt)))
-    (ap (λ (bytes : List ℕ). 0 ∷ (bytes ++ 0x0b ∷ [])) (sym (flat_map-map instr meaning.instr is)) ∙ ap (λ (front : List ℕ). (front ++ []) ++ (flat_map instr (map meaning.instr is) ++ 0x0b ∷ [])) (sym (unsigned-small 0 (omega arith))))
-    p
-body_written rules a b (l ∷ ls) is r none p = absurd (omega (arith, none))
+-- a body, of its locals and its instructions
+pub body_written : {S A : Type 0} (rules : SinkRules S) (a b : S) (ls : List Local) (is : List Instruction) (r : Result A Refusal)
+    → Writes rules (InRangeVec InRangeValType (map (λ l. meaning.val_type l.ty) ls) × (All (λ i. InRangeInstr (meaning.instr i)) is × Unit {0})) a b (locals (map (λ l. meaning.val_type l.ty) ls) ++ (flat_map (λ i. instr (meaning.instr i)) is ++ (0x0b ∷ []))) r
+    → Writes rules (InRangeContent (meaning.body_of ls is)) a b (content (meaning.body_of ls is)) r
+body_written rules a b ls is r p =
+    let front = locals (map (λ l. meaning.val_type l.ty) ls) in
+    written_as rules (InRangeVec InRangeValType (map (λ l. meaning.val_type l.ty) ls) × (All (λ i. InRangeInstr (meaning.instr i)) is × Unit {0})) (InRangeContent (meaning.body_of ls is)) a b
+    (front ++ (flat_map (λ i. instr (meaning.instr i)) is ++ (0x0b ∷ []))) (content (meaning.body_of ls is)) r
+    (λ h. record { locals = h.0; instrs = All-map InRangeInstr meaning.instr is h.1.0 }) (λ h. (h.locals, (all_unmap InRangeInstr meaning.instr is h.instrs, tt)))
+    (ap (λ (bytes : List ℕ). front ++ (bytes ++ 0x0b ∷ [])) (sym (flat_map-map instr meaning.instr is))) p
+
+-- a byte and a list, of what the items become
+pub list_written : {S R A B : Type 0} (rules : SinkRules S) (a b : S) (byte : ℕ) (spell : B → List ℕ) (InRange : B → Type 0) (f : A → B) (xs ys : List A) (r : Result R Refusal) → xs ≡ ys
+    → Writes rules (Unit {0} × InRangeVec (λ x. InRange (f x)) xs) a b (byte ∷ vec (λ x. spell (f x)) xs) r → Writes rules (InRangeVec InRange (map f ys)) a b (byte ∷ vec spell (map f ys)) r
+list_written rules a b byte spell InRange f xs ys r e p =
+    written_as rules (Unit {0} × InRangeVec (λ x. InRange (f x)) xs) (InRangeVec InRange (map f ys)) a b (byte ∷ vec (λ x. spell (f x)) xs) (byte ∷ vec spell (map f ys)) r
+    (λ h. in_range_mapped InRange f ys (subst (InRangeVec (λ x. InRange (f x))) e h.1)) (λ h. (tt, subst (InRangeVec (λ x. InRange (f x))) (sym e) (in_range_unmapped InRange f ys h)))
+    (ap (λ zs. byte ∷ vec (λ x. spell (f x)) zs) e ∙ ap (λ (bs : List ℕ). byte ∷ bs) (vec_mapped spell f ys)) p
 
 -- a function type, of lists of its parameters and results
 pub function_written : {S A : Type 0} (rules : SinkRules S) (a b : S) (t : FunctionType) (ps : List (Option Id × Option NameAnnotation × ValType)) (rs : List ValType) (r : Result A Refusal) → ps ≡ t.params → rs ≡ t.results
-    → Writes rules (Unit {0} × (InRangeVec Any ps × InRangeVec Any rs)) a b (0x60 ∷ (vec (λ p. val_type (meaning.val_type p.2)) ps ++ vec (λ u. val_type (meaning.val_type u)) rs)) r
+    → Writes rules (Unit {0} × (InRangeVec (λ p. InRangeValType (meaning.val_type p.2)) ps × InRangeVec (λ u. InRangeValType (meaning.val_type u)) rs)) a b (0x60 ∷ (vec (λ p. val_type (meaning.val_type p.2)) ps ++ vec (λ u. val_type (meaning.val_type u)) rs)) r
     → Writes rules (InRangeFuncType (meaning.func_type t)) a b (func_type (meaning.func_type t)) r
 function_written rules a b t ps rs r e f p =
     let param : Option Id × Option NameAnnotation × ValType → ops.ValType = λ q. meaning.val_type q.2 in
     let front : List (Option Id × Option NameAnnotation × ValType) → List ℕ = λ qs. vec (λ q. val_type (param q)) qs in
     let back : List ValType → List ℕ = λ us. vec (λ u. val_type (meaning.val_type u)) us in
-    written_as rules (Unit {0} × (InRangeVec Any ps × InRangeVec Any rs)) (InRangeFuncType (meaning.func_type t)) a b (0x60 ∷ (front ps ++ back rs)) (func_type (meaning.func_type t)) r
-    (λ h. (in_range_mapped Any param t.params (subst (InRangeVec Any) e h.1.0), in_range_mapped Any meaning.val_type t.results (subst (InRangeVec Any) f h.1.1)))
-    (λ h. (tt, (subst (InRangeVec Any) (sym e) (in_range_unmapped Any param t.params h.0), subst (InRangeVec Any) (sym f) (in_range_unmapped Any meaning.val_type t.results h.1))))
+    let InFront : List (Option Id × Option NameAnnotation × ValType) → Type 0 = λ qs. InRangeVec (λ q. InRangeValType (param q)) qs in
+    let InBack : List ValType → Type 0 = λ us. InRangeVec (λ u. InRangeValType (meaning.val_type u)) us in
+    written_as rules (Unit {0} × (InFront ps × InBack rs)) (InRangeFuncType (meaning.func_type t)) a b (0x60 ∷ (front ps ++ back rs)) (func_type (meaning.func_type t)) r
+    (λ h. (in_range_mapped InRangeValType param t.params (subst InFront e h.1.0), in_range_mapped InRangeValType meaning.val_type t.results (subst InBack f h.1.1)))
+    (λ h. (tt, (subst InFront (sym e) (in_range_unmapped InRangeValType param t.params h.0), subst InBack (sym f) (in_range_unmapped InRangeValType meaning.val_type t.results h.1))))
     (ap (λ qs. 0x60 ∷ (front qs ++ back rs)) e ∙ ap (λ us. 0x60 ∷ (front t.params ++ back us)) f
     ∙ ap (λ (bs : List ℕ). 0x60 ∷ (bs ++ back t.results)) (vec_mapped val_type param t.params) ∙ ap (λ (bs : List ℕ). 0x60 ∷ (vec val_type (map param t.params) ++ bs)) (vec_mapped val_type meaning.val_type t.results))
     p

@@ -8,7 +8,7 @@ use Rattle.std.proofs.lemmas.List.Elements.{All-nil, All-from_recursion}
 use Rattle.std.proofs.lemmas.Str.{is_utf8-from_IsUtf8}
 use lib.Utf8.{encode}
 use Rattle.wasm_ops.specs.Leb128.{unsigned, unsigned_in}
-use Rattle.wasm_ops.specs.Spelling.{Any, InRangeU32, InRangeVec}
+use Rattle.wasm_ops.specs.Spelling.{InRangeValType, InRangeU32, InRangeVec}
 use Rattle.wasm_ops.specs.Table.{InRangeInstr}
 use Rattle.wasm_ops.proofs.Everywhere.{all_each, all_one, all_both, all_of_flat, all_tested}
 use Rattle.wasm_out.specs.NameSubsections.{InRangeNameEntry, InRangeNameSubsection}
@@ -17,8 +17,9 @@ use Rattle.wasm_out.specs.Reads.{Reads}
 use Rattle.wasm_out.specs.WorkedBytes as out
 use Rattle.wast_tree.specs.WorkedModules as worked
 use Rattle.wast_tree.specs.WorkedModules.{Address}
+use Rattle.wast_expand.specs.Completed.{completed}
 use Rattle.wast_resolve.specs.Demands.{counts, IsCrowded}
-use Rattle.wast_resolve.specs.Resolved.{resolved}
+use Rattle.wast_resolve.specs.Finished.{finished}
 use Rattle.wast_core.specs.Tree.{ModuleField}
 use Rattle.wast_core.specs.declared.slots.Slot.{Slot}
 use Rattle.wast_core.specs.declared.slots.Slot.TheVariants as slot
@@ -27,7 +28,7 @@ use Rattle.wast_core.specs.Meaning.{in_slot, parts, meaning}
 use Rattle.wast_core.specs.Names.{HasUtf8Names}
 use Rattle.wast_core.specs.NamesPayload.{InRangeNames, name_subsections}
 use Rattle.wast_core.specs.Slots.{order}
-use Rattle.wast_core.specs.WorkedMeanings.{Row1, Row27, AnnotatedFunction, SecondNamed, LongSection}
+use Rattle.wast_core.specs.WorkedMeanings.{Row1, Row2, Row24, Row27, AnnotatedFunction, SecondNamed, LongSection}
 use Rattle.wast_core.proofs.Readings.{reads_module}
 
 -- what is tested of each number
@@ -58,27 +59,27 @@ each_place name fields h names = all_both (λ s. All InRangePart (in_slot name f
     held slot.Names = names
 
 pub row1 : Row1
-row1 = (record { spaces = not_crowded [] refl; written = record { in_range = each_place None [] (All-nil InRangePart) (All-nil InRangeNameSubsection); length = omega arith } }, refl)
+row1 = (record { spaces = not_crowded [] refl; counter = omega arith; written = record { in_range = each_place None [] (All-nil InRangePart) (All-nil InRangeNameSubsection); length = omega arith } }, refl)
 
 parts27 : All InRangePart out.worked_parts
 unfolding unsigned unsigned_in
 parts27 = All-from_recursion InRangePart out.worked_parts (
-  (omega arith, one (InRangeEntry Types) _ (none InRangeU32, (none Any, none Any))),
+  (omega arith, one (InRangeEntry Types) _ (none InRangeU32, (none InRangeValType, none InRangeValType))),
   (
     (omega arith, one (InRangeEntry Functions) _ (omega arith)),
     (
       (omega arith, one (InRangeEntry Exports) _ (omega arith, omega arith)),
       (
-        (omega arith, one (InRangeEntry Code) _ (omega arith, record { locals = omega arith; instrs = all_one InRangeInstr _ (omega arith, tt) })),
+        (omega arith, one (InRangeEntry Code) _ (omega arith, record { locals = none InRangeValType; instrs = all_one InRangeInstr _ (omega arith, tt) })),
         ((omega arith, omega arith), tt),
       ),
     ),
   ),
 )
 
-names27 : (a b c d e f : Address) → InRangeNames None (resolved (worked.row27 a b c d e f))
+names27 : (a b c d e f : Address) → InRangeNames None (finished 1 (worked.row27 a b c d e f))
 unfolding unsigned unsigned_in
-names27 a b c d e f = All-from_recursion InRangeNameSubsection (name_subsections None (resolved (worked.row27 a b c d e f))) (
+names27 a b c d e f = All-from_recursion InRangeNameSubsection (name_subsections None (finished 1 (worked.row27 a b c d e f))) (
   (omega arith, one InRangeNameEntry _ (omega arith, omega arith)),
   ((omega arith, one InRangeNameEntry _ (omega arith, omega arith)), tt),
 )
@@ -87,24 +88,32 @@ a_is_text : is_utf8 (codes "a") ≡ true
 unfolding encode
 a_is_text = is_utf8-from_IsUtf8 (codes "a") (codes "a", (refl, refl))
 
-texts27 : (a b c d e f : Address) → All HasUtf8Names (resolved (worked.row27 a b c d e f))
-texts27 a b c d e f = All-from_recursion HasUtf8Names (resolved (worked.row27 a b c d e f)) (tt, (tt, (a_is_text, tt)))
+texts27 : (a b c d e f : Address) → All HasUtf8Names (finished 1 (worked.row27 a b c d e f))
+texts27 a b c d e f = All-from_recursion HasUtf8Names (finished 1 (worked.row27 a b c d e f)) (tt, (tt, (a_is_text, tt)))
 
-bounded27 : (a b c d e f : Address) → IsBounded None (worked.row27 a b c d e f)
+bounded27 : (a b c d e f : Address) → IsBounded 1 None (worked.row27 a b c d e f)
 unfolding unsigned unsigned_in
 bounded27 a b c d e f =
     let fields = worked.row27 a b c d e f in
-    record { spaces = not_crowded fields refl; written = record { in_range = each_place None (resolved fields) parts27 (names27 a b c d e f); length = omega arith } }
+    record { spaces = not_crowded (completed fields) refl; counter = omega arith; written = record { in_range = each_place None (finished 1 fields) parts27 (names27 a b c d e f); length = omega arith } }
 
-reads27 : (a b c d e f : Address) → Reads out.worked_bytes (meaning None (worked.row27 a b c d e f))
+reads27 : (a b c d e f : Address) → Reads out.worked_bytes (meaning 1 None (worked.row27 a b c d e f))
 unfolding unsigned unsigned_in
 reads27 a b c d e f =
     let bounded = bounded27 a b c d e f in
-    reads_module None (resolved (worked.row27 a b c d e f)) out.worked_bytes refl (texts27 a b c d e f) bounded.written.in_range refl (below 256 out.worked_bytes refl)
+    reads_module None (finished 1 (worked.row27 a b c d e f)) out.worked_bytes refl (texts27 a b c d e f) bounded.written.in_range refl (below 256 out.worked_bytes refl)
 
 pub row27 : Row27
 unfolding unsigned unsigned_in
 row27 a b c d e f = (refl, refl, refl, bounded27 a b c d e f, reads27 a b c d e f)
+
+pub row2 : Row2
+unfolding unsigned unsigned_in
+row2 = (refl, refl)
+
+pub row24 : Row24
+unfolding unsigned unsigned_in
+row24 = (refl, refl)
 
 pub annotated_function : AnnotatedFunction
 unfolding unsigned unsigned_in

@@ -1,10 +1,12 @@
--- Which text modules are small enough: every count, length and position that the binary format writes is below 2^32, and all bytes are at most the greatest usize.
-use Rattle.std.specs.Prelude.{ℕ, ◌<◌, ◌^◌, ◌++◌, List, length, Option, All}
+-- Which text modules are small enough: every count, length and position that the binary format writes is below 2^32, all bytes are at most the greatest usize, and the counter does not run out.
+use Rattle.std.specs.Prelude.{ℕ, ◌+◌, ◌<◌, ◌^◌, ◌++◌, List, length, Option, All}
 use Rattle.std.specs.List.{flat_map}
 use Rattle.wasm_out.specs.Parts.{part, InRangePart}
 use Rattle.wasm_out.specs.Reads.{header}
+use Rattle.wast_expand.specs.Completed.{completed}
+use Rattle.wast_expand.specs.Expanded.{ids_wanted}
 use Rattle.wast_resolve.specs.Demands.{IsCrowded}
-use Rattle.wast_resolve.specs.Resolved.{resolved}
+use Rattle.wast_resolve.specs.Finished.{finished}
 use Rattle.wast_core.specs.Tree.{ModuleField}
 use Rattle.wast_core.specs.Meaning.{in_slot, parts}
 use Rattle.wast_core.specs.Slots.{order}
@@ -38,6 +40,8 @@ pub record IsWritable (name : Option (List ℕ)) (fields : List ModuleField) : T
   pub in_range : InRangeModule name fields
   pub length : length (bytes_of name fields) < 2 ^ 64
 
-pub record IsBounded (name : Option (List ℕ)) (fields : List ModuleField) : Type 0 where
-  pub spaces : IsCrowded fields → ⊥
-  pub written : IsWritable name (resolved fields)
+-- with the ids that a counter gives
+pub record IsBounded (n : ℕ) (name : Option (List ℕ)) (fields : List ModuleField) : Type 0 where
+  pub spaces : IsCrowded (completed fields) → ⊥
+  pub counter : n + ids_wanted fields < 2 ^ 64
+  pub written : IsWritable name (finished n fields)

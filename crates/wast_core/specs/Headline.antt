@@ -1,5 +1,5 @@
 -- What resolving and encoding a module answer, and what they leave.
-use Rattle.std.specs.Prelude.{◌≡◌, ℕ, List, [], Option, Some, None, Result, Ok, Err, ◌⊎◌}
+use Rattle.std.specs.Prelude.{◌≡◌, ℕ, ◌+◌, ◌≤◌, List, [], Option, Some, None, Result, Ok, Err, ◌⊎◌}
 use Rattle.std.specs.List.{flat_map}
 use Rattle.std.specs.Borrow.{Bor}
 use Rattle.std.specs.Global.{Vec}
@@ -10,8 +10,10 @@ use Rattle.wast_tree.specs.Faults.{refused, too_large, out_of_memory}
 use Rattle.wast_tree.specs.Known.{known}
 use Rattle.wast_tree.specs.Items.{items}
 use Rattle.wasm_out.specs.Reads.{Reads}
+use Rattle.wast_expand.specs.Completed.{completed}
+use Rattle.wast_expand.specs.Expanded.{expanded, ids_wanted}
 use Rattle.wast_resolve.specs.Demands.{demands, first_unmet, IsUnresolved}
-use Rattle.wast_resolve.specs.Resolved.{resolved}
+use Rattle.wast_resolve.specs.Finished.{finished}
 use Rattle.wast_resolve.specs.Resolvers.{Bindings, known_to}
 use Rattle.wast_core.specs.Tree.{ModuleField}
 use Rattle.wast_core.specs.declared.module.Module.{Module}
@@ -22,23 +24,31 @@ use Rattle.wast_core.specs.Meaning.{meaning}
 use Rattle.wast_core.specs.Bounded.{IsBounded}
 use Rattle.wast_core.specs.Uncovered.{first, uncovered, IsCovered}
 
--- each demand of the fields is met
+-- each demand of the fields is met, and of the types that they imply
 abbrev pub IsMet : List ModuleField → Type 0
-IsMet fields = first_unmet (demands fields) ≡ None
+IsMet fields = first_unmet (demands (completed fields)) ≡ None
 
--- A text module is resolved exactly where each demand is met; a refusal is kept, and answered from then on.
-abbrev pub ResolvesKind : ModuleKind → Result Bindings Error → ModuleKind → Type 0
-ResolvesKind (kind.Text fields) (Ok names) new = IsMet fields × (new ≡ kind.Text (resolved fields)) × (known_to names ≡ known (items fields))
-ResolvesKind (kind.Text fields) (Err e) new = IsUnresolved fields e × (new ≡ kind.Refused e)
-ResolvesKind (kind.Binary pieces) (Ok names) new = (known_to names ≡ known []) × (new ≡ kind.Binary pieces)
-ResolvesKind (kind.Binary pieces) (Err e) new = ⊥
-ResolvesKind (kind.Refused e) (Ok names) new = ⊥
-ResolvesKind (kind.Refused e) (Err d) new = (d ≡ e) × (new ≡ kind.Refused e)
+-- A text module is resolved exactly where each demand is met, with the ids that a counter gives; a refusal is kept, and answered from then on.
+abbrev pub ResolvesKind : ℕ → ModuleKind → Result Bindings Error → ModuleKind → Type 0
+ResolvesKind n (kind.Text fields) (Ok names) new = IsMet fields × (new ≡ kind.Text (finished n fields)) × (known_to names ≡ known (items (expanded n fields)))
+ResolvesKind n (kind.Text fields) (Err e) new = IsUnresolved n fields e × (new ≡ kind.Refused e)
+ResolvesKind n (kind.Binary pieces) (Ok names) new = (known_to names ≡ known []) × (new ≡ kind.Binary pieces)
+ResolvesKind n (kind.Binary pieces) (Err e) new = ⊥
+ResolvesKind n (kind.Refused e) (Ok names) new = ⊥
+ResolvesKind n (kind.Refused e) (Err d) new = (d ≡ e) × (new ≡ kind.Refused e)
 
--- resolving what a module holds, and the counter, before and after; the counter stays, since no id is filled in yet
+-- How far the counter rises: where fields are resolved by as many ids as are filled in, where they are refused by no one knows how many; else it stays.
+abbrev pub Counts : ModuleKind → ModuleKind → ℕ → ℕ → Type 0
+Counts (kind.Text fields) (kind.Text resolved) before after = after ≡ before + ids_wanted fields
+Counts (kind.Text fields) (kind.Binary pieces) before after = ⊥
+Counts (kind.Text fields) (kind.Refused e) before after = before ≤ after
+Counts (kind.Binary pieces) new before after = after ≡ before
+Counts (kind.Refused e) new before after = after ≡ before
+
+-- resolving what a module holds, and the counter, before and after
 pub record Resolves (old : ModuleKind) (before : ℕ) (result : Result Bindings Error) (new : ModuleKind) (after : ℕ) : Type 0 where
-  pub kind : ResolvesKind old result new
-  pub counter : after ≡ before
+  pub kind : ResolvesKind before old result new
+  pub counter : Counts old new before after
 
 -- the name that the name section gives the module
 abbrev pub name_of_module : Module → Option (List ℕ)
@@ -54,21 +64,21 @@ IsUnwritten (Some form) small e = e ≡ refused (fault.Uncovered form)
 IsUnwritten None small e = (e ≡ out_of_memory) ⊎ ((e ≡ too_large) × (small → ⊥))
 
 -- Why a text module gives no bytes: it is not resolved, and keeps why; or it is resolved, and gives none.
-abbrev pub IsUnencoded : Option (List ℕ) → List ModuleField → Error → ModuleKind → Type 0
-IsUnencoded name fields e new =
-    (IsUnresolved fields e × (new ≡ kind.Refused e))
-    ⊎ (IsMet fields × IsUnwritten (first (uncovered (resolved fields))) (IsBounded name fields) e × (new ≡ kind.Text (resolved fields)))
+abbrev pub IsUnencoded : ℕ → Option (List ℕ) → List ModuleField → Error → ModuleKind → Type 0
+IsUnencoded n name fields e new =
+    (IsUnresolved n fields e × (new ≡ kind.Refused e))
+    ⊎ (IsMet fields × IsUnwritten (first (uncovered (finished n fields))) (IsBounded n name fields) e × (new ≡ kind.Text (finished n fields)))
 
 -- A text module gives bytes only where each demand is met and each form covered, and then bytes that are read as what it means.
-abbrev pub EncodesKind : Option (List ℕ) → ModuleKind → Result (Vec ℕ) Error → ModuleKind → Type 0
-EncodesKind name (kind.Text fields) (Ok bytes) new = IsMet fields × IsCovered (resolved fields) × Reads bytes.items (meaning name fields) × (new ≡ kind.Text (resolved fields))
-EncodesKind name (kind.Text fields) (Err e) new = IsUnencoded name fields e new
-EncodesKind name (kind.Binary pieces) (Ok bytes) new = (bytes.items ≡ joined pieces) × (new ≡ kind.Binary pieces)
-EncodesKind name (kind.Binary pieces) (Err e) new = (e ≡ out_of_memory) × (new ≡ kind.Binary pieces)
-EncodesKind name (kind.Refused e) (Ok bytes) new = ⊥
-EncodesKind name (kind.Refused e) (Err d) new = (d ≡ e) × (new ≡ kind.Refused e)
+abbrev pub EncodesKind : ℕ → Option (List ℕ) → ModuleKind → Result (Vec ℕ) Error → ModuleKind → Type 0
+EncodesKind n name (kind.Text fields) (Ok bytes) new = IsMet fields × IsCovered (finished n fields) × Reads bytes.items (meaning n name fields) × (new ≡ kind.Text (finished n fields))
+EncodesKind n name (kind.Text fields) (Err e) new = IsUnencoded n name fields e new
+EncodesKind n name (kind.Binary pieces) (Ok bytes) new = (bytes.items ≡ joined pieces) × (new ≡ kind.Binary pieces)
+EncodesKind n name (kind.Binary pieces) (Err e) new = (e ≡ out_of_memory) × (new ≡ kind.Binary pieces)
+EncodesKind n name (kind.Refused e) (Ok bytes) new = ⊥
+EncodesKind n name (kind.Refused e) (Err d) new = (d ≡ e) × (new ≡ kind.Refused e)
 
--- encoding a module, and the counter, before and after; the counter stays, since no id is filled in yet
+-- encoding a module, and the counter, before and after
 pub record Encodes (old : Module) (before : ℕ) (result : Result (Vec ℕ) Error) (new : Module) (after : ℕ) : Type 0 where
-  pub kind : EncodesKind (name_of_module old) old.kind result new.kind
-  pub counter : after ≡ before
+  pub kind : EncodesKind before (name_of_module old) old.kind result new.kind
+  pub counter : Counts old.kind new.kind before after

@@ -13,3 +13,5 @@ pub mod WorkedMeanings
 pub mod Tree
 pub mod Wats
 pub mod Writing
+pub mod Extents
+pub mod Measured

@@ -3,17 +3,30 @@ use Rattle.std.specs.Prelude.{ℕ, List, [], ◌∷◌, map, Option, unwrap_or, 
 use Rattle.std.specs.List.{flat_map}
 use Rattle.wast_tree.specs.WellFormed.{is_final}
 use Rattle.wast_core.specs.Tree as tree
-use Rattle.wast_core.specs.Tree.{Index, FunctionType, TypeUse, InnerTypeKind, TypeDef, Instruction, Local, FuncKind, Func, Export, ModuleField}
+use Rattle.wast_core.specs.Tree.{Index, StructField, FunctionType, TypeUse, InnerTypeKind, TypeDef, Rec, Instruction, Local, FuncKind, Func, Export, ModuleField}
 use Rattle.wast_core.specs.Tree.ty
 use Rattle.wast_core.specs.Tree.index
+use Rattle.wast_core.specs.Tree.heap
+use Rattle.wast_core.specs.Tree.abstract
 use Rattle.wast_core.specs.Tree.value as val
+use Rattle.wast_core.specs.Tree.storage
 use Rattle.wast_core.specs.Tree.inner
 use Rattle.wast_core.specs.Tree.instr as instruction
 use Rattle.wast_core.specs.Tree.func
 use Rattle.wast_core.specs.Tree.export
 use Rattle.wast_core.specs.Tree.field
+use Rattle.wasm_ops.specs.declared.ref_types.AbstractHeapType.{AbstractHeapType}
+use Rattle.wasm_ops.specs.declared.ref_types.AbstractHeapType.TheVariants as heaps
+use Rattle.wasm_ops.specs.declared.ref_types.HeapType.{HeapType}
+use Rattle.wasm_ops.specs.declared.ref_types.HeapType.TheVariants as out_heap
+use Rattle.wasm_ops.specs.declared.ref_types.RefType.{RefType}
 use Rattle.wasm_ops.specs.declared.types.ValType.{ValType}
 use Rattle.wasm_ops.specs.declared.types.ValType.TheVariants as out
+use Rattle.wasm_ops.specs.declared.types.StorageType.{StorageType}
+use Rattle.wasm_ops.specs.declared.types.StorageType.TheVariants as out_storage
+use Rattle.wasm_ops.specs.declared.types.FieldType.{FieldType}
+use Rattle.wasm_ops.specs.declared.types.StructType.{StructType}
+use Rattle.wasm_ops.specs.declared.types.ArrayType.{ArrayType}
 use Rattle.wasm_ops.specs.declared.types.FuncType.{FuncType}
 use Rattle.wasm_ops.specs.declared.types.CompositeInnerType.{CompositeInnerType}
 use Rattle.wasm_ops.specs.declared.types.CompositeInnerType.TheVariants as composite
@@ -22,11 +35,12 @@ use Rattle.wasm_ops.specs.declared.types.ExportKind.{ExportKind}
 use Rattle.wasm_ops.specs.declared.types.ExportKind.TheVariants as kind
 use Rattle.wasm_ops.specs.declared.instrs.IndexOp.TheVariants.{Call}
 use Rattle.wasm_ops.specs.IndexInstrs.{index_instr}
+use Rattle.wasm_ops.specs.PlainInstrs.{plain_instr}
 use Rattle.wasm_ops.specs.Table.{Instr}
 use Rattle.wasm_out.specs.Bodies.{Body}
-use Rattle.wasm_out.specs.Parts.{SectionKind, Types, Functions, Exports, Code, Entry, TypeEntry, Single, ExportEntry, Custom, Listed, Part}
+use Rattle.wasm_out.specs.Parts.{SectionKind, Types, Functions, Exports, Code, Entry, TypeEntry, Single, Group, ExportEntry, Custom, Listed, Part}
 use Rattle.wasm_out.specs.NameSubsections.{NameSubsection, name_subsection}
-use Rattle.wast_resolve.specs.Resolved.{resolved}
+use Rattle.wast_resolve.specs.Finished.{finished}
 use Rattle.wast_core.specs.NamesPayload.{name_subsections}
 use Rattle.wast_core.specs.declared.slots.Slot.{Slot}
 use Rattle.wast_core.specs.declared.slots.Slot.TheVariants as slot
@@ -38,18 +52,56 @@ number (index.Num n span) = n
 number (index.Id id) = 0
 
 -- Each part of the tree with its numbers.
+abbrev pub abstract_type : tree.AbstractHeapType → AbstractHeapType
+abstract_type abstract.Func = heaps.Func
+abstract_type abstract.Extern = heaps.Extern
+abstract_type abstract.Exn = heaps.Exn
+abstract_type abstract.NoExn = heaps.NoExn
+abstract_type abstract.Any = heaps.Any
+abstract_type abstract.Eq = heaps.Eq
+abstract_type abstract.Struct = heaps.Struct
+abstract_type abstract.Array = heaps.Array
+abstract_type abstract.NoFunc = heaps.NoFunc
+abstract_type abstract.NoExtern = heaps.NoExtern
+abstract_type abstract.None = heaps.None
+abstract_type abstract.I31 = heaps.I31
+
+abbrev pub heap_type : tree.HeapType → HeapType
+heap_type (heap.Abstract shared ty) = out_heap.Abstract shared (abstract_type ty)
+heap_type (heap.Concrete i) = out_heap.Concrete (number i)
+
+abbrev pub ref_type : tree.RefType → RefType
+ref_type r = record { nullable = r.nullable; heap_type = heap_type r.heap }
+
 abbrev pub val_type : tree.ValType → ValType
 val_type val.I32 = out.I32
 val_type val.I64 = out.I64
 val_type val.F32 = out.F32
 val_type val.F64 = out.F64
 val_type val.V128 = out.V128
+val_type (val.Ref r) = out.Ref (ref_type r)
+
+abbrev pub storage_type : tree.StorageType → StorageType
+storage_type storage.I8 = out_storage.I8
+storage_type storage.I16 = out_storage.I16
+storage_type (storage.Val t) = out_storage.Val (val_type t)
+
+abbrev pub field_type : StructField → FieldType
+field_type f = record { element_type = storage_type f.ty; mutable = f.mutable }
+
+abbrev pub struct_type : tree.StructType → StructType
+struct_type t = record { fields = map field_type t.fields }
+
+abbrev pub array_type : tree.ArrayType → ArrayType
+array_type t = record { 0 = record { element_type = storage_type t.ty; mutable = t.mutable } }
 
 abbrev pub func_type : FunctionType → FuncType
 func_type t = record { params = map (λ p. val_type p.2) t.params; results = map val_type t.results }
 
 abbrev pub inner_type : InnerTypeKind → CompositeInnerType
 inner_type (inner.Func t) = composite.Func (func_type t)
+inner_type (inner.Struct t) = composite.Struct (struct_type t)
+inner_type (inner.Array t) = composite.Array (array_type t)
 
 abbrev pub sub_type : TypeDef → SubType
 sub_type d = record {
@@ -63,6 +115,7 @@ abbrev pub type_index : TypeUse FunctionType → ℕ
 type_index u = unwrap_or (option_map number u.index) 0
 
 abbrev pub instr : Instruction → Instr
+instr (instruction.Plain op) = plain_instr op
 instr (instruction.call f) = index_instr Call (number f)
 
 -- the body of locals and instructions
@@ -91,6 +144,13 @@ nothing = record { types = []; functions = []; exports = []; code = [] }
 abbrev pub of_type : ty.«Type» → Contribution
 of_type t = record nothing { types = Single (sub_type t.def) ∷ [] }
 
+-- a group is one entry, also of one type
+abbrev pub group_of : Rec → TypeEntry
+group_of r = Group (map (λ t. sub_type t.def) r.types)
+
+abbrev pub of_rec : Rec → Contribution
+of_rec r = record nothing { types = group_of r ∷ [] }
+
 abbrev pub of_func : Func → Contribution
 of_func f = record nothing { functions = type_index f.ty ∷ []; code = body f.kind ∷ [] }
 
@@ -99,6 +159,7 @@ of_export e = record nothing { exports = export_entry e ∷ [] }
 
 abbrev pub contributed : ModuleField → Contribution
 contributed (field.Ty t) = of_type t
+contributed (field.Rec r) = of_rec r
 contributed (field.Func f) = of_func f
 contributed (field.Export e) = of_export e
 
@@ -139,6 +200,6 @@ in_slot name fields slot.Names = names_part (name_subsections name fields)
 abbrev pub parts : Option (List ℕ) → List ModuleField → List Part
 parts name fields = flat_map (in_slot name fields) order
 
--- what a text module means
-abbrev pub meaning : Option (List ℕ) → List ModuleField → List Part
-meaning name fields = parts name (resolved fields)
+-- what a text module means, with the ids that a counter gives
+abbrev pub meaning : ℕ → Option (List ℕ) → List ModuleField → List Part
+meaning n name fields = parts name (finished n fields)

@@ -1,10 +1,11 @@
 -- The payload of the name section: the names of the module and of the items of each space (custom sections, name section).
-use Rattle.std.specs.Prelude.{ℕ, ◌+◌, List, [], ◌∷◌, ◌++◌, Option, Some, None, All, if◌then◌else◌}
+use Rattle.std.specs.Prelude.{ℕ, ◌+◌, List, [], ◌∷◌, ◌++◌, Option, Some, None, All, map, if◌then◌else◌}
 use Rattle.std.specs.List.{flat_map}
 use Rattle.wast_tree.specs.Ids.{Name, Written, Generated, name_of}
 use Rattle.wast_tree.specs.Spaces.{same_space}
 use Rattle.wast_core.specs.Tree.{Id, NameAnnotation, Space, ModuleField}
 use Rattle.wast_core.specs.Tree.space
+use Rattle.wast_core.specs.Tree.ty
 use Rattle.wast_core.specs.Tree.field
 use Rattle.wasm_out.specs.NameSubsections.{Named, One, Direct, NameSubsection, InRangeNameSubsection}
 use Rattle.wasm_out.specs.NameSubsections as named
@@ -22,9 +23,13 @@ abbrev pub given_name : Option NameAnnotation → Option Id → Option (List ℕ
 given_name (Some annotation) id = Some annotation.name.now
 given_name None id = id_text id
 
+abbrev pub type_name : ty.«Type» → Space × Option (List ℕ)
+type_name t = (space.Ty, given_name t.name t.id)
+
 -- the names of the items of a field, each with its space
 abbrev pub item_names_in : ModuleField → List (Space × Option (List ℕ))
-item_names_in (field.Ty t) = (space.Ty, given_name t.name t.id) ∷ []
+item_names_in (field.Ty t) = type_name t ∷ []
+item_names_in (field.Rec r) = map type_name r.types
 item_names_in (field.Func f) = (space.Func, given_name f.name f.id) ∷ []
 item_names_in (field.Export e) = []
 

@@ -8,6 +8,7 @@ use Rattle.wast_core.specs.Tree.field
 -- those in a field: none of today's fields has one
 abbrev pub uncovered_in : ModuleField → List Form
 uncovered_in (field.Ty t) = []
+uncovered_in (field.Rec r) = []
 uncovered_in (field.Func f) = []
 uncovered_in (field.Export e) = []
 

@@ -4,14 +4,16 @@ ghost use Rattle.std.specs.Prelude.{◌≡◌, Bool, true, map, option_map, IfOk
 ghost use Rattle.std.specs.List.{list_all};
 ghost use Rattle.wast_tree.specs.Ids.{is_number};
 ghost use Rattle.wast_tree.specs.Faults.{out_of_memory};
-ghost use Rattle.wast_tree.specs.Occurrences.{in_def, in_index, if_there};
+ghost use Rattle.wast_tree.specs.Occurrences.{in_heap, in_ref, in_val, in_storage, in_array, in_struct, in_signature, in_inner, in_def, in_type, in_index, if_there};
 ghost use Rattle.wast_resolve.specs.Resolved.{is_resolved};
 ghost use Rattle.wast_core.specs.Tree.space;
 ghost use Rattle.wast_core.specs.Meaning as meaning;
 
 use std::alloc::Global;
-use wasm_ops::{CompositeInnerType, CompositeType, FuncType, SubType};
-use wast_tree::{Error, FunctionType, Id, Index, InnerTypeKind, NameAnnotation, Seq, TypeDef};
+use wasm_ops::{CompositeInnerType, CompositeType, FuncType, StructType, SubType};
+use wast_tree::{
+    Error, FunctionType, Id, Index, InnerTypeKind, NameAnnotation, Seq, Type, TypeDef,
+};
 
 /// A part of the tree that stands for a value of the binary format, and takes no memory for it.
 pub(crate) trait Convert {
@@ -67,8 +69,53 @@ impl Convert for Index<'_> {
     }
 }
 
-/// A value type (binary format, value types).
+fn abstract_type(ty: wast_tree::AbstractHeapType) -> wasm_ops::AbstractHeapType
+    ensures { result ≡ meaning.abstract_type ty }
+{
+    match ty {
+        wast_tree::AbstractHeapType::Func => wasm_ops::AbstractHeapType::Func,
+        wast_tree::AbstractHeapType::Extern => wasm_ops::AbstractHeapType::Extern,
+        wast_tree::AbstractHeapType::Exn => wasm_ops::AbstractHeapType::Exn,
+        wast_tree::AbstractHeapType::NoExn => wasm_ops::AbstractHeapType::NoExn,
+        wast_tree::AbstractHeapType::Any => wasm_ops::AbstractHeapType::Any,
+        wast_tree::AbstractHeapType::Eq => wasm_ops::AbstractHeapType::Eq,
+        wast_tree::AbstractHeapType::Struct => wasm_ops::AbstractHeapType::Struct,
+        wast_tree::AbstractHeapType::Array => wasm_ops::AbstractHeapType::Array,
+        wast_tree::AbstractHeapType::NoFunc => wasm_ops::AbstractHeapType::NoFunc,
+        wast_tree::AbstractHeapType::NoExtern => wasm_ops::AbstractHeapType::NoExtern,
+        wast_tree::AbstractHeapType::None => wasm_ops::AbstractHeapType::None,
+        wast_tree::AbstractHeapType::I31 => wasm_ops::AbstractHeapType::I31,
+    }
+}
+
+/// What a reference refers to (binary format, heap types). It needs a resolved index.
+pub fn heap_type(ty: &wast_tree::HeapType) -> wasm_ops::HeapType
+    requires { IsTrue (is_resolved (in_heap ty.now)) }
+    ensures { result ≡ meaning.heap_type ty.now }
+{
+    match ty {
+        wast_tree::HeapType::Abstract { shared, ty } => wasm_ops::HeapType::Abstract {
+            shared: *shared,
+            ty: abstract_type(*ty),
+        },
+        wast_tree::HeapType::Concrete(of) => wasm_ops::HeapType::Concrete(index(of)),
+    }
+}
+
+/// A reference type (binary format, reference types). It needs a resolved index.
+pub fn ref_type(ty: &wast_tree::RefType) -> wasm_ops::RefType
+    requires { IsTrue (is_resolved (in_ref ty.now)) }
+    ensures { result ≡ meaning.ref_type ty.now }
+{
+    wasm_ops::RefType {
+        nullable: ty.nullable,
+        heap_type: heap_type(&ty.heap),
+    }
+}
+
+/// A value type (binary format, value types). It needs a resolved index.
 pub fn val_type(ty: &wast_tree::ValType) -> wasm_ops::ValType
+    requires { IsTrue (is_resolved (in_val ty.now)) }
     ensures { result ≡ meaning.val_type ty.now }
 {
     match ty {
@@ -77,15 +124,50 @@ pub fn val_type(ty: &wast_tree::ValType) -> wasm_ops::ValType
         wast_tree::ValType::F32 => wasm_ops::ValType::F32,
         wast_tree::ValType::F64 => wasm_ops::ValType::F64,
         wast_tree::ValType::V128 => wasm_ops::ValType::V128,
+        wast_tree::ValType::Ref(ty) => wasm_ops::ValType::Ref(ref_type(ty)),
     }
 }
 
-impl Convert for wast_tree::ValType {
+/// What a field of a struct or an element of an array holds (binary format, composite types). It needs a resolved index.
+pub fn storage_type(ty: &wast_tree::StorageType) -> wasm_ops::StorageType
+    requires { IsTrue (is_resolved (in_storage ty.now)) }
+    ensures { result ≡ meaning.storage_type ty.now }
+{
+    match ty {
+        wast_tree::StorageType::I8 => wasm_ops::StorageType::I8,
+        wast_tree::StorageType::I16 => wasm_ops::StorageType::I16,
+        wast_tree::StorageType::Val(ty) => wasm_ops::StorageType::Val(val_type(ty)),
+    }
+}
+
+/// A field of a struct (binary format, composite types). It needs a resolved index.
+pub fn field_type(field: &wast_tree::StructField) -> wasm_ops::FieldType
+    requires { IsTrue (is_resolved (in_storage field.now.ty)) }
+    ensures { result ≡ meaning.field_type field.now }
+{
+    wasm_ops::FieldType {
+        element_type: storage_type(&field.ty),
+        mutable: field.mutable,
+    }
+}
+
+/// An array type (binary format, composite types). It needs a resolved index.
+pub fn array_type(ty: &wast_tree::ArrayType) -> wasm_ops::ArrayType
+    requires { IsTrue (is_resolved (in_array ty.now)) }
+    ensures { result ≡ meaning.array_type ty.now }
+{
+    wasm_ops::ArrayType(wasm_ops::FieldType {
+        element_type: storage_type(&ty.ty),
+        mutable: ty.mutable,
+    })
+}
+
+impl Convert for wast_tree::ValType<'_> {
     type Out = wasm_ops::ValType;
 
     ghost becomes = { meaning.val_type };
 
-    ghost is_ready = { λ _. true };
+    ghost is_ready = { λ t. is_resolved (in_val t) };
 
     fn convert(&self) -> wasm_ops::ValType {
         val_type(self)
@@ -96,22 +178,35 @@ impl<'a> Convert
     for (
         Option<Id<'a>>,
         Option<NameAnnotation<'a>>,
-        wast_tree::ValType,
+        wast_tree::ValType<'a>,
     ) {
     type Out = wasm_ops::ValType;
 
     ghost becomes = { λ p. meaning.val_type p.2 };
 
-    ghost is_ready = { λ _. true };
+    ghost is_ready = { λ p. is_resolved (in_val p.2) };
 
     fn convert(&self) -> wasm_ops::ValType {
         val_type(&self.2)
     }
 }
 
-/// A function type: the types of its parameters and results (binary format, composite types). The only error is out
-/// of memory.
+impl Convert for wast_tree::StructField<'_> {
+    type Out = wasm_ops::FieldType;
+
+    ghost becomes = { meaning.field_type };
+
+    ghost is_ready = { λ f. is_resolved (in_storage f.ty) };
+
+    fn convert(&self) -> wasm_ops::FieldType {
+        field_type(self)
+    }
+}
+
+/// A function type: the types of its parameters and results (binary format, composite types). It needs resolved indices.
+/// The only error is out of memory.
 pub fn func_type<'e>(alloc: Global, ty: &FunctionType) -> Result<FuncType, Error<'e>>
+    requires { IsTrue (is_resolved (in_signature ty.now)) }
     ensures value { IfOk result (λ made. made ≡ meaning.func_type ty.now) }
     ensures refusal { IfErr result (λ e. e ≡ out_of_memory) }
 {
@@ -120,12 +215,25 @@ pub fn func_type<'e>(alloc: Global, ty: &FunctionType) -> Result<FuncType, Error
     Ok(FuncType { params, results })
 }
 
+/// A struct type: its fields (binary format, composite types). It needs resolved indices. The only error is out of memory.
+pub fn struct_type<'e>(alloc: Global, ty: &wast_tree::StructType) -> Result<StructType, Error<'e>>
+    requires { IsTrue (is_resolved (in_struct ty.now)) }
+    ensures value { IfOk result (λ made. made ≡ meaning.struct_type ty.now) }
+    ensures refusal { IfErr result (λ e. e ≡ out_of_memory) }
+{
+    let fields = converted(alloc, ty.fields.as_slice())?;
+    Ok(StructType { fields })
+}
+
 fn inner_type<'e>(alloc: Global, kind: &InnerTypeKind) -> Result<CompositeInnerType, Error<'e>>
+    requires { IsTrue (is_resolved (in_inner kind.now)) }
     ensures value { IfOk result (λ made. made ≡ meaning.inner_type kind.now) }
     ensures refusal { IfErr result (λ e. e ≡ out_of_memory) }
 {
     match kind {
         InnerTypeKind::Func(ty) => Ok(CompositeInnerType::Func(func_type(alloc, ty)?)),
+        InnerTypeKind::Struct(ty) => Ok(CompositeInnerType::Struct(struct_type(alloc, ty)?)),
+        InnerTypeKind::Array(ty) => Ok(CompositeInnerType::Array(array_type(ty))),
     }
 }
 
@@ -158,6 +266,19 @@ pub fn sub_type<'e>(alloc: Global, ty: &TypeDef) -> Result<SubType, Error<'e>>
         is_final: ty.final_type.unwrap_or(true),
         supertype_idxs,
     })
+}
+
+/// Each type of a group. The only error is out of memory.
+pub(crate) fn group<'e>(alloc: Global, types: &[Type]) -> Result<Seq<SubType>, Error<'e>>
+    requires { IsTrue (list_all (λ t. is_resolved (in_type t)) types.now) }
+    ensures value { IfOk result (λ made. made ≡ map (λ t. meaning.sub_type t.def) types.now) }
+    ensures refusal { IfErr result (λ e. e ≡ out_of_memory) }
+{
+    let mut made = Seq::new(alloc);
+    for ty in types {
+        made.push(sub_type(alloc, &ty.def)?)?;
+    }
+    Ok(made)
 }
 
 /// The kind of what is exported (binary format, export section).

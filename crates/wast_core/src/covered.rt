@@ -13,7 +13,8 @@ fn uncovered_in(field: &ModuleField) -> Option<Form>
     ensures { result ≡ first (uncovered_in field.now) }
 {
     match field {
-        ModuleField::Ty(_) | ModuleField::Func(_) | ModuleField::Export(_) => None,
+        ModuleField::Ty(_) | ModuleField::Rec(_) | ModuleField::Func(_) | ModuleField::Export(_) =>
+            None,
     }
 }
 
@@ -41,7 +42,7 @@ fn names_in(field: &ModuleField)
 {
     match field {
         ModuleField::Export(export) => text_law(export.name),
-        ModuleField::Ty(_) | ModuleField::Func(_) => {}
+        ModuleField::Ty(_) | ModuleField::Rec(_) | ModuleField::Func(_) => {}
     }
 }
 

@@ -17,7 +17,7 @@ use crate::module::{Module, ModuleKind};
 use crate::names_payload::given_name;
 use crate::sections::BinaryModule;
 use std::alloc::Global;
-use wasm_ops::{Encode, Length, Room, Sink};
+use wasm_ops::{Encode, Room, Sink};
 use wast_resolve::discard_names;
 use wast_tree::{Error, Fault, Gensym, ModuleField};
 
@@ -32,11 +32,9 @@ fn encode_fields<'e>(
     ensures refusal { IfErr result (IsRefused (IsWritable (text_seen name.entry) fields.now)) }
 {
     covered::names(fields);
-    let module = BinaryModule { name, fields };
-    let mut length = Length::new();
-    module.encode(&mut length)?;
-    let mut room = Room::reserve(alloc, length.count() as usize)?;
-    module.encode(&mut room)?;
+    let binary = BinaryModule::of(name, fields)?;
+    let mut room = Room::reserve(alloc, binary.size() as usize)?;
+    binary.encode(&mut room)?;
     let bytes = room.finish();
     Ok(bytes)
 }
@@ -85,8 +83,8 @@ impl EncodeOptions {
     /// of resolving is answered and kept, and a refused module answers what it keeps; a refusal of encoding leaves the
     /// module resolved: E11 where a form is not covered, E10 where a count, length or position is 2^32 or more or
     /// the bytes are more than the greatest usize, E12 where memory is refused. A binary
-    /// module gives its pieces, one after another, and stays as it is. The module is well formed afterwards, its span,
-    /// id and name stay, and so does the counter.
+    /// module gives its pieces, one after another, and stays as it is. The module is well formed afterwards, and its
+    /// span, id and name stay. The counter is left as [`Module::resolve`] leaves it.
     pub fn encode_module<'a>(
         &self,
         alloc: Global,
@@ -116,8 +114,8 @@ impl EncodeOptions {
             ModuleKind::Text(fields) => match covered::uncovered(fields.as_slice()) {
                 Some(form) => Err(Error::refusal(Fault::Uncovered(form))),
                 None => {
-                    let fields = fields.as_slice();
-                    Ok(BinaryModule { name, fields }.encode(out)?)
+                    let module = BinaryModule::of(name, fields.as_slice())?;
+                    Ok(module.encode(out)?)
                 }
             },
             ModuleKind::Binary(_) | ModuleKind::Refused(_) => unreachable!(),

@@ -1,25 +1,28 @@
 //! What fields put into the sections that are lists.
 
-ghost use Rattle.std.specs.Prelude.{◌≡◌, ◌≤◌, length, take, All, IfSome, IsNone, IsTrue};
+ghost use Rattle.std.specs.Prelude.{◌≡◌, ◌≤◌, length, take, All, IfSome, IsNone, IsTrue, IfOk, IfErr};
 ghost use Rattle.std.specs.List.{flat_map};
 ghost use Rattle.std.specs.Option.{option_to_list};
 ghost use Rattle.wasm_ops.specs.Sinks.{Writes};
+ghost use Rattle.wasm_ops.specs.declared.sink.Refusal.TheVariants as refusal;
 ghost use Rattle.wasm_ops.specs.Spelling.{InRangeU32};
 ghost use Rattle.wasm_out.specs.Parts.{entry, InRangeEntry, part, InRangePart};
 ghost use Rattle.wast_core.specs.Encodable.{is_encodable_field, are_encodable};
 ghost use Rattle.wast_core.specs.Contributing.{seen, AreReady};
+ghost use Rattle.wast_core.specs.Extents.{IsExtent};
 ghost use Rattle.wast_core.specs.Meaning.{of_kind, contributed, entries_in, entries, listed};
 ghost use Rattle.wast_core.specs.Slots.{kind_of};
 
+use crate::section_items::RecOrType;
 use crate::slots::SectionKind;
 use crate::values::Resolved;
-use wasm_ops::{By, Each, Encode, Refusal, Sink, Spell, WithLength};
-use wast_tree::{Export, FuncKind, FunctionType, ModuleField, TypeDef, TypeUse};
+use wasm_ops::{By, Each, Encode, Refusal, Sink, Spell, WithLength, length_of};
+use wast_tree::{Export, FuncKind, FunctionType, ModuleField, TypeUse};
 
 /// What a field puts into the sections, at most one entry each.
 #[derive(Drop)]
 pub(crate) struct Contributed<'b, 'a> {
-    types: Option<By<'b, TypeDef<'a>, Resolved>>,
+    types: Option<RecOrType<'b, 'a>>,
     functions: Option<By<'b, TypeUse<'a, FunctionType<'a>>, Resolved>>,
     exports: Option<By<'b, Export<'a>, Resolved>>,
     code: Option<WithLength<By<'b, FuncKind<'a>, Resolved>>>,
@@ -49,7 +52,11 @@ impl<'b, 'a> Contributed<'b, 'a> {
         };
         match field {
             ModuleField::Ty(ty) => Contributed {
-                types: Some(By(&ty.def, Resolved)),
+                types: Some(RecOrType::Ty(ty)),
+                ..nothing
+            },
+            ModuleField::Rec(rec) => Contributed {
+                types: Some(RecOrType::Rec(rec)),
                 ..nothing
             },
             ModuleField::Func(func) => Contributed {
@@ -136,32 +143,46 @@ fn end_of(kind: SectionKind, fields: &[ModuleField]) -> usize
     end
 }
 
-/// The section of a kind, where it has entries.
-pub(crate) fn put_section<S: Sink>(
-    kind: SectionKind,
-    fields: &[ModuleField],
-    out: &mut S,
-) -> Result<(), Refusal>
-    requires { IsTrue (are_encodable fields.now) }
-    ensures { Writes S.rules (All InRangePart (listed (kind_of kind) (entries (kind_of kind) fields.now))) out.old out.new (flat_map part (listed (kind_of kind) (entries (kind_of kind) fields.now))) result }
-{
-    put_entries(kind, &fields[..end_of(kind, fields)], out)
+/// How many entries the section of a kind has, and how long these are with their number. Both are 0 where there are none.
+#[derive(Clone, Copy)]
+pub(crate) struct Extent {
+    /// How many entries.
+    pub(crate) count: u32,
+    /// How many bytes.
+    pub(crate) size: u32,
 }
-/// The section of a kind, where these fields have entries.
-fn put_entries<S: Sink>(
-    kind: SectionKind,
-    fields: &[ModuleField],
-    out: &mut S,
-) -> Result<(), Refusal>
+
+/// The extent of the section of a kind. It refuses as too large, where a number, count or length in it is out of range.
+pub(crate) fn extent_of(kind: SectionKind, fields: &[ModuleField]) -> Result<Extent, Refusal>
     requires { IsTrue (are_encodable fields.now) }
-    ensures { Writes S.rules (All InRangePart (listed (kind_of kind) (entries (kind_of kind) fields.now))) out.old out.new (flat_map part (listed (kind_of kind) (entries (kind_of kind) fields.now))) result }
+    ensures ok { IfOk result (λ e. IsExtent (kind_of kind) fields.now e.count e.size) }
+    ensures err { IfErr result (λ e. (e ≡ refusal.TooLarge) × (All InRangePart (listed (kind_of kind) (entries (kind_of kind) fields.now)) → ⊥)) }
 {
-    let Some(count) = count(kind, fields) else {
+    let first = &fields[..end_of(kind, fields)];
+    let Some(count) = count(kind, first) else {
         return Err(Refusal::TooLarge);
     };
     if count == 0 {
+        return Ok(Extent { count: 0, size: 0 });
+    }
+    let size = length_of(&(count, Each(first, EntriesOf(kind))))?;
+    Ok(Extent { count, size })
+}
+
+/// The section of a kind, where it has entries. It needs its extent.
+pub(crate) fn put_section<S: Sink>(
+    kind: SectionKind,
+    fields: &[ModuleField],
+    extent: Extent,
+    out: &mut S,
+) -> Result<(), Refusal>
+    requires ready { IsTrue (are_encodable fields.now) }
+    requires extent { IsExtent (kind_of kind) fields.now extent.count extent.size }
+    ensures { Writes S.rules (All InRangePart (listed (kind_of kind) (entries (kind_of kind) fields.now))) out.old out.new (flat_map part (listed (kind_of kind) (entries (kind_of kind) fields.now))) result }
+{
+    if extent.count == 0 {
         return Ok(());
     }
-    let entries = Each(fields, EntriesOf(kind));
-    (kind.id(), WithLength((count, entries))).encode(out)
+    let entries = Each(&fields[..end_of(kind, fields)], EntriesOf(kind));
+    (kind.id(), (extent.size, (extent.count, entries))).encode(out)
 }

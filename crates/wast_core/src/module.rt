@@ -1,8 +1,8 @@
 //! Modules of the text format.
 
-ghost use Rattle.std.specs.Prelude.{◌≡◌, ◌<◌, OnOk, IsTrue};
+ghost use Rattle.std.specs.Prelude.{◌≡◌, ◌<◌, ◌≤◌, OnOk, IsTrue};
 ghost use Rattle.wast_core.specs.Modules.{is_well_formed, is_well_formed_kind, generation_bound, bound_of_kind, IsReady};
-ghost use Rattle.wast_core.specs.Headline.{Resolves, ResolvesKind};
+ghost use Rattle.wast_core.specs.Headline.{Resolves, ResolvesKind, Counts};
 ghost use Rattle.wast_core.specs.Writing.{IsAtRest};
 
 use std::alloc::Global;
@@ -41,9 +41,9 @@ impl<'a> Module<'a> {
     /// Whether the module can be resolved and encoded. It takes no memory.
     ///
     /// Binary and refused modules are well formed. Fields are, where each generated id that stands for an index is
-    /// borne by an item of its space, and where they keep to what the tree covers today: every type use has an index and
-    /// no inline type; functions have no locals, hints or exports of their own; types are final, not shared, without
-    /// parents, descriptor and describes, and their parameters have no ids and annotations.
+    /// borne by an item of its space, and where they keep to what the tree covers today: no type use has an inline type;
+    /// functions have no hints or exports of their own; parameters, locals and fields of structs have no ids and
+    /// annotations; types are not shared, refer to no shared type, and have no descriptor and describes.
     pub fn well_formed(&self) -> bool
         ensures { result ≡ is_well_formed self.now }
     {
@@ -68,15 +68,19 @@ impl<'a> Module<'a> {
         own.max(held)
     }
 
-    /// Gives each index the number of what it names, and answers what the names of the module denote (text format,
-    /// identifiers and indices).
+    /// Gives each type use an index and each index the number of what it names, and answers what the names of the
+    /// module denote (text format, identifiers, indices and type uses).
     ///
     /// It needs a well formed module and a counter above its generated ids, and leaves both so. A text module is
     /// resolved where each id that it bears is new in its space and each id that stands for an index denotes an item.
+    /// A type for each signature that a type use needs and no type has is then put after its fields, and each type
+    /// without an id is given a generated one: the counter rises by as many.
+    ///
     /// Else the answer is the first that is not so, with its place: E2 where an id is borne twice, and after all of
-    /// these E4 where one denotes nothing; E10 where a space has 2^32 items or more, E12 where memory is refused. The
-    /// module keeps a refusal, and answers it from then on. A binary module stays as it is, and binds no names. Span, id
-    /// and name stay, and so does the counter.
+    /// these E4 where one denotes nothing; E10 only where a space has 2^32 items or more or the counter would pass the
+    /// greatest u64, E12 where memory is refused. The module keeps a refusal, and answers it from then on; the counter
+    /// then stands where it stood or higher. A binary module stays as it is, and binds no names; for it, and for a
+    /// refused module, the counter stays. Span, id and name stay.
     pub fn resolve(&mut self, alloc: Global, gensym: &mut Gensym) -> Result<Names<'a>, Error<'a>>
         requires { IsReady self.old gensym.old }
         ensures answer { Resolves self.old.kind gensym.old result self.new.kind gensym.new }
@@ -100,8 +104,9 @@ fn resolve_kind<'a>(
 ) -> (ModuleKind<'a>, Result<Names<'a>, Error<'a>>)
     requires well_formed { IsTrue (is_well_formed_kind kind) }
     requires above { bound_of_kind kind < gensym.old }
-    ensures held { ResolvesKind kind.entry result.1 result.0 }
-    ensures counter { gensym.new ≡ gensym.old }
+    ensures held { ResolvesKind gensym.old kind.entry result.1 result.0 }
+    ensures counter { Counts kind.entry result.0 gensym.old gensym.new }
+    ensures rising { gensym.old ≤ gensym.new }
     ensures well_formed { IsTrue (is_well_formed_kind result.0) }
     ensures above { bound_of_kind result.0 < gensym.new }
     ensures at_rest { OnOk result.1 (IsAtRest result.0) }

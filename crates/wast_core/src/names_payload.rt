@@ -1,16 +1,19 @@
 //! The name section of a module.
 
-ghost use Rattle.std.specs.Prelude.{◌≡◌, ◌==◌, ◌∷◌, [], ◌≤◌, length, take, true, not, All};
+ghost use Rattle.std.specs.Prelude.{◌≡◌, ◌==◌, ◌∷◌, [], ◌≤◌, length, take, true, not, All, IfOk, IfErr, ◌+◌, ℕ, List, Option, false};
 ghost use Rattle.std.specs.List.{flat_map};
 ghost use Rattle.wasm_ops.specs.Sinks.{Writes};
+ghost use Rattle.wasm_ops.specs.declared.sink.Refusal.TheVariants as refusal;
 ghost use Rattle.wasm_out.specs.NameSubsections.{name_entry, name_subsection, subsection_id, InRangeNameEntry, InRangeNameSubsection};
 ghost use Rattle.wasm_out.specs.Parts.{part, InRangePart};
+ghost use Rattle.wast_core.specs.Extents.{names_payload_of};
 ghost use Rattle.wast_core.specs.Meaning.{names_part};
-ghost use Rattle.wast_core.specs.Names.{names_seen, text_seen};
-ghost use Rattle.wast_core.specs.NamesPayload.{id_text, given_name, name_in, names_given, named_of, named_from, named_items, named_spaces, module_name, item_names, name_subsections, InRangeNames};
+ghost use Rattle.wast_core.specs.Names.{text_seen, items_seen, counted, WritesNames};
+ghost use Rattle.wast_core.specs.Tree.{Space};
+ghost use Rattle.wast_core.specs.NamesPayload.{id_text, given_name, type_name, item_names_in, name_in, names_given, named_of, named_from, named_items, named_spaces, module_name, item_names, name_subsections, InRangeNames};
 
-use wasm_ops::{Each, Encode, Name, Refusal, Sink, Spell, WithLength};
-use wast_tree::{Id, ModuleField, NameAnnotation, Space};
+use wasm_ops::{Each, Encode, Name, Refusal, Sink, Spell, WithLength, length_of};
+use wast_tree::{Id, ModuleField, NameAnnotation, Space, Type};
 
 fn id_text<'a>(id: &Option<Id<'a>>) -> Option<&'a str>
     ensures { text_seen result ≡ id_text id.now }
@@ -34,27 +37,71 @@ pub(crate) fn given_name<'a>(
     }
 }
 
-/// The name of the field's item in the space, where it has an item there.
-fn name_in_field<'a>(space: Space, field: &ModuleField<'a>) -> Option<Option<&'a str>>
-    ensures { names_seen result ≡ names_given space field.now }
+/// The items of a field, with their names.
+#[derive(Clone, Copy)]
+enum Items<'b, 'a> {
+    /// No item.
+    Nothing,
+    /// An item of a space, with its name.
+    One(Space, Option<&'a str>),
+    /// The types of a group.
+    Types(&'b [Type<'a>]),
+}
+
+/// Finds the items of a field.
+fn items_of<'b, 'a>(field: &'b ModuleField<'a>) -> Items<'b, 'a>
+    ensures { items_seen result ≡ item_names_in field.now }
 {
     match field {
-        ModuleField::Ty(ty) => given_in(space, Space::Ty, given_name(&ty.name, &ty.id)),
-        ModuleField::Func(func) => given_in(space, Space::Func, given_name(&func.name, &func.id)),
-        ModuleField::Export(_) => None,
+        ModuleField::Ty(ty) => Items::One(Space::Ty, given_name(&ty.name, &ty.id)),
+        ModuleField::Rec(rec) => Items::Types(rec.types.as_slice()),
+        ModuleField::Func(func) => Items::One(Space::Func, given_name(&func.name, &func.id)),
+        ModuleField::Export(_) => Items::Nothing,
     }
 }
 
-/// The name of an item, where it is an item of the space.
-fn given_in(space: Space, own: Space, name: Option<&str>) -> Option<Option<&str>>
-    ensures { names_seen result ≡ name_in space (own, text_seen name.entry) }
-{
-    if space.is(own) { Some(name) } else { None }
+/// What holds items with names. Positions and counts stay at the greatest `u64` where they would pass it: from 2^32 on,
+/// no name stands at a position, and no count is in range.
+trait HasNames {
+    /// The names of its items in a space.
+    ghost names: { Space → Self → List (Option (List ℕ)) };
+
+    /// How many of its items in a space have a name.
+    fn count(&self, space: Space) -> u64
+        ensures { result ≡ counted (length (named_from 0 (names space self.now))) };
+
+    /// Appends the names of its items in a space, the first of which stands at a position, and answers the position
+    /// behind the last. It refuses as [`Encode::encode`] does; then nothing was appended.
+    fn put<S: Sink>(&self, space: Space, position: u64, out: &mut S) -> Result<u64, Refusal>
+        ensures written { WritesNames S.rules (names space self.now) position out.old out.new result }
+        ensures next { IfOk result (λ p. p ≡ counted (position + length (names space self.now))) };
 }
 
-/// Appends the name of an item at its position, where it has one.
-fn put_name<S: Sink>(position: usize, given: Option<&str>, out: &mut S) -> Result<(), Refusal>
-    ensures { Writes S.rules (All InRangeNameEntry (named_from position (text_seen given.entry ∷ []))) out.old out.new (flat_map name_entry (named_from position (text_seen given.entry ∷ []))) result }
+/// One, where an item is of the space and has a name.
+fn count_item(space: Space, own: Space, name: Option<&str>) -> u64
+    ensures { result ≡ length (named_from 0 (name_in space (own, text_seen name.entry))) }
+{
+    if space.is(own) && name.is_some() {
+        1
+    } else {
+        0
+    }
+}
+
+/// How many items in a list have a name.
+fn count_each<T: HasNames>(space: Space, parts: &[T]) -> u64
+    ensures { result ≡ counted (length (named_from 0 (flat_map (T.names space) parts.now))) }
+{
+    let mut sum = 0u64;
+    for part in parts {
+        sum = sum.saturating_add(part.count(space));
+    }
+    sum
+}
+
+/// Appends the name of an item at its position, where it has one. From 2^32 on, a position is out of range.
+fn put_name<S: Sink>(position: u64, given: Option<&str>, out: &mut S) -> Result<(), Refusal>
+    ensures { WritesNames S.rules (text_seen given.entry ∷ []) position out.old out.new result }
 {
     let Some(text) = given else {
         return Ok(());
@@ -63,6 +110,81 @@ fn put_name<S: Sink>(position: usize, given: Option<&str>, out: &mut S) -> Resul
         return Err(Refusal::TooLarge);
     };
     (index, Name(text)).encode(out)
+}
+
+/// Appends the name of an item where it is one of the space, and answers the position behind it.
+fn put_item<S: Sink>(
+    space: Space,
+    own: Space,
+    name: Option<&str>,
+    position: u64,
+    out: &mut S,
+) -> Result<u64, Refusal>
+    ensures written { WritesNames S.rules (name_in space (own, text_seen name.entry)) position out.old out.new result }
+    ensures next { IfOk result (λ p. p ≡ counted (position + length (name_in space (own, text_seen name.entry)))) }
+{
+    if !space.is(own) {
+        return Ok(position);
+    }
+    put_name(position, name, out)?;
+    Ok(position.saturating_add(1))
+}
+
+/// Appends the names of the items in a list, and answers the position behind the last.
+fn put_each<T: HasNames, S: Sink>(
+    space: Space,
+    parts: &[T],
+    first: u64,
+    out: &mut S,
+) -> Result<u64, Refusal>
+    ensures written { WritesNames S.rules (flat_map (T.names space) parts.now) first out.old out.new result }
+    ensures next { IfOk result (λ p. p ≡ counted (first + length (flat_map (T.names space) parts.now))) }
+{
+    let start = out.size();
+    let mut position = first;
+    for part in parts {
+        match part.put(space, position, out) {
+            Ok(next) => position = next,
+            Err(refusal) => {
+                out.cut(start);
+                return Err(refusal);
+            }
+        }
+    }
+    Ok(position)
+}
+
+impl HasNames for Type<'_> {
+    ghost names = { λ s t. name_in s (type_name t) };
+
+    fn count(&self, space: Space) -> u64 {
+        count_item(space, Space::Ty, given_name(&self.name, &self.id))
+    }
+
+    fn put<S: Sink>(&self, space: Space, position: u64, out: &mut S) -> Result<u64, Refusal> {
+        let name = given_name(&self.name, &self.id);
+        put_item(space, Space::Ty, name, position, out)
+    }
+}
+
+impl HasNames for ModuleField<'_> {
+    ghost names = { names_given };
+
+    fn count(&self, space: Space) -> u64 {
+        match items_of(self) {
+            Items::Nothing => 0,
+            Items::One(own, name) => count_item(space, own, name),
+            Items::Types(types) => count_each(space, types),
+        }
+    }
+
+    fn put<S: Sink>(&self, space: Space, position: u64, out: &mut S) -> Result<u64, Refusal> {
+        match items_of(self) {
+            Items::Nothing => Ok(position),
+            Items::One(own, name) => put_item(space, own, name, position, out),
+            Items::Types(types) => put_each(space, types, position, out),
+        }
+    }
 }
 
 /// The names of the items of a space, by their positions.
@@ -80,41 +202,16 @@ impl Encode for ItemNames<'_, '_> {
     ghost is_ready = { λ _. true };
 
     fn encode<S: Sink>(&self, out: &mut S) -> Result<(), Refusal> {
-        let start = out.size();
-        let mut position = 0usize;
-        for field in self.fields {
-            if let Some(given) = name_in_field(self.space, field) {
-                let result = put_name(position, given, out);
-                if result.is_err() {
-                    out.cut(start);
-                    return result;
-                }
-                position += 1;
-            }
-        }
+        put_each(self.space, self.fields, 0, out)?;
         Ok(())
     }
 }
 
-/// How many items of a space in a field have a name.
-fn count_in(space: Space, field: &ModuleField) -> usize
-    ensures { result ≡ length (named_from 0 (names_given space field.now)) }
-{
-    match name_in_field(space, field) {
-        Some(Some(_)) => 1,
-        Some(None) | None => 0,
-    }
-}
-
 /// How many items of a space have a name.
-fn count_names(space: Space, fields: &[ModuleField]) -> usize
-    ensures { result ≡ length (named_items space fields.now) }
+fn count_names(space: Space, fields: &[ModuleField]) -> u64
+    ensures { result ≡ counted (length (named_items space fields.now)) }
 {
-    let mut sum = 0usize;
-    for field in fields {
-        sum += count_in(space, field);
-    }
-    sum
+    count_each(space, fields)
 }
 
 /// The id of the subsection of a space (custom sections, name section).
@@ -133,6 +230,17 @@ fn id_of(space: Space) -> u8
     }
 }
 
+/// Whether a field has items of a space.
+fn has_items(space: Space, field: &ModuleField) -> bool
+    ensures { result ≡ false → names_given space field.now ≡ [] }
+{
+    match items_of(field) {
+        Items::Nothing => false,
+        Items::One(own, _) => space.is(own),
+        Items::Types(types) => space.is(Space::Ty) && !types.is_empty(),
+    }
+}
+
 /// Where the last field with an item of a space ends.
 fn end_of(space: Space, fields: &[ModuleField]) -> usize
     ensures within { result ≤ length fields.now }
@@ -140,7 +248,7 @@ fn end_of(space: Space, fields: &[ModuleField]) -> usize
 {
     let mut end = fields.len();
     'trim: while end > 0 {
-        if name_in_field(space, &fields[end - 1]).is_some() {
+        if has_items(space, &fields[end - 1]) {
             return end;
         }
         end -= 1;
@@ -228,17 +336,30 @@ fn has_names(name: Option<&str>, fields: &[ModuleField]) -> bool
     name.is_some() || count_names(Space::Func, fields) != 0 || count_names(Space::Ty, fields) != 0
 }
 
-/// The name section, where there are names.
+/// How long the payload of the name section is; 0 where there are no names. It refuses as too large, where a number,
+/// count or length in the section is out of range.
+pub(crate) fn names_size(name: Option<&str>, fields: &[ModuleField]) -> Result<u32, Refusal>
+    ensures ok { IfOk result (λ n. n ≡ length (names_payload_of (name_subsections (text_seen name.entry) fields.now))) }
+    ensures err { IfErr result (λ e. (e ≡ refusal.TooLarge) × (All InRangePart (names_part (name_subsections (text_seen name.entry) fields.now)) × InRangeNames (text_seen name.entry) fields.now → ⊥)) }
+{
+    if !has_names(name, fields) {
+        return Ok(0);
+    }
+    length_of(&(Name("name"), Subsections { name, fields }))
+}
+
+/// The name section, where there are names. It needs the length of its payload.
 pub(crate) fn put_names<S: Sink>(
     name: Option<&str>,
     fields: &[ModuleField],
+    size: u32,
     out: &mut S,
 ) -> Result<(), Refusal>
+    requires { size ≡ length (names_payload_of (name_subsections (text_seen name) fields.now)) }
     ensures { Writes S.rules (All InRangePart (names_part (name_subsections (text_seen name.entry) fields.now)) × InRangeNames (text_seen name.entry) fields.now) out.old out.new (flat_map part (names_part (name_subsections (text_seen name.entry) fields.now))) result }
 {
-    if !has_names(name, fields) {
+    if size == 0 {
         return Ok(());
     }
-    let subsections = Subsections { name, fields };
-    (0u8, WithLength((Name("name"), subsections))).encode(out)
+    (0u8, (size, (Name("name"), Subsections { name, fields }))).encode(out)
 }

@@ -7,15 +7,15 @@ ghost use Rattle.wasm_ops.specs.Spelling.{InRangeU32};
 ghost use Rattle.wasm_out.specs.Built.{Adds};
 ghost use Rattle.wasm_out.specs.Parts.{type_entry, InRangeTypeEntry, export_entry, InRangeExport};
 ghost use Rattle.wast_tree.specs.Ids.{is_number};
-ghost use Rattle.wast_core.specs.Encodable.{is_encodable_def, is_encodable_type_use};
+ghost use Rattle.wast_core.specs.Encodable.{is_encodable_type_use};
 ghost use Rattle.wast_core.specs.Meaning as meaning;
 
 use crate::conv;
 use crate::values::Resolved;
 use std::alloc::Global;
-use wasm_ops::{Sink, Spell};
+use wasm_ops::{Counted, Encode, Refusal, Sink, Spell};
 use wasm_out::{Build, ExportSection, FunctionSection, TypeSection};
-use wast_tree::{Error, Export, FunctionType, Type, TypeUse};
+use wast_tree::{Error, Export, FunctionType, Rec, Type, TypeUse};
 
 /// An item of a section.
 pub trait SectionItem {
@@ -72,29 +72,50 @@ impl<T: SectionItem> SectionItem for &T {
 pub enum RecOrType<'b, 'a> {
     /// A type on its own.
     Ty(&'b Type<'a>),
+    /// A group of types.
+    Rec(&'b Rec<'a>),
 }
 
-impl SectionItem for RecOrType<'_, '_> {
-    type Section = TypeSection;
-
-    ghost use Rattle.wast_core.specs.Entries.{type_of, entry_of};
+impl Encode for RecOrType<'_, '_> {
+    ghost use Rattle.wast_core.specs.Entries.{entry_of, is_encodable_entry};
 
     ghost spelling = { λ item. type_entry (entry_of item) };
 
     ghost in_range = { λ item. InRangeTypeEntry (entry_of item) };
 
-    ghost is_encodable = { λ item. is_encodable_def (type_of item).def };
+    ghost is_ready = { is_encodable_entry };
+
+    fn encode<S: Sink>(&self, out: &mut S) -> Result<(), Refusal> {
+        match self {
+            RecOrType::Ty(ty) => Resolved.spell(*ty, out),
+            RecOrType::Rec(rec) => (0x4eu8, Counted(rec.types.as_slice(), Resolved)).encode(out),
+        }
+    }
+}
+
+impl SectionItem for RecOrType<'_, '_> {
+    type Section = TypeSection;
+
+    ghost use Rattle.wast_core.specs.Entries.{entry_of, is_encodable_entry};
+
+    ghost spelling = { λ item. type_entry (entry_of item) };
+
+    ghost in_range = { λ item. InRangeTypeEntry (entry_of item) };
+
+    ghost is_encodable = { is_encodable_entry };
 
     fn encode<'e>(&self, alloc: Global, section: &mut TypeSection) -> Result<(), Error<'e>> {
         match self {
             RecOrType::Ty(ty) => section.subtype(&conv::sub_type(alloc, &ty.def)?),
+            RecOrType::Rec(rec) => {
+                let types = conv::group(alloc, rec.types.as_slice())?;
+                section.rec(types.as_slice())
+            }
         }
     }
 
     fn put<'e, S: Sink>(&self, out: &mut S) -> Result<(), Error<'e>> {
-        match self {
-            RecOrType::Ty(ty) => Ok(Resolved.spell(&ty.def, out)?),
-        }
+        Ok(Encode::encode(self, out)?)
     }
 }
 

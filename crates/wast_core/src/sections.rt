@@ -1,27 +1,93 @@
 //! The whole of a binary module: the header, and what stands in each place.
 
-ghost use Rattle.std.specs.Prelude.{◌≡◌, All, IsTrue};
+ghost use Rattle.std.specs.Prelude.{◌≡◌, ◌≤◌, All, IsTrue, IfOk, IfErr, length};
 ghost use Rattle.std.specs.List.{flat_map};
+ghost use Rattle.wasm_ops.specs.declared.sink.Refusal.TheVariants as refusal;
 ghost use Rattle.wasm_out.specs.Parts.{part, InRangePart};
 ghost use Rattle.wast_core.specs.Bounded.{bytes_of, InRangeSlot, InRangeModule};
 ghost use Rattle.wast_core.specs.Encodable.{are_encodable};
+ghost use Rattle.wast_core.specs.Extents.{IsExtent, section_size};
+ghost use Rattle.wast_core.specs.Measured.{is_measured};
 ghost use Rattle.wast_core.specs.Meaning.{in_slot};
 ghost use Rattle.wast_core.specs.Names.{text_seen};
+ghost use Rattle.wast_core.specs.Slots.{kind_of};
 
-use crate::entries::put_section;
-use crate::names_payload::put_names;
-use crate::slots::{ORDER, Slot};
-use wasm_ops::{Each, Encode, Raw, Refusal, Sink, Spell};
+use crate::entries::{Extent, extent_of, put_section};
+use crate::names_payload::{names_size, put_names};
+use crate::slots::{ORDER, SectionKind, Slot};
+use wasm_ops::{Each, Encode, Raw, Refusal, Sink, Spell, width};
 use wasm_out::HEADER;
 use wast_tree::ModuleField;
 
-/// A binary module, by the name and the resolved fields of the text module.
+/// A binary module, by the name and the resolved fields of the text module, and how long its sections are.
 #[derive(Clone, Copy)]
 pub(crate) struct BinaryModule<'b, 'a> {
-    /// The name of the module.
-    pub(crate) name: Option<&'b str>,
-    /// The resolved fields.
-    pub(crate) fields: &'b [ModuleField<'a>],
+    name: Option<&'b str>,
+    fields: &'b [ModuleField<'a>],
+    types: Extent,
+    functions: Extent,
+    exports: Extent,
+    code: Extent,
+    names: u32,
+}
+
+/// How long a section is, of how long its payload is.
+fn section_size(payload: u32) -> u64
+    ensures size { result ≡ section_size payload }
+    ensures within { result ≤ 4294967306 }
+{
+    if payload == 0 {
+        return 0;
+    }
+    1 + (width(u64::from(payload)) + u64::from(payload))
+}
+
+impl<'b, 'a> BinaryModule<'b, 'a> {
+    /// The binary module of this name and these resolved fields: its sections are counted and measured, once. It takes
+    /// no memory, and refuses as too large, where a number, count or length in the module is out of range.
+    pub(crate) fn of(
+        name: Option<&'b str>,
+        fields: &'b [ModuleField<'a>],
+    ) -> Result<BinaryModule<'b, 'a>, Refusal>
+        requires { IsTrue (are_encodable fields.now) }
+        ensures ok { IfOk result (λ m. IsTrue (is_measured m) × (m.name ≡ name.entry) × (m.fields.now ≡ fields.now)) }
+        ensures err { IfErr result (λ e. (e ≡ refusal.TooLarge) × (InRangeModule (text_seen name.entry) fields.now → ⊥)) }
+    {
+        Ok(BinaryModule {
+            name,
+            fields,
+            types: extent_of(SectionKind::Types, fields)?,
+            functions: extent_of(SectionKind::Functions, fields)?,
+            exports: extent_of(SectionKind::Exports, fields)?,
+            code: extent_of(SectionKind::Code, fields)?,
+            names: names_size(name, fields)?,
+        })
+    }
+
+    /// The extent of the section of a kind.
+    fn extent(&self, kind: SectionKind) -> Extent
+        requires { IsTrue (is_measured self.now) }
+        ensures { IsExtent (kind_of kind) self.now.fields.now result.count result.size }
+    {
+        match kind {
+            SectionKind::Types => self.types,
+            SectionKind::Functions => self.functions,
+            SectionKind::Exports => self.exports,
+            SectionKind::Code => self.code,
+        }
+    }
+
+    /// How many bytes the module has.
+    pub(crate) fn size(&self) -> u64
+        requires { IsTrue (is_measured self.now) }
+        ensures { result ≡ length (bytes_of (text_seen self.now.name) self.now.fields.now) }
+    {
+        let lists = section_size(self.types.size)
+            + section_size(self.functions.size)
+            + section_size(self.exports.size)
+            + section_size(self.code.size);
+        HEADER.len() as u64 + lists + section_size(self.names)
+    }
 }
 
 /// What stands in a place.
@@ -30,12 +96,12 @@ impl Spell<Slot> for BinaryModule<'_, '_> {
 
     ghost in_range = { λ m s. InRangeSlot (text_seen m.name) m.fields.now s };
 
-    ghost is_ready = { λ m _. are_encodable m.fields.now };
+    ghost is_ready = { λ m _. is_measured m };
 
     fn spell<S: Sink>(&self, slot: &Slot, out: &mut S) -> Result<(), Refusal> {
         match slot {
-            Slot::Section(kind) => put_section(*kind, self.fields, out),
-            Slot::Names => put_names(self.name, self.fields, out),
+            Slot::Section(kind) => put_section(*kind, self.fields, self.extent(*kind), out),
+            Slot::Names => put_names(self.name, self.fields, self.names, out),
             Slot::BeforeFirst | Slot::Before(_) | Slot::Hints | Slot::After(_) | Slot::AfterLast =>
                 Ok(()),
         }
@@ -47,7 +113,7 @@ impl Encode for BinaryModule<'_, '_> {
 
     ghost in_range = { λ m. InRangeModule (text_seen m.name) m.fields.now };
 
-    ghost is_ready = { λ m. are_encodable m.fields.now };
+    ghost is_ready = { λ m. is_measured m };
 
     fn encode<S: Sink>(&self, out: &mut S) -> Result<(), Refusal> {
         let header = HEADER;

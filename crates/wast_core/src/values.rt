@@ -1,7 +1,7 @@
 //! Parts of a resolved tree, as they are spelled.
 
-ghost use Rattle.std.specs.Prelude.{◌≡◌, true, length, IsTrue};
-ghost use Rattle.std.specs.List.{flat_map};
+ghost use Rattle.std.specs.Prelude.{◌≡◌, true, IsTrue};
+ghost use Rattle.std.specs.List.{flat_map, list_all};
 ghost use Rattle.wast_tree.specs.Ids.{is_number};
 ghost use Rattle.wast_tree.specs.Occurrences.{in_instr, asked_in_steps};
 ghost use Rattle.wasm_ops.specs.declared.instrs.IndexOp.TheVariants.{Call};
@@ -10,19 +10,20 @@ ghost use Rattle.wasm_ops.specs.IndexInstrs.{index_instr};
 ghost use Rattle.wasm_ops.specs.Leb128.{unsigned};
 ghost use Rattle.wasm_ops.specs.Sinks.{Writes};
 ghost use Rattle.wasm_ops.specs.Spelling as spelling;
-ghost use Rattle.wasm_ops.specs.Spelling.{Any, InRangeU32, InRangeFuncType, InRangeCompositeInnerType, InRangeSubType};
+ghost use Rattle.wasm_ops.specs.Spelling.{InRangeU32, InRangeValType, InRangeFieldType, InRangeFuncType, InRangeStructType, InRangeArrayType, InRangeCompositeInnerType, InRangeSubType};
 ghost use Rattle.wasm_ops.specs.Table.{instr, InRangeInstr};
 ghost use Rattle.wasm_out.specs.Bodies.{content, InRangeContent};
 ghost use Rattle.wasm_out.specs.Parts.{export_entry, InRangeExport};
 ghost use Rattle.wast_resolve.specs.Resolved.{is_resolved};
-ghost use Rattle.wast_core.specs.Encodable.{is_encodable_def, is_encodable_type_use, is_encodable_kind};
+ghost use Rattle.wast_core.specs.Encodable.{is_encodable_val, is_encodable_param, is_encodable_signature, is_encodable_struct_field, is_encodable_struct, is_encodable_array, is_encodable_inner, is_encodable_def, is_encodable_type, is_encodable_type_use, is_encodable_local, is_encodable_kind};
 ghost use Rattle.wast_core.specs.Meaning as meaning;
 
 use crate::conv;
 use wasm_ops::{By, Counted, Each, Encode, IndexInstr, IndexOp, Name, Refusal, Sink, Spell};
+use wasm_out::{LocalType, Locals};
 use wast_tree::{
-    Export, FuncKind, FunctionType, Id, Index, InnerTypeKind, Instruction, Local, NameAnnotation,
-    TypeDef, TypeUse, ValType,
+    ArrayType, Export, FuncKind, FunctionType, Id, Index, InnerTypeKind, Instruction, Local,
+    NameAnnotation, StructField, StructType, Type, TypeDef, TypeUse, ValType,
 };
 
 /// A part of a resolved tree, by the numbers of its indices.
@@ -41,12 +42,12 @@ impl Spell<Index<'_>> for Resolved {
     }
 }
 
-impl Spell<ValType> for Resolved {
+impl Spell<ValType<'_>> for Resolved {
     ghost spelling = { λ _ t. spelling.val_type (meaning.val_type t) };
 
-    ghost in_range = { λ _. Any };
+    ghost in_range = { λ _ t. InRangeValType (meaning.val_type t) };
 
-    ghost is_ready = { λ _ _. true };
+    ghost is_ready = { λ _ t. is_encodable_val t };
 
     fn spell<S: Sink>(&self, ty: &ValType, out: &mut S) -> Result<(), Refusal> {
         conv::val_type(ty).encode(out)
@@ -54,19 +55,19 @@ impl Spell<ValType> for Resolved {
 }
 
 /// A parameter, by its type.
-impl<'a> Spell<(Option<Id<'a>>, Option<NameAnnotation<'a>>, ValType)> for Resolved {
+impl<'a> Spell<(Option<Id<'a>>, Option<NameAnnotation<'a>>, ValType<'a>)> for Resolved {
     ghost spelling = { λ _ p. spelling.val_type (meaning.val_type p.2) };
 
-    ghost in_range = { λ _. Any };
+    ghost in_range = { λ _ p. InRangeValType (meaning.val_type p.2) };
 
-    ghost is_ready = { λ _ _. true };
+    ghost is_ready = { λ _ p. is_encodable_param p };
 
     fn spell<S: Sink>(
         &self,
-        param: &(Option<Id<'a>>, Option<NameAnnotation<'a>>, ValType),
+        param: &(Option<Id<'a>>, Option<NameAnnotation<'a>>, ValType<'a>),
         out: &mut S,
     ) -> Result<(), Refusal> {
-        conv::val_type(&param.2).encode(out)
+        self.spell(&param.2, out)
     }
 }
 
@@ -75,7 +76,7 @@ impl Spell<FunctionType<'_>> for Resolved {
 
     ghost in_range = { λ _ t. InRangeFuncType (meaning.func_type t) };
 
-    ghost is_ready = { λ _ _. true };
+    ghost is_ready = { λ _ t. is_encodable_signature t };
 
     fn spell<S: Sink>(&self, ty: &FunctionType, out: &mut S) -> Result<(), Refusal> {
         let params = Counted(ty.params.as_slice(), Resolved);
@@ -84,12 +85,39 @@ impl Spell<FunctionType<'_>> for Resolved {
     }
 }
 
-/// The function type that a type is.
-fn function_type<'b, 'a>(kind: &'b InnerTypeKind<'a>) -> &'b FunctionType<'a>
-    ensures { composite.Func (meaning.func_type result.now) ≡ meaning.inner_type kind.now }
-{
-    match kind {
-        InnerTypeKind::Func(ty) => ty,
+impl Spell<StructField<'_>> for Resolved {
+    ghost spelling = { λ _ f. spelling.field_type (meaning.field_type f) };
+
+    ghost in_range = { λ _ f. InRangeFieldType (meaning.field_type f) };
+
+    ghost is_ready = { λ _ f. is_encodable_struct_field f };
+
+    fn spell<S: Sink>(&self, field: &StructField, out: &mut S) -> Result<(), Refusal> {
+        conv::field_type(field).encode(out)
+    }
+}
+
+impl Spell<StructType<'_>> for Resolved {
+    ghost spelling = { λ _ t. spelling.struct_type (meaning.struct_type t) };
+
+    ghost in_range = { λ _ t. InRangeStructType (meaning.struct_type t) };
+
+    ghost is_ready = { λ _ t. is_encodable_struct t };
+
+    fn spell<S: Sink>(&self, ty: &StructType, out: &mut S) -> Result<(), Refusal> {
+        (0x5fu8, Counted(ty.fields.as_slice(), Resolved)).encode(out)
+    }
+}
+
+impl Spell<ArrayType<'_>> for Resolved {
+    ghost spelling = { λ _ t. spelling.array_type (meaning.array_type t) };
+
+    ghost in_range = { λ _ t. InRangeArrayType (meaning.array_type t) };
+
+    ghost is_ready = { λ _ t. is_encodable_array t };
+
+    fn spell<S: Sink>(&self, ty: &ArrayType, out: &mut S) -> Result<(), Refusal> {
+        conv::array_type(ty).encode(out)
     }
 }
 
@@ -98,10 +126,14 @@ impl Spell<InnerTypeKind<'_>> for Resolved {
 
     ghost in_range = { λ _ k. InRangeCompositeInnerType (meaning.inner_type k) };
 
-    ghost is_ready = { λ _ _. true };
+    ghost is_ready = { λ _ k. is_encodable_inner k };
 
     fn spell<S: Sink>(&self, kind: &InnerTypeKind, out: &mut S) -> Result<(), Refusal> {
-        self.spell(function_type(kind), out)
+        match kind {
+            InnerTypeKind::Func(ty) => self.spell(ty, out),
+            InnerTypeKind::Struct(ty) => self.spell(ty, out),
+            InnerTypeKind::Array(ty) => self.spell(ty, out),
+        }
     }
 }
 
@@ -123,6 +155,19 @@ impl Spell<TypeDef<'_>> for Resolved {
             return kind.encode(out);
         }
         (0x4fu8, (parents, kind)).encode(out)
+    }
+}
+
+/// A type, by what it is defined as.
+impl Spell<Type<'_>> for Resolved {
+    ghost spelling = { λ _ t. spelling.sub_type (meaning.sub_type t.def) };
+
+    ghost in_range = { λ _ t. InRangeSubType (meaning.sub_type t.def) };
+
+    ghost is_ready = { λ _ t. is_encodable_type t };
+
+    fn spell<S: Sink>(&self, ty: &Type, out: &mut S) -> Result<(), Refusal> {
+        self.spell(&ty.def, out)
     }
 }
 
@@ -154,16 +199,6 @@ fn put_index<S: Sink>(op: IndexOp, index: &Index, out: &mut S) -> Result<(), Ref
     .encode(out)
 }
 
-/// The index of a call.
-fn callee<'b, 'a>(instruction: &'b Instruction<'a>) -> &'b Index<'a>
-    ensures same { index_instr Call (meaning.number result.now) ≡ meaning.instr instruction.now }
-    ensures ready { is_number result.now ≡ is_resolved (asked_in_steps (in_instr instruction.now)) }
-{
-    match instruction {
-        Instruction::call(func) => func,
-    }
-}
-
 impl Spell<Instruction<'_>> for Resolved {
     ghost spelling = { λ _ i. instr (meaning.instr i) };
 
@@ -172,21 +207,39 @@ impl Spell<Instruction<'_>> for Resolved {
     ghost is_ready = { λ _ i. is_resolved (asked_in_steps (in_instr i)) };
 
     fn spell<S: Sink>(&self, instruction: &Instruction, out: &mut S) -> Result<(), Refusal> {
-        put_index(IndexOp::Call, callee(instruction), out)
+        match instruction {
+            Instruction::Plain(op) => op.encode(out),
+            Instruction::call(func) => put_index(IndexOp::Call, func, out),
+        }
     }
 }
 
-/// What stands behind the length of a body. It needs no locals.
+/// A local, by its type.
+impl LocalType<Local<'_>> for Resolved {
+    ghost ty = { λ _ l. meaning.val_type l.ty };
+
+    ghost is_ready = { λ _ l. is_encodable_local l };
+
+    fn local_type(&self, local: &Local) -> wasm_ops::ValType {
+        conv::val_type(&local.ty)
+    }
+}
+
+/// What stands behind the length of a body.
 fn put_content<S: Sink>(
     locals: &[Local],
     instructions: &[Instruction],
     out: &mut S,
 ) -> Result<(), Refusal>
-    requires locals { length locals.now ≡ 0 }
+    requires locals { IsTrue (list_all is_encodable_local locals.now) }
     requires instrs { IsTrue (is_resolved (asked_in_steps (flat_map in_instr instructions.now))) }
     ensures { Writes S.rules (InRangeContent (meaning.body_of locals.now instructions.now)) out.old out.new (content (meaning.body_of locals.now instructions.now)) result }
 {
-    (0u8, (Each(instructions, Resolved), 0x0bu8)).encode(out)
+    (
+        Locals(locals, Resolved),
+        (Each(instructions, Resolved), 0x0bu8),
+    )
+        .encode(out)
 }
 
 /// What stands behind the length of a body.

@@ -21,8 +21,7 @@ use Rattle.wast_expand.proofs.Covered.{uses_are_bound}
 types_given : (b : Bool) (n : ℕ) (x : ModuleField) → types_in (given_if b with_id n x) ≡ types_in x
 types_given false n x = refl
 types_given true n (field.Ty t) = refl
-types_given true n (field.Func f) = refl
-types_given true n (field.Export e) = refl
+types_given true n x = refl
 
 types_filled : (n : ℕ) (xs : List ModuleField) → flat_map types_in (filled lacks_id with_id n xs) ≡ flat_map types_in xs
 types_filled n [] = refl
@@ -30,8 +29,7 @@ types_filled n (x ∷ xs) = ap (λ ts. ts ++ flat_map types_in (filled lacks_id 
 
 types_bound_in : (find : LookUp) (x : ModuleField) → types_in (bound_field find x) ≡ types_in x
 types_bound_in find (field.Ty t) = refl
-types_bound_in find (field.Func f) = refl
-types_bound_in find (field.Export e) = refl
+types_bound_in find x = refl
 
 types_bound : (find : LookUp) (xs : List ModuleField) → flat_map types_in (map (bound_field find) xs) ≡ flat_map types_in xs
 types_bound find [] = refl
@@ -53,14 +51,12 @@ types_are_the_space n fields = types_bound (index_of (bindings (typed n fields))
 -- Each type has its id.
 lacks_given : (x : ModuleField) (b : Bool) (n : ℕ) → b ≡ lacks_id x → lacks_id (given_if b with_id n x) ≡ false
 lacks_given (field.Ty t) true n h = refl
-lacks_given (field.Func f) true n h = refl
-lacks_given (field.Export e) true n h = refl
+lacks_given x true n h = refl
 lacks_given x false n h = sym h
 
 lacks_bound : (find : LookUp) (x : ModuleField) → lacks_id (bound_field find x) ≡ lacks_id x
 lacks_bound find (field.Ty t) = refl
-lacks_bound find (field.Func f) = refl
-lacks_bound find (field.Export e) = refl
+lacks_bound find x = refl
 
 pub none_lacks_after : (n m : ℕ) (ss : List Signature) (xs : List ModuleField) → wanted lacks_id (filled lacks_id with_id n xs ++ implied_types m ss) ≡ 0
 none_lacks_after n m ss (x ∷ xs) = ap (λ b. one_if b + wanted lacks_id (filled lacks_id with_id (n + one_if (lacks_id x)) xs ++ implied_types m ss)) (lacks_given x (lacks_id x) n refl) ∙ ap (λ k. 0 + k) (none_lacks_after (n + one_if (lacks_id x)) m ss xs)
@@ -83,11 +79,11 @@ filled_none {A} wants give m (x ∷ xs) h = none_case (wants x) x xs h (λ k. fi
     none_case false x xs h f = ap (λ ys. x ∷ ys) (f (omega (arith, h)))
 
 -- What needs nothing stays.
-left_none : {A : Type 0} (xs ys : List A) → xs ++ ys ≡ [] → xs ≡ []
+pub left_none : {A : Type 0} (xs ys : List A) → xs ++ ys ≡ [] → xs ≡ []
 left_none [] ys h = refl
 left_none (x ∷ xs) ys h = absurd cc
 
-right_none : {A : Type 0} (xs ys : List A) → xs ++ ys ≡ [] → ys ≡ []
+pub right_none : {A : Type 0} (xs ys : List A) → xs ++ ys ≡ [] → ys ≡ []
 right_none [] ys h = h
 right_none (x ∷ xs) ys h = absurd cc
 
@@ -102,17 +98,17 @@ module _ (find : LookUp) where
 
   instr_stays : (x : Instruction) → needed_by_instr x ≡ [] → bound_instr find x ≡ x
   instr_stays (instr.call f) h = refl
+  instr_stays x h = refl
 
   kind_stays : (k : FuncKind) → needed_by_kind k ≡ [] → bound_kind find k ≡ k
   kind_stays (func.Inline locals e) h = ap (λ (xs : List Instruction). func.Inline locals (record e { instrs = xs })) (each_stays needed_by_instr (bound_instr find) instr_stays e.instrs h)
 
   field_stays : (x : ModuleField) → needed_by_field x ≡ [] → bound_field find x ≡ x
-  field_stays (field.Ty t) h = refl
-  field_stays (field.Export e) h = refl
   field_stays (field.Func f) h = λ i. field.Func (record f {
     kind = kind_stays f.kind (right_none (needed_by_use f.ty) (needed_by_kind f.kind) h) i;
     ty = record f.ty { index = index_stays f.ty.index f.ty.inline (left_none (needed_by_use f.ty) (needed_by_kind f.kind) h) i };
   })
+  field_stays x h = refl
 
 -- Nothing is implied.
 implied_none : (n : ℕ) (fields : List ModuleField) → implied (expanded n fields) ≡ []

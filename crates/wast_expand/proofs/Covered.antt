@@ -111,16 +111,16 @@ module _ (find : LookUp) where
 
   instr_bound : (x : Instruction) → found (needed_by_instr x) ≡ true → needed_by_instr (bound_instr find x) ≡ []
   instr_bound (instr.call f) h = refl
+  instr_bound x h = refl
 
   kind_bound : (k : FuncKind) → found (needed_by_kind k) ≡ true → needed_by_kind (bound_kind find k) ≡ []
   kind_bound (func.Inline locals e) h = each_bound needed_by_instr (bound_instr find) instr_bound e.instrs h
 
   pub field_bound : (x : ModuleField) → found (needed_by_field x) ≡ true → needed_by_field (bound_field find x) ≡ []
-  field_bound (field.Ty t) h = refl
-  field_bound (field.Export e) h = refl
   field_bound (field.Func f) h =
       ap (λ ss. ss ++ needed_by_kind (bound_kind find f.kind)) (index_bound f.ty.index f.ty.inline (found_first (needed_by_use f.ty) (needed_by_kind f.kind) h))
       ∙ kind_bound f.kind (found_second (needed_by_use f.ty) (needed_by_kind f.kind) h)
+  field_bound x h = refl
 
 pub uses_are_bound : UsesAreBound
 uses_are_bound n fields =

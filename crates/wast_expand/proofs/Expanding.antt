@@ -29,8 +29,7 @@ extends_more old new later xs i x lt is h k =
 needed_given : (b : Bool) (n : ℕ) (x : ModuleField) → needed_by_field (given_if b with_id n x) ≡ needed_by_field x
 needed_given false n x = refl
 needed_given true n (field.Ty t) = refl
-needed_given true n (field.Func f) = refl
-needed_given true n (field.Export e) = refl
+needed_given true n x = refl
 
 -- ids of types change no use
 pub needed_filled : (n : ℕ) (xs : List ModuleField) → needed (filled lacks_id with_id n xs) ≡ needed xs
@@ -39,18 +38,17 @@ needed_filled n (x ∷ xs) = ap (λ ss. ss ++ needed (filled lacks_id with_id (n
 
 keys_of_kind : (k : InnerTypeKind) (id : Id) → keys_of (binding_of k (Some id)) ≡ written_kind k
 keys_of_kind (inner.Func t) id = refl
+keys_of_kind k id = refl
 
 keys_of_type : (n : ℕ) (x : ModuleField) (b : Bool) → b ≡ lacks_id x → keys_of (bindings_in (given_if b with_id n x)) ≡ written_in x
-keys_of_type n (field.Func f) true h = refl
-keys_of_type n (field.Func f) false h = refl
-keys_of_type n (field.Export e) true h = refl
-keys_of_type n (field.Export e) false h = refl
 keys_of_type n (field.Ty t) true h = keys_of_kind t.def.kind (generated n t.span)
 keys_of_type n (field.Ty t) false h = there t.id h
   where
     there : (id : Option Id) → false ≡ is_none id → keys_of (binding_of t.def.kind id) ≡ written_kind t.def.kind
     there None h = absurd cc
     there (Some id) h = keys_of_kind t.def.kind id
+keys_of_type n x true h = refl
+keys_of_type n x false h = refl
 
 keys-append : (a b : Bindings) → keys_of (a ++ b) ≡ keys_of a ++ keys_of b
 keys-append a b = map-append (λ (e : Signature × Index). e.0) a b

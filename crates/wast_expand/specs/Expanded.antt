@@ -13,14 +13,16 @@ use Rattle.wast_expand.specs.ImpliedTypes.{implied}
 use Rattle.wast_expand.specs.Filling.{filled, wanted}
 use Rattle.wast_expand.specs.Expanders.{Bindings, LookUp, index_of}
 
--- A type that has no id wants one.
+-- A type that has no id wants one, but no member of a group.
 abbrev pub lacks_id : ModuleField → Bool
 lacks_id (field.Ty t) = is_none t.id
+lacks_id (field.Rec r) = false
 lacks_id (field.Func f) = false
 lacks_id (field.Export e) = false
 
 abbrev pub with_id : ℕ → ModuleField → ModuleField
 with_id n (field.Ty t) = field.Ty (record t { id = Some (generated n t.span) })
+with_id n (field.Rec r) = field.Rec r
 with_id n (field.Func f) = field.Func f
 with_id n (field.Export e) = field.Export e
 
@@ -41,8 +43,11 @@ def_of s is_shared = record {
 abbrev pub start_of_text : Span
 start_of_text = record { offset = 0 }
 
+abbrev pub unnamed_type : Signature → ModuleField
+unnamed_type s = field.Ty (record { span = start_of_text; id = None; name = None; def = def_of s false })
+
 abbrev pub implied_type : ℕ → Signature → ModuleField
-implied_type n s = field.Ty (record { span = start_of_text; id = Some (generated n start_of_text); name = None; def = def_of s false })
+implied_type n s = with_id n (unnamed_type s)
 
 abbrev pub implied_types : ℕ → List Signature → List ModuleField
 implied_types n [] = []
@@ -56,9 +61,12 @@ typed n fields = filled lacks_id with_id n fields ++ implied_types (n + wanted l
 abbrev pub binding_of : InnerTypeKind → Option Id → Bindings
 binding_of (inner.Func t) None = []
 binding_of (inner.Func t) (Some id) = (signature_of t, index.Id id) ∷ []
+binding_of (inner.Struct t) id = []
+binding_of (inner.Array t) id = []
 
 abbrev pub bindings_in : ModuleField → Bindings
 bindings_in (field.Ty t) = binding_of t.def.kind t.id
+bindings_in (field.Rec r) = []
 bindings_in (field.Func f) = []
 bindings_in (field.Export e) = []
 
@@ -74,6 +82,7 @@ abbrev pub bound_use : LookUp → TypeUse FunctionType → TypeUse FunctionType
 bound_use find u = record u { index = bound_index find u.index u.inline }
 
 abbrev pub bound_instr : LookUp → Instruction → Instruction
+bound_instr find (instr.Plain op) = instr.Plain op
 bound_instr find (instr.call f) = instr.call f
 
 abbrev pub bound_expression : LookUp → Expression → Expression
@@ -87,6 +96,7 @@ bound_func find f = record f { kind = bound_kind find f.kind; ty = bound_use fin
 
 abbrev pub bound_field : LookUp → ModuleField → ModuleField
 bound_field find (field.Ty t) = field.Ty t
+bound_field find (field.Rec r) = field.Rec r
 bound_field find (field.Func f) = field.Func (bound_func find f)
 bound_field find (field.Export e) = field.Export e
 

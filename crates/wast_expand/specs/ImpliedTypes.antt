@@ -10,9 +10,13 @@ use Rattle.wast_expand.specs.NeedingUses.{needed}
 -- the signature of a type, where it is a function type
 abbrev pub written_kind : InnerTypeKind → List Signature
 written_kind (inner.Func t) = signature_of t ∷ []
+written_kind (inner.Struct t) = []
+written_kind (inner.Array t) = []
 
+-- a member of a group is no field of its own
 abbrev pub written_in : ModuleField → List Signature
 written_in (field.Ty t) = written_kind t.def.kind
+written_in (field.Rec r) = []
 written_in (field.Func f) = []
 written_in (field.Export e) = []
 

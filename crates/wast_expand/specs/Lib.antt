@@ -8,6 +8,7 @@ pub mod TypeSpace
 pub mod Filling
 pub mod Expanders
 pub mod Expanded
+pub mod Completed
 pub mod Binding
 pub mod Laws
 pub mod WorkedExpansions

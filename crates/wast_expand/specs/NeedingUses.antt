@@ -20,6 +20,7 @@ abbrev pub needed_by_use : TypeUse FunctionType → List Signature
 needed_by_use u = needed_without u.index u.inline
 
 abbrev pub needed_by_instr : Instruction → List Signature
+needed_by_instr (instr.Plain op) = []
 needed_by_instr (instr.call f) = []
 
 abbrev pub needed_by_expression : Expression → List Signature
@@ -34,6 +35,7 @@ needed_by_func f = needed_by_use f.ty ++ needed_by_kind f.kind
 
 abbrev pub needed_by_field : ModuleField → List Signature
 needed_by_field (field.Ty t) = []
+needed_by_field (field.Rec r) = []
 needed_by_field (field.Func f) = needed_by_func f
 needed_by_field (field.Export e) = []
 

@@ -1,7 +1,11 @@
 -- Signatures of function types, and when two are equal as they are written (text format: function types, type uses).
-use Rattle.std.specs.Prelude.{ℕ, ◌==◌, Bool, ◌&&◌, List, [], map, Option}
+use Rattle.std.specs.Prelude.{ℕ, ◌==◌, Bool, true, false, ◌&&◌, List, [], map, Option, Some, None}
+use Rattle.std.specs.Bool.{beq}
 use lib.Pointwise.{pointwise}
-use Rattle.wast_expand.specs.Tree.{Id, NameAnnotation, ValType, FunctionType}
+use Rattle.wast_tree.specs.Ids.{same_index}
+use Rattle.wast_expand.specs.Tree.{Id, NameAnnotation, AbstractHeapType, HeapType, RefType, ValType, FunctionType}
+use Rattle.wast_expand.specs.Tree.abstract
+use Rattle.wast_expand.specs.Tree.heap
 use Rattle.wast_expand.specs.Tree.value
 
 -- the types of the parameters and of the results; names do not count
@@ -18,6 +22,31 @@ signature_of t = (map type_of_param t.params, t.results)
 abbrev pub empty_signature : Signature
 empty_signature = ([], [])
 
+-- the place of a heap type among those that no module defines
+abbrev pub rank_of_heap : AbstractHeapType → ℕ
+rank_of_heap abstract.Func = 0
+rank_of_heap abstract.Extern = 1
+rank_of_heap abstract.Exn = 2
+rank_of_heap abstract.NoExn = 3
+rank_of_heap abstract.Any = 4
+rank_of_heap abstract.Eq = 5
+rank_of_heap abstract.Struct = 6
+rank_of_heap abstract.Array = 7
+rank_of_heap abstract.NoFunc = 8
+rank_of_heap abstract.NoExtern = 9
+rank_of_heap abstract.None = 10
+rank_of_heap abstract.I31 = 11
+
+-- a number and an id that denote one type are written differently
+abbrev pub same_heap : HeapType → HeapType → Bool
+same_heap (heap.Abstract s a) (heap.Abstract t b) = beq s t && rank_of_heap a == rank_of_heap b
+same_heap (heap.Concrete i) (heap.Concrete j) = same_index i j
+same_heap (heap.Abstract s a) (heap.Concrete j) = false
+same_heap (heap.Concrete i) (heap.Abstract t b) = false
+
+abbrev pub same_ref : RefType → RefType → Bool
+same_ref r q = beq r.nullable q.nullable && same_heap r.heap q.heap
+
 -- the place of a value type among them all
 abbrev pub rank_of : ValType → ℕ
 rank_of value.I32 = 0
@@ -25,9 +54,25 @@ rank_of value.I64 = 1
 rank_of value.F32 = 2
 rank_of value.F64 = 3
 rank_of value.V128 = 4
+rank_of (value.Ref r) = 5
+
+-- the reference type, where it is one
+abbrev pub reference_in : ValType → Option RefType
+reference_in value.I32 = None
+reference_in value.I64 = None
+reference_in value.F32 = None
+reference_in value.F64 = None
+reference_in value.V128 = None
+reference_in (value.Ref r) = Some r
+
+abbrev pub same_reference : Option RefType → Option RefType → Bool
+same_reference None None = true
+same_reference (Some r) (Some q) = same_ref r q
+same_reference None (Some q) = false
+same_reference (Some r) None = false
 
 abbrev pub same_value : ValType → ValType → Bool
-same_value a b = rank_of a == rank_of b
+same_value a b = rank_of a == rank_of b && same_reference (reference_in a) (reference_in b)
 
 abbrev pub same_values : List ValType → List ValType → Bool
 same_values vs ws = pointwise same_value vs ws

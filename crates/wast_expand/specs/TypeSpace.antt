@@ -10,9 +10,13 @@ use Rattle.wast_expand.specs.ImpliedTypes.{implied}
 -- the signature of a type that a use may take: a function type that is a field of its own
 abbrev pub taken_kind : InnerTypeKind → Option Signature
 taken_kind (inner.Func t) = Some (signature_of t)
+taken_kind (inner.Struct t) = None
+taken_kind (inner.Array t) = None
 
+-- the members of a group stand one by one, and no use takes them
 abbrev pub types_in : ModuleField → List (Option Signature)
 types_in (field.Ty t) = taken_kind t.def.kind ∷ []
+types_in (field.Rec r) = map (λ t. None) r.types
 types_in (field.Func f) = []
 types_in (field.Export e) = []
 
@@ -30,6 +34,7 @@ index_for fields s = position (has_signature s) (type_space fields)
 -- the id that stands at an index of a list of types
 abbrev pub ids_in : ModuleField → List (Option Id)
 ids_in (field.Ty t) = t.id ∷ []
+ids_in (field.Rec r) = map (λ t. t.id) r.types
 ids_in (field.Func f) = []
 ids_in (field.Export e) = []
 

@@ -74,6 +74,7 @@ impl<'a> Bind<'a> for ModuleField<'a> {
     ) -> Result<(), Error<'a>> {
         match self {
             ModuleField::Ty(_) => Ok(()),
+            ModuleField::Rec(_) => Ok(()),
             ModuleField::Func(func) => {
                 func.bind(alloc, cx, implied, gensym)?;
                 Ok(())
@@ -152,6 +153,7 @@ impl<'a> Bind<'a> for Instruction<'a> {
         _gensym: &mut Gensym,
     ) -> Result<(), Error<'a>> {
         match self {
+            Instruction::Plain(_) => Ok(()),
             Instruction::call(_) => Ok(()),
         }
     }
@@ -182,7 +184,10 @@ impl<'a> Bind<'a> for TypeUse<'a, FunctionType<'a>> {
 }
 
 /// The key of an inline type; that of `(func)` where there is none.
-fn inline_key<'a>(alloc: Global, inline: &Option<FunctionType<'a>>) -> Result<FuncKey, Error<'a>>
+fn inline_key<'a>(
+    alloc: Global,
+    inline: &Option<FunctionType<'a>>,
+) -> Result<FuncKey<'a>, Error<'a>>
     ensures ok { IfOk result (λ key. key ≡ inline_signature inline.now) }
     ensures refusal { IfErr result (λ e. e ≡ out_of_memory) }
 {
@@ -195,14 +200,14 @@ fn inline_key<'a>(alloc: Global, inline: &Option<FunctionType<'a>>) -> Result<Fu
 /// The index of the first type with the key: a new one where no type has it.
 fn key_to_idx<'a>(
     alloc: Global,
-    key: FuncKey,
+    key: FuncKey<'a>,
     cx: &mut Expander<'a>,
     implied: &mut Seq<ModuleField<'a>>,
     gensym: &mut Gensym,
 ) -> Result<Index<'a>, Error<'a>>
-    ensures index { IfOk result (λ i. index_of cx.new key ≡ Some i) }
-    ensures adds { OnOk result (Adds (state cx.old implied.old gensym.old) (state cx.new implied.new gensym.new) (key ∷ [])) }
-    ensures refusal { IfErr result (RunsOut (next_after (state cx.old implied.old gensym.old) (key ∷ []))) }
+    ensures index { IfOk result (λ i. index_of cx.new key.entry ≡ Some i) }
+    ensures adds { OnOk result (Adds (state cx.old implied.old gensym.old) (state cx.new implied.new gensym.new) (key.entry ∷ [])) }
+    ensures refusal { IfErr result (RunsOut (next_after (state cx.old implied.old gensym.old) (key.entry ∷ []))) }
     ensures rising { gensym.old ≤ gensym.new }
 {
     match cx.get(&key) {
@@ -217,14 +222,14 @@ fn key_to_idx<'a>(
 /// A type of its own for a key.
 fn add_type<'a>(
     alloc: Global,
-    key: FuncKey,
+    key: FuncKey<'a>,
     cx: &mut Expander<'a>,
     implied: &mut Seq<ModuleField<'a>>,
     gensym: &mut Gensym,
 ) -> Result<Index<'a>, Error<'a>>
     ensures index { IfOk result (λ i. i ≡ index.Id (generated gensym.old start_of_text)) }
-    ensures types { OnOk result (Extends cx.old cx.new ((key, index.Id (generated gensym.old start_of_text)) ∷ [])) }
-    ensures implied { OnOk result (implied.new ≡ implied.old ++ implied_type gensym.old key ∷ []) }
+    ensures types { OnOk result (Extends cx.old cx.new ((key.entry, index.Id (generated gensym.old start_of_text)) ∷ [])) }
+    ensures implied { OnOk result (implied.new ≡ implied.old ++ implied_type gensym.old key.entry ∷ []) }
     ensures counted { OnOk result (gensym.new ≡ gensym.old + 1) }
     ensures refusal { IfErr result (RunsOut (gensym.old + 1)) }
     ensures rising { gensym.old ≤ gensym.new }

@@ -1,11 +1,17 @@
 //! Worked modules, of which the definitions compute what they say.
 
-ghost use Rattle.wast_expand.specs.WorkedExpansions.{SameSignatures, Row2, Row7, Row23, Row37, Several, FirstOfTwo};
+ghost use Rattle.wast_expand.specs.WorkedExpansions.{SameSignatures, SameReferences, Row2, Row7, Row8, Row23, Row37, Several, AfterStruct, ByIdAndNumber, FirstOfTwo};
 
 /// Which signatures are equal as they are written.
 #[tactic(auto, using(crate::proofs::Worked::same_signatures))]
 pub(crate) fn same_signatures()
     ensures { SameSignatures }
+{}
+
+/// Which reference types are equal as they are written.
+#[tactic(auto, using(crate::proofs::Worked::same_references))]
+pub(crate) fn same_references()
+    ensures { SameReferences }
 {}
 
 /// A function alone: its type is implied.
@@ -18,6 +24,12 @@ pub(crate) fn row2()
 #[tactic(auto, using(crate::proofs::Worked::row7))]
 pub(crate) fn row7()
     ensures { Row7 }
+{}
+
+/// A function and a group: its members are not taken, and count as types.
+#[tactic(auto, using(crate::proofs::Worked::row8))]
+pub(crate) fn row8()
+    ensures { Row8 }
 {}
 
 /// A use with an index and another inline type: it stays.
@@ -36,6 +48,18 @@ pub(crate) fn row37()
 #[tactic(auto, using(crate::proofs::Worked::several))]
 pub(crate) fn several()
     ensures { Several }
+{}
+
+/// A struct is not taken, and counts as a type.
+#[tactic(auto, using(crate::proofs::Worked::after_struct))]
+pub(crate) fn after_struct()
+    ensures { AfterStruct }
+{}
+
+/// The id and the number of one type: two signatures.
+#[tactic(auto, using(crate::proofs::Worked::by_id_and_number))]
+pub(crate) fn by_id_and_number()
+    ensures { ByIdAndNumber }
 {}
 
 /// Of two equal types the first is taken.

@@ -13,7 +13,7 @@ use wast_tree::{Error, Index};
 /// The types that signatures are bound to. Contracts see signatures with indices, no two signatures equal, in any order.
 #[derive(Drop)]
 pub struct Expander<'a> {
-    func_type_to_idx: HashMap<FuncKey, Index<'a>>,
+    func_type_to_idx: HashMap<FuncKey<'a>, Index<'a>>,
 }
 
 impl<'a> Model for Expander<'a> {
@@ -33,15 +33,15 @@ impl<'a> Expander<'a> {
     }
 
     /// The index that a key is bound to.
-    pub(crate) fn get(&self, key: &FuncKey) -> Option<Index<'a>>
+    pub(crate) fn get(&self, key: &FuncKey<'a>) -> Option<Index<'a>>
         ensures { result ≡ index_of self.now key.now }
     {
         self.func_type_to_idx.get(key).copied()
     }
 
     /// Binds a key, unless it is bound.
-    pub(crate) fn put(&mut self, key: FuncKey, index: Index<'a>) -> Result<(), Error<'a>>
-        ensures ok { OnOk result (Extends self.old self.new ((key, index.entry) ∷ [])) }
+    pub(crate) fn put(&mut self, key: FuncKey<'a>, index: Index<'a>) -> Result<(), Error<'a>>
+        ensures ok { OnOk result (Extends self.old self.new ((key.entry, index.entry) ∷ [])) }
         ensures refusal { IfErr result (λ e. e ≡ out_of_memory) }
         ensures err { OnErr result (self.new ≡ self.old) }
     {

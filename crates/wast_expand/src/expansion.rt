@@ -16,9 +16,9 @@ use wast_tree::{Error, Gensym, Id, Index, InnerTypeKind, ModuleField, Seq, disca
 /// uses: abbreviations).
 ///
 /// It gives the fields in their order, and after them a type for each signature that no written type has, in the order of
-/// first use. A use is bound by the id of its type, so each type without an id is given a generated one, at its place. Ids
-/// and indices that are there stay, and so do inline types. It takes any fields; the ids that it makes are new where the
-/// counter stands above [`wast_tree::gensym_bound`].
+/// first use. A use is bound by the id of its type, so each type without an id is given a generated one, at its place. No
+/// use takes a member of a group, and no member is given an id. Ids and indices that are there stay, and so do inline
+/// types. It takes any fields; the ids that it makes are new where the counter stands above [`wast_tree::gensym_bound`].
 ///
 /// It takes memory for the keys of types and for the new fields. The error is E12 where memory was refused, and E10 only
 /// where the counter would pass the greatest `u64`. On an error the fields are dropped, and the counter stands where it
@@ -88,6 +88,7 @@ fn name_type<'a>(field: &mut ModuleField<'a>, gensym: &mut Gensym) -> Result<(),
             gensym.fill(ty.span, &mut ty.id)?;
             Ok(())
         }
+        ModuleField::Rec(_) => Ok(()),
         ModuleField::Func(_) => Ok(()),
         ModuleField::Export(_) => Ok(()),
     }
@@ -122,8 +123,7 @@ fn bind_type<'a>(
             bind_kind(alloc, &ty.def.kind, ty.id, cx)?;
             Ok(())
         }
-        ModuleField::Func(_) => Ok(()),
-        ModuleField::Export(_) => Ok(()),
+        ModuleField::Rec(_) | ModuleField::Func(_) | ModuleField::Export(_) => Ok(()),
     }
 }
 
@@ -144,6 +144,7 @@ fn bind_kind<'a>(
             Ok(())
         }
         (InnerTypeKind::Func(_), None) => Ok(()),
+        (InnerTypeKind::Struct(_) | InnerTypeKind::Array(_), _) => Ok(()),
     }
 }
 

@@ -18,34 +18,36 @@ use wast_tree::{
 
 /// The key of a function type: the types of its parameters, and of its results. Contracts see its signature.
 ///
-/// Keys are equal where their signatures are equal as they are written (text format, type uses).
+/// Keys are equal where their signatures are equal as they are written (text format, type uses): `(ref $t)` and `(ref 0)`
+/// differ, also where both are one type.
 #[derive(Debug, Drop)]
-pub struct FuncKey(pub Seq<ValType>, pub Seq<ValType>);
+pub struct FuncKey<'a>(pub Seq<ValType<'a>>, pub Seq<ValType<'a>>);
 
-impl Model for FuncKey {
+impl<'a> Model for FuncKey<'a> {
     ghost Value = { Signature };
 
     ghost view = { λ k. (k.0, k.1) };
 }
 
-impl PartialEq for FuncKey {
+impl<'a> PartialEq for FuncKey<'a> {
     ghost eq = { same_signature };
 
     ghost laws = { partial_equiv_from_equiv signatures_equiv };
 
-    fn eq(&self, other: &FuncKey) -> bool {
+    #[tactic(auto, using(crate::specs::SignatureLaws::same_values_are))]
+    fn eq(&self, other: &FuncKey<'a>) -> bool {
         self.0.as_slice() == other.0.as_slice() && self.1.as_slice() == other.1.as_slice()
     }
 }
 
-impl Eq for FuncKey {
+impl<'a> Eq for FuncKey<'a> {
     ghost laws = { signatures_equiv };
 }
 
-impl Hash for FuncKey {
-    ghost hash_input = { λ s. signature_fed ⟦<ValType as Hash>⟧.hash_input s };
+impl<'a> Hash for FuncKey<'a> {
+    ghost hash_input = { λ s. signature_fed ⟦<ValType<'a> as Hash>⟧.hash_input s };
 
-    ghost respects_eq = { (signatures_alike ⟦<ValType as Hash>⟧.hash_input).fed };
+    ghost respects_eq = { signatures_alike.fed };
 
     fn hash<H: Hasher>(&self, state: &mut H) {
         self.0.as_slice().hash(state);
@@ -105,7 +107,7 @@ pub trait TypeKey<'a> {
 }
 
 impl<'a> TypeReference<'a> for FunctionType<'a> {
-    type Key = FuncKey;
+    type Key = FuncKey<'a>;
 
     ghost signature = { signature_of };
 
@@ -116,7 +118,7 @@ impl<'a> TypeReference<'a> for FunctionType<'a> {
         }
     }
 
-    fn key(&self, alloc: Global) -> Result<FuncKey, Error<'a>> {
+    fn key(&self, alloc: Global) -> Result<FuncKey<'a>, Error<'a>> {
         let params = types_of(alloc, &self.params)?;
         let results = copied(alloc, &self.results)?;
         Ok(FuncKey(params, results))
@@ -134,7 +136,7 @@ impl<'a> TypeReference<'a> for FunctionType<'a> {
     }
 }
 
-impl<'a> TypeKey<'a> for FuncKey {
+impl<'a> TypeKey<'a> for FuncKey<'a> {
     ghost signature = { λ s. s };
 
     fn lookup(&self, cx: &Expander<'a>) -> Option<Index<'a>> {
@@ -166,10 +168,10 @@ impl<'a> TypeKey<'a> for FuncKey {
 }
 
 /// A parameter: its id, its name annotation and its type.
-type Param<'a> = (Option<Id<'a>>, Option<NameAnnotation<'a>>, ValType);
+type Param<'a> = (Option<Id<'a>>, Option<NameAnnotation<'a>>, ValType<'a>);
 
 /// The types of parameters.
-fn types_of<'a>(alloc: Global, params: &Seq<Param<'a>>) -> Result<Seq<ValType>, Error<'a>>
+fn types_of<'a>(alloc: Global, params: &Seq<Param<'a>>) -> Result<Seq<ValType<'a>>, Error<'a>>
     ensures ok { IfOk result (λ types. types ≡ map type_of_param params.now) }
     ensures refusal { IfErr result (λ e. e ≡ out_of_memory) }
 {
@@ -181,14 +183,14 @@ fn types_of<'a>(alloc: Global, params: &Seq<Param<'a>>) -> Result<Seq<ValType>, 
 }
 
 /// A parameter of this type, without names.
-fn nameless<'a>(ty: ValType) -> Param<'a>
-    ensures { result ≡ nameless ty }
+fn nameless<'a>(ty: ValType<'a>) -> Param<'a>
+    ensures { result ≡ nameless ty.entry }
 {
     (None, None, ty)
 }
 
 /// Parameters of these types, without names.
-fn params_of<'a>(alloc: Global, types: &Seq<ValType>) -> Result<Seq<Param<'a>>, Error<'a>>
+fn params_of<'a>(alloc: Global, types: &Seq<ValType<'a>>) -> Result<Seq<Param<'a>>, Error<'a>>
     ensures ok { IfOk result (λ params. params ≡ map nameless types.now) }
     ensures refusal { IfErr result (λ e. e ≡ out_of_memory) }
 {
@@ -200,7 +202,7 @@ fn params_of<'a>(alloc: Global, types: &Seq<ValType>) -> Result<Seq<Param<'a>>, 
 }
 
 /// The same value types in a list of their own.
-fn copied<'a>(alloc: Global, types: &Seq<ValType>) -> Result<Seq<ValType>, Error<'a>>
+fn copied<'a>(alloc: Global, types: &Seq<ValType<'a>>) -> Result<Seq<ValType<'a>>, Error<'a>>
     ensures ok { IfOk result (λ copy. copy ≡ types.now) }
     ensures refusal { IfErr result (λ e. e ≡ out_of_memory) }
 {

@@ -6,8 +6,8 @@ use std::alloc::Global;
 use std::hash::{DefaultHasher, Hash, Hasher};
 use std::process::Abort;
 use wast_tree::{
-    Error, Expression, Fault, Func, FuncKind, FunctionType, Gensym, Id, Index, InlineExport,
-    InnerTypeKind, ModuleField, Seq, Span, Type, TypeDef, TypeUse, ValType,
+    Error, Expression, Fault, Func, FuncKind, FunctionType, Gensym, HeapType, Id, Index,
+    InlineExport, InnerTypeKind, ModuleField, RefType, Seq, Span, Type, TypeDef, TypeUse, ValType,
 };
 
 fn at(offset: usize) -> Span {
@@ -15,7 +15,7 @@ fn at(offset: usize) -> Span {
 }
 
 /// A list of value types.
-fn types(rt: &impl Abort, alloc: Global, types: &[ValType]) -> Seq<ValType> {
+fn types<'a>(rt: &impl Abort, alloc: Global, types: &[ValType<'a>]) -> Seq<ValType<'a>> {
     let mut list = Seq::new(alloc);
     for ty in types {
         list.push(*ty).expect(rt, "memory");
@@ -23,18 +23,32 @@ fn types(rt: &impl Abort, alloc: Global, types: &[ValType]) -> Seq<ValType> {
     list
 }
 
-fn key(rt: &impl Abort, alloc: Global, params: &[ValType], results: &[ValType]) -> FuncKey {
+fn key<'a>(
+    rt: &impl Abort,
+    alloc: Global,
+    params: &[ValType<'a>],
+    results: &[ValType<'a>],
+) -> FuncKey<'a> {
     FuncKey(types(rt, alloc, params), types(rt, alloc, results))
+}
+
+/// The key of `(func (param (ref ..)))`.
+fn key_of_reference(rt: &impl Abort, alloc: Global, index: Index<'static>) -> FuncKey<'static> {
+    let reference = ValType::Ref(RefType {
+        nullable: false,
+        heap: HeapType::Concrete(index),
+    });
+    key(rt, alloc, &[reference], &[])
 }
 
 /// A function type whose first parameter is called `$p`.
 fn signature(
     rt: &impl Abort,
     alloc: Global,
-    params: &[ValType],
-    results: &[ValType],
+    params: &[ValType<'static>],
+    results: &[ValType<'static>],
 ) -> FunctionType<'static> {
-    let mut list: Seq<(Option<Id<'static>>, _, ValType)> = Seq::new(alloc);
+    let mut list: Seq<(Option<Id<'static>>, _, ValType<'static>)> = Seq::new(alloc);
     let mut id = Some(Id::new("p", at(7)));
     for ty in params {
         list.push((id, None, *ty)).expect(rt, "memory");
@@ -93,6 +107,14 @@ fn ty(
     })
 }
 
+/// The function type that a type is.
+fn function_in<'k, 'a>(kind: &'k InnerTypeKind<'a>) -> Option<&'k FunctionType<'a>> {
+    match kind {
+        InnerTypeKind::Func(function) => Some(function),
+        InnerTypeKind::Struct(_) | InnerTypeKind::Array(_) => None,
+    }
+}
+
 /// The index of a function's type use, or the id of a type.
 fn seen<'a>(field: &ModuleField<'a>) -> Option<Index<'a>> {
     match field {
@@ -100,6 +122,7 @@ fn seen<'a>(field: &ModuleField<'a>) -> Option<Index<'a>> {
             Some(id) => Some(Index::Id(id)),
             None => None,
         },
+        ModuleField::Rec(_) => None,
         ModuleField::Func(func) => func.ty.index,
         ModuleField::Export(_) => None,
     }
@@ -139,7 +162,7 @@ fn a_function_alone_has_a_type_of_its_own(rt: HostRuntime) {
     if let ModuleField::Ty(ty) = last {
         assert!(rt; ty.span == at(0) && ty.name.is_none());
         assert!(rt; !ty.def.shared && ty.def.parents.is_empty() && ty.def.final_type.is_none());
-        let InnerTypeKind::Func(function) = &ty.def.kind;
+        let function = function_in(&ty.def.kind).expect(&rt, "a function type");
         assert!(rt; function.params.is_empty() && function.results.is_empty());
     }
 }
@@ -269,6 +292,24 @@ fn keys_are_signatures(rt: HostRuntime) {
     let (found, empty) = keys_of(&rt, alloc, &mut function);
     assert!(rt; found == key(&rt, alloc, &[ValType::I32, ValType::V128], &[ValType::F64]));
     assert!(rt; empty == key(&rt, alloc, &[], &[]) && empty != found);
+}
+
+#[test]
+fn the_type_of_a_key_has_its_signature(rt: HostRuntime) {
+    let alloc = rt.alloc();
+    let found = key(&rt, alloc, &[ValType::I32, ValType::V128], &[ValType::F64]);
+    let def = found.to_def(alloc, at(3), true).expect(&rt, "memory");
+    assert!(rt; def.shared && def.final_type.is_none());
+    let again = function_in(&def.kind).expect(&rt, "a function type");
+    assert!(rt; again.key(alloc).expect(&rt, "memory") == found);
+}
+
+#[test]
+fn other_signatures_have_other_keys(rt: HostRuntime) {
+    let alloc = rt.alloc();
+    let found = key(&rt, alloc, &[ValType::I32, ValType::V128], &[ValType::F64]);
+    let same = key(&rt, alloc, &[ValType::I32, ValType::V128], &[ValType::F64]);
+    assert!(rt; found == same && hash_of(&found) == hash_of(&same));
     let others = [
         key(&rt, alloc, &[ValType::I32, ValType::V128], &[]),
         key(&rt, alloc, &[ValType::I32], &[ValType::V128, ValType::F64]),
@@ -277,12 +318,16 @@ fn keys_are_signatures(rt: HostRuntime) {
     for other in &others {
         assert!(rt; found != *other && hash_of(&found) != hash_of(other));
     }
-    let same = key(&rt, alloc, &[ValType::I32, ValType::V128], &[ValType::F64]);
-    assert!(rt; hash_of(&found) == hash_of(&same));
-    let def = found.to_def(alloc, at(3), true).expect(&rt, "memory");
-    assert!(rt; def.shared && def.final_type.is_none());
-    let InnerTypeKind::Func(again) = &def.kind;
-    assert!(rt; again.key(alloc).expect(&rt, "memory") == same);
+}
+
+#[test]
+fn references_are_equal_as_they_are_written(rt: HostRuntime) {
+    let alloc = rt.alloc();
+    let here = key_of_reference(&rt, alloc, Index::Id(Id::new("t", at(5))));
+    let there = key_of_reference(&rt, alloc, Index::Id(Id::new("t", at(9))));
+    assert!(rt; here == there && hash_of(&here) == hash_of(&there));
+    let number = key_of_reference(&rt, alloc, Index::Num(0, at(5)));
+    assert!(rt; here != number && hash_of(&here) != hash_of(&number));
 }
 
 #[test]

@@ -1,6 +1,7 @@
 -- The first unmet demand of demands one after the other, and what an error answers of it.
 use Rattle.std.proofs.Common.{◌≡◌, refl, ◌∙◌, List, [], ◌∷◌, ◌++◌, Option, Some, None, Bool, true, false, cond}
 use native.Mathlib.Omega.{arith}
+use Rattle.std.specs.Option.{option_or}
 use Rattle.wast_resolve.specs.Tree.{Span}
 use Rattle.wast_tree.specs.Faults.{Refusal, Told}
 use Rattle.wast_resolve.specs.Demands.{Demand, first_unmet, Answers}
@@ -13,6 +14,15 @@ more_unmet false f r s t h e = cc
 pub first_unmet-append : (ds es : List Demand) → first_unmet ds ≡ None → first_unmet (ds ++ es) ≡ first_unmet es
 first_unmet-append [] es h = refl
 first_unmet-append (d ∷ ds) es h = more_unmet d.met (d.fault, d.place) (first_unmet ds) (first_unmet (ds ++ es)) (first_unmet es) (first_unmet-append ds es) h
+
+-- what is unmet first is among the first, or else among those after them
+pub first_unmet-or : (ds es : List Demand) → first_unmet (ds ++ es) ≡ option_or (first_unmet ds) (first_unmet es)
+first_unmet-or [] es = refl
+first_unmet-or (d ∷ ds) es = by_met d.met (d.fault, d.place) (first_unmet ds) (first_unmet es) (first_unmet (ds ++ es)) (first_unmet-or ds es)
+  where
+    by_met : (b : Bool) (f : Refusal × Span) (r s all : Option (Refusal × Span)) → all ≡ option_or r s → cond b all (Some f) ≡ option_or (cond b r (Some f)) s
+    by_met true f r s all h = h
+    by_met false f r s all h = refl
 
 still_unmet : (b : Bool) (f g : Refusal × Span) (r s : Option (Refusal × Span)) → (r ≡ Some g → s ≡ Some g) → cond b r (Some f) ≡ Some g → cond b s (Some f) ≡ Some g
 still_unmet true f g r s h e = h e

@@ -1,5 +1,5 @@
 -- What a module demands of its names, in the order in which it is answered (text format: identifiers, indices, modules).
-use Rattle.std.specs.Prelude.{◌≡◌, ⊤, ℕ, ◌≤◌, ◌^◌, Bool, not, is_some, if◌then◌else◌, List, [], ◌∷◌, ◌++◌, length, map, flat_map, Option, Some, None, Contains}
+use Rattle.std.specs.Prelude.{◌≡◌, ⊤, ℕ, ◌+◌, ◌≤◌, ◌^◌, ◌⊎◌, Bool, not, is_some, if◌then◌else◌, List, [], ◌∷◌, ◌++◌, length, map, flat_map, Option, Some, None, Contains}
 use Rattle.wast_resolve.specs.Tree.{Span, Index, ModuleField}
 use Rattle.wast_resolve.specs.Tree.index
 use Rattle.wast_tree.specs.Ids.{Name, text_of, Mark, mark_of, name_of}
@@ -9,6 +9,8 @@ use Rattle.wast_tree.specs.Spaces.{spaces, word_of, is_borne}
 use Rattle.wast_tree.specs.Items.{Item, items}
 use Rattle.wast_tree.specs.Occurrences.{Ask, Wants, Bare, Step, Named, Occurrence, Outside, Body, in_module}
 use Rattle.wast_tree.specs.Known.{Known, known, names_in}
+use Rattle.wast_expand.specs.Expanded.{ids_wanted}
+use Rattle.wast_expand.specs.Completed.{completed}
 
 -- a fault at a place, and whether what is demanded there holds
 pub record Demand : Type 0 where
@@ -101,7 +103,16 @@ Answers memory many (Nowhere Memory) unmet = memory
 Answers memory many (Nowhere TooLarge) unmet = many
 Answers memory many (Nowhere fault) unmet = ⊥
 
--- Why resolving the fields is refused: by the first unmet demand, at its place; or memory was refused, or there are too
+-- Why numbering the fields is refused: by the first unmet demand, at its place; or memory was refused, or there are too
 -- many of something.
-abbrev pub IsUnresolved : List ModuleField → Error → Type 0
-IsUnresolved fields e = Answers ⊤ (IsCrowded fields) (told e) (first_unmet (demands fields))
+abbrev pub IsUnnumbered : List ModuleField → Error → Type 0
+IsUnnumbered fields e = Answers ⊤ (IsCrowded fields) (told e) (first_unmet (demands fields))
+
+-- Once each type stands there, there are too many of something; or the counter that gives them ids would pass 64 bits.
+abbrev pub IsTooLarge : ℕ → List ModuleField → Type 0
+IsTooLarge n fields = IsCrowded (completed fields) ⊎ (2 ^ 64 ≤ n + ids_wanted fields)
+
+-- Why resolving the fields is refused, from a counter: by the first unmet demand of the list in which each type stands and
+-- no id is made; or memory was refused, or something is too large.
+abbrev pub IsUnresolved : ℕ → List ModuleField → Error → Type 0
+IsUnresolved n fields e = Answers ⊤ (IsTooLarge n fields) (told e) (first_unmet (demands (completed fields)))

@@ -1,20 +1,40 @@
--- What is so of the resolved list of fields.
-use Rattle.std.specs.Prelude.{◌≡◌, ◌≤◌, true, None, List}
+-- What is so of the resolved list of fields, where the counter begins above the generations of their ids.
+use Rattle.std.specs.Prelude.{◌≡◌, ℕ, ◌+◌, ◌<◌, true, [], None, List}
 use Rattle.wast_tree.specs.Occurrences.{asked, in_module}
 use Rattle.wast_tree.specs.WellFormed.{is_well_formed}
 use Rattle.wast_tree.specs.Generations.{greatest_generation}
+use Rattle.wast_expand.specs.NeedingUses.{needed}
+use Rattle.wast_expand.specs.Expanded.{expanded, ids_wanted}
+use Rattle.wast_expand.specs.Completed.{completed}
 use Rattle.wast_resolve.specs.Tree.{ModuleField}
-use Rattle.wast_resolve.specs.Demands.{first_unmet, demands}
-use Rattle.wast_resolve.specs.Resolved.{resolved, is_resolved}
+use Rattle.wast_resolve.specs.Demands.{first_unmet, demands, counts}
+use Rattle.wast_resolve.specs.Resolved.{is_resolved}
+use Rattle.wast_resolve.specs.Finished.{finished}
+
+-- The ids that are filled in change no answer: what is unmet first with them is unmet first without them.
+abbrev pub SameAnswer : Type 0
+SameAnswer = (n : ℕ) (fields : List ModuleField) → greatest_generation fields < n → first_unmet (demands (expanded n fields)) ≡ first_unmet (demands (completed fields))
+
+-- and there are as many of all that is counted.
+abbrev pub SameCounts : Type 0
+SameCounts = (n : ℕ) (fields : List ModuleField) → greatest_generation fields < n → counts (expanded n fields) ≡ counts (completed fields)
+
+-- Well formed fields stay so with them.
+abbrev pub ExpandedStaysWellFormed : Type 0
+ExpandedStaysWellFormed = (n : ℕ) (fields : List ModuleField) → greatest_generation fields < n → is_well_formed fields ≡ true → is_well_formed (expanded n fields) ≡ true
 
 -- Where each demand is met, no id is left where an index is wanted.
 abbrev pub NoIdIsLeft : Type 0
-NoIdIsLeft = (fields : List ModuleField) → first_unmet (demands fields) ≡ None → is_resolved (asked (in_module (resolved fields))) ≡ true
+NoIdIsLeft = (n : ℕ) (fields : List ModuleField) → greatest_generation fields < n → first_unmet (demands (completed fields)) ≡ None → is_resolved (asked (in_module (finished n fields))) ≡ true
 
 -- and well formed fields stay so.
-abbrev pub StaysWellFormed : Type 0
-StaysWellFormed = (fields : List ModuleField) → is_well_formed fields ≡ true → first_unmet (demands fields) ≡ None → is_well_formed (resolved fields) ≡ true
+abbrev pub FinishedStaysWellFormed : Type 0
+FinishedStaysWellFormed = (n : ℕ) (fields : List ModuleField) → greatest_generation fields < n → is_well_formed fields ≡ true → first_unmet (demands (completed fields)) ≡ None → is_well_formed (finished n fields) ≡ true
 
--- No generation is above those that were there.
-abbrev pub NoIdIsNew : Type 0
-NoIdIsNew = (fields : List ModuleField) → greatest_generation (resolved fields) ≤ greatest_generation fields
+-- Each generation is below that of the next id.
+abbrev pub FinishedIsBelow : Type 0
+FinishedIsBelow = (n : ℕ) (fields : List ModuleField) → greatest_generation fields < n → greatest_generation (finished n fields) < n + ids_wanted fields
+
+-- Each type use has an index.
+abbrev pub UsesHaveIndices : Type 0
+UsesHaveIndices = (n : ℕ) (fields : List ModuleField) → needed (finished n fields) ≡ []

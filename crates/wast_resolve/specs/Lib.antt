@@ -1,6 +1,7 @@
 pub mod Clashes
 pub mod Demands
 pub mod Filling
+pub mod Finished
 pub mod Gathers
 pub mod Heads
 pub mod Laws

@@ -1,9 +1,13 @@
 -- The tree after resolving: each index is the number that it denotes, at the place of its id (text format: indices).
 use Rattle.std.specs.Prelude.{ℕ, Bool, true, List, [], ◌∷◌, map, Option, Some, None, option_map}
 use Rattle.std.specs.List.{list_all}
-use Rattle.wast_resolve.specs.Tree.{Id, Index, Space, FunctionType, TypeUse, TypeDef, Instruction, Expression, FuncKind, Func, Export, ModuleField}
+use Rattle.wast_resolve.specs.Tree.{Id, Index, NameAnnotation, Space, RefType, HeapType, ValType, StorageType, StructField, StructType, ArrayType, FunctionType, TypeUse, InnerTypeKind, TypeDef, Rec, Instruction, Expression, Local, FuncKind, Func, Export, ModuleField}
 use Rattle.wast_resolve.specs.Tree.index
 use Rattle.wast_resolve.specs.Tree.space
+use Rattle.wast_resolve.specs.Tree.heap
+use Rattle.wast_resolve.specs.Tree.value
+use Rattle.wast_resolve.specs.Tree.storage
+use Rattle.wast_resolve.specs.Tree.inner
 use Rattle.wast_resolve.specs.Tree.ty
 use Rattle.wast_resolve.specs.Tree.instr
 use Rattle.wast_resolve.specs.Tree.func
@@ -44,20 +48,65 @@ resolved_occurrence k (Outside a) = Outside (resolved_ask k a)
 resolved_occurrence k (Body ss) = Body (resolved_steps k Start ss)
 
 -- Each part of the tree, its indices numbered.
+abbrev pub resolved_heap : Known → HeapType → HeapType
+resolved_heap k (heap.Abstract shared ty) = heap.Abstract shared ty
+resolved_heap k (heap.Concrete i) = heap.Concrete (numbered_at k space.Ty i)
+
+abbrev pub resolved_ref : Known → RefType → RefType
+resolved_ref k r = record r { heap = resolved_heap k r.heap }
+
+abbrev pub resolved_val : Known → ValType → ValType
+resolved_val k value.I32 = value.I32
+resolved_val k value.I64 = value.I64
+resolved_val k value.F32 = value.F32
+resolved_val k value.F64 = value.F64
+resolved_val k value.V128 = value.V128
+resolved_val k (value.Ref r) = value.Ref (resolved_ref k r)
+
+abbrev pub resolved_storage : Known → StorageType → StorageType
+resolved_storage k storage.I8 = storage.I8
+resolved_storage k storage.I16 = storage.I16
+resolved_storage k (storage.Val t) = storage.Val (resolved_val k t)
+
+abbrev pub resolved_param : Known → Option Id × Option NameAnnotation × ValType → Option Id × Option NameAnnotation × ValType
+resolved_param k p = (p.0, p.1, resolved_val k p.2)
+
+abbrev pub resolved_signature : Known → FunctionType → FunctionType
+resolved_signature k t = record { params = map (resolved_param k) t.params; results = map (resolved_val k) t.results }
+
+abbrev pub resolved_struct_field : Known → StructField → StructField
+resolved_struct_field k f = record f { ty = resolved_storage k f.ty }
+
+abbrev pub resolved_struct : Known → StructType → StructType
+resolved_struct k t = record { fields = map (resolved_struct_field k) t.fields }
+
+abbrev pub resolved_array : Known → ArrayType → ArrayType
+resolved_array k t = record t { ty = resolved_storage k t.ty }
+
+abbrev pub resolved_inner : Known → InnerTypeKind → InnerTypeKind
+resolved_inner k (inner.Func t) = inner.Func (resolved_signature k t)
+resolved_inner k (inner.Struct t) = inner.Struct (resolved_struct k t)
+resolved_inner k (inner.Array t) = inner.Array (resolved_array k t)
+
 abbrev pub resolved_def : Known → TypeDef → TypeDef
 resolved_def k d = record d {
   parents = map (numbered_at k space.Ty) d.parents;
   descriptor = option_map (numbered_at k space.Ty) d.descriptor;
   describes = option_map (numbered_at k space.Ty) d.describes;
+  kind = resolved_inner k d.kind;
 }
 
 abbrev pub resolved_type : Known → ty.«Type» → ty.«Type»
 resolved_type k t = record t { def = resolved_def k t.def }
 
+abbrev pub resolved_rec : Known → Rec → Rec
+resolved_rec k r = record r { types = map (resolved_type k) r.types }
+
 abbrev pub resolved_type_use : Known → TypeUse FunctionType → TypeUse FunctionType
-resolved_type_use k u = record u { index = option_map (numbered_at k space.Ty) u.index }
+resolved_type_use k u = record { index = option_map (numbered_at k space.Ty) u.index; inline = option_map (resolved_signature k) u.inline }
 
 abbrev pub resolved_instr : Known → Here → Instruction → Instruction
+resolved_instr k h (instr.Plain op) = instr.Plain op
 resolved_instr k h (instr.call f) = instr.call (numbered_at k space.Func f)
 
 -- the instructions, the first of them here
@@ -68,8 +117,17 @@ resolved_instrs k h (i ∷ is) = resolved_instr k h i ∷ resolved_instrs k (aft
 abbrev pub resolved_expression : Known → Expression → Expression
 resolved_expression k e = record e { instrs = resolved_instrs k Start e.instrs }
 
+abbrev pub resolved_local : Known → Local → Local
+resolved_local k l = record l { ty = resolved_val k l.ty }
+
+abbrev pub resolved_locals : Known → FuncKind → FuncKind
+resolved_locals k (func.Inline locals e) = func.Inline (map (resolved_local k) locals) e
+
+abbrev pub resolved_body : Known → FuncKind → FuncKind
+resolved_body k (func.Inline locals e) = func.Inline locals (resolved_expression k e)
+
 abbrev pub resolved_func_kind : Known → FuncKind → FuncKind
-resolved_func_kind k (func.Inline locals e) = func.Inline locals (resolved_expression k e)
+resolved_func_kind k f = resolved_body k (resolved_locals k f)
 
 abbrev pub resolved_func : Known → Func → Func
 resolved_func k f = record f { kind = resolved_func_kind k f.kind; ty = resolved_type_use k f.ty }
@@ -79,6 +137,7 @@ resolved_export k e = record e { item = numbered_at k (exported_space e.kind) e.
 
 abbrev pub resolved_field : Known → ModuleField → ModuleField
 resolved_field k (field.Ty t) = field.Ty (resolved_type k t)
+resolved_field k (field.Rec r) = field.Rec (resolved_rec k r)
 resolved_field k (field.Func f) = field.Func (resolved_func k f)
 resolved_field k (field.Export e) = field.Export (resolved_export k e)
 

@@ -1,10 +1,11 @@
 //! The two passes over the fields of a module: the items of all fields are numbered, and then each index becomes its number.
 
-ghost use Rattle.std.specs.Prelude.{◌≡◌, None, IsTrue, IfOk, IfErr, OnOk};
+ghost use Rattle.std.specs.Prelude.{◌≡◌, [], None, IsTrue, IfOk, IfErr, OnOk};
 ghost use Rattle.wast_tree.specs.Items.{items};
 ghost use Rattle.wast_tree.specs.Known.{known};
 ghost use Rattle.wast_tree.specs.WellFormed.{is_well_formed};
-ghost use Rattle.wast_resolve.specs.Demands.{first_unmet, demands, IsUnresolved};
+ghost use Rattle.wast_expand.specs.NeedingUses.{needed};
+ghost use Rattle.wast_resolve.specs.Demands.{first_unmet, demands, IsUnnumbered};
 ghost use Rattle.wast_resolve.specs.Resolved.{resolved};
 ghost use Rattle.wast_resolve.specs.Resolvers.{known_of};
 
@@ -17,19 +18,21 @@ use wast_tree::{Error, ModuleField, Seq, discard_fields};
 /// Numbers the items of the fields, and replaces each id where an index is wanted by its number, at the id's place (text
 /// format, indices).
 ///
-/// It gives the fields and what their ids denote. It needs well formed fields, as [`wast_tree::well_formed`] tells. The
-/// error is the first demand that is not met: E2 at the second bearer of an id in a space, in the order of the fields, and
-/// after all of these E4 at an id that denotes nothing. It is E12 where memory was refused, and E10 only where some space
-/// has 2^32 or more items. On an error the fields are dropped.
+/// It gives the fields and what their ids denote. It needs well formed fields, as [`wast_tree::well_formed`] tells, and an
+/// index in each type use, as [`wast_expand::types::expand`] gives it. The error is the first demand that is not met: E2 at
+/// the second bearer of an id in a space, in the order of the fields, and after all of these E4 at an id that denotes
+/// nothing. It is E12 where memory was refused, and E10 only where some space has 2^32 or more items. On an error the fields
+/// are dropped.
 pub fn resolve<'a>(
     alloc: Global,
     fields: Seq<ModuleField<'a>>,
 ) -> Result<(Seq<ModuleField<'a>>, Resolver<'a>), Error<'a>>
-    requires { IsTrue (is_well_formed fields) }
+    requires well_formed { IsTrue (is_well_formed fields) }
+    requires indexed { needed fields ≡ [] }
     ensures met { OnOk result (first_unmet (demands fields.entry) ≡ None) }
     ensures list { IfOk result (λ r. r.0 ≡ resolved fields.entry) }
     ensures names { IfOk result (λ r. known_of r.1 ≡ known (items fields.entry)) }
-    ensures refusal { IfErr result (IsUnresolved fields.entry) }
+    ensures refusal { IfErr result (IsUnnumbered fields.entry) }
 {
     let mut fields = fields;
     match resolve_fields(alloc, &mut fields) {
@@ -49,7 +52,7 @@ fn resolve_fields<'a>(
     ensures met { OnOk result (first_unmet (demands fields.old) ≡ None) }
     ensures list { OnOk result (fields.new ≡ resolved fields.old) }
     ensures names { IfOk result (λ r. known_of r ≡ known (items fields.old)) }
-    ensures refusal { IfErr result (IsUnresolved fields.old) }
+    ensures refusal { IfErr result (IsUnnumbered fields.old) }
 {
     let names = name_spaces(alloc, fields.as_slice())?;
     walk_fields(&names, fields)?;

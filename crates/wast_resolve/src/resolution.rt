@@ -1,12 +1,16 @@
 //! What the ids of a resolved module denote.
 
-ghost use Rattle.std.specs.Prelude.{◌≡◌, [], None, IsTrue, IfOk, IfErr, OnOk};
+ghost use Rattle.std.specs.Prelude.{◌≡◌, ◌<◌, ◌≤◌, ◌+◌, [], None, IsTrue, IfOk, IfErr, OnOk};
 ghost use Rattle.wast_tree.specs.Items.{items};
 ghost use Rattle.wast_tree.specs.Known.{known};
 ghost use Rattle.wast_tree.specs.WellFormed.{is_well_formed};
+ghost use Rattle.wast_tree.specs.Generations.{greatest_generation};
+ghost use Rattle.wast_expand.specs.Expanded.{expanded, ids_wanted};
+ghost use Rattle.wast_expand.specs.Completed.{completed};
 ghost use Rattle.wast_resolve.specs.Tree.space;
 ghost use Rattle.wast_resolve.specs.Demands.{first_unmet, demands, IsUnresolved};
-ghost use Rattle.wast_resolve.specs.Resolved.{resolved, numbered_at};
+ghost use Rattle.wast_resolve.specs.Resolved.{numbered_at};
+ghost use Rattle.wast_resolve.specs.Finished.{finished};
 ghost use Rattle.wast_resolve.specs.Resolvers.{no_bindings, known_to};
 ghost use Rattle.wast_resolve.specs.LookUps.{IsSettledFor, IsMetBy, AnswersFor};
 
@@ -101,25 +105,34 @@ impl<'a> Names<'a> {
     }
 }
 
-/// Resolves the fields of a module: each id where an index is wanted becomes its number, at the id's place (text format,
-/// indices).
+/// Resolves the fields of a module: each type use has an index, and each id where an index is wanted becomes its number, at
+/// the id's place (text format, indices and type uses).
 ///
-/// It gives the fields and what their ids denote. It needs well formed fields, as [`wast_tree::well_formed`] tells. The
-/// error is the first demand that is not met: E2 at the second bearer of an id in a space, in the order of the fields, and
-/// after all of these E4 at an id that denotes nothing. It is E12 where memory was refused, and E10 only where some space
-/// has 2^32 or more items. On an error the fields are dropped. The counter stays.
+/// It gives the fields in their order, and after them a type for each signature that a use without an index needs and no
+/// type has; and what the ids denote. A generated id is filled in where a type has none, in the order of the fields, and is
+/// given to each type at the end. It needs well formed fields, as [`wast_tree::well_formed`] tells, and a counter above
+/// [`wast_tree::gensym_bound`], and leaves it above the ids that it gives.
+///
+/// The error is the first demand that is not met: E2 at the second bearer of an id in a space, in the order of the fields,
+/// and after all of these E4 at an id that denotes nothing. It is E12 where memory was refused, and E10 only where some space
+/// has 2^32 or more items or where the counter would pass the greatest `u64`. On an error the fields are dropped, and the
+/// counter stands where it stood or higher.
+
 pub fn resolve<'a>(
     alloc: Global,
     fields: Seq<ModuleField<'a>>,
     gensym: &mut Gensym,
 ) -> Result<(Seq<ModuleField<'a>>, Names<'a>), Error<'a>>
-    requires { IsTrue (is_well_formed fields) }
-    ensures met { OnOk result (first_unmet (demands fields.entry) ≡ None) }
-    ensures list { IfOk result (λ r. r.0 ≡ resolved fields.entry) }
-    ensures names { IfOk result (λ r. known_to r.1 ≡ known (items fields.entry)) }
-    ensures refusal { IfErr result (IsUnresolved fields.entry) }
-    ensures counter { gensym.new ≡ gensym.old }
+    requires well_formed { IsTrue (is_well_formed fields) }
+    requires above { greatest_generation fields < gensym.old }
+    ensures met { OnOk result (first_unmet (demands (completed fields.entry)) ≡ None) }
+    ensures list { IfOk result (λ r. r.0 ≡ finished gensym.old fields.entry) }
+    ensures names { IfOk result (λ r. known_to r.1 ≡ known (items (expanded gensym.old fields.entry))) }
+    ensures refusal { IfErr result (IsUnresolved gensym.old fields.entry) }
+    ensures counter { OnOk result (gensym.new ≡ gensym.old + ids_wanted fields.entry) }
+    ensures rising { gensym.old ≤ gensym.new }
 {
+    let fields = wast_expand::types::expand(alloc, fields, gensym)?;
     let (fields, resolver) = passes::resolve(alloc, fields)?;
     Ok((fields, Names { resolver }))
 }

@@ -1,8 +1,18 @@
-//! Examples of name spaces, whose answers come from outside.
+//! Examples of name spaces and of resolving, whose answers come from outside.
+
+ghost use Rattle.std.specs.Prelude.{◌<◌, IsTrue};
+ghost use Rattle.wast_tree.specs.Generations.{greatest_generation};
+ghost use Rattle.wast_tree.specs.WellFormed.{is_well_formed};
 
 use crate::filling::Gathering;
-use crate::{Namespace, resolve_error};
-use wast_tree::{Error, Fault, Id, Index, Span};
+use crate::{Namespace, discard_names, resolve, resolve_error};
+use std::alloc::Global;
+use std::process::Abort;
+use wast_tree::{
+    Error, Expression, Fault, Func, FuncKind, FunctionType, Gensym, Id, Index, InlineExport,
+    InnerTypeKind, ModuleField, Seq, Span, Type, TypeDef, TypeUse, discard_fields, gensym_bound,
+    well_formed,
+};
 
 fn at(offset: usize) -> Span {
     Span { offset }
@@ -104,4 +114,90 @@ fn a_space_is_filled_at_once(rt: HostRuntime) {
     assert!(rt; space.try_resolve(&mut second) == Some(0));
     assert!(rt; space.try_resolve(&mut missing).is_none());
     assert!(rt; space.pairs().len() == 3 && !space.is_full());
+}
+
+/// `(func)`
+fn func(alloc: Global) -> ModuleField<'static> {
+    ModuleField::Func(Func {
+        span: at(9),
+        id: None,
+        name: None,
+        exports: InlineExport {
+            names: Seq::new(alloc),
+        },
+        kind: FuncKind::Inline {
+            locals: Seq::new(alloc),
+            expression: Expression {
+                instrs: Seq::new(alloc),
+                branch_hints: Seq::new(alloc),
+            },
+        },
+        ty: TypeUse {
+            index: None,
+            inline: None,
+        },
+    })
+}
+
+/// `(type (func))`
+fn ty(alloc: Global) -> ModuleField<'static> {
+    let function = FunctionType {
+        params: Seq::new(alloc),
+        results: Seq::new(alloc),
+    };
+    ModuleField::Ty(Type {
+        span: at(16),
+        id: None,
+        name: None,
+        def: TypeDef {
+            kind: InnerTypeKind::Func(function),
+            shared: false,
+            parents: Seq::new(alloc),
+            descriptor: None,
+            describes: None,
+            final_type: None,
+        },
+    })
+}
+
+/// The fields, where they can be resolved with this counter.
+fn ready<'a>(rt: &impl Abort, fields: Seq<ModuleField<'a>>, first: u64) -> Seq<ModuleField<'a>>
+    ensures well_formed { IsTrue (is_well_formed result) }
+    ensures above { greatest_generation result < first }
+{
+    assert!(rt; well_formed(fields.as_slice()));
+    assert!(rt; gensym_bound(fields.as_slice()) < first);
+    fields
+}
+
+/// The function has type 0, and that has the id of the generation, both at the place of the type.
+fn has_its_type(rt: &impl Abort, fields: &[ModuleField<'_>], generation: u64, offset: usize) {
+    assert!(rt; fields.len() == 2);
+    let (use_of_type, id) = match (&fields[0], &fields[1]) {
+        (ModuleField::Func(func), ModuleField::Ty(ty)) => (func.ty.index, ty.id),
+        _ => (None, None),
+    };
+    assert!(rt; use_of_type.is_some_and(|i| i == Index::Num(0, at(0)) && i.span() == at(offset)));
+    assert!(rt; id.is_some_and(|id| id.generation() == generation && id.span() == at(offset)));
+}
+
+// `(module (func))` and `(module (func) (type (func)))`
+#[test]
+fn a_type_is_given_an_id(rt: HostRuntime) {
+    let alloc = rt.alloc();
+    let implied = vec![in alloc; func(alloc)].expect(&rt, "memory");
+    let written = vec![in alloc; func(alloc), ty(alloc)].expect(&rt, "memory");
+    let mut offset = 0;
+    for fields in vec![in alloc; implied, written].expect(&rt, "memory") {
+        let mut gensym = Gensym::new(5);
+        let fields = ready(&rt, Seq::from_vec(fields), 5);
+        let Ok((fields, names)) = resolve(alloc, fields, &mut gensym) else {
+            panic!(rt; "resolved")
+        };
+        discard_names(names);
+        assert!(rt; gensym.peek() == 6);
+        has_its_type(&rt, fields.as_slice(), 5, offset);
+        discard_fields(fields);
+        offset = 16;
+    }
 }

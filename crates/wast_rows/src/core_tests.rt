@@ -1,12 +1,14 @@
 //! Each call of `wast_core`, once or twice, with ample memory.
 
 ghost use Rattle.std.specs.Prelude.{◌≡◌, IsTrue};
+ghost use Rattle.std.specs.List.{list_all};
+ghost use Rattle.wast_core.specs.Encodable.{is_encodable_type};
 ghost use Rattle.wast_core.specs.Modules.{is_well_formed, generation_bound};
 ghost use Rattle.wast_core.specs.Writing.{IsEncodable};
 
 use crate::sample;
 use crate::samples::{at, func, module, plain_type, type_at};
-use crate::tests::BYTES_OF_27;
+use crate::tests::{BYTES_OF_2, BYTES_OF_24, BYTES_OF_27};
 use std::alloc::Global;
 use std::process::Abort;
 use wasm_ops::{Length, Room};
@@ -17,8 +19,9 @@ use wast_core::{
 };
 use wast_resolve::discard_names;
 use wast_tree::{
-    Error, Export, ExportKind, Fault, FunctionType, Gensym, Id, Index, InnerTypeKind, ModuleField,
-    Seq, TypeDef, TypeUse, ValType,
+    ArrayType, Error, Export, ExportKind, Fault, FunctionType, Gensym, HeapType, Id, Index,
+    InnerTypeKind, ModuleField, Rec, RefType, Seq, StorageType, StructField, StructType, TypeDef,
+    TypeUse, ValType,
 };
 
 // The module, where it can be encoded with a counter at 1.
@@ -44,16 +47,36 @@ fn in_hex(rt: &impl Abort, alloc: Global, answer: Result<Vec<u8>, Error<'_>>) ->
     hex::encode(alloc, bytes.as_slice()).expect(rt, "memory")
 }
 
+// The type that row 2 implies takes an id, and only the first time.
 #[test]
 fn a_module_gives_the_same_bytes_again(rt: HostRuntime) {
     let alloc = rt.alloc();
-    let mut gensym = Gensym::new(1);
-    let mut module = row(&rt, alloc, 27);
-    let first = module.encode(alloc, &mut gensym);
-    assert!(rt; in_hex(&rt, alloc, first).as_str() == BYTES_OF_27);
-    let second = EncodeOptions::new().encode_module(alloc, &mut module, &mut gensym);
-    assert!(rt; in_hex(&rt, alloc, second).as_str() == BYTES_OF_27);
-    assert!(rt; gensym.peek() == 1);
+    for (n, bytes, next) in [(27, BYTES_OF_27, 1), (2, BYTES_OF_2, 2)] {
+        let mut gensym = Gensym::new(1);
+        let mut module = row(&rt, alloc, n);
+        let first = module.encode(alloc, &mut gensym);
+        assert!(rt; in_hex(&rt, alloc, first).as_str() == bytes);
+        assert!(rt; gensym.peek() == next);
+        let second = EncodeOptions::new().encode_module(alloc, &mut module, &mut gensym);
+        assert!(rt; in_hex(&rt, alloc, second).as_str() == bytes);
+        assert!(rt; gensym.peek() == next);
+        discard_module(module);
+    }
+}
+
+#[test]
+fn a_counter_at_its_end_gives_no_id(rt: HostRuntime) {
+    let alloc = rt.alloc();
+    let mut gensym = Gensym::new(u64::MAX);
+    let mut complete = row(&rt, alloc, 24);
+    let answer = complete.encode(alloc, &mut gensym);
+    assert!(rt; in_hex(&rt, alloc, answer).as_str() == BYTES_OF_24);
+    discard_module(complete);
+    let mut module = row(&rt, alloc, 2);
+    let refusal = Error::refusal(Fault::TooLarge);
+    assert!(rt; module.resolve(alloc, &mut gensym).err() == Some(refusal));
+    assert!(rt; module.encode(alloc, &mut gensym).err() == Some(refusal));
+    assert!(rt; gensym.peek() == u64::MAX);
     discard_module(module);
 }
 
@@ -135,11 +158,62 @@ fn wide_type<'a>(rt: &impl Abort, alloc: Global) -> TypeDef<'a> {
 fn named_module<'a>(rt: &impl Abort, alloc: Global) -> Module<'a> {
     let fields = vec![in alloc;
         ModuleField::Ty(type_at(None, 12, wide_type(rt, alloc))),
-        func(alloc, None, 55, Index::Num(0, at(66)), Seq::new(alloc)),
+        func(
+            alloc,
+            None,
+            55,
+            Some(Index::Num(0, at(66))),
+            Seq::new(alloc)
+        ),
     ];
     let mut named = module(ModuleKind::Text(Seq::from_vec(fields.expect(rt, "memory"))));
     named.id = Some(Id::new("m", at(8)));
     named
+}
+
+// `(module (type (struct (field (mut i8)) (field (ref null 1)))) (type (array i16)))`
+fn module_of_references<'a>(rt: &impl Abort, alloc: Global) -> Module<'a> {
+    let to_array = RefType {
+        nullable: true,
+        heap: HeapType::Concrete(Index::Num(1, at(56))),
+    };
+    let fields = [
+        (true, StorageType::I8),
+        (false, StorageType::Val(ValType::Ref(to_array))),
+    ];
+    let mut list = Seq::new(alloc);
+    for (mutable, ty) in fields {
+        let field = StructField {
+            id: None,
+            name: None,
+            mutable,
+            ty,
+        };
+        list.push(field).expect(rt, "memory");
+    }
+    let mut structure = plain_type(alloc);
+    structure.kind = InnerTypeKind::Struct(StructType { fields: list });
+    let mut array = plain_type(alloc);
+    array.kind = InnerTypeKind::Array(ArrayType {
+        mutable: false,
+        ty: StorageType::I16,
+    });
+    let types = vec![in alloc;
+        ModuleField::Ty(type_at(None, 9, structure)),
+        ModuleField::Ty(type_at(None, 63, array)),
+    ];
+    module(ModuleKind::Text(Seq::from_vec(types.expect(rt, "memory"))))
+}
+
+#[test]
+fn structs_and_arrays_have_their_bytes(rt: HostRuntime) {
+    let alloc = rt.alloc();
+    let mut types = ready(&rt, module_of_references(&rt, alloc));
+    let answer = types.encode(alloc, &mut Gensym::new(1));
+    assert!(rt;
+        in_hex(&rt, alloc, answer).as_str() == "0061736d01000000010b025f0278016301005e7700"
+    );
+    discard_module(types);
 }
 
 // Row 27, resolved.
@@ -198,12 +272,51 @@ fn conversions_have_their_values(rt: HostRuntime) {
     assert!(rt; conv::index(&Index::Num(5, at(0))) == 5);
     assert!(rt; conv::val_type(&ValType::F64) == wasm_ops::ValType::F64);
     assert!(rt; conv::export_kind(ExportKind::Func) == wasm_ops::ExportKind::Func);
-    let plain = plain_type(alloc);
-    let InnerTypeKind::Func(ty) = &plain.kind;
-    let function = conv::func_type(alloc, ty).expect(&rt, "memory");
+    let ty = FunctionType {
+        params: Seq::new(alloc),
+        results: Seq::new(alloc),
+    };
+    let function = conv::func_type(alloc, &ty).expect(&rt, "memory");
     assert!(rt; function.params.is_empty() && function.results.is_empty());
+    let plain = plain_type(alloc);
     let sub_type = conv::sub_type(alloc, &plain).expect(&rt, "memory");
     assert!(rt; sub_type.is_final && sub_type.supertype_idxs.is_empty());
+}
+
+#[test]
+fn reference_types_are_converted(rt: HostRuntime) {
+    let to_third = RefType {
+        nullable: true,
+        heap: HeapType::Concrete(Index::Num(3, at(0))),
+    };
+    let third = wasm_ops::RefType {
+        nullable: true,
+        heap_type: wasm_ops::HeapType::Concrete(3),
+    };
+    assert!(rt; conv::heap_type(&to_third.heap) == third.heap_type);
+    assert!(rt; conv::ref_type(&to_third) == third);
+    let held = StorageType::Val(ValType::Ref(to_third));
+    let element_type = wasm_ops::StorageType::Val(wasm_ops::ValType::Ref(third));
+    assert!(rt; conv::storage_type(&held) == element_type);
+    let field = StructField {
+        id: None,
+        name: None,
+        mutable: true,
+        ty: held,
+    };
+    let want = wasm_ops::FieldType {
+        element_type,
+        mutable: true,
+    };
+    assert!(rt; conv::field_type(&field) == want);
+    let array = ArrayType {
+        mutable: true,
+        ty: held,
+    };
+    assert!(rt; conv::array_type(&array) == wasm_ops::ArrayType(want));
+    let fields = Seq::from_vec(vec![in rt.alloc(); field].expect(&rt, "memory"));
+    let structure = conv::struct_type(rt.alloc(), &StructType { fields }).expect(&rt, "memory");
+    assert!(rt; structure.fields.as_slice() == [want].as_slice());
 }
 
 fn payload<S: Section>(rt: &impl Abort, alloc: Global, section: &S) -> Vec<u8> {
@@ -222,6 +335,28 @@ fn a_type_is_an_item(rt: HostRuntime) {
     let mut out = Vec::new(alloc);
     assert!(rt; RecOrType::Ty(&ty).put(&mut out).is_ok());
     assert!(rt; out.as_slice() == [0x60, 0, 0].as_slice());
+}
+
+// `(rec (type (func)))`
+fn group_of_one<'a>(rt: &impl Abort, alloc: Global) -> Rec<'a>
+    ensures { IsTrue (list_all is_encodable_type result.types) }
+{
+    let mut types = Seq::new(alloc);
+    let member = type_at(None, 14, plain_type(alloc));
+    types.push(member).expect(rt, "memory");
+    Rec { span: at(9), types }
+}
+
+#[test]
+fn a_group_is_an_item(rt: HostRuntime) {
+    let alloc = rt.alloc();
+    let group = group_of_one(&rt, alloc);
+    let mut types = TypeSection::new(alloc);
+    assert!(rt; RecOrType::Rec(&group).encode(alloc, &mut types).is_ok());
+    assert!(rt; payload(&rt, alloc, &types).as_slice() == [1, 0x4e, 1, 0x60, 0, 0].as_slice());
+    let mut out = Vec::new(alloc);
+    assert!(rt; RecOrType::Rec(&group).put(&mut out).is_ok());
+    assert!(rt; out.as_slice() == [0x4e, 1, 0x60, 0, 0].as_slice());
 }
 
 #[test]

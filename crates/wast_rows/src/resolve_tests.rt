@@ -1,29 +1,36 @@
 //! The calls of `wast_resolve` on modules, over the worked rows.
 
-ghost use Rattle.std.specs.Prelude.{IsTrue};
+ghost use Rattle.std.specs.Prelude.{◌≡◌, IsTrue};
+ghost use Rattle.wast_tree.specs.Generations.{greatest_generation};
 ghost use Rattle.wast_tree.specs.WellFormed.{is_well_formed};
 
-use crate::core_tests::{ready, row};
+use crate::core_tests::row;
 use crate::samples::{at, module, plain_type, type_at};
 use std::alloc::Global;
 use std::process::Abort;
 use wast_core::{Module, ModuleKind};
-use wast_resolve::{Names, Ns, names, resolve};
+use wast_expand::{expanded_laws, types};
+use wast_resolve::{Names, Ns, Resolver, names, resolve, resolved_laws};
 use wast_tree::{
     Error, Fault, FuncKind, Gensym, Id, Index, Instruction, ModuleField, Seq, discard_fields,
+    gensym_bound, well_formed,
 };
 
 fn fields_of<'a>(rt: &impl Abort, module: Module<'a>) -> Seq<ModuleField<'a>>
-    ensures { IsTrue (is_well_formed result) }
+    ensures well_formed { IsTrue (is_well_formed result) }
+    ensures bound { greatest_generation result ≡ 0 }
 {
-    match ready(rt, module).kind {
-        ModuleKind::Text(fields) => fields,
-        ModuleKind::Binary(_) | ModuleKind::Refused(_) => panic!(rt; "fields"),
-    }
+    let ModuleKind::Text(fields) = module.kind else {
+        panic!(rt; "fields")
+    };
+    assert!(rt; well_formed(fields.as_slice()));
+    assert!(rt; gensym_bound(fields.as_slice()) == 0);
+    fields
 }
 
 fn row_fields<'a>(rt: &impl Abort, alloc: Global, n: u32) -> Seq<ModuleField<'a>>
-    ensures { IsTrue (is_well_formed result) }
+    ensures well_formed { IsTrue (is_well_formed result) }
+    ensures bound { greatest_generation result ≡ 0 }
 {
     fields_of(rt, row(rt, alloc, n))
 }
@@ -36,6 +43,7 @@ fn is_zero_at(index: Index<'_>, offset: usize) -> bool {
 fn callee<'a>(kind: &FuncKind<'a>) -> Option<Index<'a>> {
     let FuncKind::Inline { expression, .. } = kind;
     match expression.instrs.as_slice().first()? {
+        Instruction::Plain(_) => None,
         Instruction::call(func) => Some(*func),
     }
 }
@@ -44,7 +52,7 @@ fn callee<'a>(kind: &FuncKind<'a>) -> Option<Index<'a>> {
 fn has_numbers(rt: &impl Abort, fields: &Seq<ModuleField<'_>>) {
     for field in fields.as_slice() {
         match field {
-            ModuleField::Ty(_) => {}
+            ModuleField::Ty(_) | ModuleField::Rec(_) => {}
             ModuleField::Func(func) => {
                 assert!(rt; func.ty.index.is_some_and(|i| is_zero_at(i, 40)));
                 assert!(rt; callee(&func.kind).is_some_and(|i| is_zero_at(i, 49)));
@@ -105,23 +113,34 @@ fn empty_names_know_no_name(rt: HostRuntime) {
     assert!(rt; Names::empty(rt.alloc()).resolve_func(&mut idx) == unknown("func", "f", 5));
 }
 
+// Type uses are expanded first, and then come the two passes over names.
+fn passes<'a>(alloc: Global, fields: Seq<ModuleField<'a>>) -> Result<Resolver<'a>, Error<'a>>
+    requires well_formed { IsTrue (is_well_formed fields) }
+    requires bound { greatest_generation fields ≡ 0 }
+{
+    expanded_laws();
+    resolved_laws();
+    let fields = types::expand(alloc, fields, &mut Gensym::new(1))?;
+    let (fields, resolver) = names::resolve(alloc, fields)?;
+    discard_fields(fields);
+    Ok(resolver)
+}
+
 #[test]
 fn a_resolver_goes_on_answering(rt: HostRuntime) {
     let alloc = rt.alloc();
-    let resolved = names::resolve(alloc, row_fields(&rt, alloc, 27));
-    assert!(rt; resolved.is_ok());
-    let Ok((fields, resolver)) = resolved else {
-        return;
+    let Ok(resolver) = passes(alloc, row_fields(&rt, alloc, 27)) else {
+        panic!(rt; "resolved")
     };
-    discard_fields(fields);
     let mut idx = Index::Id(Id::new("t", at(3)));
     assert!(rt; resolver.resolve(&mut idx, Ns::Ty) == Ok(0));
 }
 
 fn is_refused(rt: &impl Abort, alloc: Global, fields: Seq<ModuleField<'_>>, want: Error<'_>)
-    requires { IsTrue (is_well_formed fields) }
+    requires well_formed { IsTrue (is_well_formed fields) }
+    requires bound { greatest_generation fields ≡ 0 }
 {
-    match names::resolve(alloc, fields) {
+    match resolve(alloc, fields, &mut Gensym::new(1)) {
         Ok((fields, _)) => {
             discard_fields(fields);
             panic!(rt; "refused")

@@ -11,6 +11,10 @@ use wast_tree::{Error, Fault, Gensym, Id, ModuleField, Seq};
 
 const FIRST_ROW: &str = "0061736d01000000\n";
 
+pub(crate) const BYTES_OF_2: &str = "0061736d01000000010401600000030201000a040102000b";
+
+pub(crate) const BYTES_OF_24: &str = "0061736d01000000030201050a040102000b";
+
 pub(crate) const BYTES_OF_27: &str =
     "0061736d0100000001040160000003020100070501016100000a0601040010000b0011046e616d65010401000166040401000174";
 
@@ -22,10 +26,23 @@ fn answers(alloc: Global, mut input: &[u8]) -> Result<Vec<u8>, RunError> {
 
 #[test]
 fn rows_have_their_lines(rt: HostRuntime) -> Result<(), Fail> {
-    let output = answers(rt.alloc(), b"1\n27\n31\n32\n")?;
+    let output = answers(rt.alloc(), b"1\n2\n3\n24\n27\n31\n32\n")?;
     let want = format!(in rt.alloc();
-        "{FIRST_ROW}{BYTES_OF_27}\nfault at 43: unknown func: failed to find name `$g`\nfault at 31: duplicate type identifier\n"
+        "{FIRST_ROW}{BYTES_OF_2}\n{BYTES_OF_2}000b046e616d65010401000166\n{BYTES_OF_24}\n{BYTES_OF_27}\nfault at 43: unknown func: failed to find name `$g`\nfault at 31: duplicate type identifier\n"
     )?;
+    assert_eq!(rt; output.as_slice(), want.as_bytes());
+    Ok(())
+}
+
+#[test]
+fn rows_of_types_have_their_lines(rt: HostRuntime) -> Result<(), Fail> {
+    let output = answers(rt.alloc(), b"8\n33\n36\n37\n")?;
+    let want = concat!(
+        "0061736d010000000109024e01600000600000030201010a040102000b\n",
+        "0061736d01000000010401600000030201000a08010602027f017e0b\n",
+        "0061736d01000000010c0250006000004f0100600000000b046e616d65040401000161\n",
+        "0061736d010000000106015000600000030201000a040102000b\n",
+    );
     assert_eq!(rt; output.as_slice(), want.as_bytes());
     Ok(())
 }
@@ -43,7 +60,7 @@ fn each_line_has_its_answer(rt: HostRuntime) -> Result<(), Fail> {
         (&b"1\r\n"[..], none),
         (&b"4294967296"[..], none),
         (&b"0"[..], none),
-        (&b"2"[..], none),
+        (&b"4"[..], none),
         (&b"20"[..], none),
         (&b"\xff\xfe"[..], none),
         (&b"1"[..], FIRST_ROW),

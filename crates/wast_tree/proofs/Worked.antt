@@ -24,10 +24,10 @@ pub unsettled_indices : UnsettledIndices
 unsettled_indices = (refl, refl, refl, refl, refl, refl, refl)
 
 pub well_formed_funcs : WellFormedFuncs
-well_formed_funcs a = (refl, refl, refl, refl, refl, refl, refl)
+well_formed_funcs a = (refl, refl, refl, refl, refl, refl, refl, refl, refl)
 
 pub well_formed_types : WellFormedTypes
-well_formed_types a = (refl, refl, refl, refl, refl, refl, refl, refl, refl)
+well_formed_types a = (refl, refl, refl, refl, refl, refl, refl, refl, refl, refl, refl, refl)
 
 pub generations_of_rows : GenerationsOfRows
 generations_of_rows a b c d e f = (refl, refl, refl, refl, refl, refl, refl)

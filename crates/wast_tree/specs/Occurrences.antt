@@ -1,8 +1,12 @@
 -- What stands in a module beside its items, in the order in which it is asked (text format: identifiers, indices).
 use Rattle.std.specs.Prelude.{List, [], ◌∷◌, ◌++◌, map, Option, Some, None, flat_map}
-use Rattle.wast_tree.specs.Tree.{Id, Index, NameAnnotation, Space, ValType, FunctionType, TypeUse, InnerTypeKind, TypeDef, Instruction, Expression, Local, FuncKind, Func, ExportKind, Export, ModuleField}
+use Rattle.wast_tree.specs.Tree.{Id, Index, NameAnnotation, Space, RefType, HeapType, ValType, StorageType, StructField, StructType, ArrayType, FunctionType, TypeUse, InnerTypeKind, TypeDef, Rec, Instruction, Expression, Local, FuncKind, Func, ExportKind, Export, ModuleField}
 use Rattle.wast_tree.specs.Tree.space
+use Rattle.wast_tree.specs.Tree.heap
+use Rattle.wast_tree.specs.Tree.value
+use Rattle.wast_tree.specs.Tree.storage
 use Rattle.wast_tree.specs.Tree.inner
+use Rattle.wast_tree.specs.Tree.ty
 use Rattle.wast_tree.specs.Tree.instr
 use Rattle.wast_tree.specs.Tree.func
 use Rattle.wast_tree.specs.Tree.export
@@ -41,31 +45,70 @@ in_index s i = Wants s i ∷ []
 abbrev pub in_id : Id → List Ask
 in_id id = Bare (mark_of id) ∷ []
 
+abbrev pub in_heap : HeapType → List Ask
+in_heap (heap.Abstract shared ty) = []
+in_heap (heap.Concrete i) = in_index space.Ty i
+
+abbrev pub in_ref : RefType → List Ask
+in_ref r = in_heap r.heap
+
+abbrev pub in_val : ValType → List Ask
+in_val value.I32 = []
+in_val value.I64 = []
+in_val value.F32 = []
+in_val value.F64 = []
+in_val value.V128 = []
+in_val (value.Ref r) = in_ref r
+
+abbrev pub in_storage : StorageType → List Ask
+in_storage storage.I8 = []
+in_storage storage.I16 = []
+in_storage (storage.Val t) = in_val t
+
 abbrev pub in_param : Option Id × Option NameAnnotation × ValType → List Ask
-in_param p = if_there in_id p.0
+in_param p = if_there in_id p.0 ++ in_val p.2
 
 abbrev pub in_signature : FunctionType → List Ask
-in_signature t = flat_map in_param t.params
+in_signature t = flat_map in_param t.params ++ flat_map in_val t.results
+
+abbrev pub in_struct_field : StructField → List Ask
+in_struct_field f = if_there in_id f.id ++ in_storage f.ty
+
+abbrev pub in_struct : StructType → List Ask
+in_struct t = flat_map in_struct_field t.fields
+
+abbrev pub in_array : ArrayType → List Ask
+in_array t = in_storage t.ty
 
 abbrev pub in_inner : InnerTypeKind → List Ask
 in_inner (inner.Func t) = in_signature t
+in_inner (inner.Struct t) = in_struct t
+in_inner (inner.Array t) = in_array t
 
 abbrev pub in_def : TypeDef → List Ask
 in_def d =
     flat_map (in_index space.Ty) d.parents
     ++ (if_there (in_index space.Ty) d.descriptor ++ (if_there (in_index space.Ty) d.describes ++ in_inner d.kind))
 
+abbrev pub in_type : ty.«Type» → List Ask
+in_type t = in_def t.def
+
+-- each type of a group after the one before it
+abbrev pub in_rec : Rec → List Ask
+in_rec r = flat_map in_type r.types
+
 abbrev pub in_type_use : TypeUse FunctionType → List Ask
 in_type_use u = if_there (in_index space.Ty) u.index ++ if_there in_signature u.inline
 
 abbrev pub in_instr : Instruction → List Step
+in_instr (instr.Plain op) = []
 in_instr (instr.call f) = steps (in_index space.Func f)
 
 abbrev pub in_expression : Expression → List Step
 in_expression e = flat_map in_instr e.instrs
 
 abbrev pub in_local : Local → List Ask
-in_local l = if_there in_id l.id
+in_local l = in_val l.ty ++ if_there in_id l.id
 
 abbrev pub in_locals : FuncKind → List Ask
 in_locals (func.Inline locals e) = flat_map in_local locals
@@ -83,7 +126,8 @@ abbrev pub in_export : Export → List Ask
 in_export e = in_index (exported_space e.kind) e.item
 
 abbrev pub in_field : ModuleField → List Occurrence
-in_field (field.Ty t) = outside (in_def t.def)
+in_field (field.Ty t) = outside (in_type t)
+in_field (field.Rec r) = outside (in_rec r)
 in_field (field.Func f) = in_func f
 in_field (field.Export e) = outside (in_export e)
 

@@ -8,12 +8,27 @@ pub use Rattle.wast_tree.specs.declared.spaces.Space.{Space}
 pub use Rattle.wast_tree.specs.declared.spaces.Space.TheVariants as space
 pub use Rattle.wast_tree.specs.declared.types.ValType.{ValType}
 pub use Rattle.wast_tree.specs.declared.types.ValType.TheVariants as value
+pub use Rattle.wast_tree.specs.declared.types.RefType.{RefType}
+pub use Rattle.wast_tree.specs.declared.types.HeapType.{HeapType}
+pub use Rattle.wast_tree.specs.declared.types.HeapType.TheVariants as heap
+pub use Rattle.wast_tree.specs.declared.types.AbstractHeapType.{AbstractHeapType}
+pub use Rattle.wast_tree.specs.declared.types.AbstractHeapType.TheVariants as abstract
+pub use Rattle.wast_tree.specs.declared.types.StorageType.{StorageType}
+pub use Rattle.wast_tree.specs.declared.types.StorageType.TheVariants as storage
+pub use Rattle.wast_tree.specs.declared.types.StructField.{StructField}
+pub use Rattle.wast_tree.specs.declared.types.StructType.{StructType}
+pub use Rattle.wast_tree.specs.declared.types.ArrayType.{ArrayType}
 pub use Rattle.wast_tree.specs.declared.types.FunctionType.{FunctionType}
 pub use Rattle.wast_tree.specs.declared.types.TypeUse.{TypeUse}
 pub use Rattle.wast_tree.specs.declared.types.InnerTypeKind.{InnerTypeKind}
 pub use Rattle.wast_tree.specs.declared.types.InnerTypeKind.TheVariants as inner
 pub use Rattle.wast_tree.specs.declared.types.TypeDef.{TypeDef}
 pub use Rattle.wast_tree.specs.declared.types.Type as ty
+pub use Rattle.wast_tree.specs.declared.types.Rec.{Rec}
+pub use Rattle.wast_tree.specs.declared.instrs.BareOp.{BareOp}
+pub use Rattle.wast_tree.specs.declared.instrs.BareOp.TheVariants as bare
+pub use Rattle.wast_tree.specs.declared.instrs.Plain.{Plain}
+pub use Rattle.wast_tree.specs.declared.instrs.Plain.TheVariants as plain
 pub use Rattle.wast_tree.specs.declared.instrs.Instruction.{Instruction}
 pub use Rattle.wast_tree.specs.declared.instrs.Instruction.TheVariants as instr
 pub use Rattle.wast_tree.specs.declared.instrs.Expression.{Expression}

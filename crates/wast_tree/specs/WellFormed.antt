@@ -1,9 +1,13 @@
 -- Which lists of fields are well formed, as a test.
 use Rattle.std.specs.Prelude.{ℕ, Bool, true, not, ◌&&◌, ◌||◌, ◌==◌, is_none, is_some, length, List, Option, Some, None}
 use Rattle.std.specs.List.{list_all}
-use Rattle.wast_tree.specs.Tree.{Id, Index, NameAnnotation, ValType, FunctionType, TypeUse, InnerTypeKind, TypeDef, Expression, FuncKind, Func, ModuleField}
+use Rattle.wast_tree.specs.Tree.{Id, Index, NameAnnotation, HeapType, ValType, StorageType, StructField, FunctionType, TypeUse, InnerTypeKind, TypeDef, Local, Expression, FuncKind, Func, ModuleField}
 use Rattle.wast_tree.specs.Tree.index
+use Rattle.wast_tree.specs.Tree.heap
+use Rattle.wast_tree.specs.Tree.value
+use Rattle.wast_tree.specs.Tree.storage
 use Rattle.wast_tree.specs.Tree.inner
+use Rattle.wast_tree.specs.Tree.ty
 use Rattle.wast_tree.specs.Tree.func
 use Rattle.wast_tree.specs.Tree.field
 use Rattle.wast_tree.specs.Ids.{Name, is_generated, name_of}
@@ -28,40 +32,75 @@ has_settled_indices fields = are_settled (known (items fields)) (asked (in_modul
 
 -- What follows is what the tree covers today.
 
--- a parameter has neither id nor name annotation
+-- what is referred to is not shared
+abbrev pub is_plain_heap : HeapType → Bool
+is_plain_heap (heap.Abstract shared ty) = not shared
+is_plain_heap (heap.Concrete i) = true
+
+abbrev pub is_plain_val : ValType → Bool
+is_plain_val value.I32 = true
+is_plain_val value.I64 = true
+is_plain_val value.F32 = true
+is_plain_val value.F64 = true
+is_plain_val value.V128 = true
+is_plain_val (value.Ref r) = is_plain_heap r.heap
+
+abbrev pub is_plain_storage : StorageType → Bool
+is_plain_storage storage.I8 = true
+is_plain_storage storage.I16 = true
+is_plain_storage (storage.Val t) = is_plain_val t
+
+-- neither id nor name annotation, of a parameter, a field of a struct or a local
+abbrev pub is_nameless : Option Id → Option NameAnnotation → Bool
+is_nameless id name = is_none id && is_none name
+
 abbrev pub is_plain_param : Option Id × Option NameAnnotation × ValType → Bool
-is_plain_param p = is_none p.0 && is_none p.1
+is_plain_param p = is_nameless p.0 p.1 && is_plain_val p.2
+
+abbrev pub is_plain_signature : FunctionType → Bool
+is_plain_signature t = list_all is_plain_param t.params && list_all is_plain_val t.results
+
+abbrev pub is_plain_struct_field : StructField → Bool
+is_plain_struct_field f = is_nameless f.id f.name && is_plain_storage f.ty
 
 abbrev pub is_plain_inner : InnerTypeKind → Bool
-is_plain_inner (inner.Func t) = list_all is_plain_param t.params
+is_plain_inner (inner.Func t) = is_plain_signature t
+is_plain_inner (inner.Struct t) = list_all is_plain_struct_field t.fields
+is_plain_inner (inner.Array t) = is_plain_storage t.ty
 
 -- final where it says nothing
 abbrev pub is_final : Option Bool → Bool
 is_final None = true
 is_final (Some final) = final
 
--- A type is final, without parents, not shared, without descriptor and describes.
+-- A type is not shared, without descriptor and describes.
 abbrev pub is_plain_def : TypeDef → Bool
-is_plain_def d = (length d.parents == 0) && (not d.shared && (is_none d.descriptor && (is_none d.describes && (is_final d.final_type && is_plain_inner d.kind))))
+is_plain_def d = not d.shared && (is_none d.descriptor && (is_none d.describes && is_plain_inner d.kind))
 
--- A type use has an index and no inline type.
+abbrev pub is_plain_type : ty.«Type» → Bool
+is_plain_type t = is_plain_def t.def
+
+-- A type use has no inline type.
 abbrev pub is_plain_type_use : TypeUse FunctionType → Bool
-is_plain_type_use u = is_some u.index && is_none u.inline
+is_plain_type_use u = is_none u.inline
 
 -- no branch hints
 abbrev pub is_plain_expression : Expression → Bool
 is_plain_expression e = length e.branch_hints == 0
 
--- no locals
+abbrev pub is_plain_local : Local → Bool
+is_plain_local l = is_nameless l.id l.name && is_plain_val l.ty
+
 abbrev pub is_plain_func_kind : FuncKind → Bool
-is_plain_func_kind (func.Inline locals e) = (length locals == 0) && is_plain_expression e
+is_plain_func_kind (func.Inline locals e) = list_all is_plain_local locals && is_plain_expression e
 
 -- nothing is exported in place
 abbrev pub is_plain_func : Func → Bool
 is_plain_func f = (length f.exports.names == 0) && (is_plain_type_use f.ty && is_plain_func_kind f.kind)
 
 abbrev pub is_plain_field : ModuleField → Bool
-is_plain_field (field.Ty t) = is_plain_def t.def
+is_plain_field (field.Ty t) = is_plain_type t
+is_plain_field (field.Rec r) = list_all is_plain_type r.types
 is_plain_field (field.Func f) = is_plain_func f
 is_plain_field (field.Export e) = true
 

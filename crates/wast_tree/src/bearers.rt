@@ -14,20 +14,20 @@ use crate::visits::{ItemVisitor, visit_items_in};
 
 /// An id, and the space in which an item with it is looked for.
 #[derive(Clone, Copy)]
-struct Sought<'i, 'a> {
+struct Sought<'i, 'b> {
     space: Space,
-    id: &'i Id<'a>,
+    id: &'i Id<'b>,
 }
 
 /// Whether an item that it was told of has the id that is sought.
 #[derive(Drop)]
-struct Bearer<'i, 'a> {
-    sought: Sought<'i, 'a>,
+struct Bearer<'i, 'b> {
+    sought: Sought<'i, 'b>,
     found: bool,
 }
 
 /// Whether an optional id is this one.
-fn is_called<'a>(bearer: &Option<Id<'a>>, id: &Id<'a>) -> bool
+fn is_called(bearer: &Option<Id<'_>>, id: &Id<'_>) -> bool
     ensures { result ≡ is_called (name_of id.now) (name_if (marked bearer.now)) }
 {
     match bearer {
@@ -36,7 +36,7 @@ fn is_called<'a>(bearer: &Option<Id<'a>>, id: &Id<'a>) -> bool
     }
 }
 
-impl<'i, 'a> ItemVisitor<'a> for Bearer<'i, 'a> {
+impl<'i, 'b, 'a> ItemVisitor<'a> for Bearer<'i, 'b> {
     ghost told = { λ old x new. (new.sought ≡ old.sought) × (new.found ≡ (old.found || bears old.sought x)) };
 
     fn item(&mut self, space: Space, id: &Option<Id<'a>>) {
@@ -45,7 +45,7 @@ impl<'i, 'a> ItemVisitor<'a> for Bearer<'i, 'a> {
 }
 
 /// Whether an item of the field stands in the space and has the id.
-fn has_bearer<'a>(field: &ModuleField<'a>, space: Space, id: &Id<'a>) -> bool
+fn has_bearer(field: &ModuleField<'_>, space: Space, id: &Id<'_>) -> bool
     ensures { result ≡ is_borne (name_of id.now) (names_in space (items_in field.now)) }
 {
     let mut bearer = Bearer {
@@ -57,7 +57,7 @@ fn has_bearer<'a>(field: &ModuleField<'a>, space: Space, id: &Id<'a>) -> bool
 }
 
 /// The first field with an item of the space that has the id.
-fn first_bearer<'a>(fields: &[ModuleField<'a>], space: Space, id: &Id<'a>) -> Option<usize>
+fn first_bearer(fields: &[ModuleField<'_>], space: Space, id: &Id<'_>) -> Option<usize>
     ensures borne { is_some result ≡ is_borne (name_of id.now) (names_in space (items fields.now)) }
     ensures below { MatchOption result ⊤ (λ i. i < length fields.now) }
 {
@@ -70,11 +70,11 @@ fn first_bearer<'a>(fields: &[ModuleField<'a>], space: Space, id: &Id<'a>) -> Op
 }
 
 /// A field with an item of the space that has the id: the first one from a place on, or else from the start.
-pub(crate) fn bearer_from<'a>(
-    fields: &[ModuleField<'a>],
+pub(crate) fn bearer_from(
+    fields: &[ModuleField<'_>],
     start: usize,
     space: Space,
-    id: &Id<'a>,
+    id: &Id<'_>,
 ) -> Option<usize>
     requires { start ≤ length fields.now }
     ensures borne { is_some result ≡ is_borne (name_of id.now) (names_in space (items fields.now)) }

@@ -1,18 +1,20 @@
 //! Which fields are well formed.
 
-ghost use Rattle.std.specs.Prelude.{◌≡◌, ◌&&◌};
+ghost use Rattle.std.specs.Prelude.{◌≡◌, ◌&&◌, Bool};
 ghost use Rattle.std.specs.List.{list_all};
 ghost use Rattle.wast_tree.specs.Ids.{name_of};
 ghost use Rattle.wast_tree.specs.Spaces.{is_borne};
 ghost use Rattle.wast_tree.specs.Items.{items};
 ghost use Rattle.wast_tree.specs.Known.{known, names_in};
-ghost use Rattle.wast_tree.specs.WellFormed.{is_settled_index, is_settled, is_plain_param, is_plain_inner, is_plain_def, is_plain_type_use, is_plain_func_kind, is_plain_func, is_plain_field, are_plain, has_settled_indices, is_well_formed};
+ghost use Rattle.wast_tree.specs.WellFormed.{is_settled_index, is_settled, is_plain_heap, is_plain_val, is_plain_storage, is_nameless, is_plain_param, is_plain_struct_field, is_plain_inner, is_plain_type, is_plain_local, is_plain_type_use, is_plain_func_kind, is_plain_func, is_plain_field, has_settled_indices, is_well_formed};
 
 use crate::bearers::bearer_from;
-use crate::fields::{Func, FuncKind, ModuleField};
+use crate::fields::{Func, FuncKind, Local, ModuleField};
 use crate::ids::{Id, Index, NameAnnotation};
 use crate::spaces::Space;
-use crate::types::{FunctionType, InnerTypeKind, TypeDef, TypeUse, ValType};
+use crate::types::{
+    FunctionType, HeapType, InnerTypeKind, StorageType, StructField, Type, TypeUse, ValType,
+};
 use crate::visits::{Visitor, visit_fields};
 
 /// Whether each generated id that it was told of, where an index is wanted, is that of an item of the fields.
@@ -80,81 +82,157 @@ fn has_settled_indices(fields: &[ModuleField<'_>]) -> bool
     settled.all
 }
 
-fn is_plain_param(param: &(Option<Id>, Option<NameAnnotation>, ValType)) -> bool
-    ensures { result ≡ is_plain_param param.now }
-{
-    param.0.is_none() && param.1.is_none()
+/// A part of the tree that keeps to what the tree covers today, or does not.
+trait IsPlain {
+    ghost plain: { Self → Bool };
+
+    /// Whether it does.
+    fn is_plain(&self) -> bool
+        ensures { result ≡ plain self.now };
 }
 
-fn are_plain_params(params: &[(Option<Id>, Option<NameAnnotation>, ValType)]) -> bool
-    ensures { result ≡ list_all is_plain_param params.now }
+/// Whether each part of a list does.
+fn are_plain<T: IsPlain>(parts: &[T]) -> bool
+    ensures { result ≡ list_all T.plain parts.now }
 {
-    params.iter().all(|param| is_plain_param(param))
+    parts.iter().all(|part| part.is_plain())
 }
 
-fn is_plain_inner(kind: &InnerTypeKind) -> bool
-    ensures { result ≡ is_plain_inner kind.now }
-{
-    match kind {
-        InnerTypeKind::Func(ty) => are_plain_params(ty.params.as_slice()),
-    }
-}
+impl IsPlain for HeapType<'_> {
+    ghost plain = { is_plain_heap };
 
-fn is_plain_def(def: &TypeDef) -> bool
-    ensures { result ≡ is_plain_def def.now }
-{
-    def.parents.is_empty()
-        && !def.shared
-        && def.descriptor.is_none()
-        && def.describes.is_none()
-        && def.final_type.unwrap_or(true)
-        && is_plain_inner(&def.kind)
-}
-
-fn is_plain_type_use(ty: &TypeUse<FunctionType>) -> bool
-    ensures { result ≡ is_plain_type_use ty.now }
-{
-    ty.index.is_some() && ty.inline.is_none()
-}
-
-fn is_plain_func_kind(kind: &FuncKind) -> bool
-    ensures { result ≡ is_plain_func_kind kind.now }
-{
-    match kind {
-        FuncKind::Inline { locals, expression } => {
-            locals.is_empty() && expression.branch_hints.is_empty()
+    fn is_plain(&self) -> bool {
+        match self {
+            HeapType::Abstract { shared, .. } => !*shared,
+            HeapType::Concrete(_) => true,
         }
     }
 }
 
-fn is_plain_func(func: &Func) -> bool
-    ensures { result ≡ is_plain_func func.now }
-{
-    func.exports.names.is_empty() && is_plain_type_use(&func.ty) && is_plain_func_kind(&func.kind)
-}
+impl IsPlain for ValType<'_> {
+    ghost plain = { is_plain_val };
 
-fn is_plain_field(field: &ModuleField) -> bool
-    ensures { result ≡ is_plain_field field.now }
-{
-    match field {
-        ModuleField::Ty(ty) => is_plain_def(&ty.def),
-        ModuleField::Func(func) => is_plain_func(func),
-        ModuleField::Export(_) => true,
+    fn is_plain(&self) -> bool {
+        match self {
+            ValType::I32 | ValType::I64 | ValType::F32 | ValType::F64 | ValType::V128 => true,
+            ValType::Ref(ty) => ty.heap.is_plain(),
+        }
     }
 }
 
-fn are_plain(fields: &[ModuleField]) -> bool
-    ensures { result ≡ are_plain fields.now }
+impl IsPlain for StorageType<'_> {
+    ghost plain = { is_plain_storage };
+
+    fn is_plain(&self) -> bool {
+        match self {
+            StorageType::I8 | StorageType::I16 => true,
+            StorageType::Val(ty) => ty.is_plain(),
+        }
+    }
+}
+
+/// Whether there is neither an id nor a name annotation.
+fn is_nameless(id: &Option<Id>, name: &Option<NameAnnotation>) -> bool
+    ensures { result ≡ is_nameless id.now name.now }
 {
-    fields.iter().all(|field| is_plain_field(field))
+    id.is_none() && name.is_none()
+}
+
+impl<'a> IsPlain for (Option<Id<'a>>, Option<NameAnnotation<'a>>, ValType<'a>) {
+    ghost plain = { is_plain_param };
+
+    fn is_plain(&self) -> bool {
+        is_nameless(&self.0, &self.1) && self.2.is_plain()
+    }
+}
+
+impl IsPlain for StructField<'_> {
+    ghost plain = { is_plain_struct_field };
+
+    fn is_plain(&self) -> bool {
+        is_nameless(&self.id, &self.name) && self.ty.is_plain()
+    }
+}
+
+impl IsPlain for InnerTypeKind<'_> {
+    ghost plain = { is_plain_inner };
+
+    fn is_plain(&self) -> bool {
+        match self {
+            InnerTypeKind::Func(ty) => {
+                are_plain(ty.params.as_slice()) && are_plain(ty.results.as_slice())
+            }
+            InnerTypeKind::Struct(ty) => are_plain(ty.fields.as_slice()),
+            InnerTypeKind::Array(ty) => ty.ty.is_plain(),
+        }
+    }
+}
+
+impl IsPlain for Type<'_> {
+    ghost plain = { is_plain_type };
+
+    fn is_plain(&self) -> bool {
+        let def = &self.def;
+        !def.shared && def.descriptor.is_none() && def.describes.is_none() && def.kind.is_plain()
+    }
+}
+
+impl<'a> IsPlain for TypeUse<'a, FunctionType<'a>> {
+    ghost plain = { is_plain_type_use };
+
+    fn is_plain(&self) -> bool {
+        self.inline.is_none()
+    }
+}
+
+impl IsPlain for Local<'_> {
+    ghost plain = { is_plain_local };
+
+    fn is_plain(&self) -> bool {
+        is_nameless(&self.id, &self.name) && self.ty.is_plain()
+    }
+}
+
+impl IsPlain for FuncKind<'_> {
+    ghost plain = { is_plain_func_kind };
+
+    fn is_plain(&self) -> bool {
+        match self {
+            FuncKind::Inline { locals, expression } => {
+                are_plain(locals.as_slice()) && expression.branch_hints.is_empty()
+            }
+        }
+    }
+}
+
+impl IsPlain for Func<'_> {
+    ghost plain = { is_plain_func };
+
+    fn is_plain(&self) -> bool {
+        self.exports.names.is_empty() && self.ty.is_plain() && self.kind.is_plain()
+    }
+}
+
+impl IsPlain for ModuleField<'_> {
+    ghost plain = { is_plain_field };
+
+    fn is_plain(&self) -> bool {
+        match self {
+            ModuleField::Ty(ty) => ty.is_plain(),
+            ModuleField::Rec(rec) => are_plain(rec.types.as_slice()),
+            ModuleField::Func(func) => func.is_plain(),
+            ModuleField::Export(_) => true,
+        }
+    }
 }
 
 /// Whether the fields are well formed (text format: indices, modules). It takes no memory.
 ///
 /// They are, where each generated id that stands for an index is that of an item of its space, and where they keep to what
-/// the tree covers today: every type use has an index and no inline type; functions have no locals, hints or exports of
-/// their own; types are final, not shared, without parents, descriptor and describes, and their parameters have no ids and
-/// no name annotations. A written id may be that of no item: this is E4, which resolving answers.
+/// the tree covers today: type uses have no inline type; functions have no hints or exports of their own; parameters,
+/// locals and fields of structs have no ids and no name annotations; types are not shared, without descriptor and
+/// describes, and refer to no shared heap type. A type use may have no index. A written id may be that of no item: this
+/// is E4, which resolving answers.
 ///
 /// It is quick where generated ids stand in the order of their items. In another order each may be looked for through all
 /// the fields.

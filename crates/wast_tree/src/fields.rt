@@ -3,13 +3,15 @@
 use crate::ids::{Id, Index, NameAnnotation, Span};
 use crate::instrs::Expression;
 use crate::seq::Seq;
-use crate::types::{FunctionType, Type, TypeUse, ValType};
+use crate::types::{FunctionType, Rec, Type, TypeUse, ValType};
 
 /// A field of a module (text format, modules).
 #[derive(Debug, Drop)]
 pub enum ModuleField<'a> {
     /// `(type ..)`
     Ty(Type<'a>),
+    /// `(rec ..)`
+    Rec(Rec<'a>),
     /// `(func ..)`
     Func(Func<'a>),
     /// `(export ..)`
@@ -60,7 +62,7 @@ pub struct Local<'a> {
     /// Its name annotation.
     pub name: Option<NameAnnotation<'a>>,
     /// Its type.
-    pub ty: ValType,
+    pub ty: ValType<'a>,
 }
 
 /// What an export gives out (text format, exports).

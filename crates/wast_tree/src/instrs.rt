@@ -3,10 +3,32 @@
 use crate::ids::Index;
 use crate::seq::Seq;
 
-/// An instruction (text format, instructions). Each variant has the name of its text, with `_` for `.`.
+/// An instruction whose text is one word without a dot, and that has no immediate (text format, instructions). The number
+/// of a variant is its opcode.
+#[allow(non_camel_case_types)]
+#[derive(Clone, Copy, Debug, PartialEq, Eq)]
+pub enum BareOp {
+    /// `unreachable`
+    unreachable = 0x00,
+    /// `nop`
+    nop = 0x01,
+    /// `drop`
+    drop = 0x1a,
+}
+
+/// An instruction that has no immediate, by the first word of its text (text format, instructions).
+#[derive(Clone, Copy, Debug, PartialEq, Eq)]
+pub enum Plain {
+    /// One whose text has no dot.
+    Bare(BareOp),
+}
+
+/// An instruction (text format, instructions). Each variant but the classes has the name of its text, with `_` for `.`.
 #[allow(non_camel_case_types)]
 #[derive(Debug, Drop)]
 pub enum Instruction<'a> {
+    /// An instruction without immediates.
+    Plain(Plain),
     /// `call $f`
     call(Index<'a>),
 }

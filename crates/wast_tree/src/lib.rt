@@ -28,10 +28,15 @@ pub use fields::{
 pub use generations::gensym_bound;
 pub use gensym::Gensym;
 pub use ids::{Id, Index, NameAnnotation, Span};
-pub use instrs::{BranchHint, Expression, Instruction, discard_expression, discard_instruction};
+pub use instrs::{
+    BareOp, BranchHint, Expression, Instruction, Plain, discard_expression, discard_instruction,
+};
 pub use seq::{IntoIter, Seq};
 pub use spaces::Space;
-pub use types::{FunctionType, InnerTypeKind, Type, TypeDef, TypeUse, ValType};
+pub use types::{
+    AbstractHeapType, ArrayType, FunctionType, HeapType, InnerTypeKind, Rec, RefType, StorageType,
+    StructField, StructType, Type, TypeDef, TypeUse, ValType,
+};
 pub use visits::{ItemVisitor, visit_items};
 
 #[cfg(test)]

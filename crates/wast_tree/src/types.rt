@@ -5,7 +5,7 @@ use crate::seq::Seq;
 
 /// A value type (text format, value types).
 #[derive(Clone, Copy, Debug, PartialEq, Eq, Hash)]
-pub enum ValType {
+pub enum ValType<'a> {
     /// `i32`
     I32,
     /// `i64`
@@ -16,15 +16,109 @@ pub enum ValType {
     F64,
     /// `v128`
     V128,
+    /// `(ref null $t)`
+    Ref(RefType<'a>),
+}
+
+/// A reference type: `(ref null $t)` (text format, reference types).
+#[derive(Clone, Copy, Debug, PartialEq, Eq, Hash)]
+pub struct RefType<'a> {
+    /// Whether the reference can be null.
+    pub nullable: bool,
+    /// What it refers to.
+    pub heap: HeapType<'a>,
+}
+
+/// What a reference refers to (text format, heap types).
+#[derive(Clone, Copy, Debug, PartialEq, Eq, Hash)]
+pub enum HeapType<'a> {
+    /// A type that no module defines.
+    Abstract {
+        /// Whether it is `shared`.
+        shared: bool,
+        /// The type.
+        ty: AbstractHeapType,
+    },
+    /// A type of the module.
+    Concrete(Index<'a>),
+}
+
+/// A heap type that no module defines (text format, heap types).
+#[derive(Clone, Copy, Debug, PartialEq, Eq, Hash)]
+pub enum AbstractHeapType {
+    /// `func`
+    Func,
+    /// `extern`
+    Extern,
+    /// `exn`
+    Exn,
+    /// `noexn`
+    NoExn,
+    /// `any`
+    Any,
+    /// `eq`
+    Eq,
+    /// `struct`
+    Struct,
+    /// `array`
+    Array,
+    /// `nofunc`
+    NoFunc,
+    /// `noextern`
+    NoExtern,
+    /// `none`
+    None,
+    /// `i31`
+    I31,
+}
+
+/// What a field of a struct or an element of an array holds (text format, composite types).
+#[derive(Clone, Copy, Debug, PartialEq, Eq)]
+pub enum StorageType<'a> {
+    /// `i8`
+    I8,
+    /// `i16`
+    I16,
+    /// A value.
+    Val(ValType<'a>),
+}
+
+/// A field of a struct: `(field $x (mut i32))` (text format, composite types).
+#[derive(Clone, Copy, Debug, PartialEq, Eq)]
+pub struct StructField<'a> {
+    /// Its id.
+    pub id: Option<Id<'a>>,
+    /// Its name annotation.
+    pub name: Option<NameAnnotation<'a>>,
+    /// Whether it can be changed.
+    pub mutable: bool,
+    /// What it holds.
+    pub ty: StorageType<'a>,
+}
+
+/// The fields of a struct (text format, composite types).
+#[derive(Debug, Drop)]
+pub struct StructType<'a> {
+    /// The fields, in the order of the text.
+    pub fields: Seq<StructField<'a>>,
+}
+
+/// The elements of an array (text format, composite types).
+#[derive(Clone, Copy, Debug, PartialEq, Eq)]
+pub struct ArrayType<'a> {
+    /// Whether they can be changed.
+    pub mutable: bool,
+    /// What each holds.
+    pub ty: StorageType<'a>,
 }
 
 /// The parameters and results of a function: `(param $x i32) (result i64)` (text format, composite types).
 #[derive(Debug, Drop)]
 pub struct FunctionType<'a> {
     /// Each parameter's id, name annotation and type.
-    pub params: Seq<(Option<Id<'a>>, Option<NameAnnotation<'a>>, ValType)>,
+    pub params: Seq<(Option<Id<'a>>, Option<NameAnnotation<'a>>, ValType<'a>)>,
     /// The types of the results.
-    pub results: Seq<ValType>,
+    pub results: Seq<ValType<'a>>,
 }
 
 /// A type use: the index of a type, a type that is written out in place, or both (text format, type uses).
@@ -41,6 +135,10 @@ pub struct TypeUse<'a, T> {
 pub enum InnerTypeKind<'a> {
     /// `(func ..)`
     Func(FunctionType<'a>),
+    /// `(struct ..)`
+    Struct(StructType<'a>),
+    /// `(array ..)`
+    Array(ArrayType<'a>),
 }
 
 /// What a type is defined as: a composite type, and how it stands to other types (text format, recursive types).
@@ -71,4 +169,13 @@ pub struct Type<'a> {
     pub name: Option<NameAnnotation<'a>>,
     /// What it is defined as.
     pub def: TypeDef<'a>,
+}
+
+/// Types that may refer to each other: `(rec (type ..) ..)` (text format, recursive types).
+#[derive(Debug, Drop)]
+pub struct Rec<'a> {
+    /// The place of its keyword.
+    pub span: Span,
+    /// The types, in the order of the text.
+    pub types: Seq<Type<'a>>,
 }

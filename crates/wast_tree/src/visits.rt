@@ -4,8 +4,8 @@
 ghost use Rattle.std.specs.Prelude.{◌≡◌, ◌++◌, List};
 ghost use Rattle.std.specs.Prelude.{flat_map};
 ghost use Rattle.wast_tree.specs.Ids.{mark_of};
-ghost use Rattle.wast_tree.specs.Items.{Item, item, items_in, items};
-ghost use Rattle.wast_tree.specs.Occurrences.{Ask, Wants, Bare, if_there, in_index, in_id, in_param, in_signature, in_inner, in_def, in_type_use, in_instr, in_expression, in_local, in_locals, in_func_kind, outside, in_func, exported_space, in_export, in_field, in_module, asked, asked_in_steps};
+ghost use Rattle.wast_tree.specs.Items.{Item, item, items_of_type, items_in, items};
+ghost use Rattle.wast_tree.specs.Occurrences.{Ask, Wants, Bare, if_there, in_index, in_id, in_heap, in_ref, in_val, in_storage, in_param, in_signature, in_struct_field, in_struct, in_array, in_inner, in_def, in_type, in_rec, in_type_use, in_instr, in_expression, in_local, in_locals, in_func_kind, outside, in_func, exported_space, in_export, in_field, in_module, asked, asked_in_steps};
 ghost use Rattle.wast_tree.specs.Visits.{Visits};
 
 use crate::fields::{Export, ExportKind, Func, FuncKind, Local, ModuleField};
@@ -13,7 +13,10 @@ use crate::ids::{Id, Index, NameAnnotation};
 use crate::instrs::{Expression, Instruction};
 use crate::seq::Seq;
 use crate::spaces::Space;
-use crate::types::{FunctionType, InnerTypeKind, TypeDef, TypeUse, ValType};
+use crate::types::{
+    ArrayType, FunctionType, HeapType, InnerTypeKind, Rec, RefType, StorageType, StructField,
+    StructType, Type, TypeDef, TypeUse, ValType,
+};
 
 /// What is told of the items of a module (text format, modules), as a count or a list of them.
 pub trait ItemVisitor<'a> {
@@ -55,8 +58,18 @@ pub(crate) fn visit_items_in<'a, V: ItemVisitor<'a>>(field: &ModuleField<'a>, vi
 {
     match field {
         ModuleField::Ty(ty) => visitor.item(Space::Ty, &ty.id),
+        ModuleField::Rec(rec) => visit_members(rec.types.as_slice(), visitor),
         ModuleField::Func(func) => visitor.item(Space::Func, &func.id),
         ModuleField::Export(_) => {}
+    }
+}
+
+/// Tells a visitor of the types of a group, each an item.
+fn visit_members<'a, V: ItemVisitor<'a>>(types: &[Type<'a>], visitor: &mut V)
+    ensures { Visits V.told visitor.old (flat_map items_of_type types.now) visitor.new }
+{
+    for ty in types {
+        visitor.item(Space::Ty, &ty.id);
     }
 }
 
@@ -123,11 +136,58 @@ impl Visit for Id<'_> {
     }
 }
 
-impl<'a> Visit for (Option<Id<'a>>, Option<NameAnnotation<'a>>, ValType) {
+impl Visit for HeapType<'_> {
+    ghost asks = { in_heap };
+
+    fn visit<V: Visitor>(&self, visitor: &mut V) {
+        match self {
+            HeapType::Abstract { .. } => {}
+            HeapType::Concrete(index) => visitor.index(Space::Ty, index),
+        }
+    }
+}
+
+impl Visit for RefType<'_> {
+    ghost asks = { in_ref };
+
+    fn visit<V: Visitor>(&self, visitor: &mut V) {
+        self.heap.visit(visitor);
+    }
+}
+
+impl Visit for ValType<'_> {
+    ghost asks = { in_val };
+
+    fn visit<V: Visitor>(&self, visitor: &mut V) {
+        match self {
+            ValType::I32 => {}
+            ValType::I64 => {}
+            ValType::F32 => {}
+            ValType::F64 => {}
+            ValType::V128 => {}
+            ValType::Ref(ty) => ty.visit(visitor),
+        }
+    }
+}
+
+impl Visit for StorageType<'_> {
+    ghost asks = { in_storage };
+
+    fn visit<V: Visitor>(&self, visitor: &mut V) {
+        match self {
+            StorageType::I8 => {}
+            StorageType::I16 => {}
+            StorageType::Val(ty) => ty.visit(visitor),
+        }
+    }
+}
+
+impl<'a> Visit for (Option<Id<'a>>, Option<NameAnnotation<'a>>, ValType<'a>) {
     ghost asks = { in_param };
 
     fn visit<V: Visitor>(&self, visitor: &mut V) {
         self.0.visit(visitor);
+        self.2.visit(visitor);
     }
 }
 
@@ -136,6 +196,32 @@ impl Visit for FunctionType<'_> {
 
     fn visit<V: Visitor>(&self, visitor: &mut V) {
         self.params.visit(visitor);
+        self.results.visit(visitor);
+    }
+}
+
+impl Visit for StructField<'_> {
+    ghost asks = { in_struct_field };
+
+    fn visit<V: Visitor>(&self, visitor: &mut V) {
+        self.id.visit(visitor);
+        self.ty.visit(visitor);
+    }
+}
+
+impl Visit for StructType<'_> {
+    ghost asks = { in_struct };
+
+    fn visit<V: Visitor>(&self, visitor: &mut V) {
+        self.fields.visit(visitor);
+    }
+}
+
+impl Visit for ArrayType<'_> {
+    ghost asks = { in_array };
+
+    fn visit<V: Visitor>(&self, visitor: &mut V) {
+        self.ty.visit(visitor);
     }
 }
 
@@ -145,6 +231,8 @@ impl Visit for InnerTypeKind<'_> {
     fn visit<V: Visitor>(&self, visitor: &mut V) {
         match self {
             InnerTypeKind::Func(ty) => ty.visit(visitor),
+            InnerTypeKind::Struct(ty) => ty.visit(visitor),
+            InnerTypeKind::Array(ty) => ty.visit(visitor),
         }
     }
 }
@@ -157,6 +245,22 @@ impl Visit for TypeDef<'_> {
         visit_index(Space::Ty, &self.descriptor, visitor);
         visit_index(Space::Ty, &self.describes, visitor);
         self.kind.visit(visitor);
+    }
+}
+
+impl Visit for Type<'_> {
+    ghost asks = { in_type };
+
+    fn visit<V: Visitor>(&self, visitor: &mut V) {
+        self.def.visit(visitor);
+    }
+}
+
+impl Visit for Rec<'_> {
+    ghost asks = { in_rec };
+
+    fn visit<V: Visitor>(&self, visitor: &mut V) {
+        self.types.visit(visitor);
     }
 }
 
@@ -174,6 +278,7 @@ impl Visit for Instruction<'_> {
 
     fn visit<V: Visitor>(&self, visitor: &mut V) {
         match self {
+            Instruction::Plain(_) => {}
             Instruction::call(func) => visitor.index(Space::Func, func),
         }
     }
@@ -191,6 +296,7 @@ impl Visit for Local<'_> {
     ghost asks = { in_local };
 
     fn visit<V: Visitor>(&self, visitor: &mut V) {
+        self.ty.visit(visitor);
         self.id.visit(visitor);
     }
 }
@@ -241,7 +347,8 @@ impl Visit for ModuleField<'_> {
 
     fn visit<V: Visitor>(&self, visitor: &mut V) {
         match self {
-            ModuleField::Ty(ty) => ty.def.visit(visitor),
+            ModuleField::Ty(ty) => ty.visit(visitor),
+            ModuleField::Rec(rec) => rec.visit(visitor),
             ModuleField::Func(func) => func.visit(visitor),
             ModuleField::Export(export) => export.visit(visitor),
         }

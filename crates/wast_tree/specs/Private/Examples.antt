@@ -1,10 +1,15 @@
 -- What the definitions say of worked modules.
 use Rattle.std.specs.Prelude.{◌≡◌, ℕ, Bool, true, false, List, [], ◌∷◌, map, Option, Some, None, codes}
-use Rattle.wast_tree.specs.Tree.{Id, Index, Space, TypeDef, Func, ModuleField}
+use Rattle.wast_tree.specs.Tree.{Id, Index, Space, ValType, StructField, TypeDef, Instruction, Expression, Func, ModuleField}
 use Rattle.wast_tree.specs.Tree.index
 use Rattle.wast_tree.specs.Tree.space
+use Rattle.wast_tree.specs.Tree.heap
+use Rattle.wast_tree.specs.Tree.abstract
 use Rattle.wast_tree.specs.Tree.value
+use Rattle.wast_tree.specs.Tree.storage
 use Rattle.wast_tree.specs.Tree.inner
+use Rattle.wast_tree.specs.Tree.bare
+use Rattle.wast_tree.specs.Tree.plain
 use Rattle.wast_tree.specs.Tree.instr
 use Rattle.wast_tree.specs.Tree.func
 use Rattle.wast_tree.specs.Tree.field
@@ -38,12 +43,26 @@ SameIds = (a b : Address) →
     × (same_index (by_number 3 1) (by_number 4 1) ≡ false)
     × (same_index (by_number 3 1) (made_index 3) ≡ false)
 
+-- `(ref null ..)` of an index, and of an abstract heap type
+abbrev pub ref_to : Index → ValType
+ref_to i = value.Ref (record { nullable = true; heap = heap.Concrete i })
+
+abbrev pub ref_func : Bool → ValType
+ref_func shared = value.Ref (record { nullable = true; heap = heap.Abstract shared abstract.Func })
+
+-- a field of a struct, of such an id and value type
+abbrev pub field_of : Option Id → ValType → StructField
+field_of id t = record { id = id; name = None; mutable = true; ty = storage.Val t }
+
+abbrev pub body_of : List Instruction → Expression
+body_of instrs = record { instrs = instrs; branch_hints = [] }
+
 -- a module with a generated id in each place for one
 abbrev pub everywhere_generated : Address → List ModuleField
 everywhere_generated a =
     field.Ty (record (plain_type (Some (made 1)) 0) {
       def = record {
-        kind = inner.Func (record { params = (Some (made 2), None, value.I32) ∷ []; results = [] });
+        kind = inner.Func (record { params = (Some (made 2), None, ref_to (made_index 12)) ∷ []; results = ref_to (made_index 13) ∷ [] });
         shared = false;
         parents = made_index 3 ∷ [];
         descriptor = Some (made_index 4);
@@ -51,8 +70,15 @@ everywhere_generated a =
         final_type = None;
       };
     })
+    ∷ field.Rec (record {
+      span = place 0;
+      types =
+          record (plain_type (Some (made 14)) 0) { def = record plain_def { kind = inner.Struct (record { fields = field_of (Some (made 15)) (ref_to (made_index 16)) ∷ [] }) } }
+          ∷ record (plain_type (Some (made 17)) 0) { def = record plain_def { kind = inner.Array (record { mutable = true; ty = storage.Val (ref_to (made_index 18)) }) } }
+          ∷ [];
+    })
     ∷ field.Func (record (plain_func (Some (made 6)) 0 (made_index 9) []) {
-      kind = func.Inline (record { id = Some (made 7); name = None; ty = value.I32 } ∷ []) (record { instrs = instr.call (made_index 8) ∷ []; branch_hints = [] });
+      kind = func.Inline (record { id = Some (made 7); name = None; ty = ref_to (made_index 19) } ∷ []) (body_of (instr.call (made_index 8) ∷ []));
       ty = record { index = Some (made_index 9); inline = Some (record { params = (Some (made 10), None, value.I32) ∷ []; results = [] }) };
     })
     ∷ export_field a 0 (made_index 11)
@@ -77,12 +103,15 @@ StandsInRow27 = (a b c d e f : Address) →
     ∷ Outside (Wants space.Func (by_number 2 71))
     ∷ [])
 
--- A type has its parents before its descriptor, what it describes and its parameters; a function has its type before its
--- parameters, its locals and its body. Of parameters and locals nothing is asked.
+-- A type has its parents before its descriptor, what it describes, its parameters and its results; a function has its type
+-- before its parameters, its locals and its body. Of the ids of parameters, locals and fields nothing is asked. The types
+-- of a group are items one by one.
 abbrev pub StandsEverywhere : Type 0
 StandsEverywhere = (a : Address) →
     (items (everywhere_generated a)
     ≡ record { space = space.Ty; id = Some (made_mark 1) }
+    ∷ record { space = space.Ty; id = Some (made_mark 14) }
+    ∷ record { space = space.Ty; id = Some (made_mark 17) }
     ∷ record { space = space.Func; id = Some (made_mark 6) }
     ∷ [])
     × (in_module (everywhere_generated a)
@@ -90,8 +119,14 @@ StandsEverywhere = (a : Address) →
     ∷ Outside (Wants space.Ty (made_index 4))
     ∷ Outside (Wants space.Ty (made_index 5))
     ∷ Outside (Bare (made_mark 2))
+    ∷ Outside (Wants space.Ty (made_index 12))
+    ∷ Outside (Wants space.Ty (made_index 13))
+    ∷ Outside (Bare (made_mark 15))
+    ∷ Outside (Wants space.Ty (made_index 16))
+    ∷ Outside (Wants space.Ty (made_index 18))
     ∷ Outside (Wants space.Ty (made_index 9))
     ∷ Outside (Bare (made_mark 10))
+    ∷ Outside (Wants space.Ty (made_index 19))
     ∷ Outside (Bare (made_mark 7))
     ∷ Body (Named (Wants space.Func (made_index 8)) ∷ [])
     ∷ Outside (Wants space.Func (made_index 11))
@@ -148,7 +183,7 @@ UnsettledIndices =
     × (has_settled_indices (func_alone (plain_func None 8 (made_index 1) [])) ≡ false)
     × (has_settled_indices (func_alone (plain_func None 8 (by_number 0 20) (instr.call (made_index 1) ∷ []))) ≡ false)
     × (has_settled_indices (def_alone (record plain_def { kind = inner.Func (record { params = (Some (made 1), None, value.I32) ∷ []; results = [] }) })) ≡ true)
-    × (has_settled_indices (func_alone (record bare_func { kind = func.Inline (record { id = Some (made 1); name = None; ty = value.I32 } ∷ []) (record { instrs = []; branch_hints = [] }) })) ≡ true)
+    × (has_settled_indices (func_alone (record bare_func { kind = func.Inline (record { id = Some (made 1); name = None; ty = value.I32 } ∷ []) (body_of []) })) ≡ true)
 
 -- whether a function, or a type that is defined so, is well formed alone in a module
 abbrev pub is_well_formed_func : Func → Bool
@@ -157,31 +192,37 @@ is_well_formed_func f = is_well_formed (func_alone f)
 abbrev pub is_well_formed_def : TypeDef → Bool
 is_well_formed_def def = is_well_formed (def_alone def)
 
--- `(func (type 0))` is well formed, and no more so with an inline export, a local, an inline type beside its index,
--- without an index, with an inline type alone, or with a branch hint.
+-- `(func (type 0))` is well formed, and so are `(func)` and one with a local; not so one with an inline export, a local
+-- that has an id or a shared type, an inline type beside its index or alone, or a branch hint.
 abbrev pub WellFormedFuncs : Type 0
 WellFormedFuncs = (a : Address) →
     (is_well_formed_func bare_func ≡ true)
+    × (is_well_formed_func (record bare_func { ty = record { index = None; inline = None } }) ≡ true)
     × (is_well_formed_func (record bare_func { exports = record { names = text a (codes "a") ∷ [] } }) ≡ false)
-    × (is_well_formed_func (record bare_func { kind = func.Inline (record { id = None; name = None; ty = value.I32 } ∷ []) (record { instrs = []; branch_hints = [] }) }) ≡ false)
+    × (is_well_formed_func (record bare_func { kind = func.Inline (record { id = None; name = None; ty = value.I32 } ∷ []) (body_of (instr.Plain (plain.Bare bare.drop) ∷ [])) }) ≡ true)
+    × (is_well_formed_func (record bare_func { kind = func.Inline (record { id = Some (id_at a (codes "x") 20); name = None; ty = value.I32 } ∷ []) (body_of []) }) ≡ false)
+    × (is_well_formed_func (record bare_func { kind = func.Inline (record { id = None; name = None; ty = ref_func true } ∷ []) (body_of []) }) ≡ false)
     × (is_well_formed_func (record bare_func { ty = record { index = Some (by_number 0 20); inline = Some (record { params = []; results = [] }) } }) ≡ false)
-    × (is_well_formed_func (record bare_func { ty = record { index = None; inline = None } }) ≡ false)
     × (is_well_formed_func (record bare_func { ty = record { index = None; inline = Some (record { params = []; results = [] }) } }) ≡ false)
     × (is_well_formed_func (record bare_func { kind = func.Inline [] (record { instrs = []; branch_hints = record { instr_index = 0; value = 1 } ∷ [] }) }) ≡ false)
 
--- `(func (param i32) (result i32))` is well formed, `final` or not said to be; not so an open or shared one, one with a
--- parent, a descriptor or what it describes, or one whose parameter has an id or a name annotation.
+-- `(func (param i32) (result i32))` is well formed, also open, with a parent, and with references; so are structs and
+-- arrays. Not so a shared type, one with a descriptor or what it describes, one that refers to a shared heap type, or one
+-- whose parameter or field has an id or a name annotation.
 abbrev pub WellFormedTypes : Type 0
 WellFormedTypes = (a : Address) →
-    (is_well_formed_def (record plain_def { kind = inner.Func (record { params = (None, None, value.I32) ∷ []; results = value.I32 ∷ [] }) }) ≡ true)
-    × (is_well_formed_def (record plain_def { final_type = Some true }) ≡ true)
-    × (is_well_formed_def (record plain_def { final_type = Some false }) ≡ false)
+    (is_well_formed_def (record plain_def { kind = inner.Func (record { params = (None, None, ref_func false) ∷ []; results = ref_to (by_number 0 20) ∷ [] }) }) ≡ true)
+    × (is_well_formed_def (record plain_def { final_type = Some false; parents = by_number 0 20 ∷ [] }) ≡ true)
     × (is_well_formed_def (record plain_def { shared = true }) ≡ false)
-    × (is_well_formed_def (record plain_def { parents = by_number 0 20 ∷ [] }) ≡ false)
     × (is_well_formed_def (record plain_def { descriptor = Some (by_number 0 20) }) ≡ false)
     × (is_well_formed_def (record plain_def { describes = Some (by_number 0 20) }) ≡ false)
     × (is_well_formed_def (record plain_def { kind = inner.Func (record { params = (Some (id_at a (codes "x") 20), None, value.I32) ∷ []; results = [] }) }) ≡ false)
     × (is_well_formed_def (record plain_def { kind = inner.Func (record { params = (None, Some (record { name = text a (codes "x") }), value.I32) ∷ []; results = [] }) }) ≡ false)
+    × (is_well_formed_def (record plain_def { kind = inner.Func (record { params = []; results = ref_func true ∷ [] }) }) ≡ false)
+    × (is_well_formed_def (record plain_def { kind = inner.Struct (record { fields = field_of None (ref_func false) ∷ [] }) }) ≡ true)
+    × (is_well_formed_def (record plain_def { kind = inner.Struct (record { fields = field_of (Some (id_at a (codes "x") 20)) value.I32 ∷ [] }) }) ≡ false)
+    × (is_well_formed_def (record plain_def { kind = inner.Array (record { mutable = false; ty = storage.I8 }) }) ≡ true)
+    × (is_well_formed_def (record plain_def { kind = inner.Array (record { mutable = false; ty = storage.Val (ref_func true) }) }) ≡ false)
 
 -- The greatest generation is that of an item or of an id beside the items; a written id has 0. No id of a module is left
 -- out.
@@ -192,5 +233,5 @@ GenerationsOfRows = (a b c d e f : Address) →
     × (greatest_generation (export_field a 0 (made_index 7) ∷ field.Ty (plain_type (Some (made 3)) 0) ∷ []) ≡ 7)
     × (greatest_generation (field.Ty (plain_type (Some (made 7)) 0) ∷ export_field a 0 (made_index 3) ∷ []) ≡ 7)
     × (greatest_generation [] ≡ 0)
-    × (map (λ x. generation_if x.id) (items (everywhere_generated a)) ≡ 1 ∷ 6 ∷ [])
-    × (map generation_in (asked (in_module (everywhere_generated a))) ≡ 3 ∷ 4 ∷ 5 ∷ 2 ∷ 9 ∷ 10 ∷ 7 ∷ 8 ∷ 11 ∷ [])
+    × (map (λ x. generation_if x.id) (items (everywhere_generated a)) ≡ 1 ∷ 14 ∷ 17 ∷ 6 ∷ [])
+    × (map generation_in (asked (in_module (everywhere_generated a))) ≡ 3 ∷ 4 ∷ 5 ∷ 2 ∷ 12 ∷ 13 ∷ 15 ∷ 16 ∷ 18 ∷ 9 ∷ 10 ∷ 19 ∷ 7 ∷ 8 ∷ 11 ∷ [])

@@ -4,6 +4,12 @@ use Rattle.wast_core.proofs.examples.worked_modules.Goals as goal
 pub returns-clause-row1 : goal.returns-clause-row1
 returns-clause-row1 c = worked.row1
 
+pub returns-clause-row2 : goal.returns-clause-row2
+returns-clause-row2 c = worked.row2
+
+pub returns-clause-row24 : goal.returns-clause-row24
+returns-clause-row24 c = worked.row24
+
 pub returns-clause-row27 : goal.returns-clause-row27
 returns-clause-row27 c = worked.row27
 

@@ -1,8 +1,12 @@
-use Rattle.std.proofs.Common.{IsTrue, subst, sym}
+use Rattle.std.proofs.Common.{IsTrue, ◌<◌, subst, sym}
 use Rattle.wast_core.specs.Encodable.{are_encodable}
-use Rattle.wast_core.specs.Modules.{is_well_formed_kind}
+use Rattle.wast_core.specs.Modules.{is_well_formed_kind, bound_of_kind}
 use Rattle.wast_core.proofs.Encoded.{encodable}
 use Rattle.wast_core.proofs.module.resolve_kind.Goals as goal
 
 pub returns-in-Ok-clause-at_rest : goal.returns-in-Ok-clause-at_rest
-returns-in-Ok-clause-at_rest c = subst (λ fs. IsTrue (are_encodable fs)) (sym c.in-Ok.ensures.list) (encodable c.resolved_laws.ensures.numbers c.resolved_laws.ensures.well_formed c.in-Text.fields (subst (λ k. IsTrue (is_well_formed_kind k)) c.in-Text.is c.requires.well_formed) c.in-Ok.ensures.met)
+returns-in-Ok-clause-at_rest c =
+    let laws = c.resolved_laws.ensures in
+    let well = subst (λ k. IsTrue (is_well_formed_kind k)) c.in-Text.is c.requires.well_formed in
+    let above = subst (λ k. bound_of_kind k < c.args.gensym.now) c.in-Text.is c.requires.above in
+    subst (λ fs. IsTrue (are_encodable fs)) (sym c.in-Ok.ensures.list) (encodable laws.numbers laws.well_formed laws.indices c.args.gensym.now c.in-Text.fields above well c.in-Ok.ensures.met)

@@ -9,6 +9,6 @@ returns-clause-answer c =
     let done = c.in_ok-resolve.ensures in
     let new = c.resolve.new.self.kind in
     record {
-      kind = encodes (name_of_module c.args.module.now) c.args.module.now.kind new _ c.encode_resolved.result done.answer.kind (subst (λ n. EncodesResolved n new c.encode_resolved.result) (ap name_of_module done.stays) c.encode_resolved.ensures);
+      kind = encodes c.args.gensym.now (name_of_module c.args.module.now) c.args.module.now.kind new _ c.encode_resolved.result done.answer.kind (subst (λ n. EncodesResolved n new c.encode_resolved.result) (ap name_of_module done.stays) c.encode_resolved.ensures);
       counter = done.answer.counter;
     }

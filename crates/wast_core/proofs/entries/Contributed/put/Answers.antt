@@ -1,5 +1,6 @@
-use Rattle.wasm_out.specs.Parts.{Types, Functions, Exports, Code, Single, entry, InRangeEntry}
+use Rattle.wasm_out.specs.Parts.{Types, Functions, Exports, Code, entry, InRangeEntry}
 use Rattle.wasm_ops.proofs.Sinking.{option_written}
+use Rattle.wast_core.specs.Entries.{entry_of}
 use Rattle.wast_core.specs.Meaning as meaning
 use Rattle.wast_core.proofs.entries.Contributed.put.Goals as goal
 
@@ -17,7 +18,7 @@ encode-requires-in-Code g c = c.requires.code
 
 pub returns-in-Types : goal.returns-in-Types
 returns-in-Types g c =
-    rw c.in-Types.is (option_written g.S.Sink.rules (entry Types) (InRangeEntry Types) (λ b. Single (meaning.sub_type b.0.now)) c.args.out.now c.encode.new.out c.args.self.now.types c.encode.result c.encode.ensures)
+    rw c.in-Types.is (option_written g.S.Sink.rules (entry Types) (InRangeEntry Types) entry_of c.args.out.now c.encode.new.out c.args.self.now.types c.encode.result c.encode.ensures)
 
 pub returns-in-Functions : goal.returns-in-Functions
 returns-in-Functions g c =

@@ -1,15 +1,15 @@
-use Rattle.std.proofs.Common.{ap, sym, ◌∙◌, ◌==◌, length, map}
+use Rattle.std.proofs.Common.{ap, sym, ◌∙◌, ◌==◌, ◌&&◌, length, map}
 use Rattle.std.specs.List.{list_all}
 use Rattle.wast_tree.specs.Ids.{is_number}
 use Rattle.wasm_ops.specs.Spelling.{composite_inner_type, sub_bytes}
-use Rattle.wast_core.specs.Tree.space
 use Rattle.wast_core.specs.Meaning as meaning
-use Rattle.wast_core.proofs.EachPasses.{both_pass, numbers_only}
-use Rattle.wast_core.proofs.Spelled.{and_true, final_is, open_bytes, final_bytes, sub_written}
+use Rattle.wast_core.specs.Encodable.{is_encodable_inner}
+use Rattle.wast_core.proofs.EachPasses.{both_pass}
+use Rattle.wast_core.proofs.Spelled.{final_is, open_bytes, final_bytes, sub_written}
 use Rattle.wast_core.proofs.values.ResolvedSpellTypeDef.spell.Goals as goal
 
 pub encode-requires : goal.encode-requires
-encode-requires g c = and_true _ (ap (list_all is_number) c.as_slice.ensures ∙ numbers_only space.Ty c.args.def.now.parents _ (both_pass _ _ c.requires).1)
+encode-requires g c = ap (λ ps. list_all is_number ps && is_encodable_inner c.args.def.now.kind) c.as_slice.ensures ∙ (both_pass _ _ c.requires).1
 
 pub returns-then-not-unwrap_or : goal.returns-then-not-unwrap_or
 returns-then-not-unwrap_or g c =
@@ -20,7 +20,7 @@ returns-then-not-unwrap_or g c =
     (open_bytes meaning.number ps composite ∙ ap (λ m. sub_bytes m (map meaning.number ps) composite) (c.if-not-unwrap_or.ensures ∙ final_is d.final_type)) c.encode.ensures
 
 pub encode-requires-2 : goal.encode-requires-2
-encode-requires-2 g c = and_true _ (ap (list_all is_number) c.as_slice.ensures ∙ numbers_only space.Ty c.args.def.now.parents _ (both_pass _ _ c.requires).1)
+encode-requires-2 g c = ap (λ ps. list_all is_number ps && is_encodable_inner c.args.def.now.kind) c.as_slice.ensures ∙ (both_pass _ _ c.requires).1
 
 pub returns : goal.returns
 returns g c =

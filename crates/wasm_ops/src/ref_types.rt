@@ -1,0 +1,136 @@
+//! Reference types, and the heap types that they refer to.
+
+ghost use Rattle.std.specs.Prelude.{◌≡◌};
+ghost use Rattle.wasm_ops.specs.Covered.{is_covered_heap_type, is_covered_ref_type};
+ghost use Rattle.wasm_ops.specs.Spelling.{heap_type, InRangeHeapType, is_short, ref_type, InRangeRefType};
+
+use crate::encode::Encode;
+use crate::leb128::push_signed;
+use crate::sink::{Refusal, Sink};
+
+/// A heap type that has a name of its own (binary format, heap types).
+#[derive(Clone, Copy, Debug, PartialEq, Eq, Hash)]
+pub enum AbstractHeapType {
+    /// `func`
+    Func = 0x70,
+    /// `extern`
+    Extern = 0x6f,
+    /// `exn`
+    Exn = 0x69,
+    /// `noexn`
+    NoExn = 0x74,
+    /// `any`
+    Any = 0x6e,
+    /// `eq`
+    Eq = 0x6d,
+    /// `struct`
+    Struct = 0x6b,
+    /// `array`
+    Array = 0x6a,
+    /// `nofunc`
+    NoFunc = 0x73,
+    /// `noextern`
+    NoExtern = 0x72,
+    /// `none`
+    None = 0x71,
+    /// `i31`
+    I31 = 0x6c,
+}
+
+/// What a reference leads to (binary format, heap types).
+#[derive(Clone, Copy, Debug, PartialEq, Eq, Hash)]
+pub enum HeapType {
+    /// A type that has a name of its own.
+    Abstract {
+        /// Whether it is shared.
+        shared: bool,
+        /// Which type it is.
+        ty: AbstractHeapType,
+    },
+    /// The type at an index, and those below it.
+    Concrete(u32),
+    /// The type at an index alone.
+    Exact(u32),
+}
+
+impl HeapType {
+    /// Whether the encoder covers it: it is not shared and not exact.
+    pub fn is_covered(&self) -> bool
+        ensures { result ≡ is_covered_heap_type self.now }
+    {
+        match self {
+            HeapType::Abstract { shared, .. } => !*shared,
+            HeapType::Concrete(_) => true,
+            HeapType::Exact(_) => false,
+        }
+    }
+
+    /// Whether a nullable reference to it is written as the heap type alone.
+    fn is_short(&self) -> bool
+        ensures { result ≡ is_short self.now }
+    {
+        match self {
+            HeapType::Abstract { ty, .. } => match ty {
+                AbstractHeapType::Func => true,
+                AbstractHeapType::Extern => true,
+                _ => false,
+            },
+            HeapType::Concrete(_) => false,
+            HeapType::Exact(_) => false,
+        }
+    }
+}
+
+/// An index is written as a signed number, since a number below 0 would be one of the other heap types.
+impl Encode for HeapType {
+    ghost spelling = { heap_type };
+
+    ghost in_range = { InRangeHeapType };
+
+    ghost is_ready = { is_covered_heap_type };
+
+    fn encode<S: Sink>(&self, out: &mut S) -> Result<(), Refusal> {
+        match self {
+            HeapType::Abstract { ty, .. } => (*ty as u8).encode(out),
+            HeapType::Concrete(index) => push_signed(out, i64::from(*index)),
+            HeapType::Exact(_) => unreachable!(),
+        }
+    }
+}
+
+/// A reference type (binary format, reference types).
+#[derive(Clone, Copy, Debug, PartialEq, Eq, Hash)]
+pub struct RefType {
+    /// Whether a reference may be null.
+    pub nullable: bool,
+    /// What a reference leads to.
+    pub heap_type: HeapType,
+}
+
+impl RefType {
+    /// Whether the encoder covers it: its heap type is not shared and not exact.
+    pub fn is_covered(&self) -> bool
+        ensures { result ≡ is_covered_ref_type self.now }
+    {
+        self.heap_type.is_covered()
+    }
+}
+
+/// Nullable references to `func` and to `extern` are written as their heap type alone.
+impl Encode for RefType {
+    ghost spelling = { ref_type };
+
+    ghost in_range = { InRangeRefType };
+
+    ghost is_ready = { is_covered_ref_type };
+
+    fn encode<S: Sink>(&self, out: &mut S) -> Result<(), Refusal> {
+        if !self.nullable {
+            return (0x64u8, self.heap_type).encode(out);
+        }
+        if self.heap_type.is_short() {
+            return self.heap_type.encode(out);
+        }
+        (0x63u8, self.heap_type).encode(out)
+    }
+}

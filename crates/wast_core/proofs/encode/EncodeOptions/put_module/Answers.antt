@@ -1,0 +1,18 @@
+use Rattle.std.proofs.Common.{sym, ap, ◌∙◌, subst}
+use Rattle.std.proofs.lemmas.Result.{err_from_is_err_and}
+use Rattle.wasm_ops.specs.Sinks.{refused_as}
+use Rattle.wast_core.specs.Bounded.{InRangeModule}
+use Rattle.wast_core.specs.Headline.{name_of_module}
+use Rattle.wast_core.specs.Uncovered.{first, uncovered}
+use Rattle.wast_core.proofs.Encoded.{not_put}
+use Rattle.wast_core.proofs.encode.EncodeOptions.put_module.Goals as goal
+
+pub returns-in_err-module-in-None : goal.returns-in_err-module-in-None
+returns-in_err-module-in-None g c =
+    let p = err_from_is_err_and c.from_residual.result c.from_residual.ensures.1 in
+    let name = name_of_module c.args.module.now in
+    let fields = c.in-Text.fields in
+    let is = c.in_err-module-in-None.ensures.err in
+    rw (c.in-Text.is, p.1)
+    (not_put g.S.Sink.rules c.args.out.now (first (uncovered fields)) name fields p.0 g.met.S.Sink.laws (sym (c.in-None.ensures ∙ ap (λ fs. first (uncovered fs)) c.as_slice.ensures)) (p.2 ∙ ap refused_as is.0)
+    (λ h. is.1 (subst (λ n. InRangeModule n c.as_slice-in-None.result.now) (sym c.given_name-name.ensures) (subst (InRangeModule name) (sym c.as_slice-in-None.ensures) h))))

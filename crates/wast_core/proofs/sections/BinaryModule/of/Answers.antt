@@ -1,0 +1,29 @@
+use Rattle.std.proofs.Common.{◌∙◌, arith}
+use Rattle.std.proofs.lemmas.Result.{err_from_is_err_and}
+use Rattle.wast_core.specs.declared.slots.Slot.TheVariants as slot
+use Rattle.wast_core.proofs.sections.BinaryModule.of.Goals as goal
+
+pub returns-in_err-extent_of-clause-err : goal.returns-in_err-extent_of-clause-err
+returns-in_err-extent_of-clause-err c =
+    let p = err_from_is_err_and c.from_residual.result c.from_residual.ensures.1 in
+    rw p.1 (p.2 ∙ c.in_err-extent_of.ensures.err.0, λ h. c.in_err-extent_of.ensures.err.1 (h 2 slot.BeforeFirst (omega arith)).0)
+
+pub returns-in_err-extent_of-2-clause-err : goal.returns-in_err-extent_of-2-clause-err
+returns-in_err-extent_of-2-clause-err c =
+    let p = err_from_is_err_and c.from_residual-in_err-extent_of-2.result c.from_residual-in_err-extent_of-2.ensures.1 in
+    rw p.1 (p.2 ∙ c.in_err-extent_of-2.ensures.err.0, λ h. c.in_err-extent_of-2.ensures.err.1 (h 5 slot.BeforeFirst (omega arith)).0)
+
+pub returns-in_err-extent_of-3-clause-err : goal.returns-in_err-extent_of-3-clause-err
+returns-in_err-extent_of-3-clause-err c =
+    let p = err_from_is_err_and c.from_residual-in_err-extent_of-3.result c.from_residual-in_err-extent_of-3.ensures.1 in
+    rw p.1 (p.2 ∙ c.in_err-extent_of-3.ensures.err.0, λ h. c.in_err-extent_of-3.ensures.err.1 (h 8 slot.BeforeFirst (omega arith)).0)
+
+pub returns-in_err-extent_of-4-clause-err : goal.returns-in_err-extent_of-4-clause-err
+returns-in_err-extent_of-4-clause-err c =
+    let p = err_from_is_err_and c.from_residual-in_err-extent_of-4.result c.from_residual-in_err-extent_of-4.ensures.1 in
+    rw p.1 (p.2 ∙ c.in_err-extent_of-4.ensures.err.0, λ h. c.in_err-extent_of-4.ensures.err.1 (h 12 slot.BeforeFirst (omega arith)).0)
+
+pub returns-in_err-names_size-clause-err : goal.returns-in_err-names_size-clause-err
+returns-in_err-names_size-clause-err c =
+    let p = err_from_is_err_and c.from_residual-in_err-names_size.result c.from_residual-in_err-names_size.ensures.1 in
+    rw p.1 (p.2 ∙ c.in_err-names_size.ensures.err.0, λ h. c.in_err-names_size.ensures.err.1 (h 15 slot.BeforeFirst (omega arith)))

@@ -1,0 +1,35 @@
+-- How long the sections of a module are, as it is told before they are written.
+use Rattle.std.specs.Prelude.{◌≡◌, ◌==◌, ◌&&◌, ◌+◌, ℕ, Bool, List, [], ◌∷◌, length, Option, if◌then◌else◌}
+use Rattle.wasm_ops.specs.Leb128.{unsigned}
+use Rattle.wasm_ops.specs.Spelling.{vec}
+use Rattle.wasm_out.specs.NameSubsections.{NameSubsection, name_subsection, name_payload}
+use Rattle.wasm_out.specs.Parts.{SectionKind, Entry, entry}
+use Rattle.std.specs.List.{flat_map}
+use Rattle.wast_core.specs.Tree.{ModuleField}
+use Rattle.wast_core.specs.Meaning.{entries}
+use Rattle.wast_core.specs.NamesPayload.{name_subsections}
+
+-- what stands behind the length of a section; nothing where it has no entries and is left out
+abbrev pub payload_of : (kind : SectionKind) → List (Entry kind) → List ℕ
+payload_of kind [] = []
+payload_of kind (e ∷ es) = vec (entry kind) (e ∷ es)
+
+abbrev pub names_payload_of : List NameSubsection → List ℕ
+names_payload_of [] = []
+names_payload_of (s ∷ ss) = name_payload (flat_map name_subsection (s ∷ ss))
+
+-- a section of a kind has so many entries, and so many bytes stand behind its length
+pub record IsExtent (kind : SectionKind) (fields : List ModuleField) (count size : ℕ) : Type 0 where
+  pub counted : count ≡ length (entries kind fields)
+  pub sized : size ≡ length (payload_of kind (entries kind fields))
+
+abbrev pub is_extent : SectionKind → List ModuleField → ℕ → ℕ → Bool
+is_extent kind fields count size = (count == length (entries kind fields)) && (size == length (payload_of kind (entries kind fields)))
+
+-- the name section of a module with this name has so many bytes behind its length
+abbrev pub is_names_size : Option (List ℕ) → List ModuleField → ℕ → Bool
+is_names_size name fields size = size == length (names_payload_of (name_subsections name fields))
+
+-- how long a section is, of how long its payload is
+abbrev pub section_size : ℕ → ℕ
+section_size n = if n == 0 then 0 else 1 + (length (unsigned n) + n)

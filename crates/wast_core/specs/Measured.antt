@@ -1,0 +1,17 @@
+-- A module whose sections are measured, before it is written.
+use Rattle.std.specs.Prelude.{Bool, ◌&&◌}
+use Rattle.wasm_out.specs.Parts.{Types, Functions, Exports, Code}
+use Rattle.wast_core.specs.Encodable.{are_encodable}
+use Rattle.wast_core.specs.Extents.{is_extent, is_names_size}
+use Rattle.wast_core.specs.Names.{text_seen}
+use Rattle.wast_core.specs.declared.sections.BinaryModule.{BinaryModule}
+
+-- the encoder takes its fields, and its extents are those of its sections
+abbrev pub is_measured : BinaryModule → Bool
+is_measured m =
+    are_encodable m.fields.now
+    && (is_extent Types m.fields.now m.types.count m.types.size
+    && (is_extent Functions m.fields.now m.functions.count m.functions.size
+    && (is_extent Exports m.fields.now m.exports.count m.exports.size
+    && (is_extent Code m.fields.now m.code.count m.code.size
+    && is_names_size (text_seen m.name) m.fields.now m.names))))

@@ -1,0 +1,189 @@
+-- The items of an expanded list are those of the fields and of the implied types, of which some are given ids.
+use Rattle.std.proofs.Common.{◌≡◌, ℕ, ◌+◌, ◌<◌, Bool, true, false, List, [], ◌∷◌, ◌++◌, map, append_assoc, length, Option, Some, None, is_none, refl, sym, ap, ◌∙◌, arith}
+use Rattle.std.specs.Prelude.{max}
+use Rattle.std.specs.List.{flat_map}
+use Rattle.std.proofs.lemmas.List.{map-append}
+use Rattle.std.proofs.lemmas.Grind.{flat_map-append}
+use mathlib.Core.Path.{fun_ext}
+use Rattle.wast_tree.specs.Ids.{Name, generation_of}
+use Rattle.wast_tree.specs.Spaces.{position_of, spaces}
+use Rattle.wast_tree.specs.Items.{Item, item, items_of_type, items_in, items}
+use Rattle.wast_tree.specs.Known.{names_in}
+use Rattle.wast_tree.specs.Generations.{greatest_item}
+use Rattle.wast_expand.specs.Signatures.{Signature}
+use Rattle.wast_expand.specs.ImpliedTypes.{implied}
+use Rattle.wast_expand.specs.Filling.{one_if, given_if, filled, wanted}
+use Rattle.wast_expand.specs.Expanders.{LookUp, index_of}
+use Rattle.wast_expand.specs.Expanded.{lacks_id, with_id, start_of_text, unnamed_type, implied_types, typed, bindings, bound_field, expanded, ids_wanted}
+use Rattle.wast_expand.specs.Completed.{completed}
+use Rattle.wast_resolve.specs.Tree.{Id, Span, Space, ModuleField}
+use Rattle.wast_resolve.specs.Tree.space
+use Rattle.wast_resolve.specs.Tree.ty
+use Rattle.wast_resolve.specs.Tree.field
+use Rattle.wast_resolve.specs.Demands.{first_unmet, item_demands, counts}
+use Rattle.wast_resolve.proofs.Changes.{Change, Kept, Given, old_of, new_of, olds, news, same_position, same_length, same_clashes}
+
+-- what is done to the items of a field, and of types that are implied
+abbrev type_change : Bool → Option Id → Span → Change
+type_change true id p = Given space.Ty p
+type_change false id p = Kept (item space.Ty id)
+
+abbrev pub change_in : ModuleField → List Change
+change_in (field.Ty t) = type_change (is_none t.id) t.id t.span ∷ []
+change_in (field.Rec r) = map Kept (flat_map items_of_type r.types)
+change_in (field.Func f) = Kept (item space.Func f.id) ∷ []
+change_in (field.Export e) = []
+
+abbrev pub implied_change : Signature → Change
+implied_change s = Given space.Ty start_of_text
+
+abbrev pub changes : List ModuleField → List Change
+changes fields = flat_map change_in fields ++ map implied_change (implied fields)
+
+-- items that stay, before others
+old_kept : (xs : List Item) → xs ≡ olds (map Kept xs)
+old_kept [] = refl
+old_kept (x ∷ xs) = ap (λ ys. x ∷ ys) (old_kept xs)
+
+new_kept : (n : ℕ) (xs ys : List Item) (cs : List Change) → ys ≡ news n cs → xs ++ ys ≡ news n (map Kept xs ++ cs)
+new_kept n [] ys cs h = h
+new_kept n (x ∷ xs) ys cs h = ap (λ zs. x ∷ zs) (new_kept n xs ys cs h)
+
+-- without ids
+old_type : (id : Option Id) (p : Span) → item space.Ty id ≡ old_of (type_change (is_none id) id p)
+old_type None p = refl
+old_type (Some id) p = refl
+
+old_field : (x : ModuleField) → items_in x ≡ olds (change_in x)
+old_field (field.Ty t) = ap (λ y. y ∷ []) (old_type t.id t.span)
+old_field (field.Rec r) = old_kept (flat_map items_of_type r.types)
+old_field x = refl
+
+old_fields : (xs : List ModuleField) → items xs ≡ olds (flat_map change_in xs)
+old_fields [] = refl
+old_fields (x ∷ xs) = ap (λ ys. ys ++ items xs) (old_field x) ∙ (ap (λ ys. olds (change_in x) ++ ys) (old_fields xs) ∙ sym (map-append old_of (change_in x) (flat_map change_in xs)))
+
+old_implied : (ss : List Signature) → items (map unnamed_type ss) ≡ olds (map implied_change ss)
+old_implied [] = refl
+old_implied (s ∷ ss) = ap (λ ys. old_of (implied_change s) ∷ ys) (old_implied ss)
+
+pub old_items : (fields : List ModuleField) → items (completed fields) ≡ olds (changes fields)
+old_items fields =
+    flat_map-append items_in fields (map unnamed_type (implied fields))
+    ∙ (ap (λ ys. ys ++ items (map unnamed_type (implied fields))) (old_fields fields)
+    ∙ (ap (λ ys. olds (flat_map change_in fields) ++ ys) (old_implied (implied fields)) ∙ sym (map-append old_of (flat_map change_in fields) (map implied_change (implied fields)))))
+
+-- with ids
+new_implied : (n : ℕ) (ss : List Signature) → items (implied_types n ss) ≡ news n (map implied_change ss)
+new_implied n [] = refl
+new_implied n (s ∷ ss) = ap (λ ys. new_of n (implied_change s) ∷ ys) (new_implied (n + 1) ss)
+
+add_zero : (n : ℕ) → n + 0 ≡ n
+add_zero n = omega arith
+
+add_add : (n a b : ℕ) → n + (a + b) ≡ (n + a) + b
+add_add n a b = omega arith
+
+new_fields : (n : ℕ) (xs : List ModuleField) (ss : List Signature) → items (filled lacks_id with_id n xs ++ implied_types (n + wanted lacks_id xs) ss) ≡ news n (flat_map change_in xs ++ map implied_change ss)
+new_fields n [] ss = ap (λ m. items (implied_types m ss)) (add_zero n) ∙ new_implied n ss
+new_fields n (x ∷ xs) ss =
+    let rest : ℕ → List Item = λ (m : ℕ). items (filled lacks_id with_id (n + one_if (lacks_id x)) xs ++ implied_types m ss) in
+    ap (λ m. items_in (given_if (lacks_id x) with_id n x) ++ rest m) (add_add n (one_if (lacks_id x)) (wanted lacks_id xs))
+    ∙ (one x (rest ((n + one_if (lacks_id x)) + wanted lacks_id xs)) (flat_map change_in xs ++ map implied_change ss) (new_fields (n + one_if (lacks_id x)) xs ss)
+    ∙ ap (news n) (sym (append_assoc (change_in x) (flat_map change_in xs) (map implied_change ss))))
+  where
+    by_id : (b : Bool) (t : ty.«Type») (ys : List Item) (cs : List Change) → ys ≡ news (n + one_if b) cs → items_in (given_if b with_id n (field.Ty t)) ++ ys ≡ news n (type_change b t.id t.span ∷ cs)
+    by_id true t ys cs h = ap (λ zs. new_of n (Given space.Ty t.span) ∷ zs) h
+    by_id false t ys cs h = ap (λ zs. item space.Ty t.id ∷ zs) (h ∙ ap (λ m. news m cs) (add_zero n))
+
+    one : (x : ModuleField) (ys : List Item) (cs : List Change) → ys ≡ news (n + one_if (lacks_id x)) cs → items_in (given_if (lacks_id x) with_id n x) ++ ys ≡ news n (change_in x ++ cs)
+    one (field.Ty t) ys cs h = by_id (is_none t.id) t ys cs h
+    one (field.Rec r) ys cs h = new_kept n (flat_map items_of_type r.types) ys cs (h ∙ ap (λ m. news m cs) (add_zero n))
+    one (field.Func f) ys cs h = ap (λ zs. item space.Func f.id ∷ zs) (h ∙ ap (λ m. news m cs) (add_zero n))
+    one (field.Export e) ys cs h = h ∙ ap (λ m. news m cs) (add_zero n)
+
+pub typed_items : (n : ℕ) (fields : List ModuleField) → items (typed n fields) ≡ news n (changes fields)
+typed_items n fields = new_fields n fields (implied fields)
+
+bound_items_in : (find : LookUp) (x : ModuleField) → items_in (bound_field find x) ≡ items_in x
+bound_items_in find (field.Ty t) = refl
+bound_items_in find x = refl
+
+pub bound_items : (find : LookUp) (xs : List ModuleField) → items (map (bound_field find) xs) ≡ items xs
+bound_items find [] = refl
+bound_items find (x ∷ xs) = ap (λ ys. ys ++ items (map (bound_field find) xs)) (bound_items_in find x) ∙ ap (λ ys. items_in x ++ ys) (bound_items find xs)
+
+pub new_items : (n : ℕ) (fields : List ModuleField) → items (expanded n fields) ≡ news n (changes fields)
+new_items n fields = bound_items (index_of (bindings (typed n fields))) (typed n fields) ∙ typed_items n fields
+
+-- Implied types bear no ids.
+none_implied : (ss : List Signature) → greatest_item (olds (map implied_change ss)) ≡ 0
+none_implied [] = refl
+none_implied (s ∷ ss) = let e = none_implied ss in omega arith
+
+greatest_both : (cs ds : List Change) → greatest_item (olds (cs ++ ds)) ≡ max (greatest_item (olds cs)) (greatest_item (olds ds))
+greatest_both [] ds = omega arith
+greatest_both (c ∷ cs) ds = let e = greatest_both cs ds in omega arith
+
+pub old_greatest : (fields : List ModuleField) → greatest_item (olds (changes fields)) ≡ greatest_item (items fields)
+old_greatest fields =
+    let a = greatest_both (flat_map change_in fields) (map implied_change (implied fields)) in
+    let b = none_implied (implied fields) in
+    let c = ap greatest_item (old_fields fields) in
+    omega arith
+
+-- The given ids follow the counter.
+abbrev given_in : List Change → ℕ
+given_in [] = 0
+given_in (Kept x ∷ cs) = given_in cs
+given_in (Given s p ∷ cs) = 1 + given_in cs
+
+news_below : (n : ℕ) (cs : List Change) → greatest_item (olds cs) < n → greatest_item (news n cs) < n + given_in cs
+news_below n [] lt = omega arith
+news_below n (Kept x ∷ cs) lt = let e = news_below n cs (omega (arith, lt)) in omega (arith, lt)
+news_below n (Given s p ∷ cs) lt = let e = news_below (n + 1) cs (omega (arith, lt)) in omega (arith, lt)
+
+given_kept : (xs : List Item) (cs : List Change) → given_in (map Kept xs ++ cs) ≡ given_in cs
+given_kept [] cs = refl
+given_kept (x ∷ xs) cs = given_kept xs cs
+
+given_fields : (xs : List ModuleField) (ss : List Signature) → given_in (flat_map change_in xs ++ map implied_change ss) ≡ wanted lacks_id xs + length ss
+given_fields [] [] = refl
+given_fields [] (s ∷ ss) = let e = given_fields [] ss in omega arith
+given_fields (field.Rec r ∷ xs) ss =
+    let members = flat_map items_of_type r.types in
+    let assoc = ap given_in (append_assoc (map Kept members) (flat_map change_in xs) (map implied_change ss)) in
+    let kept = given_kept members (flat_map change_in xs ++ map implied_change ss) in
+    omega (arith, assoc, kept, given_fields xs ss)
+given_fields (field.Func f ∷ xs) ss = omega (arith, given_fields xs ss)
+given_fields (field.Export e ∷ xs) ss = omega (arith, given_fields xs ss)
+given_fields (field.Ty t ∷ xs) ss = by_id (is_none t.id) t.id t.span (given_fields xs ss)
+  where
+    by_id : (b : Bool) (id : Option Id) (p : Span) → given_in (flat_map change_in xs ++ map implied_change ss) ≡ wanted lacks_id xs + length ss
+        → given_in (type_change b id p ∷ (flat_map change_in xs ++ map implied_change ss)) ≡ (one_if b + wanted lacks_id xs) + length ss
+    by_id true id p h = omega (arith, h)
+    by_id false id p h = omega (arith, h)
+
+-- The items of the two lists compared, where the counter is above the ids of the fields.
+module _ (n : ℕ) (fields : List ModuleField) (above : greatest_item (items fields) < n) where
+  pub expanded_position : (q : Name) (s : Space) → generation_of q < n → position_of q (names_in s (items (expanded n fields))) ≡ position_of q (names_in s (items (completed fields)))
+  expanded_position q s lt =
+      ap (λ xs. position_of q (names_in s xs)) (new_items n fields) ∙ (same_position q s n (changes fields) lt ∙ ap (λ xs. position_of q (names_in s xs)) (sym (old_items fields)))
+
+  pub expanded_clashes : first_unmet (item_demands (items (expanded n fields))) ≡ first_unmet (item_demands (items (completed fields)))
+  expanded_clashes =
+      let e = old_greatest fields in
+      ap (λ xs. first_unmet (item_demands xs)) (new_items n fields) ∙ (same_clashes n (changes fields) (omega (arith, above)) ∙ ap (λ xs. first_unmet (item_demands xs)) (sym (old_items fields)))
+
+  pub expanded_counts : counts (expanded n fields) ≡ counts (completed fields)
+  expanded_counts =
+      ap (λ (f : Space → ℕ). map f spaces) (fun_ext (λ (s : Space).
+      ap (λ xs. length (names_in s xs)) (new_items n fields) ∙ (same_length s n (changes fields) (omega (arith, above)) ∙ ap (λ xs. length (names_in s xs)) (sym (old_items fields)))))
+
+  pub expanded_below : greatest_item (items (expanded n fields)) < n + ids_wanted fields
+  expanded_below =
+      let a = ap greatest_item (new_items n fields) in
+      let b = old_greatest fields in
+      let c = news_below n (changes fields) (omega (arith, above)) in
+      let d = given_fields fields (implied fields) in
+      omega arith
