@@ -1,5 +1,5 @@
 -- How spellings that show their value are put together.
-use Rattle.std.proofs.Common.{◌≡◌, ◌<◌, ℕ, Bool, List, [], ◌∷◌, ◌++◌, length, refl, sym, ap, ◌∙◌, append_assoc, arith}
+use Rattle.std.proofs.Common.{◌≡◌, ◌<◌, ℕ, ℤ, Bool, List, [], ◌∷◌, ◌++◌, length, refl, sym, ap, ◌∙◌, append_assoc, arith}
 use Rattle.std.specs.Prelude.{All, IsTrue}
 use Rattle.std.proofs.lemmas.List.{length-append}
 use Rattle.std.proofs.lemmas.List.Concat.{flat_map-cons}
@@ -7,14 +7,18 @@ use Rattle.std.proofs.lemmas.List.Elements.{All-head, All-tail}
 use Rattle.std.specs.List.{flat_map, list_all}
 use Rattle.wasm_ops.specs.Codes.{IsCode, IsWhole}
 use Rattle.wasm_ops.specs.Covered.{Spellable}
-use Rattle.wasm_ops.specs.Leb128.{unsigned}
+use Rattle.wasm_ops.specs.Leb128.{unsigned, signed}
 use Rattle.wasm_ops.specs.Spelling.{Any, InRangeU32, vec, InRangeVec, sized, InRangeSized, name, InRangeName}
 use Rattle.wasm_ops.proofs.Everywhere.{all_both, all_tested}
 use Rattle.wasm_ops.proofs.Numbers.{unsigned_begins}
+use Rattle.wasm_ops.proofs.SignedNumbers.{signed_begins}
 
 -- numbers, below any range
 pub number_code : {F : ℕ → Type 0} → IsCode ℕ F unsigned
 number_code = record { begins = λ m n r s p q e. unsigned_begins m n r s e }
+
+pub signed_code : {F : ℤ → Type 0} → IsCode ℤ F signed
+signed_code = record { begins = λ m n r s p q e. signed_begins m n r s e }
 
 pub index_code : IsCode ℕ InRangeU32 unsigned
 index_code = number_code

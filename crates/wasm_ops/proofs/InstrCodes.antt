@@ -1,11 +1,14 @@
 -- The spellings of the instructions of the table show their value.
-use Rattle.std.proofs.Common.{◌≡◌, ◌<◌, ℕ, Bool, true, false, eqb, List, [], ◌∷◌, ◌++◌, length, Option, Some, refl, sym, ap, ◌∙◌, subst, append_assoc, arith, inl, inr, ◌⊎◌, ◌&&◌}
+use Rattle.std.proofs.Common.{◌≡◌, ◌<◌, ℕ, Bool, true, false, eqb, List, [], ◌∷◌, ◌++◌, length, Option, Some, refl, sym, ap, ◌∙◌, subst, append_assoc, arith, inl, inr, ◌⊎◌}
 use Rattle.std.proofs.lemmas.Bool.{eqb-true, ltb-true}
 use Rattle.wasm_ops.specs.Codes.{IsCode}
 use Rattle.wasm_ops.specs.Leb128.{unsigned}
-use Rattle.wasm_ops.specs.Table.{Opcode, Byte, Prefixed, Kind, Index, Row, Field, field, InRangeField, Fields, fields, InRangeFields, Instr, opcode_bytes, instr, table, same_opcode, kinds_of, ascends, is_apart, all_apart, IsInstr}
+use Rattle.wasm_ops.specs.Table.{Opcode, Byte, Prefixed, Kind, Index, Signed32, Signed64, Heap, Row, Field, field, InRangeField, Fields, fields, InRangeFields, is_covered_field, is_covered_fields, Instr, opcode_bytes, instr, table, same_opcode, kinds_of, ascends, is_apart, all_apart, IsInstr}
 use Rattle.wasm_ops.proofs.Numbers.{unsigned_begins}
-use Rattle.wasm_ops.proofs.Codes.{number_code, pair_code}
+use Rattle.wasm_ops.specs.Covered.{Spellable}
+use Rattle.wasm_ops.proofs.Codes.{number_code, signed_code, code_within, pair_code}
+use Rattle.wasm_ops.proofs.Everywhere.{both_true}
+use Rattle.wasm_ops.proofs.RefTypeCodes.{heap_type_code}
 
 -- ---- the table, computed
 
@@ -19,39 +22,46 @@ table_apart = refl
 
 -- ---- immediates
 
-pub field_code : (kind : Kind) → IsCode (Field kind) (InRangeField kind) (field kind)
-field_code Index = number_code
+abbrev IsSpellableField : (kind : Kind) → Field kind → Type 0
+IsSpellableField kind x = Spellable (is_covered_field kind) (InRangeField kind) x
 
-pub fields_code : (kinds : List Kind) → IsCode (Fields kinds) (InRangeFields kinds) (fields kinds)
+pub field_code : (kind : Kind) → IsCode (Field kind) (IsSpellableField kind) (field kind)
+field_code Index = number_code
+field_code Signed32 = signed_code
+field_code Signed64 = signed_code
+field_code Heap = heap_type_code
+
+abbrev IsSpellableFields : (kinds : List Kind) → Fields kinds → Type 0
+IsSpellableFields kinds x = Spellable (is_covered_fields kinds) (InRangeFields kinds) x
+
+pub fields_code : (kinds : List Kind) → IsCode (Fields kinds) (IsSpellableFields kinds) (fields kinds)
 fields_code [] = record { begins = λ x y r s p q e. (refl, e) }
-fields_code (kind ∷ kinds) = pair_code (field_code kind) (fields_code kinds)
+fields_code (kind ∷ kinds) =
+    code_within (λ x p. let both = both_true (is_covered_field kind x.0) (is_covered_fields kinds x.1) p.0 in ((both.0, p.1.0), (both.1, p.1.1)))
+    (pair_code (field_code kind) (fields_code kinds))
 
 -- ---- opcodes
 
-both_true : (b c : Bool) → elim b as (λ v. Bool) [ true ↦ c | false ↦ false ] ≡ true → (b ≡ true) × (c ≡ true)
-both_true true c e = (refl, e)
-both_true false c e = absurd cc
+then_true : (b c : Bool) → elim b as (λ v. Bool) [ true ↦ c | false ↦ false ] ≡ true → (b ≡ true) × (c ≡ true)
+then_true true c e = (refl, e)
+then_true false c e = absurd cc
 
 which : {A : Type 0} (b : Bool) (x y z : A) → elim b as (λ v. A) [ true ↦ x | false ↦ y ] ≡ z → ((b ≡ true) × (x ≡ z)) ⊎ ((b ≡ false) × (y ≡ z))
 which true x y z e = inl (refl, e)
 which false x y z e = inr (refl, e)
 
-and_true : (b c : Bool) → (b && c) ≡ true → (b ≡ true) × (c ≡ true)
-and_true true c e = (refl, e)
-and_true false c e = absurd cc
-
 same_opcode_is : (k l : Opcode) → same_opcode k l ≡ true → k ≡ l
 same_opcode_is (Byte a) (Byte b) e = ap Byte (eqb-true a b e)
 same_opcode_is (Byte a) (Prefixed q n) e = absurd cc
 same_opcode_is (Prefixed p m) (Byte b) e = absurd cc
-same_opcode_is (Prefixed p m) (Prefixed q n) e = let h = and_true (eqb p q) (eqb m n) e in let a = eqb-true p q h.0 in let b = eqb-true m n h.1 in cc
+same_opcode_is (Prefixed p m) (Prefixed q n) e = let h = both_true (eqb p q) (eqb m n) e in let a = eqb-true p q h.0 in let b = eqb-true m n h.1 in cc
 
 -- what holds of each opcode in a table in which no opcode of one byte is a prefix
-apart_at : (k : Opcode) (rows : List Row) (kinds : List Kind) → all_apart rows ≡ true → kinds_of k rows ≡ Some kinds → is_apart k ≡ true
+pub apart_at : (k : Opcode) (rows : List Row) (kinds : List Kind) → all_apart rows ≡ true → kinds_of k rows ≡ Some kinds → is_apart k ≡ true
 unfolding all_apart kinds_of
 apart_at k [] kinds a h = absurd cc
 apart_at k (r ∷ rs) kinds a h =
-    let both = both_true (is_apart r.opcode) (all_apart rs) a in
+    let both = then_true (is_apart r.opcode) (all_apart rs) a in
     elim (which (same_opcode r.opcode k) (Some r.kinds) (kinds_of k rs) (Some kinds) h) [
       | inl w ↦ subst (λ l. is_apart l ≡ true) (same_opcode_is r.opcode k w.0) both.0
       | inr w ↦ apart_at k rs kinds both.1 w.1
@@ -74,10 +84,10 @@ abbrev instruction : (row : Row) → Fields row.kinds → Instr
 instruction row numbers = record { row = row; numbers = numbers }
 
 -- numbers of two rows that are one
-numbers_begin : (i j : Row) (x : Fields i.kinds) (y : Fields j.kinds) (r s : List ℕ) → i ≡ j → InRangeFields i.kinds x → InRangeFields j.kinds y → fields i.kinds x ++ r ≡ fields j.kinds y ++ s
+numbers_begin : (i j : Row) (x : Fields i.kinds) (y : Fields j.kinds) (r s : List ℕ) → i ≡ j → IsSpellableFields i.kinds x → IsSpellableFields j.kinds y → fields i.kinds x ++ r ≡ fields j.kinds y ++ s
     → (instruction i x ≡ instruction j y) × (r ≡ s)
 numbers_begin i j x y r s e p q h =
-    let Motive : Row → Type 0 = λ l. (z : Fields l.kinds) → InRangeFields l.kinds z → fields i.kinds x ++ r ≡ fields l.kinds z ++ s → (instruction i x ≡ instruction l z) × (r ≡ s) in
+    let Motive : Row → Type 0 = λ l. (z : Fields l.kinds) → IsSpellableFields l.kinds z → fields i.kinds x ++ r ≡ fields l.kinds z ++ s → (instruction i x ≡ instruction l z) × (r ≡ s) in
     let here : Motive i = λ z t f. let one = (fields_code i.kinds).begins x z r s p t f in (ap (instruction i) one.0, one.1) in
     subst Motive e here y q h
 
@@ -97,7 +107,7 @@ instr_code = record {
       let f : Opcode → Row = λ k. record { opcode = k; kinds = x.row.kinds } in
       let g : List Kind → Row = λ ks. record { opcode = y.row.opcode; kinds = ks } in
       let row : x.row ≡ y.row = ap f one.0 ∙ ap g kinds in
-      numbers_begin x.row y.row x.numbers y.numbers r s row p.numbers q.numbers one.1;
+      numbers_begin x.row y.row x.numbers y.numbers r s row (p.covered, p.numbers) (q.covered, q.numbers) one.1;
 }
 
 -- the opcode has a byte or more

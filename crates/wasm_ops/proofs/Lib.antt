@@ -1,5 +1,7 @@
 pub mod Chains
 pub mod Codes
+pub mod EntityCodes
+pub mod ExpressionCodes
 pub mod InstrCodes
 pub mod Instructing
 pub mod Numbers

@@ -61,7 +61,7 @@ mutability_shown : (m : Bool) → nat_eq (mutability m) 1 ≡ m
 mutability_shown false = refl
 mutability_shown true = refl
 
-mutability_code : IsCode Bool Any (λ m. mutability m ∷ [])
+pub mutability_code : IsCode Bool Any (λ m. mutability m ∷ [])
 mutability_code = code_by mutability (λ byte. nat_eq byte 1) mutability_shown byte_code
 
 pub field_type_code : IsCode FieldType IsSpellableFieldType field_type

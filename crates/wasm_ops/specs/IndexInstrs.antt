@@ -6,6 +6,8 @@ use Rattle.wasm_ops.specs.declared.instrs.IndexOp.TheVariants as ops
 
 abbrev pub index_byte : IndexOp → ℕ
 index_byte ops.Call = 0x10
+index_byte ops.GlobalGet = 0x23
+index_byte ops.RefFunc = 0xd2
 
 -- an instruction with an index
 abbrev pub index_instr : IndexOp → ℕ → Instr

@@ -1,5 +1,8 @@
 pub mod Codes
+pub mod ConstExprs
+pub mod ConstantInstrs
 pub mod Covered
+pub mod Entities
 pub mod Leb128
 pub mod IndexInstrs
 pub mod PlainInstrs

@@ -1,5 +1,6 @@
 -- The spellings of values and types, and that their numbers, counts and lengths are in range (binary format, values and types).
-use Rattle.std.specs.Prelude.{ℕ, ◌<◌, ◌^◌, pos, Bool, true, false, List, [], ◌∷◌, ◌++◌, length, All}
+use Rattle.std.specs.Prelude.{ℕ, ◌<◌, ◌^◌, ℤ, pos, Bool, true, false, List, [], ◌∷◌, ◌++◌, length, All, FitsSigned}
+use Rattle.std.specs.Int.{w32, w64}
 use Rattle.std.specs.List.{flat_map}
 use Rattle.wasm_ops.specs.Leb128.{unsigned, signed}
 use Rattle.wasm_ops.specs.declared.ref_types.AbstractHeapType.{AbstractHeapType}
@@ -50,6 +51,13 @@ name text = unsigned (length text) ++ text
 
 abbrev pub InRangeName : List ℕ → Type 0
 InRangeName text = InRangeU32 (length text)
+
+-- a signed number from -2^31 to 2^31 - 1, and one from -2^63 to 2^63 - 1
+abbrev pub InRangeS32 : ℤ → Type 0
+InRangeS32 z = FitsSigned w32 z
+
+abbrev pub InRangeS64 : ℤ → Type 0
+InRangeS64 z = FitsSigned w64 z
 
 abbrev pub abstract_byte : AbstractHeapType → ℕ
 abstract_byte heaps.Func = 0x70

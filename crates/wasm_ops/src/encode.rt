@@ -57,6 +57,19 @@ impl Encode for u32 {
     }
 }
 
+/// An unsigned number, by its shortest bytes (binary format, integers: `u64`).
+impl Encode for u64 {
+    ghost spelling = { unsigned };
+
+    ghost in_range = { Any };
+
+    ghost is_ready = { λ _. true };
+
+    fn encode<S: Sink>(&self, out: &mut S) -> Result<(), Refusal> {
+        out.push_number(*self)
+    }
+}
+
 /// One value after the other (binary format, grammar).
 impl<A: Encode, B: Encode> Encode for (A, B) {
     ghost spelling = { λ p. A.spelling p.0 ++ B.spelling p.1 };

@@ -1,11 +1,18 @@
 //! The laws of spellings: each value has one, and no spelling begins another.
 
-ghost use Rattle.std.specs.Prelude.{◌≡◌, ℕ, ℤ, true, List, ◌++◌};
+ghost use Rattle.std.specs.Prelude.{◌≡◌, ℕ, ℤ, true, List, ◌++◌, None};
 ghost use Rattle.wasm_ops.specs.Codes.{IsCode};
+ghost use Rattle.wasm_ops.specs.ConstExprs.{expression, IsExpression};
 ghost use Rattle.wasm_ops.specs.Covered.{IsSpellableHeapType, IsSpellableRefType, IsSpellableValType, IsSpellableStorageType, IsSpellableFieldType, IsSpellableFuncType, IsSpellableStructType, IsSpellableArrayType, IsSpellableCompositeType, IsSpellableSubType};
+ghost use Rattle.wasm_ops.specs.Entities.{table_type, IsSpellableTableType, memory_type, IsSpellableMemoryType, global_type, IsSpellableGlobalType, tag_type, IsSpellableTagType, entity_type, IsSpellableEntityType};
 ghost use Rattle.wasm_ops.specs.Leb128.{SpellsUnsigned, SpellsSigned, unsigned, signed};
 ghost use Rattle.wasm_ops.specs.Spelling.{Any, name, InRangeName, heap_type, ref_type, val_type, storage_type, field_type, export_kind, func_type, struct_type, array_type, composite_type, sub_type};
-ghost use Rattle.wasm_ops.specs.Table.{Instr, instr, IsInstr, table, ascends, all_apart};
+ghost use Rattle.wasm_ops.specs.Table.{Byte, Instr, instr, IsInstr, table, kinds_of, ascends, all_apart};
+ghost use Rattle.wasm_ops.specs.declared.entities.TableType.{TableType};
+ghost use Rattle.wasm_ops.specs.declared.entities.MemoryType.{MemoryType};
+ghost use Rattle.wasm_ops.specs.declared.entities.GlobalType.{GlobalType};
+ghost use Rattle.wasm_ops.specs.declared.entities.TagType.{TagType};
+ghost use Rattle.wasm_ops.specs.declared.entities.EntityType.{EntityType};
 ghost use Rattle.wasm_ops.specs.declared.ref_types.HeapType.{HeapType};
 ghost use Rattle.wasm_ops.specs.declared.ref_types.RefType.{RefType};
 ghost use Rattle.wasm_ops.specs.declared.types.ValType.{ValType};
@@ -49,12 +56,21 @@ pub fn type_spelling_law()
     ensures array_types { IsCode ArrayType IsSpellableArrayType array_type }
     ensures composite_types { IsCode CompositeType IsSpellableCompositeType composite_type }
     ensures sub_types { IsCode SubType IsSpellableSubType sub_type }
+    ensures table_types { IsCode TableType IsSpellableTableType table_type }
+    ensures memory_types { IsCode MemoryType IsSpellableMemoryType memory_type }
+    ensures global_types { IsCode GlobalType IsSpellableGlobalType global_type }
+    ensures tag_types { IsCode TagType IsSpellableTagType tag_type }
+    ensures entity_types { IsCode EntityType IsSpellableEntityType entity_type }
 {}
 
 /// The law of instructions: no two rows of the table share an opcode, no opcode of one byte is the prefix of another,
 /// and bytes that begin with the spelling of an instruction begin with that of one only (binary format, instructions).
+/// No row is the byte that ends an expression, and bytes that begin with a constant expression begin with one only
+/// (binary format, expressions).
 pub fn instruction_law()
     ensures distinct { ascends 0 table ≡ true }
     ensures apart { all_apart table ≡ true }
     ensures instructions { IsCode Instr IsInstr instr }
+    ensures no_end { kinds_of (Byte 0x0b) table ≡ None }
+    ensures expressions { IsCode (List Instr) IsExpression expression }
 {}

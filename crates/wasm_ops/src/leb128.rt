@@ -1,9 +1,11 @@
 //! Numbers as bytes: LEB128, unsigned and signed.
 
-ghost use Rattle.std.specs.Prelude.{◌≡◌, ◌≤◌, ◌<◌, ◌^◌, ◌≤ℤ◌, pos, negsuc, take, length};
+ghost use Rattle.std.specs.Prelude.{◌≡◌, true, ◌≤◌, ◌<◌, ◌^◌, ◌≤ℤ◌, pos, negsuc, take, length};
 ghost use Rattle.wasm_ops.specs.Leb128.{unsigned, signed, digits, turned};
 ghost use Rattle.wasm_ops.specs.Sinks.{Writes, Puts};
+ghost use Rattle.wasm_ops.specs.Spelling.{InRangeS64};
 
+use crate::encode::Encode;
 use crate::sink::{Refusal, Sink};
 use wast_tree::Error;
 
@@ -111,6 +113,22 @@ pub(crate) fn push_signed<S: Sink>(out: &mut S, n: i64) -> Result<(), Refusal>
 {
     let (bytes, len) = signed_bytes(n);
     out.push_bytes(&bytes[..len])
+}
+
+/// A signed number, by its shortest bytes (binary format, integers: `s64`).
+#[derive(Clone, Copy)]
+pub(crate) struct Signed(pub i64);
+
+impl Encode for Signed {
+    ghost spelling = { λ n. signed n.0 };
+
+    ghost in_range = { λ n. InRangeS64 n.0 };
+
+    ghost is_ready = { λ _. true };
+
+    fn encode<S: Sink>(&self, out: &mut S) -> Result<(), Refusal> {
+        push_signed(out, self.0)
+    }
 }
 
 /// Appends a signed number (binary format, integers: `s64`).

@@ -1,7 +1,9 @@
 //! Numbers, types and instructions of the binary format of WebAssembly, as bytes.
 #![tactic(auto)]
 
+mod const_exprs;
 mod encode;
+mod entities;
 mod instrs;
 mod laws;
 mod leb128;
@@ -10,10 +12,12 @@ mod room;
 mod sink;
 mod types;
 
+pub use const_exprs::ConstExpr;
 pub use encode::{
     By, Counted, Each, Encode, Itself, Name, Raw, Spell, WithLength, length_of, write_name,
 };
-pub use instrs::{IndexInstr, IndexOp, InstructionSink};
+pub use entities::{EntityType, GlobalType, MemoryType, TableType, TagType};
+pub use instrs::{I32Const, I64Const, IndexInstr, IndexOp, InstructionSink, RefNull};
 pub use laws::{instruction_law, signed_law, type_spelling_law, unsigned_law};
 pub use leb128::{width, write_s32, write_s33, write_s64, write_u32, write_u64};
 pub use ref_types::{AbstractHeapType, HeapType, RefType};

@@ -3,8 +3,8 @@ use Rattle.std.proofs.Common.{◌≡◌, ℕ, List, [], ◌∷◌, ◌++◌, len
 use Rattle.std.specs.List.{flat_map}
 use Rattle.std.proofs.lemmas.List.{flat_map_more}
 use Rattle.std.proofs.lemmas.List.Elements.{All-nil, All-cons}
-use Rattle.wasm_ops.specs.Table.{Instr, instr, instrs, IsInstr}
-use Rattle.wasm_out.specs.Bodies.{Body, locals, IsSpellableContent, SpellsInstrs, SpellsBody}
+use Rattle.wasm_ops.specs.Table.{Instr, instr, instrs, IsInstr, SpellsInstrs}
+use Rattle.wasm_out.specs.Bodies.{Body, locals, IsSpellableContent, SpellsBody}
 use Rattle.wasm_out.specs.Built.{Built, built_with, built}
 
 -- one item more

@@ -1,23 +1,27 @@
 -- The parts of a module show their value: bytes are read as one module.
 use Rattle.std.proofs.Common.{◌≡◌, ◌≢◌, ◌<◌, ℕ, List, [], ◌∷◌, ◌++◌, refl, sym, ap, ◌∙◌, subst, arith}
-use Rattle.std.specs.Prelude.{All}
-use Rattle.std.specs.List.{flat_map}
-use Rattle.std.proofs.lemmas.List.{append_cancel_right}
+use Rattle.std.specs.Prelude.{Option, Some, None, All, IsTrue}
+use Rattle.std.specs.List.{flat_map, list_all}
 use Rattle.wasm_ops.specs.declared.types.ValType.{ValType}
 use Rattle.wasm_ops.specs.Codes.{IsCode, IsWhole}
 use Rattle.wasm_ops.specs.declared.types.SubType.{SubType}
-use Rattle.wasm_ops.specs.Covered.{is_covered_val_type, is_covered_sub_type, IsSpellableValType, IsSpellableSubType}
+use Rattle.wasm_ops.specs.ConstExprs.{expression, is_covered_expression, IsExpression}
+use Rattle.wasm_ops.specs.Covered.{Spellable, is_covered_val_type, is_covered_sub_type, IsSpellableValType, IsSpellableSubType}
+use Rattle.wasm_ops.specs.Entities.{table_type, is_covered_table_type, IsSpellableTableType, is_covered_global_type}
+use Rattle.wasm_ops.specs.declared.entities.TableType.{TableType}
 use Rattle.wasm_ops.specs.Spelling.{InRangeU32, InRangeValType, vec, InRangeVec, sized, InRangeSized, sub_type, InRangeSubType}
-use Rattle.wasm_ops.specs.Table.{Instr, instrs, InRangeInstr, HasRow, IsInstr}
+use Rattle.wasm_ops.specs.Table.{Instr, is_covered_instr}
 use Rattle.wasm_ops.proofs.Codes.{index_code, code_within, code_whole, after_byte, whole_within, pair_code, pair_whole, code_by, whole_by, vec_code, sized_code, filled_whole, name_code, bytes_whole, spellable_vec}
-use Rattle.wasm_ops.proofs.Everywhere.{all_both}
+use Rattle.wasm_ops.proofs.EntityCodes.{table_type_code, table_front, memory_type_code, global_type_code, tag_type_code, entity_type_code}
+use Rattle.wasm_ops.proofs.Everywhere.{all_both, all_tested, both_true}
 use Rattle.wasm_ops.proofs.RefTypeCodes.{front}
 use Rattle.wasm_ops.proofs.TypeCodes.{val_type_code, export_kind_code, sub_type_code, sub_front}
-use Rattle.wasm_ops.proofs.InstrCodes.{instr_code, instr-nonempty}
+use Rattle.wasm_ops.proofs.ExpressionCodes.{expression_code, is_expression}
 use Rattle.wasm_out.specs.Bodies.{Body, LocalRun, local_run, local_runs, locals, content, IsSpellableContent}
-use Rattle.wasm_out.specs.Parts.{SectionKind, Types, Functions, Exports, Code, TypeEntry, Single, Group, ExportEntry, Entry, type_entry, export_entry, entry, InRangeExport, InRangeEntry, PartKind, Custom, Start, Listed, CustomPart, PartItems, custom, payload, InRangePartItems, section_id, part_id, Part, part, InRangePart}
-use Rattle.wasm_out.specs.Readable.{IsReadable, AreReadable, IsReadablePart, IsSpellable, AreSpellable, IsSpellablePart}
+use Rattle.wasm_out.specs.Parts.{SectionKind, Types, Imports, Functions, Tables, Memories, Tags, Globals, Exports, Code, TypeEntry, Single, Group, ImportEntry, TableEntry, GlobalEntry, ExportEntry, Entry, type_entry, import_entry, table_bytes, table_entry, global_entry, export_entry, entry, InRangeExport, InRangeEntry, PartKind, Custom, Start, Listed, CustomPart, PartItems, custom, payload, InRangePartItems, section_id, part_id, Part, part, InRangePart, Elements, Data, DataCount}
+use Rattle.wasm_out.specs.Readable.{is_covered_init, IsReadable, AreReadable, IsReadablePart, IsSpellable, AreSpellable, IsSpellablePart}
 use Rattle.wasm_out.specs.Reads.{header, Reads}
+use Rattle.wasm_out.proofs.SegmentCodes.{element_code, data_code}
 use Rattle.wasm_out.proofs.LocalRuns.{expanded, expanded-local_runs, runs_in_range}
 
 -- ---- bodies
@@ -28,14 +32,8 @@ run_code = pair_code index_code val_type_code
 locals_code : IsCode (List ValType) (InRangeVec IsSpellableValType) locals
 locals_code = code_within (runs_in_range IsSpellableValType) (code_by local_runs expanded expanded-local_runs (vec_code run_code))
 
-instrs_whole : IsWhole (List Instr) (All IsInstr) instrs
-instrs_whole = filled_whole (λ i p. instr-nonempty i) instr_code
-
-ended_whole : IsWhole (List Instr) (All IsInstr) (λ is. instrs is ++ (0x0b ∷ []))
-ended_whole = record { same = λ x y p q e. instrs_whole.same x y p q (append_cancel_right (instrs x) (instrs y) (0x0b ∷ []) e) }
-
 content_whole : IsWhole Body IsSpellableContent content
-content_whole = whole_within (λ b p. (p.locals, p.instrs)) (whole_by (λ (b : Body). (b.locals, b.instrs)) (λ p. record { locals = p.0; instrs = p.1 }) (λ b. refl) (pair_whole locals_code ended_whole))
+content_whole = whole_within (λ b p. (p.locals, p.instrs)) (whole_by (λ (b : Body). (b.locals, b.instrs)) (λ p. record { locals = p.0; instrs = p.1 }) (λ b. refl) (pair_whole locals_code (code_whole expression_code)))
 
 -- ---- entries
 
@@ -55,18 +53,72 @@ type_entry_code = record { begins = type_begins }
     type_begins (Single x) (Group y) r s p q e = absurd (omega (arith, sub_front x r, ap front e))
     type_begins (Group x) (Single y) r s p q e = absurd (omega (arith, sub_front y s, ap front e))
 
+import_entry_code : IsCode ImportEntry (IsSpellable Imports) import_entry
+import_entry_code = code_within (λ i p. (p.in_range.0, (p.in_range.1.0, (p.covered, p.in_range.1.1)))) (code_by (λ (i : ImportEntry). (i.«module», (i.name, i.entity))) (λ p. record { «module» = p.0; name = p.1.0; entity = p.1.1 }) (λ i. refl) (pair_code name_code (pair_code name_code entity_type_code)))
+
 export_entry_code : IsCode ExportEntry InRangeExport export_entry
 export_entry_code = code_within (λ e p. (p.0, (tt, p.1))) (code_by (λ (e : ExportEntry). (e.name, (e.kind, e.index))) (λ p. record { name = p.0; kind = p.1.0; index = p.1.1 }) (λ e. refl) (pair_code name_code (pair_code export_kind_code index_code)))
 
--- a body whose locals are covered, and whose instructions are rows of the table
+-- a table, and what its elements are at first
+abbrev Filled : Type 0
+Filled = TableType × List Instr
+
+filled_code : IsCode Filled (λ f. IsSpellableTableType f.0 × IsExpression f.1) (λ f. table_type f.0 ++ expression f.1)
+filled_code = pair_code table_type_code expression_code
+
+abbrev IsSpellableTable : TableType → Option (List Instr) → Type 0
+IsSpellableTable ty init = IsSpellable Tables (record { ty = ty; init = init })
+
+plain_table : (t : TableType) → IsSpellableTable t None → IsSpellableTableType t
+plain_table t p = ((both_true (is_covered_table_type t) (is_covered_init None) p.covered).0, p.in_range.0)
+
+filled_table : (t : TableType) (is : List Instr) → IsSpellableTable t (Some is) → IsSpellableTableType t × IsExpression is
+filled_table t is p =
+    let both = both_true (is_covered_table_type t) (is_covered_expression is) p.covered in
+    ((both.0, p.in_range.0), is_expression is both.1 p.in_range.1 p.rows)
+
+table_begins : (t u : TableType) (i j : Option (List Instr)) (r s : List ℕ) → IsSpellableTable t i → IsSpellableTable u j → table_bytes t i ++ r ≡ table_bytes u j ++ s → (t ≡ u) × (i ≡ j) × (r ≡ s)
+table_begins t u None None r s p q e = let one = table_type_code.begins t u r s (plain_table t p) (plain_table u q) e in (one.0, refl, one.1)
+table_begins t u (Some i) (Some j) r s p q e =
+    let one = (after_byte 0x40 (after_byte 0x00 filled_code)).begins (t, i) (u, j) r s (filled_table t i p) (filled_table u j q) e in
+    let first : Filled → TableType = λ f. f.0 in
+    let second : Filled → Option (List Instr) = λ f. Some f.1 in
+    (ap first one.0, ap second one.0, one.1)
+table_begins t u None (Some j) r s p q e = absurd (omega (arith, table_front t r (plain_table t p), ap front e))
+table_begins t u (Some i) None r s p q e = absurd (omega (arith, table_front u s (plain_table u q), ap front e))
+
+table_entry_code : IsCode TableEntry (IsSpellable Tables) table_entry
+table_entry_code = record {
+  begins = λ x y r s p q e.
+      let one = table_begins x.ty y.ty x.init y.init r s p q e in
+      let f : TableType → TableEntry = λ t. record { ty = t; init = x.init } in
+      let g : Option (List Instr) → TableEntry = λ i. record { ty = y.ty; init = i } in
+      (ap f one.0 ∙ ap g one.1, one.2);
+}
+
+global_entry_code : IsCode GlobalEntry (IsSpellable Globals) global_entry
+global_entry_code =
+    code_within (λ g p. let both = both_true (is_covered_global_type g.ty) (is_covered_expression g.init) p.covered in ((both.0, p.in_range.0), is_expression g.init both.1 p.in_range.1 p.rows))
+    (code_by (λ (g : GlobalEntry). (g.ty, g.init)) (λ p. record { ty = p.0; init = p.1 }) (λ g. refl) (pair_code global_type_code expression_code))
+
+-- a body whose locals and instructions are covered, and whose instructions are rows of the table
 spellable_body : (b : Body) → IsSpellable Code b → InRangeSized IsSpellableContent content b
-spellable_body b p = (p.in_range.0, record { locals = spellable_vec is_covered_val_type InRangeValType b.locals p.covered p.in_range.1.locals; instrs = all_both HasRow InRangeInstr IsInstr (λ i q r. record { row = q; numbers = r }) b.instrs p.rows p.in_range.1.instrs })
+spellable_body b p =
+    let both = both_true (list_all is_covered_val_type b.locals) (list_all is_covered_instr b.instrs) p.covered in
+    (p.in_range.0, record { locals = spellable_vec is_covered_val_type InRangeValType b.locals both.0 p.in_range.1.locals; instrs = is_expression b.instrs both.1 p.in_range.1.instrs p.rows })
 
 pub entry_code : (kind : SectionKind) → IsCode (Entry kind) (IsSpellable kind) (entry kind)
 entry_code Types = type_entry_code
+entry_code Imports = import_entry_code
 entry_code Functions = code_within (λ n p. p.in_range) index_code
+entry_code Tables = table_entry_code
+entry_code Memories = code_within (λ m p. (p.covered, p.in_range)) memory_type_code
+entry_code Tags = code_within (λ t p. (p.covered, p.in_range)) tag_type_code
+entry_code Globals = global_entry_code
 entry_code Exports = code_within (λ e p. p.in_range) export_entry_code
+entry_code Elements = code_within (λ e p. record { in_range = p.in_range; covered = p.covered; rows = p.rows }) element_code
 entry_code Code = code_within spellable_body (sized_code content_whole)
+entry_code Data = code_within (λ d p. record { in_range = p.in_range; covered = p.covered; rows = p.rows }) data_code
 
 -- ---- parts
 
@@ -76,30 +128,40 @@ custom_whole = whole_within (λ c p. (p, tt)) (whole_by (λ (c : CustomPart). (c
 pub payload_whole : (kind : PartKind) → IsWhole (PartItems kind) (AreSpellable kind) (payload kind)
 payload_whole Custom = custom_whole
 payload_whole Start = code_whole index_code
+payload_whole DataCount = code_whole index_code
 payload_whole (Listed kind) = code_whole (vec_code (entry_code kind))
 
 section_shows : (k l : SectionKind) → section_id k ≡ section_id l → k ≡ l
 section_shows Types Types e = refl
+section_shows Imports Imports e = refl
 section_shows Functions Functions e = refl
+section_shows Tables Tables e = refl
+section_shows Memories Memories e = refl
+section_shows Tags Tags e = refl
+section_shows Globals Globals e = refl
 section_shows Exports Exports e = refl
+section_shows Elements Elements e = refl
 section_shows Code Code e = refl
+section_shows Data Data e = refl
 section_shows k l e = absurd (omega arith)
 
--- a section with a list is no custom section and no start section
-listed_apart : (k : SectionKind) → (0 < section_id k) × (section_id k ≢ 8)
-listed_apart Types = (omega arith, omega arith)
-listed_apart k = (omega arith, omega arith)
+-- a section with a list is none of the others
+listed_apart : (k : SectionKind) → (0 < section_id k) × (section_id k ≢ 8) × (section_id k ≢ 12)
+listed_apart Types = (omega arith, omega arith, omega arith)
+listed_apart k = (omega arith, omega arith, omega arith)
 
 id_shows : (k l : PartKind) → part_id k ≡ part_id l → k ≡ l
 id_shows Custom Custom e = refl
 id_shows Start Start e = refl
+id_shows DataCount DataCount e = refl
 id_shows (Listed k) (Listed l) e = ap Listed (section_shows k l e)
-id_shows Custom Start e = absurd (omega arith)
-id_shows Start Custom e = absurd (omega arith)
 id_shows (Listed k) Custom e = absurd (omega (arith, (listed_apart k).0, e))
 id_shows Custom (Listed l) e = absurd (omega (arith, (listed_apart l).0, e))
 id_shows (Listed k) Start e = absurd ((listed_apart k).1 e)
 id_shows Start (Listed l) e = absurd ((listed_apart l).1 (sym e))
+id_shows (Listed k) DataCount e = absurd ((listed_apart k).2 e)
+id_shows DataCount (Listed l) e = absurd ((listed_apart l).2 (sym e))
+id_shows k l e = absurd (omega (arith, e))
 
 abbrev part_of : (kind : PartKind) → PartItems kind → Part
 part_of kind items = record { kind = kind; items = items }
@@ -128,6 +190,7 @@ part_code = record {
 spellable_items : (kind : PartKind) (items : PartItems kind) → InRangePartItems kind items → AreReadable kind items → AreSpellable kind items
 spellable_items Custom c r p = r
 spellable_items Start n r p = r
+spellable_items DataCount n r p = r
 spellable_items (Listed kind) items r p = (r.0, all_both (InRangeEntry kind) (IsReadable kind) (IsSpellable kind) (λ e q h. record { in_range = q; covered = h.covered; rows = h.rows }) items r.1 p)
 
 are_spellable : {bytes : List ℕ} (p : List Part) → Reads bytes p → All IsSpellablePart p

@@ -1,7 +1,7 @@
 -- The worked examples, computed.
 use Rattle.std.proofs.Common.{refl}
-use Rattle.wasm_ops.specs.Leb128.{unsigned, unsigned_in}
-use Rattle.wasm_out.specs.WorkedBytes.{RunsOfLocals, Spelled}
+use Rattle.wasm_ops.specs.Leb128.{unsigned, unsigned_in, signed, signed_in}
+use Rattle.wasm_out.specs.WorkedBytes.{RunsOfLocals, Spelled, ItemsSpelled}
 
 pub runs_of_locals : RunsOfLocals
 unfolding unsigned unsigned_in
@@ -10,3 +10,7 @@ runs_of_locals = refl
 pub worked_module : Spelled
 unfolding unsigned unsigned_in
 worked_module = refl
+
+pub worked_items : ItemsSpelled
+unfolding unsigned unsigned_in signed signed_in
+worked_items = refl

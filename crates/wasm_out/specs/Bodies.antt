@@ -81,12 +81,6 @@ pub record IsSpellableContent (b : Body) : Type 0 where
   pub locals : InRangeVec IsSpellableValType b.locals
   pub instrs : All IsInstr b.instrs
 
--- the bytes spell a list of instructions
-pub record SpellsInstrs (bytes : List ℕ) : Type 0 where
-  pub list : List Instr
-  pub in_range : All IsInstr list
-  pub spelled : bytes ≡ instrs list
-
 -- the bytes spell a body
 pub record SpellsBody (bytes : List ℕ) : Type 0 where
   pub body : Body

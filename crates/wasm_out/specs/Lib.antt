@@ -1,5 +1,9 @@
 pub mod Bodies
 pub mod Built
+pub mod BuiltData
+pub mod BuiltElements
+pub mod DataSegments
+pub mod ElementSegments
 pub mod WorkedBytes
 pub mod NameSubsections
 pub mod Parts

@@ -1,36 +1,70 @@
--- Which parts are read: beside that their numbers are in range, the encoder covers their types, their instructions are rows of the table, and their names are UTF-8.
-use Rattle.std.specs.Prelude.{Bool, true, All, IsTrue}
+-- Which parts are read: beside that their numbers are in range, the encoder covers their types and instructions, their instructions are rows of the table, and their names are UTF-8.
+use Rattle.std.specs.Prelude.{Bool, true, ◌&&◌, Option, Some, None, List, All, IsTrue}
 use Rattle.std.specs.List.{list_all}
 use Rattle.std.specs.Str.{is_utf8}
+use Rattle.wasm_ops.specs.ConstExprs.{is_covered_expression, HasRowsExpression}
 use Rattle.wasm_ops.specs.Covered.{is_covered_val_type, is_covered_sub_type}
+use Rattle.wasm_ops.specs.Entities.{is_covered_table_type, is_covered_memory_type, is_covered_global_type, is_covered_tag_type, is_covered_entity_type}
 use Rattle.wasm_ops.specs.Spelling.{InRangeU32, InRangeVec, InRangeSized, InRangeName}
-use Rattle.wasm_ops.specs.Table.{HasRow}
-use Rattle.wasm_out.specs.Parts.{SectionKind, Types, Functions, Exports, Code, TypeEntry, Single, Group, Entry, InRangeEntry, PartKind, Custom, Start, Listed, PartItems, payload, Part}
+use Rattle.wasm_ops.specs.Table.{Instr, is_covered_instr, HasRow}
+use Rattle.wasm_out.specs.Parts.{SectionKind, Types, Imports, Functions, Tables, Memories, Tags, Globals, Exports, Code, TypeEntry, Single, Group, Entry, InRangeEntry, PartKind, Custom, Start, Listed, PartItems, payload, Part, Elements, Data, DataCount}
+use Rattle.wasm_out.specs.DataSegments.{is_covered_data_entry, HasRowsDataEntry}
+use Rattle.wasm_out.specs.ElementSegments.{is_covered_element_entry, HasRowsElementEntry}
 
 abbrev pub is_covered_type_entry : TypeEntry → Bool
 is_covered_type_entry (Single t) = is_covered_sub_type t
 is_covered_type_entry (Group ts) = list_all is_covered_sub_type ts
 
+-- what the elements of a table are at first
+abbrev pub is_covered_init : Option (List Instr) → Bool
+is_covered_init None = true
+is_covered_init (Some init) = is_covered_expression init
+
+abbrev pub HasRowsInit : Option (List Instr) → Type 0
+HasRowsInit None = Unit {0}
+HasRowsInit (Some init) = HasRowsExpression init
+
 -- the encoder covers an item
 abbrev pub is_covered_entry : (kind : SectionKind) → Entry kind → Bool
 is_covered_entry Types t = is_covered_type_entry t
+is_covered_entry Imports i = is_covered_entity_type i.entity
 is_covered_entry Functions n = true
+is_covered_entry Tables t = is_covered_table_type t.ty && is_covered_init t.init
+is_covered_entry Memories m = is_covered_memory_type m
+is_covered_entry Tags t = is_covered_tag_type t
+is_covered_entry Globals g = is_covered_global_type g.ty && is_covered_expression g.init
 is_covered_entry Exports e = true
-is_covered_entry Code b = list_all is_covered_val_type b.locals
+is_covered_entry Elements e = is_covered_element_entry e
+is_covered_entry Code b = list_all is_covered_val_type b.locals && list_all is_covered_instr b.instrs
+is_covered_entry Data d = is_covered_data_entry d
 
 -- the instructions of an item are rows of the table
 abbrev pub HasRows : (kind : SectionKind) → Entry kind → Type 0
 HasRows Types t = Unit {0}
+HasRows Imports i = Unit {0}
 HasRows Functions n = Unit {0}
+HasRows Tables t = HasRowsInit t.init
+HasRows Memories m = Unit {0}
+HasRows Tags t = Unit {0}
+HasRows Globals g = HasRowsExpression g.init
 HasRows Exports e = Unit {0}
+HasRows Elements e = HasRowsElementEntry e
 HasRows Code b = All HasRow b.instrs
+HasRows Data d = HasRowsDataEntry d
 
--- the name of an item, where it has one, is UTF-8 (binary format, names)
+-- the names of an item, where it has some, are UTF-8 (binary format, names)
 abbrev pub HasUtf8Name : (kind : SectionKind) → Entry kind → Type 0
 HasUtf8Name Types t = Unit {0}
+HasUtf8Name Imports i = IsTrue (is_utf8 i.«module») × IsTrue (is_utf8 i.name)
 HasUtf8Name Functions n = Unit {0}
+HasUtf8Name Tables t = Unit {0}
+HasUtf8Name Memories m = Unit {0}
+HasUtf8Name Tags t = Unit {0}
+HasUtf8Name Globals g = Unit {0}
 HasUtf8Name Exports e = IsTrue (is_utf8 e.name)
+HasUtf8Name Elements e = Unit {0}
 HasUtf8Name Code b = Unit {0}
+HasUtf8Name Data d = Unit {0}
 
 -- what is asked of an item apart from the range of its numbers
 pub record IsReadable (kind : SectionKind) (e : Entry kind) : Type 0 where
@@ -41,6 +75,7 @@ pub record IsReadable (kind : SectionKind) (e : Entry kind) : Type 0 where
 abbrev pub AreReadable : (kind : PartKind) → PartItems kind → Type 0
 AreReadable Custom c = IsTrue (is_utf8 c.name)
 AreReadable Start n = Unit {0}
+AreReadable DataCount n = Unit {0}
 AreReadable (Listed kind) items = All (IsReadable kind) items
 
 -- what is asked of a part apart from the range of its numbers
@@ -56,6 +91,7 @@ pub record IsSpellable (kind : SectionKind) (e : Entry kind) : Type 0 where
 abbrev pub AreSpellable : (kind : PartKind) → PartItems kind → Type 0
 AreSpellable Custom c = InRangeName c.name
 AreSpellable Start n = InRangeU32 n
+AreSpellable DataCount n = InRangeU32 n
 AreSpellable (Listed kind) items = InRangeVec (IsSpellable kind) items
 
 abbrev pub IsSpellablePart : Part → Type 0

@@ -1,13 +1,19 @@
 -- Worked examples with their bytes, which the definitions compute (worked_bytes.rt).
-use Rattle.std.specs.Prelude.{◌≡◌, ℕ, true, false, List, [], ◌∷◌, ◌++◌, None, codes}
+use Rattle.std.specs.Prelude.{◌≡◌, ℕ, negsuc, true, false, List, [], ◌∷◌, ◌++◌, Some, None, codes}
 use Rattle.std.specs.List.{flat_map}
+use Rattle.wasm_ops.specs.declared.entities.EntityType.TheVariants as entity
+use Rattle.wasm_ops.specs.declared.ref_types.AbstractHeapType.TheVariants as heaps
+use Rattle.wasm_ops.specs.declared.ref_types.HeapType.{HeapType}
+use Rattle.wasm_ops.specs.declared.ref_types.HeapType.TheVariants as heap
+use Rattle.wasm_ops.specs.declared.ref_types.RefType.{RefType}
 use Rattle.wasm_ops.specs.declared.types.ValType.TheVariants as val
 use Rattle.wasm_ops.specs.declared.types.ExportKind.TheVariants as kind
 use Rattle.wasm_ops.specs.declared.types.CompositeInnerType.TheVariants as inner
 use Rattle.wasm_ops.specs.declared.instrs.IndexOp.TheVariants as op
+use Rattle.wasm_ops.specs.ConstantInstrs.{i32_const_instr, ref_null_instr}
 use Rattle.wasm_ops.specs.IndexInstrs.{index_instr}
 use Rattle.wasm_out.specs.Bodies.{locals}
-use Rattle.wasm_out.specs.Parts.{Types, Functions, Exports, Code, Single, Custom, Listed, Part, part}
+use Rattle.wasm_out.specs.Parts.{Types, Imports, Functions, Tables, Memories, Tags, Globals, Exports, Code, Single, Custom, Listed, Part, part}
 use Rattle.wasm_out.specs.Reads.{header}
 
 -- runs of locals: two of i32, one of i64
@@ -34,3 +40,35 @@ worked_bytes = 0x00 ∷ 0x61 ∷ 0x73 ∷ 0x6d ∷ 0x01 ∷ 0x00 ∷ 0x00 ∷ 0x
 
 abbrev pub Spelled : Type 0
 Spelled = header ++ flat_map part worked_parts ≡ worked_bytes
+
+abbrev func_heap : HeapType
+func_heap = heap.Abstract false heaps.Func
+
+abbrev funcref : RefType
+funcref = record { nullable = true; heap_type = func_heap }
+
+-- a tag of type 0 imported as "m" "t"; 1 funcref, and i64 1 2 funcref filled with (ref.null func); 1 2 shared with pages of one byte; a tag of type 0; (mut i32) that is (i32.const -1) at first
+abbrev pub worked_items : List Part
+worked_items =
+    record { kind = Listed Imports; items = record { «module» = codes "m"; name = codes "t"; entity = entity.Tag (record { func_type_idx = 0 }) } ∷ [] }
+    ∷ record {
+      kind = Listed Tables;
+      items =
+          record { ty = record { element_type = funcref; minimum = 1; maximum = None; table64 = false; shared = false }; init = None }
+          ∷ record { ty = record { element_type = funcref; minimum = 1; maximum = Some 2; table64 = true; shared = false }; init = Some (ref_null_instr func_heap ∷ []) }
+          ∷ [];
+    }
+    ∷ record { kind = Listed Memories; items = record { minimum = 1; maximum = Some 2; memory64 = false; shared = true; page_size_log2 = Some 0 } ∷ [] }
+    ∷ record { kind = Listed Tags; items = record { func_type_idx = 0 } ∷ [] }
+    ∷ record { kind = Listed Globals; items = record { ty = record { val_type = val.I32; mutable = true; shared = false }; init = i32_const_instr (negsuc 0) ∷ [] } ∷ [] }
+    ∷ []
+
+abbrev pub item_bytes : List ℕ
+item_bytes = 0x02 ∷ 0x08 ∷ 0x01 ∷ 0x01 ∷ 0x6d ∷ 0x01 ∷ 0x74 ∷ 0x04 ∷ 0x00 ∷ 0x00
+    ∷ 0x04 ∷ 0x0d ∷ 0x02 ∷ 0x70 ∷ 0x00 ∷ 0x01 ∷ 0x40 ∷ 0x00 ∷ 0x70 ∷ 0x05 ∷ 0x01 ∷ 0x02 ∷ 0xd0 ∷ 0x70 ∷ 0x0b
+    ∷ 0x05 ∷ 0x05 ∷ 0x01 ∷ 0x0b ∷ 0x01 ∷ 0x02 ∷ 0x00
+    ∷ 0x0d ∷ 0x03 ∷ 0x01 ∷ 0x00 ∷ 0x00
+    ∷ 0x06 ∷ 0x06 ∷ 0x01 ∷ 0x7f ∷ 0x01 ∷ 0x41 ∷ 0x7f ∷ 0x0b ∷ []
+
+abbrev pub ItemsSpelled : Type 0
+ItemsSpelled = flat_map part worked_items ≡ item_bytes

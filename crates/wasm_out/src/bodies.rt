@@ -4,8 +4,9 @@ ghost use Rattle.std.specs.Prelude.{◌≡◌, ◌∷◌, [], length, IsTrue};
 ghost use Rattle.std.specs.List.{list_all};
 ghost use Rattle.wasm_ops.specs.Covered.{is_covered_val_type};
 ghost use Rattle.wasm_ops.specs.Spelling.{InRangeVec, InRangeValType};
+ghost use Rattle.wasm_ops.specs.Table.{SpellsInstrs};
 ghost use Rattle.wasm_out.specs.Built.{Appends, Makes};
-ghost use Rattle.wasm_out.specs.Bodies.{SpellsInstrs, locals};
+ghost use Rattle.wasm_out.specs.Bodies.{locals};
 
 use crate::locals::Locals;
 use std::alloc::Global;

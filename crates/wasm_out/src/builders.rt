@@ -31,7 +31,7 @@ pub trait ListKind {
 /// A section whose content is a list (binary format, sections). Contracts see it as its items.
 #[derive(Debug, Drop)]
 pub struct ListSection<K: ListKind> {
-    items: BuiltItems,
+    pub(crate) items: BuiltItems,
     kind: PhantomData<K>,
 }
 

@@ -1,4 +1,4 @@
-//! What a section is, and the two that are no lists.
+//! What a section is, and those that are no lists.
 
 ghost use Rattle.std.specs.Prelude.{◌≡◌, ◌==◌, ◌++◌, ℕ, List};
 ghost use Rattle.wasm_ops.specs.Leb128.{unsigned};
@@ -15,8 +15,20 @@ pub(crate) const CUSTOM_ID: u8 = 0;
 /// The id of type sections.
 pub(crate) const TYPE_ID: u8 = 1;
 
+/// The id of import sections.
+pub(crate) const IMPORT_ID: u8 = 2;
+
 /// The id of function sections.
 pub(crate) const FUNCTION_ID: u8 = 3;
+
+/// The id of table sections.
+pub(crate) const TABLE_ID: u8 = 4;
+
+/// The id of memory sections.
+pub(crate) const MEMORY_ID: u8 = 5;
+
+/// The id of global sections.
+pub(crate) const GLOBAL_ID: u8 = 6;
 
 /// The id of export sections.
 pub(crate) const EXPORT_ID: u8 = 7;
@@ -24,8 +36,20 @@ pub(crate) const EXPORT_ID: u8 = 7;
 /// The id of start sections.
 pub(crate) const START_ID: u8 = 8;
 
+/// The id of element sections.
+pub(crate) const ELEMENT_ID: u8 = 9;
+
 /// The id of code sections.
 pub(crate) const CODE_ID: u8 = 10;
+
+/// The id of data sections.
+pub(crate) const DATA_ID: u8 = 11;
+
+/// The id of data count sections.
+pub(crate) const DATA_COUNT_ID: u8 = 12;
+
+/// The id of tag sections.
+pub(crate) const TAG_ID: u8 = 13;
 
 /// A section of a module: an id, and what stands behind the section's length (binary format, sections).
 pub trait Section {
@@ -87,6 +111,30 @@ impl Section for StartSection {
 
     fn append_to<'e>(&self, out: &mut Vec<u8>) -> Result<(), Error<'e>> {
         Ok(self.function_index.encode(out)?)
+    }
+}
+
+/// The data count section, which tells how many data segments there are before the code (binary format, data count
+/// section).
+#[derive(Clone, Copy, Debug, PartialEq, Eq)]
+pub struct DataCountSection {
+    /// How many.
+    pub count: u32,
+}
+
+impl Section for DataCountSection {
+    ghost number = { λ _. 12 };
+
+    ghost payload = { λ s. unsigned s.count };
+
+    ghost in_range = { λ s. InRangeU32 s.count };
+
+    fn id(&self) -> u8 {
+        DATA_COUNT_ID
+    }
+
+    fn append_to<'e>(&self, out: &mut Vec<u8>) -> Result<(), Error<'e>> {
+        Ok(self.count.encode(out)?)
     }
 }
 

@@ -1,6 +1,6 @@
 //! Worked examples with their bytes, which the definitions compute.
 
-ghost use Rattle.wasm_out.specs.WorkedBytes.{RunsOfLocals, Spelled};
+ghost use Rattle.wasm_out.specs.WorkedBytes.{RunsOfLocals, Spelled, ItemsSpelled};
 
 /// Locals are spelled by runs of one type.
 pub(crate) fn runs_of_locals()
@@ -10,4 +10,9 @@ pub(crate) fn runs_of_locals()
 /// A type, a function that calls itself, its export and their names have the bytes of the worked module.
 pub(crate) fn worked_module()
     ensures { Spelled }
+{}
+
+/// An import, two tables, a memory, a tag and a global have the bytes of the worked sections.
+pub(crate) fn worked_items()
+    ensures { ItemsSpelled }
 {}

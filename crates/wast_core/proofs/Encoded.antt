@@ -1,5 +1,5 @@
 -- Encoding after resolving.
-use Rattle.std.proofs.Common.{◌≡◌, ◌<◌, ℕ, true, ◌&&◌, List, [], ◌∷◌, ◌++◌, length, Result, Ok, Err, Option, None, Some, subst, sym, refl, ap, ◌∙◌, inl, inr, append-nil}
+use Rattle.std.proofs.Common.{◌≡◌, ◌<◌, ℕ, true, ◌&&◌, List, [], ◌∷◌, ◌++◌, length, Result, Ok, Err, Option, None, Some, subst, sym, refl, ap, ◌∙◌, inl, inr}
 use Rattle.std.specs.Prelude.{is_some, ◌==◌}
 use Rattle.std.specs.Borrow.{Bor}
 use Rattle.std.specs.Global.{Vec}
@@ -7,9 +7,9 @@ use Rattle.std.specs.List.{flat_map, list_all}
 use Rattle.std.proofs.lemmas.List.Folds.{list_all-append}
 use Rattle.wast_tree.specs.declared.faults.Error.{Error}
 use Rattle.wast_tree.specs.declared.faults.Form.{Form}
-use Rattle.wast_tree.specs.Occurrences.{outside, in_type, in_rec, in_type_use, in_instr, in_locals, in_func_kind, in_func, exported_space, in_export, in_field, asked_in, asked_in_steps, asked}
-use Rattle.wast_tree.specs.WellFormed.{is_plain_type_use, is_plain_func_kind, is_plain_func, is_plain_field, are_plain, has_settled_indices, is_well_formed}
-use Rattle.wast_tree.proofs.Visiting.{each_of_each, asked_outside, asked_both}
+use Rattle.wast_tree.specs.Occurrences.{in_index, in_type, in_rec, in_type_use, in_locals, in_body, in_func, exported_space, in_export, in_field, asked_in, asked_in_steps, asked}
+use Rattle.wast_tree.specs.WellFormed.{is_plain_type_use, is_plain_expression, is_plain_local, is_plain_func_kind, is_plain_func, is_plain_global_type, is_plain_global_kind, suits, is_plain_elem_kind, is_plain_payload, is_plain_field, are_plain, has_settled_indices, is_well_formed}
+use Rattle.wast_tree.proofs.Visiting.{each_of_each, asked_outside, asked_func}
 use Rattle.wast_tree.specs.Generations.{greatest_generation}
 use Rattle.wast_expand.specs.NeedingUses.{needed_without, needed_by_use, needed_by_kind, needed_by_func, needed_by_field, needed}
 use Rattle.wast_resolve.specs.Finished.{finished}
@@ -17,52 +17,64 @@ use Rattle.wast_resolve.specs.Resolved.{is_numbered, is_resolved}
 use Rattle.wast_resolve.specs.Resolvers.{Bindings}
 use Rattle.wast_resolve.specs.Laws.{NoIdIsLeft, FinishedStaysWellFormed, UsesHaveIndices}
 use Rattle.wast_core.specs.Tree.{Index, TypeUse, FunctionType, FuncKind, Func, ModuleField}
+use Rattle.wast_core.specs.Tree.space
 use Rattle.wast_core.specs.Tree.func
 use Rattle.wast_core.specs.Tree.field
 use Rattle.wast_core.specs.declared.module.ModuleKind.{ModuleKind}
 use Rattle.wast_core.specs.declared.module.ModuleKind.TheVariants as kind
 use Rattle.wasm_ops.specs.Sinks.{SinkRules, AppendLaws}
+use Rattle.wasm_out.specs.Reads.{Reads}
 use Rattle.wast_tree.specs.Faults.{too_large}
 use Rattle.wast_core.specs.Bounded.{InRangeModule, IsWritable, IsBounded}
-use Rattle.wast_core.specs.Encodable.{is_encodable_local, is_encodable_type_use, is_encodable_kind, is_encodable_field, are_encodable}
+use Rattle.wast_core.specs.Encodable.{is_encodable_local, is_encodable_expression, is_encodable_type_use, is_encodable_kind, is_encodable_field, are_encodable}
 use Rattle.wast_core.specs.Headline.{IsMet, ResolvesKind, EncodesKind, IsUnwritten}
+use Rattle.wast_core.specs.Modules.{bound_of_kind}
 use Rattle.wast_core.specs.Uncovered.{first, uncovered}
 use Rattle.wast_core.specs.Writing.{EncodesResolved, IsNotPut}
+use Rattle.wast_core.proofs.ByPosition.{means_what_is_written, written_where_meant}
 use Rattle.wast_core.proofs.EachPasses.{both_pass, each_passes, index_is_number}
+use Rattle.wast_core.proofs.FieldsReady.{use_has_index, expression_ready, import_ready, table_ready, global_ready, elem_ready, data_ready, tag_ready}
 use Rattle.wast_core.proofs.TypesReady.{both_true, def_ready, locals_ready, types_ready}
 
-kind_encodable : (k : FuncKind) → is_plain_func_kind k ≡ true → is_resolved (in_locals k) ≡ true → is_resolved (asked (in_func_kind k)) ≡ true → is_encodable_kind k ≡ true
+kind_encodable : (k : FuncKind) → is_plain_func_kind k ≡ true → is_resolved (in_locals k) ≡ true → is_resolved (asked_in_steps (in_body k)) ≡ true → is_encodable_kind k ≡ true
 kind_encodable (func.Inline locals e) p l r =
-    both_true (list_all is_encodable_local locals) (is_resolved (asked_in_steps (flat_map in_instr e.instrs))) (locals_ready locals (both_pass _ _ p).0 l) (ap is_resolved (sym (append-nil (asked_in_steps (flat_map in_instr e.instrs)))) ∙ r)
+    let plain = both_pass (list_all is_plain_local locals) (is_plain_expression e) p in
+    both_true (list_all is_encodable_local locals) (is_encodable_expression e) (locals_ready locals plain.0 l) (expression_ready e plain.1 r)
 
--- a use that needs no type has an index
 both_empty : {A : Type 0} (xs ys : List A) → (xs ++ ys) ≡ [] → (xs ≡ []) × (ys ≡ [])
 both_empty [] ys e = (refl, e)
 both_empty (x ∷ xs) ys e = absurd cc
-
-use_has_index : (u : TypeUse FunctionType) → needed_by_use u ≡ [] → is_some u.index ≡ true
-use_has_index u e = by_index u.index u.inline e
-  where
-    by_index : (i : Option Index) (inline : Option FunctionType) → needed_without i inline ≡ [] → is_some i ≡ true
-    by_index None inline e = absurd cc
-    by_index (Some i) inline e = refl
 
 -- what a function asks
 func_encodable : (f : Func) → is_plain_func f ≡ true → needed_by_func f ≡ [] → is_resolved (asked (in_func f)) ≡ true → (is_encodable_type_use f.ty && is_encodable_kind f.kind) ≡ true
 func_encodable f p i r =
     let uses = in_type_use f.ty in
-    let rest = outside (in_locals f.kind) ++ in_func_kind f.kind in
+    let locals = in_locals f.kind in
+    let body = asked_in_steps (in_body f.kind) in
     let plain = (both_pass (length f.exports.names == 0) _ p).1 in
     let kinds = both_pass (is_plain_type_use f.ty) (is_plain_func_kind f.kind) plain in
-    let split = both_pass (is_resolved uses) (is_resolved (asked rest)) (sym (list_all-append is_numbered uses (asked rest)) ∙ ap (λ asks. is_resolved (asks ++ asked rest)) (sym (asked_outside uses)) ∙ ap is_resolved (sym (asked_both (outside uses) rest)) ∙ r) in
-    let last = both_pass (is_resolved (asked (outside (in_locals f.kind)))) (is_resolved (asked (in_func_kind f.kind))) (sym (list_all-append is_numbered (asked (outside (in_locals f.kind))) (asked (in_func_kind f.kind))) ∙ ap is_resolved (sym (asked_both (outside (in_locals f.kind)) (in_func_kind f.kind))) ∙ split.1) in
-    both_true (is_encodable_type_use f.ty) (is_encodable_kind f.kind) (both_true (is_some f.ty.index) (is_resolved uses) (use_has_index f.ty (both_empty (needed_by_use f.ty) (needed_by_kind f.kind) i).0) split.0) (kind_encodable f.kind kinds.1 (ap is_resolved (sym (asked_outside (in_locals f.kind))) ∙ last.0) last.1)
+    let split = both_pass (is_resolved uses) (is_resolved (locals ++ body)) (sym (list_all-append is_numbered uses (locals ++ body)) ∙ (ap is_resolved (sym (asked_func f)) ∙ r)) in
+    let last = both_pass (is_resolved locals) (is_resolved body) (sym (list_all-append is_numbered locals body) ∙ split.1) in
+    both_true (is_encodable_type_use f.ty) (is_encodable_kind f.kind) (both_true (is_some f.ty.index) (is_resolved uses) (use_has_index f.ty (both_empty (needed_by_use f.ty) (needed_by_kind f.kind) i).0) split.0) (kind_encodable f.kind kinds.1 last.0 last.1)
 
 field_encodable : (f : ModuleField) → is_plain_field f ≡ true → needed_by_field f ≡ [] → is_resolved (asked (in_field f)) ≡ true → is_encodable_field f ≡ true
 field_encodable (field.Ty t) p i r = def_ready t.def p (ap is_resolved (sym (asked_outside (in_type t))) ∙ r)
 field_encodable (field.Rec g) p i r = types_ready g.types p (ap is_resolved (sym (asked_outside (in_rec g))) ∙ r)
+field_encodable (field.Import m) p i r = import_ready m.items p i r
 field_encodable (field.Func f) p i r = func_encodable f p i r
+field_encodable (field.Table t) p i r = table_ready t.kind (both_pass (length t.exports.names == 0) _ p).1 r
+field_encodable (field.Memory m) p i r = refl
+field_encodable (field.Global g) p i r =
+    let plain = both_pass (is_plain_global_type g.ty) (is_plain_global_kind g.kind) (both_pass (length g.exports.names == 0) _ p).1 in
+    global_ready g.ty g.kind plain.0 plain.1 r
 field_encodable (field.Export x) p i r = sym (index_is_number (exported_space x.kind) x.item) ∙ ap is_resolved (sym (asked_outside (in_export x))) ∙ r
+field_encodable (field.Start f) p i r = sym (index_is_number space.Func f) ∙ ap is_resolved (sym (asked_outside (in_index space.Func f))) ∙ r
+field_encodable (field.Elem e) p i r =
+    let plain = both_pass (suits e.kind e.payload) (is_plain_elem_kind e.kind && is_plain_payload e.payload) p in
+    let parts = both_pass (is_plain_elem_kind e.kind) (is_plain_payload e.payload) plain.1 in
+    both_true (suits e.kind e.payload) _ plain.0 (elem_ready e.kind e.payload parts.0 parts.1 r)
+field_encodable (field.Data d) p i r = data_ready d.kind p r
+field_encodable (field.Tag t) p i r = tag_ready t.ty i r
 
 all_encodable : (fields : List ModuleField) → are_plain fields ≡ true → needed fields ≡ [] → list_all (λ f. is_resolved (asked (in_field f))) fields ≡ true → are_encodable fields ≡ true
 all_encodable [] p i r = refl
@@ -80,22 +92,22 @@ encodable numbers stays indices n fields above h met =
     all_encodable new plain (indices n fields) (sym (each_passes is_numbered (λ f. asked (in_field f)) new) ∙ (ap is_resolved (sym (each_of_each in_field asked_in new)) ∙ numbers n fields above met))
 
 -- encoding a resolved module answers as encoding the module that it was
-unwritten : (form : Option Form) (n : ℕ) (name : Option (List ℕ)) (fields : List ModuleField) (e : Error) → IsUnwritten form (IsWritable name (finished n fields)) e → IsUnwritten form (IsBounded n name fields) e
-unwritten (Some form) n name fields e h = h
-unwritten None n name fields e h = elim h [ inl memory ↦ inl memory | inr large ↦ inr (large.0, λ b. large.1 b.written) ]
+unwritten : (form : Option Form) (n : ℕ) (name : Option (List ℕ)) (fields : List ModuleField) (e : Error) → greatest_generation fields < n → IsMet fields → IsUnwritten form (IsWritable name (finished n fields)) e → IsUnwritten form (IsBounded n name fields) e
+unwritten (Some form) n name fields e above met h = h
+unwritten None n name fields e above met h = elim h [ inl memory ↦ inl memory | inr large ↦ inr (large.0, λ b. large.1 (written_where_meant n name fields above met b.written)) ]
 
-pub encodes : (n : ℕ) (name : Option (List ℕ)) (old new : ModuleKind) (names : Bindings) (result : Result (Vec ℕ) Error) → ResolvesKind n old (Ok names) new → EncodesResolved name new result → EncodesKind n name old result new
-encodes n name (kind.Text fs) new names result r h = text fs new result r (subst (λ k. EncodesResolved name k result) r.1 h)
+pub encodes : (n : ℕ) (name : Option (List ℕ)) (old new : ModuleKind) (names : Bindings) (result : Result (Vec ℕ) Error) → bound_of_kind old < n → ResolvesKind n old (Ok names) new → EncodesResolved name new result → EncodesKind n name old result new
+encodes n name (kind.Text fs) new names result above r h = text fs new result above r (subst (λ k. EncodesResolved name k result) r.1 h)
   where
-    text : (fs : List ModuleField) (new : ModuleKind) (result : Result (Vec ℕ) Error) → ResolvesKind n (kind.Text fs) (Ok names) new → EncodesResolved name (kind.Text (finished n fs)) result → EncodesKind n name (kind.Text fs) result new
-    text fs new (Ok bytes) r h = (r.0, h.0, h.1, r.1)
-    text fs new (Err e) r h = inr (r.0, unwritten (first (uncovered (finished n fs))) n name fs e h, r.1)
-encodes n name (kind.Binary pieces) new names result r h = binary pieces new result r.1 (subst (λ k. EncodesResolved name k result) r.1 h)
+    text : (fs : List ModuleField) (new : ModuleKind) (result : Result (Vec ℕ) Error) → greatest_generation fs < n → ResolvesKind n (kind.Text fs) (Ok names) new → EncodesResolved name (kind.Text (finished n fs)) result → EncodesKind n name (kind.Text fs) result new
+    text fs new (Ok bytes) above r h = (r.0, h.0, subst (Reads bytes.items) (means_what_is_written n name fs above r.0) h.1, r.1)
+    text fs new (Err e) above r h = inr (r.0, unwritten (first (uncovered (finished n fs))) n name fs e above r.0 h, r.1)
+encodes n name (kind.Binary pieces) new names result above r h = binary pieces new result r.1 (subst (λ k. EncodesResolved name k result) r.1 h)
   where
     binary : (pieces : List (Bor (List ℕ))) (new : ModuleKind) (result : Result (Vec ℕ) Error) → new ≡ kind.Binary pieces → EncodesResolved name (kind.Binary pieces) result → EncodesKind n name (kind.Binary pieces) result new
     binary pieces new (Ok bytes) r h = (h, r)
     binary pieces new (Err e) r h = (h, r)
-encodes n name (kind.Refused d) new names result r h = absurd r
+encodes n name (kind.Refused d) new names result above r h = absurd r
 
 -- a covered module that is too large is not put
 pub not_put : {S : Type 0} (rules : SinkRules S) (a : S) (form : Option Form) (name : Option (List ℕ)) (fields : List ModuleField) (e : Error) → AppendLaws rules → form ≡ None → e ≡ too_large → (InRangeModule name fields → ⊥)

@@ -1,10 +1,23 @@
+pub mod ByPosition
 pub mod Each
 pub mod Encoded
+pub mod EncodedFields
+pub mod EntitiesReady
+pub mod Expressions
+pub mod NameEntries
 pub mod NameMaps
+pub mod ListedNames
 pub mod Readings
+pub mod FieldsReady
+pub mod SegmentsReady
+pub mod Segmented
+pub mod SameNames
 pub mod Listed
 pub mod Spelled
 pub mod TypesReady
 pub mod EachPasses
 pub mod Worked
-mod Sizes
+pub mod EntriesComputed
+pub mod NamesComputed
+pub mod Sizes
+pub mod Measuring

@@ -1,91 +1,162 @@
 -- The bytes of an encoded module are read as its parts.
 use native.Mathlib.Omega.{arith}
-use Rattle.std.proofs.Common.{◌≡◌, ◌<◌, ℕ, List, [], ◌∷◌, map, Option, refl}
+use Rattle.std.proofs.Common.{◌≡◌, ◌<◌, ℕ, true, List, [], ◌∷◌, map, Option, Some, None, option_map, refl}
 use Rattle.std.specs.Prelude.{All, IsTrue}
+use Rattle.std.specs.List.{flat_map, list_all}
+use Rattle.std.specs.Str.{is_utf8}
 use Rattle.std.proofs.lemmas.List.Elements.{All-nil, All-map}
-use Rattle.wasm_ops.specs.Table.{HasRow, kinds_of, table}
+use Rattle.wasm_ops.specs.ConstExprs.{is_covered_expression}
+use Rattle.wasm_ops.specs.Entities.{is_covered_table_type, is_covered_global_type}
+use Rattle.wasm_ops.specs.Table.{is_covered_instr}
 use Rattle.wasm_ops.proofs.Everywhere.{all_each, all_one, all_both, all_tested, all_in_flat}
 use Rattle.wasm_out.specs.NameSubsections.{NameSubsection}
-use Rattle.wasm_out.specs.Parts.{SectionKind, Types, Functions, Exports, Code, Single, Entry, Listed, InRangePart}
-use Rattle.wasm_out.specs.Readable.{is_covered_entry, HasRows, IsReadable, IsReadablePart}
+use Rattle.wasm_out.specs.Parts.{SectionKind, Types, Imports, Functions, Tables, Memories, Tags, Globals, Exports, Elements, Code, Data, Single, Entry, Listed, InRangePart}
+use Rattle.wasm_out.specs.Readable.{is_covered_init, HasRowsInit, is_covered_entry, HasRows, HasUtf8Name, IsReadable, IsReadablePart}
 use Rattle.wasm_out.specs.Reads.{Reads}
-use Rattle.wast_core.specs.Tree.{Instruction, FuncKind, ModuleField}
+use Rattle.wast_core.specs.Tree.{Index, Expression, FuncKind, Func, GlobalType, ImportItems, TableKind, Table, Memory, GlobalKind, Global, Tag, Rec, Export, Elem, ModuleField}
+use Rattle.wast_core.specs.Tree as tree
+use Rattle.wast_core.specs.Tree.ty
 use Rattle.wast_core.specs.Tree.func
+use Rattle.wast_core.specs.Tree.import_items
+use Rattle.wast_core.specs.Tree.table
+use Rattle.wast_core.specs.Tree.global
 use Rattle.wast_core.specs.Tree.field
 use Rattle.wast_core.specs.declared.slots.Slot.{Slot}
 use Rattle.wast_core.specs.declared.slots.Slot.TheVariants as slot
 use Rattle.wast_core.specs.Bounded.{bytes_of, InRangeSlot, InRangeModule}
-use Rattle.wast_core.specs.Encodable.{is_encodable_kind, is_encodable_field, are_encodable}
+use Rattle.wast_core.specs.Encodable.{is_encodable_type, is_encodable_type_use, is_encodable_local, is_encodable_expression, is_encodable_expression_if, is_encodable_kind, is_encodable_func, is_encodable_import_items, is_encodable_import, is_encodable_table_type, is_encodable_table_kind, is_encodable_table, is_encodable_global_type, is_encodable_global_kind, is_encodable_global, is_encodable_elem, is_encodable_data, is_encodable_field, are_encodable}
+use Rattle.wast_core.specs.FieldEntries.{imported, table_of, value_of}
 use Rattle.wast_core.specs.Meaning as meaning
-use Rattle.wast_core.specs.Meaning.{Contribution, of_kind, contributed, entries_in, entries, listed, names_part, in_slot, parts}
-use Rattle.wast_core.specs.Names.{HasUtf8Names}
+use Rattle.wast_core.specs.Meaning.{Contribution, of_type, of_rec, of_import, of_func, of_table, of_memory, of_global, of_export, of_start, of_elem, of_data, of_tag, of_kind, contributed, entries_in, entries, listed, start_part, starts_in, names_part, in_slot, parts}
+use Rattle.wast_core.specs.Names.{HasUtf8Items, HasUtf8Names}
 use Rattle.wast_core.specs.NamesPayload.{name_subsections}
 use Rattle.wast_core.specs.Slots.{kind_of, order}
 use Rattle.wast_core.proofs.EachPasses.{both_pass}
+use Rattle.wast_core.proofs.EntitiesReady.{table_covered, global_covered, kind_covered}
+use Rattle.wast_core.proofs.Expressions.{instrs_rows, instrs_covered}
 use Rattle.wast_core.proofs.NameMaps.{name_is_text}
-use Rattle.wast_core.proofs.TypesReady.{def_covered, locals_covered, types_covered}
+use Rattle.wast_core.proofs.SegmentsReady.{elem_covered, mode_rows, items_rows, place_covered, place_rows}
+use Rattle.wast_core.proofs.TypesReady.{both_true, def_covered, locals_covered, types_covered}
 
--- each instruction is a row of the table
-instr_row : (i : Instruction) → HasRow (meaning.instr i)
-unfolding kinds_of table
-instr_row i = grind (arith)
+-- ---- what an entry is read as
 
-instrs_rows : (is : List Instruction) → All HasRow (map meaning.instr is)
-instrs_rows is = All-map HasRow meaning.instr is (all_each (λ i. HasRow (meaning.instr i)) instr_row is)
+plain : (k : SectionKind) (e : Entry k) → IsTrue (is_covered_entry k e) → HasRows k e → HasUtf8Name k e → All (IsReadable k) (e ∷ [])
+plain k e covered rows name = all_one (IsReadable k) e record { covered = covered; rows = rows; name = name }
 
-body_rows : (k : FuncKind) → HasRows Code (meaning.body k)
-body_rows (func.Inline locals e) = instrs_rows e.instrs
+nothing_more : (k : SectionKind) → All (IsReadable k) []
+nothing_more k = All-nil (IsReadable k)
 
--- the types of locals are covered
-kind_covered : (k : FuncKind) → IsTrue (is_encodable_kind k) → IsTrue (is_covered_entry Code (meaning.body k))
-kind_covered (func.Inline locals e) h = locals_covered locals (both_pass _ _ h).0
+import_read : (i : ImportItems) → is_encodable_import_items i ≡ true → HasUtf8Items i → All (IsReadable Imports) (imported i ∷ [])
+import_read (import_items.Single source name sig) e h = plain Imports (imported (import_items.Single source name sig)) (kind_covered sig.kind e) tt h
 
--- what a field puts into the sections is readable
-record AreReadable (c : Contribution) : Type 0 where
-  types : All (IsReadable Types) c.types
-  functions : All (IsReadable Functions) c.functions
-  exports : All (IsReadable Exports) c.exports
-  code : All (IsReadable Code) c.code
+init_covered : (o : Option Expression) → is_encodable_expression_if o ≡ true → is_covered_init (option_map meaning.expression o) ≡ true
+init_covered None e = refl
+init_covered (Some x) e = instrs_covered x.instrs e
 
-of_readable : (k : SectionKind) (c : Contribution) → AreReadable c → All (IsReadable k) (of_kind k c)
-of_readable Types c r = r.types
-of_readable Functions c r = r.functions
-of_readable Exports c r = r.exports
-of_readable Code c r = r.code
+init_rows : (o : Option Expression) → HasRowsInit (option_map meaning.expression o)
+init_rows None = tt
+init_rows (Some x) = instrs_rows x.instrs
+
+table_read : (k : TableKind) → is_encodable_table_kind k ≡ true → All (IsReadable Tables) (table_of k ∷ [])
+table_read (table.Normal ty init) e =
+    let both = both_pass (is_encodable_table_type ty) (is_encodable_expression_if init) e in
+    plain Tables (table_of (table.Normal ty init)) (both_true (is_covered_table_type (meaning.table_type ty)) (is_covered_init (option_map meaning.expression init)) (table_covered ty both.0) (init_covered init both.1)) (init_rows init) tt
+
+global_read : (t : GlobalType) (k : GlobalKind) → is_encodable_global_type t ≡ true → is_encodable_global_kind k ≡ true → All (IsReadable Globals) (record { ty = meaning.global_type t; init = value_of k } ∷ [])
+global_read t (global.Inline x) e f =
+    plain Globals (record { ty = meaning.global_type t; init = meaning.expression x }) (both_true (is_covered_global_type (meaning.global_type t)) (is_covered_expression (meaning.expression x)) (global_covered t e) (instrs_covered x.instrs f)) (instrs_rows x.instrs) tt
+
+code_read : (k : FuncKind) → is_encodable_kind k ≡ true → All (IsReadable Code) (meaning.body k ∷ [])
+code_read (func.Inline locals x) e =
+    let both = both_pass (list_all is_encodable_local locals) (is_encodable_expression x) e in
+    plain Code (meaning.body_of locals x.instrs) (both_true _ (list_all is_covered_instr (map meaning.instr x.instrs)) (locals_covered locals both.0) (instrs_covered x.instrs both.1)) (instrs_rows x.instrs) tt
+
+elem_read : (x : Elem) → is_encodable_elem x ≡ true → All (IsReadable Elements) (meaning.element_entry x ∷ [])
+elem_read x e = plain Elements (meaning.element_entry x) (elem_covered x e) (mode_rows x.kind, items_rows x.payload) tt
+
+data_read : (x : tree.Data) → is_encodable_data x ≡ true → All (IsReadable Data) (meaning.data_entry x ∷ [])
+data_read x e = plain Data (meaning.data_entry x) (place_covered x.kind e) (place_rows x.kind) tt
+
+-- ---- what a field puts into the sections is readable
+
+abbrev AreReadable : Contribution → Type 0
+AreReadable c = (k : SectionKind) → All (IsReadable k) (of_kind k c)
+
+type_readable : (t : ty.«Type») → is_encodable_type t ≡ true → AreReadable (of_type t)
+type_readable t e Types = plain Types (Single (meaning.sub_type t.def)) (def_covered t.def e) tt tt
+type_readable t e k = nothing_more k
+
+rec_readable : (r : Rec) → list_all is_encodable_type r.types ≡ true → AreReadable (of_rec r)
+rec_readable r e Types = plain Types (meaning.group_of r) (types_covered r.types e) tt tt
+rec_readable r e k = nothing_more k
+
+import_readable : (i : tree.Imports) → is_encodable_import i ≡ true → HasUtf8Items i.items → AreReadable (of_import i)
+import_readable i e h Imports = import_read i.items e h
+import_readable i e h k = nothing_more k
+
+func_readable : (f : Func) → is_encodable_func f ≡ true → AreReadable (of_func f)
+func_readable f e Functions = plain Functions (meaning.type_index f.ty) refl tt tt
+func_readable f e Code = code_read f.kind (both_pass (is_encodable_type_use f.ty) (is_encodable_kind f.kind) e).1
+func_readable f e k = nothing_more k
+
+table_readable : (t : Table) → is_encodable_table t ≡ true → AreReadable (of_table t)
+table_readable t e Tables = table_read t.kind e
+table_readable t e k = nothing_more k
+
+memory_readable : (m : Memory) → AreReadable (of_memory m)
+memory_readable m Memories = plain Memories (meaning.memory_entry m) refl tt tt
+memory_readable m k = nothing_more k
+
+global_readable : (g : Global) → is_encodable_global g ≡ true → AreReadable (of_global g)
+global_readable g e Globals =
+    let both = both_pass (is_encodable_global_type g.ty) (is_encodable_global_kind g.kind) e in
+    global_read g.ty g.kind both.0 both.1
+global_readable g e k = nothing_more k
+
+export_readable : (x : Export) → IsTrue (is_utf8 x.name.now) → AreReadable (of_export x)
+export_readable x h Exports = plain Exports (meaning.export_entry x) refl tt h
+export_readable x h k = nothing_more k
+
+start_readable : (i : Index) → AreReadable (of_start i)
+start_readable i Types = nothing_more Types
+start_readable i k = nothing_more k
+
+elem_readable : (x : Elem) → is_encodable_elem x ≡ true → AreReadable (of_elem x)
+elem_readable x e Elements = elem_read x e
+elem_readable x e k = nothing_more k
+
+data_readable : (x : tree.Data) → is_encodable_data x ≡ true → AreReadable (of_data x)
+data_readable x e Data = data_read x e
+data_readable x e k = nothing_more k
+
+tag_readable : (t : Tag) → AreReadable (of_tag t)
+tag_readable t Tags = plain Tags (meaning.tag_entry t) refl tt tt
+tag_readable t k = nothing_more k
 
 field_readable : (f : ModuleField) → IsTrue (is_encodable_field f) → HasUtf8Names f → AreReadable (contributed f)
-field_readable (field.Ty t) e h = record {
-  types = all_one (IsReadable Types) (Single (meaning.sub_type t.def)) record { covered = def_covered t.def e; rows = tt; name = tt };
-  functions = All-nil (IsReadable Functions);
-  exports = All-nil (IsReadable Exports);
-  code = All-nil (IsReadable Code);
-}
-field_readable (field.Rec g) e h = record {
-  types = all_one (IsReadable Types) (meaning.group_of g) record { covered = types_covered g.types e; rows = tt; name = tt };
-  functions = All-nil (IsReadable Functions);
-  exports = All-nil (IsReadable Exports);
-  code = All-nil (IsReadable Code);
-}
-field_readable (field.Func f) e h = record {
-  types = All-nil (IsReadable Types);
-  functions = all_one (IsReadable Functions) (meaning.type_index f.ty) record { covered = refl; rows = tt; name = tt };
-  exports = All-nil (IsReadable Exports);
-  code = all_one (IsReadable Code) (meaning.body f.kind) record { covered = kind_covered f.kind (both_pass _ _ e).1; rows = body_rows f.kind; name = tt };
-}
-field_readable (field.Export x) e h = record {
-  types = All-nil (IsReadable Types);
-  functions = All-nil (IsReadable Functions);
-  exports = all_one (IsReadable Exports) (meaning.export_entry x) record { covered = refl; rows = tt; name = h };
-  code = All-nil (IsReadable Code);
-}
+field_readable (field.Ty t) e h = type_readable t e
+field_readable (field.Rec r) e h = rec_readable r e
+field_readable (field.Import i) e h = import_readable i e h
+field_readable (field.Func f) e h = func_readable f e
+field_readable (field.Table t) e h = table_readable t e
+field_readable (field.Memory m) e h = memory_readable m
+field_readable (field.Global g) e h = global_readable g e
+field_readable (field.Export x) e h = export_readable x h
+field_readable (field.Start i) e h = start_readable i
+field_readable (field.Elem x) e h = elem_readable x e
+field_readable (field.Data d) e h = data_readable d e
+field_readable (field.Tag t) e h = tag_readable t
 
 entries_readable : (k : SectionKind) (fields : List ModuleField) → IsTrue (are_encodable fields) → All HasUtf8Names fields → All (IsReadable k) (entries k fields)
 entries_readable k fields e h = all_in_flat (IsReadable k) (entries_in k) fields
-    (all_both (λ f. IsTrue (is_encodable_field f)) HasUtf8Names (λ f. All (IsReadable k) (entries_in k f)) (λ f p q. of_readable k (contributed f) (field_readable f p q)) fields (all_tested is_encodable_field fields e) h)
+    (all_both (λ f. IsTrue (is_encodable_field f)) HasUtf8Names (λ f. All (IsReadable k) (entries_in k f)) (λ f p q. field_readable f p q k) fields (all_tested is_encodable_field fields e) h)
 
 listed_readable : (k : SectionKind) (es : List (Entry k)) → All (IsReadable k) es → All IsReadablePart (listed k es)
 listed_readable k [] h = All-nil IsReadablePart
 listed_readable k (x ∷ xs) h = all_one IsReadablePart (record { kind = Listed k; items = x ∷ xs }) h
+
+starts_readable : (fields : List ModuleField) → All IsReadablePart (flat_map starts_in fields)
+starts_readable fields = all_in_flat IsReadablePart starts_in fields (all_each (λ f. All IsReadablePart (starts_in f)) (λ f. All-map IsReadablePart start_part (contributed f).starts (all_each (λ n. IsReadablePart (start_part n)) (λ n. tt) (contributed f).starts)) fields)
 
 names_readable : (ss : List NameSubsection) → All IsReadablePart (names_part ss)
 names_readable [] = All-nil IsReadablePart
@@ -95,6 +166,10 @@ slot_readable : (name : Option (List ℕ)) (fields : List ModuleField) → IsTru
 slot_readable name fields e h slot.BeforeFirst = All-nil IsReadablePart
 slot_readable name fields e h (slot.Before k) = All-nil IsReadablePart
 slot_readable name fields e h (slot.Section k) = listed_readable (kind_of k) (entries (kind_of k) fields) (entries_readable (kind_of k) fields e h)
+slot_readable name fields e h slot.BeforeStart = All-nil IsReadablePart
+slot_readable name fields e h slot.Start = starts_readable fields
+slot_readable name fields e h slot.AfterStart = All-nil IsReadablePart
+slot_readable name fields e h slot.DataCount = All-nil IsReadablePart
 slot_readable name fields e h slot.Hints = All-nil IsReadablePart
 slot_readable name fields e h (slot.After k) = All-nil IsReadablePart
 slot_readable name fields e h slot.AfterLast = All-nil IsReadablePart

@@ -1,25 +1,28 @@
 -- How long a module is, of how long the payloads of its sections are.
-use Rattle.std.proofs.Common.{◌≡◌, ◌==◌, true, ◌<◌, ◌≤◌, ◌+◌, ℕ, List, [], ◌∷◌, ◌++◌, length, Option, sym, ap, ◌∙◌, arith, length-append}
-use Rattle.std.specs.Prelude.{codes}
+use Rattle.std.proofs.Common.{◌≡◌, ◌==◌, true, ◌<◌, ◌≤◌, ◌+◌, ℕ, List, [], ◌∷◌, ◌++◌, length, Option, Result, sym, ap, ◌∙◌, arith, length-append, take}
+use Rattle.std.specs.Prelude.{All, codes}
 use Rattle.std.specs.List.{flat_map}
 use Rattle.std.proofs.lemmas.Bool.{ne_eqb, eqb-true}
-use Rattle.std.proofs.lemmas.List.Concat.{length-flat_map}
+use Rattle.std.proofs.lemmas.List.{take_all}
 use Rattle.wasm_ops.specs.Leb128.{unsigned}
 use Rattle.wasm_ops.specs.Spelling.{vec}
-use Rattle.wasm_ops.proofs.Everywhere.{flat_one, flat_in_flat}
+use Rattle.wasm_ops.specs.Sinks.{SinkRules, Writes}
+use Rattle.wasm_ops.specs.declared.sink.Refusal.{Refusal}
+use Rattle.wasm_ops.proofs.Everywhere.{flat_one, flat_in_flat, all_in_flat, all_of_flat}
+use Rattle.wasm_ops.proofs.Sinking.{written_as}
 use Rattle.wasm_ops.proofs.Numbers.{unsigned_fits, unsigned-nonempty}
 use Rattle.wasm_out.specs.NameSubsections.{NameSubsection, name_subsection, name_payload}
-use Rattle.wasm_out.specs.Parts.{SectionKind, Types, Functions, Exports, Code, Entry, entry, Custom, Listed, Part, part, section_id, section}
+use Rattle.wasm_out.specs.Parts.{SectionKind, Types, Functions, Exports, Code, Entry, entry, Custom, Listed, Part, part, InRangePart, section_id, section}
 use Rattle.wasm_out.specs.Reads.{header}
 use Rattle.wast_core.specs.Tree.{ModuleField}
 use Rattle.wast_core.specs.Bounded.{bytes_of}
 use Rattle.wast_core.specs.Encodable.{are_encodable}
-use Rattle.wast_core.specs.Extents.{payload_of, names_payload_of, is_extent, section_size}
+use Rattle.wast_core.specs.Extents.{payload_of, names_payload_of, IsExtent, section_size}
 use Rattle.wast_core.specs.Measured.{is_measured}
-use Rattle.wast_core.specs.Names.{text_seen}
+use Rattle.wast_core.specs.Names.{counted}
 use Rattle.wast_core.specs.declared.sections.BinaryModule.{BinaryModule}
 use Rattle.wast_core.proofs.EachPasses.{both_pass}
-use Rattle.wast_core.specs.Meaning.{entries, listed, names_part, in_slot, parts}
+use Rattle.wast_core.specs.Meaning.{entries, listed, start_part, names_part, in_slot, parts}
 use Rattle.wast_core.specs.NamesPayload.{name_subsections}
 use Rattle.wast_core.specs.Slots.{order}
 use Rattle.wast_core.specs.declared.slots.Slot.{Slot}
@@ -50,33 +53,41 @@ names_part_size (s ∷ ss) size is =
     ap (λ (bs : List ℕ). length bs) (flat_one part here)
     ∙ size_of_some 0 (name_payload rest) size is (omega (arith, length-append (unsigned (length text) ++ text) rest, length-append (unsigned (length text)) text, unsigned-nonempty (length text)))
 
--- the header, and one section after another
-module_size : (name : Option (List ℕ)) (fields : List ModuleField) (types functions exports code names : ℕ)
-    → length (flat_map part (listed Types (entries Types fields))) ≡ types → length (flat_map part (listed Functions (entries Functions fields))) ≡ functions
-    → length (flat_map part (listed Exports (entries Exports fields))) ≡ exports → length (flat_map part (listed Code (entries Code fields))) ≡ code
-    → length (flat_map part (names_part (name_subsections name fields))) ≡ names
-    → 8 + (types + functions + exports + code) + names ≡ length (bytes_of name fields)
-module_size name fields types functions exports code names t f e c n =
-    let each : Slot → List ℕ = λ s. flat_map part (in_slot name fields s) in
-    let sum = length-flat_map each order in
-    let all = ap (λ (bs : List ℕ). length bs) (flat_in_flat part (in_slot name fields) order) in
-    omega (arith, t, f, e, c, n, sum, all, length-append header (flat_map part (parts name fields)))
+-- what is at most so long is counted whole
+short : (n : ℕ) → n ≤ 4294967306 → n ≡ counted n
+short n le = omega arith
 
-extent_size : (k : SectionKind) (fields : List ModuleField) (count size : ℕ) → is_extent k fields count size ≡ true → length (flat_map part (listed k (entries k fields))) ≡ section_size size
-extent_size k fields count size h =
-    listed_size k (entries k fields) size (eqb-true size (length (payload_of k (entries k fields))) (both_pass (count == length (entries k fields)) (size == length (payload_of k (entries k fields))) h).1)
+pub listed_counted : (k : SectionKind) (fields : List ModuleField) (count size bytes : ℕ) → IsExtent k fields count size → bytes ≡ section_size size → bytes ≤ 4294967306 → bytes ≡ counted (length (flat_map part (listed k (entries k fields))))
+listed_counted k fields count size bytes e is le = short bytes le ∙ ap counted (is ∙ sym (listed_size k (entries k fields) size e.sized))
 
--- a measured module
-pub measured_size : (m : BinaryModule) → is_measured m ≡ true
-    → 8 + (section_size m.types.size + section_size m.functions.size + section_size m.exports.size + section_size m.code.size) + section_size m.names ≡ length (bytes_of (text_seen m.name) m.fields.now)
-measured_size m h =
-    let fields = m.fields.now in
-    let subsections = name_subsections (text_seen m.name) fields in
-    let lists = (both_pass (are_encodable fields) _ h).1 in
-    let types = both_pass (is_extent Types fields m.types.count m.types.size) _ lists in
-    let functions = both_pass (is_extent Functions fields m.functions.count m.functions.size) _ types.1 in
-    let exports = both_pass (is_extent Exports fields m.exports.count m.exports.size) _ functions.1 in
-    let code = both_pass (is_extent Code fields m.code.count m.code.size) _ exports.1 in
-    module_size (text_seen m.name) fields (section_size m.types.size) (section_size m.functions.size) (section_size m.exports.size) (section_size m.code.size) (section_size m.names)
-    (extent_size Types fields m.types.count m.types.size types.0) (extent_size Functions fields m.functions.count m.functions.size functions.0) (extent_size Exports fields m.exports.count m.exports.size exports.0) (extent_size Code fields m.code.count m.code.size code.0)
-    (names_part_size subsections m.names (eqb-true m.names (length (names_payload_of subsections)) code.1))
+pub names_counted : (subsections : List NameSubsection) (size bytes : ℕ) → size ≡ length (names_payload_of subsections) → bytes ≡ section_size size → bytes ≤ 4294967306 → bytes ≡ counted (length (flat_map part (names_part subsections)))
+names_counted subsections size bytes e is le = short bytes le ∙ ap counted (is ∙ sym (names_part_size subsections size e))
+
+-- a start section: its id, one byte for its length, and a number
+pub start_size : (n width : ℕ) → n < 4294967296 → width ≡ length (unsigned n) → 2 + width ≡ length (flat_map part (start_part n ∷ []))
+start_size n width lt is =
+    let bytes = unsigned n in
+    let fits = narrow n lt in
+    omega (arith, ap (λ (bs : List ℕ). length bs) (flat_one part (start_part n)), length-append (unsigned (length bytes)) bytes, unsigned_fits 0 (length bytes) (omega arith), unsigned-nonempty (length bytes))
+
+-- so many bytes, and those of one more
+pub bytes_more : (before one all : List ℕ) (sum size : ℕ) → all ≡ before ++ one → sum ≡ counted (length before) → size ≡ counted (length one) → counted (sum + size) ≡ counted (length all)
+bytes_more before one all sum size is so also = omega (arith, ap (λ (bs : List ℕ). length bs) is, length-append before one)
+
+pub starts_more : (before one all : List ℕ) (sum size : ℕ) → all ≡ before ++ one → sum ≡ counted (length before) → size ≡ length one → counted (sum + size) ≡ counted (length all)
+starts_more before one all sum size is so also = omega (arith, ap (λ (bs : List ℕ). length bs) is, length-append before one)
+
+-- all of them, where none is left
+pub all_summed : {A : Type 0} (f : A → List ℕ) (xs : List A) (i sum : ℕ) → length xs ≤ i → sum ≡ counted (length (flat_map f (take i xs))) → sum ≡ counted (length (flat_map f xs))
+all_summed f xs i sum le is = is ∙ ap (λ ys. counted (length (flat_map f ys))) (take_all i xs le)
+
+-- the header, and what stands in one place after another
+pub module_size : (name : Option (List ℕ)) (fields : List ModuleField) (sum : ℕ) → sum ≡ counted (length (flat_map (λ s. flat_map part (in_slot name fields s)) order)) → counted (8 + sum) ≡ counted (length (bytes_of name fields))
+module_size name fields sum is =
+    omega (arith, is, ap (λ (bs : List ℕ). length bs) (flat_in_flat part (in_slot name fields) order), length-append header (flat_map part (parts name fields)))
+
+-- what each field gives one after another, as parts
+pub each_part_written : {S A X : Type 0} (rules : SinkRules S) (f : X → List Part) (xs : List X) (a b : S) (r : Result A Refusal)
+    → Writes rules (All (λ x. All InRangePart (f x)) xs) a b (flat_map (λ x. flat_map part (f x)) xs) r → Writes rules (All InRangePart (flat_map f xs)) a b (flat_map part (flat_map f xs)) r
+each_part_written rules f xs a b r p =
+    written_as rules (All (λ x. All InRangePart (f x)) xs) (All InRangePart (flat_map f xs)) a b (flat_map (λ x. flat_map part (f x)) xs) (flat_map part (flat_map f xs)) r (all_in_flat InRangePart f xs) (all_of_flat InRangePart f xs) (flat_in_flat part f xs) p

@@ -7,15 +7,15 @@ use Rattle.std.proofs.lemmas.Grind.{common_steps}
 use Rattle.std.proofs.lemmas.List.Folds.{list_all-append}
 use Rattle.wast_tree.specs.Ids.{is_number}
 use Rattle.wast_tree.specs.Occurrences.{if_there, in_id, in_index, in_heap, in_val, in_storage, in_param, in_signature, in_struct_field, in_struct, in_inner, in_def, in_type, in_local}
-use Rattle.wast_tree.specs.WellFormed.{is_nameless, is_plain_heap, is_plain_val, is_plain_storage, is_plain_param, is_plain_signature, is_plain_struct_field, is_plain_inner, is_plain_def, is_plain_type, is_plain_local}
+use Rattle.wast_tree.specs.WellFormed.{is_plain_heap, is_plain_val, is_plain_storage, is_plain_param, is_plain_signature, is_plain_struct_field, is_plain_inner, is_plain_def, is_plain_type, is_plain_local}
 use Rattle.wasm_ops.specs.Covered.{is_covered_heap_type, is_covered_val_type, is_covered_storage_type, is_covered_field_type, is_covered_composite_inner_type, is_covered_sub_type}
 use Rattle.wast_resolve.specs.Resolved.{is_numbered, is_resolved}
-use Rattle.wast_core.specs.Tree.{Id, Index, NameAnnotation, HeapType, ValType, StorageType, StructField, StructType, FunctionType, InnerTypeKind, TypeDef, Local}
+use Rattle.wast_core.specs.Tree.{Id, Index, Space, NameAnnotation, HeapType, ValType, StorageType, StructField, StructType, FunctionType, InnerTypeKind, TypeDef, Local}
 use Rattle.wast_core.specs.Tree.ty
 use Rattle.wast_core.specs.Tree.heap
 use Rattle.wast_core.specs.Tree.inner
 use Rattle.wast_core.specs.Tree.space
-use Rattle.wast_core.specs.Encodable.{is_encodable_heap, is_encodable_val, is_encodable_storage, is_encodable_param, is_encodable_signature, is_encodable_struct_field, is_encodable_inner, is_encodable_def, is_encodable_type, is_encodable_local}
+use Rattle.wast_core.specs.Encodable.{is_number_if, is_encodable_heap, is_encodable_val, is_encodable_storage, is_encodable_param, is_encodable_signature, is_encodable_struct_field, is_encodable_inner, is_encodable_def, is_encodable_type, is_encodable_local}
 use Rattle.wast_core.specs.Meaning as meaning
 use Rattle.wast_core.proofs.EachPasses.{both_pass, each_passes, same_each, index_is_number}
 
@@ -46,7 +46,7 @@ id_resolved (Some id) = refl
 
 -- ---- plain and resolved: the encoder takes it
 
-heap_ready : (h : HeapType) → is_plain_heap h ≡ true → is_resolved (in_heap h) ≡ true → is_encodable_heap h ≡ true
+pub heap_ready : (h : HeapType) → is_plain_heap h ≡ true → is_resolved (in_heap h) ≡ true → is_encodable_heap h ≡ true
 heap_ready (heap.Abstract shared ty) p r = p
 heap_ready (heap.Concrete i) p r = sym (index_is_number space.Ty i) ∙ r
 
@@ -57,7 +57,7 @@ storage_ready : (t : StorageType) → is_plain_storage t ≡ true → is_resolve
 storage_ready t p r = grind (arith, common_steps, val_ready)
 
 param_ready : (q : Option Id × Option NameAnnotation × ValType) → is_plain_param q ≡ true → is_resolved (in_param q) ≡ true → is_encodable_param q ≡ true
-param_ready q p r = val_ready q.2 (both_pass (is_nameless q.0 q.1) (is_plain_val q.2) p).1 (resolved_both is_numbered (if_there in_id q.0) (in_val q.2) r).1
+param_ready q p r = val_ready q.2 p (resolved_both is_numbered (if_there in_id q.0) (in_val q.2) r).1
 
 signature_ready : (t : FunctionType) → is_plain_signature t ≡ true → is_resolved (in_signature t) ≡ true → is_encodable_signature t ≡ true
 signature_ready t p r =
@@ -68,7 +68,7 @@ signature_ready t p r =
     (each_by is_plain_val (λ v. is_resolved (in_val v)) is_encodable_val val_ready t.results a.1 (sym (each_passes is_numbered in_val t.results) ∙ b.1))
 
 field_ready : (f : StructField) → is_plain_struct_field f ≡ true → is_resolved (in_struct_field f) ≡ true → is_encodable_struct_field f ≡ true
-field_ready f p r = storage_ready f.ty (both_pass (is_nameless f.id f.name) (is_plain_storage f.ty) p).1 (resolved_both is_numbered (if_there in_id f.id) (in_storage f.ty) r).1
+field_ready f p r = storage_ready f.ty p (resolved_both is_numbered (if_there in_id f.id) (in_storage f.ty) r).1
 
 inner_ready : (t : InnerTypeKind) → is_plain_inner t ≡ true → is_resolved (in_inner t) ≡ true → is_encodable_inner t ≡ true
 inner_ready (inner.Func t) p r = signature_ready t p r
@@ -92,7 +92,7 @@ def_ready d p r =
     (both_true (list_all is_number d.parents) (is_encodable_inner d.kind) (numbers_ready d.parents parents.0) (inner_ready d.kind c.1 describes.1))
 
 pub local_ready : (l : Local) → is_plain_local l ≡ true → is_resolved (in_local l) ≡ true → is_encodable_local l ≡ true
-local_ready l p r = val_ready l.ty (both_pass (is_nameless l.id l.name) (is_plain_val l.ty) p).1 (resolved_both is_numbered (in_val l.ty) (if_there in_id l.id) r).0
+local_ready l p r = val_ready l.ty p (resolved_both is_numbered (in_val l.ty) (if_there in_id l.id) r).0
 
 pub locals_ready : (ls : List Local) → list_all is_plain_local ls ≡ true → is_resolved (flat_map in_local ls) ≡ true → list_all is_encodable_local ls ≡ true
 locals_ready ls p r = each_by is_plain_local (λ l. is_resolved (in_local l)) is_encodable_local local_ready ls p (sym (each_passes is_numbered in_local ls) ∙ r)
@@ -102,7 +102,7 @@ types_ready ts p r = each_by is_plain_type (λ t. is_resolved (in_type t)) is_en
 
 -- ---- what the encoder takes is resolved
 
-heap_resolved : (h : HeapType) → is_encodable_heap h ≡ true → is_resolved (in_heap h) ≡ true
+pub heap_resolved : (h : HeapType) → is_encodable_heap h ≡ true → is_resolved (in_heap h) ≡ true
 heap_resolved (heap.Abstract shared ty) e = refl
 heap_resolved (heap.Concrete i) e = index_is_number space.Ty i ∙ e
 
@@ -146,7 +146,7 @@ types_resolved ts e = each_then is_encodable_type (λ t. is_resolved (in_type t)
 
 -- ---- what the encoder takes becomes a covered value
 
-heap_covered : (h : HeapType) → is_encodable_heap h ≡ true → is_covered_heap_type (meaning.heap_type h) ≡ true
+pub heap_covered : (h : HeapType) → is_encodable_heap h ≡ true → is_covered_heap_type (meaning.heap_type h) ≡ true
 heap_covered (heap.Abstract shared ty) e = e
 heap_covered (heap.Concrete i) e = refl
 
@@ -195,6 +195,18 @@ pub fields_numbered : (t : StructType) → is_resolved (in_struct t) ≡ true �
 fields_numbered t r =
     each_then (λ f. is_resolved (in_struct_field f)) (λ f. is_resolved (in_storage f.ty)) (λ f h. (resolved_both is_numbered (if_there in_id f.id) (in_storage f.ty) h).1) t.fields
     (sym (each_passes is_numbered in_struct_field t.fields) ∙ r)
+
+pub optional_number : (s : Space) (o : Option Index) → is_resolved (if_there (in_index s) o) ≡ is_number_if o
+optional_number s None = refl
+optional_number s (Some i) = index_is_number s i
+
+-- the type that a type describes, and the one that describes it
+pub described_numbered : (d : TypeDef) → is_resolved (in_def d) ≡ true → (is_number_if d.descriptor ≡ true) × (is_number_if d.describes ≡ true)
+described_numbered d r =
+    let parents = resolved_both is_numbered (flat_map (in_index space.Ty) d.parents) (if_there (in_index space.Ty) d.descriptor ++ (if_there (in_index space.Ty) d.describes ++ in_inner d.kind)) r in
+    let descriptor = resolved_both is_numbered (if_there (in_index space.Ty) d.descriptor) (if_there (in_index space.Ty) d.describes ++ in_inner d.kind) parents.1 in
+    let describes = resolved_both is_numbered (if_there (in_index space.Ty) d.describes) (in_inner d.kind) descriptor.1 in
+    (sym (optional_number space.Ty d.descriptor) ∙ descriptor.0, sym (optional_number space.Ty d.describes) ∙ describes.0)
 
 -- ---- what a function or a group becomes
 

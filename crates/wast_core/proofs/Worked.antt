@@ -18,8 +18,9 @@ use Rattle.wasm_out.specs.WorkedBytes as out
 use Rattle.wast_tree.specs.WorkedModules as worked
 use Rattle.wast_tree.specs.WorkedModules.{Address}
 use Rattle.wast_expand.specs.Completed.{completed}
+use Rattle.wast_expand.specs.Positioned.{positioned}
 use Rattle.wast_resolve.specs.Demands.{counts, IsCrowded}
-use Rattle.wast_resolve.specs.Finished.{finished}
+use Rattle.wast_resolve.specs.Resolved.{resolved}
 use Rattle.wast_core.specs.Tree.{ModuleField}
 use Rattle.wast_core.specs.declared.slots.Slot.{Slot}
 use Rattle.wast_core.specs.declared.slots.Slot.TheVariants as slot
@@ -28,7 +29,7 @@ use Rattle.wast_core.specs.Meaning.{in_slot, parts, meaning}
 use Rattle.wast_core.specs.Names.{HasUtf8Names}
 use Rattle.wast_core.specs.NamesPayload.{InRangeNames, name_subsections}
 use Rattle.wast_core.specs.Slots.{order}
-use Rattle.wast_core.specs.WorkedMeanings.{Row1, Row2, Row24, Row27, AnnotatedFunction, SecondNamed, LongSection}
+use Rattle.wast_core.specs.WorkedMeanings.{Row1, Row2, Row8, Row24, Row27, AnnotatedFunction, SecondNamed, LongSection}
 use Rattle.wast_core.proofs.Readings.{reads_module}
 
 -- what is tested of each number
@@ -53,6 +54,10 @@ each_place name fields h names = all_both (λ s. All InRangePart (in_slot name f
     held slot.BeforeFirst = tt
     held (slot.Before kind) = tt
     held (slot.Section kind) = tt
+    held slot.BeforeStart = tt
+    held slot.Start = tt
+    held slot.AfterStart = tt
+    held slot.DataCount = tt
     held slot.Hints = tt
     held (slot.After kind) = tt
     held slot.AfterLast = tt
@@ -77,9 +82,9 @@ parts27 = All-from_recursion InRangePart out.worked_parts (
   ),
 )
 
-names27 : (a b c d e f : Address) → InRangeNames None (finished 1 (worked.row27 a b c d e f))
+names27 : (a b c d e f : Address) → InRangeNames None (resolved (positioned (worked.row27 a b c d e f)))
 unfolding unsigned unsigned_in
-names27 a b c d e f = All-from_recursion InRangeNameSubsection (name_subsections None (finished 1 (worked.row27 a b c d e f))) (
+names27 a b c d e f = All-from_recursion InRangeNameSubsection (name_subsections None (resolved (positioned (worked.row27 a b c d e f)))) (
   (omega arith, one InRangeNameEntry _ (omega arith, omega arith)),
   ((omega arith, one InRangeNameEntry _ (omega arith, omega arith)), tt),
 )
@@ -88,20 +93,20 @@ a_is_text : is_utf8 (codes "a") ≡ true
 unfolding encode
 a_is_text = is_utf8-from_IsUtf8 (codes "a") (codes "a", (refl, refl))
 
-texts27 : (a b c d e f : Address) → All HasUtf8Names (finished 1 (worked.row27 a b c d e f))
-texts27 a b c d e f = All-from_recursion HasUtf8Names (finished 1 (worked.row27 a b c d e f)) (tt, (tt, (a_is_text, tt)))
+texts27 : (a b c d e f : Address) → All HasUtf8Names (resolved (positioned (worked.row27 a b c d e f)))
+texts27 a b c d e f = All-from_recursion HasUtf8Names (resolved (positioned (worked.row27 a b c d e f))) (tt, (tt, (a_is_text, tt)))
 
 bounded27 : (a b c d e f : Address) → IsBounded 1 None (worked.row27 a b c d e f)
 unfolding unsigned unsigned_in
 bounded27 a b c d e f =
     let fields = worked.row27 a b c d e f in
-    record { spaces = not_crowded (completed fields) refl; counter = omega arith; written = record { in_range = each_place None (finished 1 fields) parts27 (names27 a b c d e f); length = omega arith } }
+    record { spaces = not_crowded (completed fields) refl; counter = omega arith; written = record { in_range = each_place None (resolved (positioned fields)) parts27 (names27 a b c d e f); length = omega arith } }
 
-reads27 : (a b c d e f : Address) → Reads out.worked_bytes (meaning 1 None (worked.row27 a b c d e f))
+reads27 : (a b c d e f : Address) → Reads out.worked_bytes (meaning None (worked.row27 a b c d e f))
 unfolding unsigned unsigned_in
 reads27 a b c d e f =
     let bounded = bounded27 a b c d e f in
-    reads_module None (finished 1 (worked.row27 a b c d e f)) out.worked_bytes refl (texts27 a b c d e f) bounded.written.in_range refl (below 256 out.worked_bytes refl)
+    reads_module None (resolved (positioned (worked.row27 a b c d e f))) out.worked_bytes refl (texts27 a b c d e f) bounded.written.in_range refl (below 256 out.worked_bytes refl)
 
 pub row27 : Row27
 unfolding unsigned unsigned_in
@@ -110,6 +115,10 @@ row27 a b c d e f = (refl, refl, refl, bounded27 a b c d e f, reads27 a b c d e 
 pub row2 : Row2
 unfolding unsigned unsigned_in
 row2 = (refl, refl)
+
+pub row8 : Row8
+unfolding unsigned unsigned_in
+row8 = (refl, refl)
 
 pub row24 : Row24
 unfolding unsigned unsigned_in

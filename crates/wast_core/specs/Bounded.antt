@@ -5,8 +5,9 @@ use Rattle.wasm_out.specs.Parts.{part, InRangePart}
 use Rattle.wasm_out.specs.Reads.{header}
 use Rattle.wast_expand.specs.Completed.{completed}
 use Rattle.wast_expand.specs.Expanded.{ids_wanted}
+use Rattle.wast_expand.specs.Positioned.{positioned}
 use Rattle.wast_resolve.specs.Demands.{IsCrowded}
-use Rattle.wast_resolve.specs.Finished.{finished}
+use Rattle.wast_resolve.specs.Resolved.{resolved}
 use Rattle.wast_core.specs.Tree.{ModuleField}
 use Rattle.wast_core.specs.Meaning.{in_slot, parts}
 use Rattle.wast_core.specs.Slots.{order}
@@ -23,6 +24,10 @@ abbrev pub InRangeHeld : Option (List ℕ) → List ModuleField → Slot → Typ
 InRangeHeld name fields slot.BeforeFirst = Unit {0}
 InRangeHeld name fields (slot.Before kind) = Unit {0}
 InRangeHeld name fields (slot.Section kind) = Unit {0}
+InRangeHeld name fields slot.BeforeStart = Unit {0}
+InRangeHeld name fields slot.Start = Unit {0}
+InRangeHeld name fields slot.AfterStart = Unit {0}
+InRangeHeld name fields slot.DataCount = Unit {0}
 InRangeHeld name fields slot.Hints = Unit {0}
 InRangeHeld name fields (slot.After kind) = Unit {0}
 InRangeHeld name fields slot.AfterLast = Unit {0}
@@ -40,8 +45,8 @@ pub record IsWritable (name : Option (List ℕ)) (fields : List ModuleField) : T
   pub in_range : InRangeModule name fields
   pub length : length (bytes_of name fields) < 2 ^ 64
 
--- with the ids that a counter gives
+-- what the module means is writable, and the counter that gives ids does not run out
 pub record IsBounded (n : ℕ) (name : Option (List ℕ)) (fields : List ModuleField) : Type 0 where
   pub spaces : IsCrowded (completed fields) → ⊥
   pub counter : n + ids_wanted fields < 2 ^ 64
-  pub written : IsWritable name (finished n fields)
+  pub written : IsWritable name (resolved (positioned fields))

@@ -71,7 +71,7 @@ IsUnencoded n name fields e new =
 
 -- A text module gives bytes only where each demand is met and each form covered, and then bytes that are read as what it means.
 abbrev pub EncodesKind : ℕ → Option (List ℕ) → ModuleKind → Result (Vec ℕ) Error → ModuleKind → Type 0
-EncodesKind n name (kind.Text fields) (Ok bytes) new = IsMet fields × IsCovered (finished n fields) × Reads bytes.items (meaning n name fields) × (new ≡ kind.Text (finished n fields))
+EncodesKind n name (kind.Text fields) (Ok bytes) new = IsMet fields × IsCovered (finished n fields) × Reads bytes.items (meaning name fields) × (new ≡ kind.Text (finished n fields))
 EncodesKind n name (kind.Text fields) (Err e) new = IsUnencoded n name fields e new
 EncodesKind n name (kind.Binary pieces) (Ok bytes) new = (bytes.items ≡ joined pieces) × (new ≡ kind.Binary pieces)
 EncodesKind n name (kind.Binary pieces) (Err e) new = (e ≡ out_of_memory) × (new ≡ kind.Binary pieces)

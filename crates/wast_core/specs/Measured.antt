@@ -1,6 +1,6 @@
 -- A module whose sections are measured, before it is written.
 use Rattle.std.specs.Prelude.{Bool, ◌&&◌}
-use Rattle.wasm_out.specs.Parts.{Types, Functions, Exports, Code}
+use Rattle.wasm_out.specs.Parts.{Types, Imports, Functions, Tables, Memories, Tags, Globals, Exports, Elements, Code, Data}
 use Rattle.wast_core.specs.Encodable.{are_encodable}
 use Rattle.wast_core.specs.Extents.{is_extent, is_names_size}
 use Rattle.wast_core.specs.Names.{text_seen}
@@ -11,7 +11,14 @@ abbrev pub is_measured : BinaryModule → Bool
 is_measured m =
     are_encodable m.fields.now
     && (is_extent Types m.fields.now m.types.count m.types.size
+    && (is_extent Imports m.fields.now m.imports.count m.imports.size
     && (is_extent Functions m.fields.now m.functions.count m.functions.size
+    && (is_extent Tables m.fields.now m.tables.count m.tables.size
+    && (is_extent Memories m.fields.now m.memories.count m.memories.size
+    && (is_extent Tags m.fields.now m.tags.count m.tags.size
+    && (is_extent Globals m.fields.now m.globals.count m.globals.size
     && (is_extent Exports m.fields.now m.exports.count m.exports.size
+    && (is_extent Elements m.fields.now m.elements.count m.elements.size
     && (is_extent Code m.fields.now m.code.count m.code.size
-    && is_names_size (text_seen m.name) m.fields.now m.names))))
+    && (is_extent Data m.fields.now m.«data».count m.«data».size
+    && is_names_size (text_seen m.name) m.fields.now m.names)))))))))))

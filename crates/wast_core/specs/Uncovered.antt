@@ -9,8 +9,16 @@ use Rattle.wast_core.specs.Tree.field
 abbrev pub uncovered_in : ModuleField → List Form
 uncovered_in (field.Ty t) = []
 uncovered_in (field.Rec r) = []
+uncovered_in (field.Import i) = []
 uncovered_in (field.Func f) = []
+uncovered_in (field.Table t) = []
+uncovered_in (field.Memory m) = []
+uncovered_in (field.Global g) = []
 uncovered_in (field.Export e) = []
+uncovered_in (field.Start i) = []
+uncovered_in (field.Elem e) = []
+uncovered_in (field.Data d) = []
+uncovered_in (field.Tag t) = []
 
 abbrev pub uncovered : List ModuleField → List Form
 uncovered fields = flat_map uncovered_in fields

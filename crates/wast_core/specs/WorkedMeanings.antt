@@ -1,4 +1,4 @@
--- Small modules and what they mean with the counter at 1, computed. A text may lie anywhere in memory.
+-- Small modules and what they mean, computed. A text may lie anywhere in memory.
 use Rattle.std.specs.Prelude.{◌≡◌, ℕ, ◌+◌, List, [], ◌∷◌, ◌++◌, Some, None, true, codes, replicate}
 use Rattle.std.specs.List.{flat_map}
 use Rattle.wast_tree.specs.WellFormed.{is_well_formed}
@@ -6,7 +6,7 @@ use Rattle.wasm_out.specs.WorkedBytes as out
 use Rattle.wasm_out.specs.Parts.{part}
 use Rattle.wasm_out.specs.Reads.{header, Reads}
 use Rattle.wast_tree.specs.WorkedModules.{Address, text, id_at, by_number, plain_type, plain_func, plain_export, func_field, row27}
-use Rattle.wast_expand.specs.WorkedExpansions.{func_at, row2}
+use Rattle.wast_expand.specs.WorkedExpansions.{func_at, row2, row8_with}
 use Rattle.wast_core.specs.Bounded.{IsBounded}
 use Rattle.wast_core.specs.Meaning.{meaning}
 use Rattle.wast_core.specs.Tree.{ModuleField}
@@ -14,21 +14,21 @@ use Rattle.wast_core.specs.Tree.field
 
 -- `(module)`: small enough, and read from the header alone
 abbrev pub Row1 : Type 0
-Row1 = IsBounded 1 None [] × (header ++ flat_map part (meaning 1 None []) ≡ header)
+Row1 = IsBounded 1 None [] × (header ++ flat_map part (meaning None []) ≡ header)
 
 -- `(module (type $t (func)) (func $f (type $t) call $f) (export "a" (func $f)))`: well formed and small enough, and read from the bytes of row 27
 abbrev pub Row27 : Type 0
 Row27 = (a b c d e f : Address) →
     let fields = row27 a b c d e f in
     (is_well_formed fields ≡ true)
-    × (meaning 1 None fields ≡ out.worked_parts)
-    × (header ++ flat_map part (meaning 1 None fields) ≡ out.worked_bytes)
+    × (meaning None fields ≡ out.worked_parts)
+    × (header ++ flat_map part (meaning None fields) ≡ out.worked_bytes)
     × IsBounded 1 None fields
-    × Reads out.worked_bytes (meaning 1 None fields)
+    × Reads out.worked_bytes (meaning None fields)
 
 -- well formed, and these are the bytes behind the header
 abbrev pub HasBytes : List ModuleField → List ℕ → Type 0
-HasBytes fields bytes = (is_well_formed fields ≡ true) × (flat_map part (meaning 1 None fields) ≡ bytes)
+HasBytes fields bytes = (is_well_formed fields ≡ true) × (flat_map part (meaning None fields) ≡ bytes)
 
 -- the sections of one type `(func)`, of one function of that type, and of its empty body
 abbrev pub one_type : List ℕ
@@ -47,6 +47,12 @@ one_name index letter = 0x00 ∷ 0x0b ∷ 0x04 ∷ 0x6e ∷ 0x61 ∷ 0x6d ∷ 0x
 -- `(module (func))`: the type is implied, and nothing tells its id
 abbrev pub Row2 : Type 0
 Row2 = HasBytes row2 (one_type ++ (one_func ++ one_body))
+
+-- `(module (rec (type (func))) (func))`: the group is one entry and its member type 0, and the implied type is type 1
+abbrev pub Row8 : Type 0
+Row8 =
+    let two_entries = 0x01 ∷ 0x09 ∷ 0x02 ∷ 0x4e ∷ 0x01 ∷ 0x60 ∷ 0x00 ∷ 0x00 ∷ 0x60 ∷ 0x00 ∷ 0x00 ∷ [] in
+    HasBytes (row8_with None) (two_entries ++ (0x03 ∷ 0x02 ∷ 0x01 ∷ 0x01 ∷ one_body))
 
 -- `(module (func (type 5)))`: a number stays, whatever it denotes
 abbrev pub Row24 : Type 0

@@ -1,18 +1,26 @@
 //! Parts of a resolved tree as values of the binary format.
 
 ghost use Rattle.std.specs.Prelude.{◌≡◌, Bool, true, map, option_map, IfOk, IfErr, IsTrue};
-ghost use Rattle.std.specs.List.{list_all};
+ghost use Rattle.std.specs.List.{All, flat_map, list_all};
 ghost use Rattle.wast_tree.specs.Ids.{is_number};
 ghost use Rattle.wast_tree.specs.Faults.{out_of_memory};
-ghost use Rattle.wast_tree.specs.Occurrences.{in_heap, in_ref, in_val, in_storage, in_array, in_struct, in_signature, in_inner, in_def, in_type, in_index, if_there};
+ghost use Rattle.wast_tree.specs.Occurrences.{in_heap, in_ref, in_val, in_storage, in_array, in_struct, in_signature, in_inner, in_def, in_type};
+ghost use Rattle.wasm_ops.specs.ConstExprs.{InRangeExpression};
+ghost use Rattle.wasm_ops.specs.Table.{instr, instrs, InRangeInstr, SpellsInstrs};
+ghost use Rattle.wasm_out.specs.Built.{IsRefused};
 ghost use Rattle.wast_resolve.specs.Resolved.{is_resolved};
-ghost use Rattle.wast_core.specs.Tree.space;
+ghost use Rattle.wast_core.specs.Encodable.{is_number_if, is_encodable_instr, is_encodable_expression};
 ghost use Rattle.wast_core.specs.Meaning as meaning;
 
+pub use crate::conv_entities::{entity_type, global_type, memory_type, table_type, tag_type};
+use crate::values::Resolved;
 use std::alloc::Global;
-use wasm_ops::{CompositeInnerType, CompositeType, FuncType, StructType, SubType};
+use wasm_ops::{
+    CompositeInnerType, CompositeType, ConstExpr, Each, Encode, FuncType, StructType, SubType,
+};
 use wast_tree::{
-    Error, FunctionType, Id, Index, InnerTypeKind, NameAnnotation, Seq, Type, TypeDef,
+    Error, Expression, FunctionType, Id, Index, InnerTypeKind, Instruction, NameAnnotation, Seq,
+    Type, TypeDef,
 };
 
 /// A part of the tree that stands for a value of the binary format, and takes no memory for it.
@@ -237,8 +245,8 @@ fn inner_type<'e>(alloc: Global, kind: &InnerTypeKind) -> Result<CompositeInnerT
     }
 }
 
-fn optional_index(optional: &Option<Index>) -> Option<u32>
-    requires { IsTrue (is_resolved (if_there (in_index space.Ty) optional.now)) }
+pub(crate) fn optional_index(optional: &Option<Index>) -> Option<u32>
+    requires { IsTrue (is_number_if optional.now) }
     ensures { result ≡ option_map meaning.number optional.now }
 {
     match optional {
@@ -287,5 +295,34 @@ pub fn export_kind(kind: wast_tree::ExportKind) -> wasm_ops::ExportKind
 {
     match kind {
         wast_tree::ExportKind::Func => wasm_ops::ExportKind::Func,
+        wast_tree::ExportKind::Table => wasm_ops::ExportKind::Table,
+        wast_tree::ExportKind::Memory => wasm_ops::ExportKind::Memory,
+        wast_tree::ExportKind::Global => wasm_ops::ExportKind::Global,
+        wast_tree::ExportKind::Tag => wasm_ops::ExportKind::Tag,
     }
+}
+
+/// The bytes of instructions.
+fn instrs_bytes<'e>(alloc: Global, instructions: &[Instruction]) -> Result<Vec<u8>, Error<'e>>
+    requires { IsTrue (list_all is_encodable_instr instructions.now) }
+    ensures value { IfOk result (λ made. (made.items ≡ flat_map (λ i. instr (meaning.instr i)) instructions.now) × All (λ i. InRangeInstr (meaning.instr i)) instructions.now) }
+    ensures refusal { IfErr result (IsRefused (All (λ i. InRangeInstr (meaning.instr i)) instructions.now)) }
+{
+    let mut bytes = Vec::new(alloc);
+    Each(instructions, Resolved).encode(&mut bytes)?;
+    Ok(bytes)
+}
+
+/// A constant expression: its instructions as bytes (binary format, expressions). It needs instructions that the encoder
+/// covers, with resolved indices. Sections take the expression that it gives.
+///
+/// E12 comes where memory is refused. E10 comes only where a number of an instruction is out of range.
+pub fn const_expr<'e>(alloc: Global, expression: &Expression) -> Result<ConstExpr, Error<'e>>
+    requires { IsTrue (is_encodable_expression expression.now) }
+    ensures value { IfOk result (λ made. (made ≡ instrs (meaning.expression expression.now)) × InRangeExpression (meaning.expression expression.now)) }
+    ensures spelled { IfOk result (λ made. SpellsInstrs made) }
+    ensures refusal { IfErr result (IsRefused (InRangeExpression (meaning.expression expression.now))) }
+{
+    let bytes = instrs_bytes(alloc, expression.instrs.as_slice())?;
+    Ok(ConstExpr::raw(bytes))
 }

@@ -4,17 +4,19 @@ ghost use Rattle.std.specs.Prelude.{◌≡◌, All, IsTrue};
 ghost use Rattle.std.specs.Str.{is_utf8};
 ghost use Rattle.wast_core.specs.Meaning.{of_kind, contributed};
 ghost use Rattle.wast_core.specs.Uncovered.{first, uncovered_in, uncovered};
-ghost use Rattle.wast_core.specs.Names.{HasUtf8Names};
+ghost use Rattle.wast_core.specs.Names.{HasUtf8Items, HasUtf8Names};
 
-use wast_tree::{Form, ModuleField};
+use wast_tree::{Form, ImportItems, Imports, ModuleField};
 
 /// The first form in a field that the encoder does not cover.
 fn uncovered_in(field: &ModuleField) -> Option<Form>
     ensures { result ≡ first (uncovered_in field.now) }
 {
     match field {
-        ModuleField::Ty(_) | ModuleField::Rec(_) | ModuleField::Func(_) | ModuleField::Export(_) =>
-            None,
+        ModuleField::Ty(_) | ModuleField::Rec(_) | ModuleField::Import(_) => None,
+        ModuleField::Func(_) | ModuleField::Table(_) | ModuleField::Memory(_) => None,
+        ModuleField::Global(_) | ModuleField::Export(_) | ModuleField::Start(_) => None,
+        ModuleField::Elem(_) | ModuleField::Data(_) | ModuleField::Tag(_) => None,
     }
 }
 
@@ -36,13 +38,29 @@ fn text_law(text: &str)
     ensures { IsTrue (is_utf8 text.now) }
 {}
 
+/// The names of what is imported are UTF-8.
+fn names_imported(imports: &Imports)
+    ensures { HasUtf8Items imports.now.items }
+{
+    match &imports.items {
+        ImportItems::Single { module, name, .. } => {
+            text_law(module);
+            text_law(name);
+        }
+    }
+}
+
 /// The names in a field are UTF-8.
 fn names_in(field: &ModuleField)
     ensures { HasUtf8Names field.now }
 {
     match field {
+        ModuleField::Import(imports) => names_imported(imports),
         ModuleField::Export(export) => text_law(export.name),
         ModuleField::Ty(_) | ModuleField::Rec(_) | ModuleField::Func(_) => {}
+        ModuleField::Table(_) | ModuleField::Memory(_) | ModuleField::Global(_) => {}
+        ModuleField::Start(_) | ModuleField::Elem(_) | ModuleField::Data(_) => {}
+        ModuleField::Tag(_) => {}
     }
 }
 

@@ -1,6 +1,6 @@
 //! What fields put into the sections that are lists.
 
-ghost use Rattle.std.specs.Prelude.{◌≡◌, ◌≤◌, length, take, All, IfSome, IsNone, IsTrue, IfOk, IfErr};
+ghost use Rattle.std.specs.Prelude.{◌≡◌, ◌≤◌, length, map, take, All, IfSome, IsNone, IsTrue, IfOk, IfErr};
 ghost use Rattle.std.specs.List.{flat_map};
 ghost use Rattle.std.specs.Option.{option_to_list};
 ghost use Rattle.wasm_ops.specs.Sinks.{Writes};
@@ -10,22 +10,35 @@ ghost use Rattle.wasm_out.specs.Parts.{entry, InRangeEntry, part, InRangePart};
 ghost use Rattle.wast_core.specs.Encodable.{is_encodable_field, are_encodable};
 ghost use Rattle.wast_core.specs.Contributing.{seen, AreReady};
 ghost use Rattle.wast_core.specs.Extents.{IsExtent};
-ghost use Rattle.wast_core.specs.Meaning.{of_kind, contributed, entries_in, entries, listed};
+ghost use Rattle.wast_core.specs.Meaning.{nothing, of_kind, contributed, entries_in, entries, listed, start_part, starts_in};
+ghost use Rattle.wast_core.specs.Names.{counted};
 ghost use Rattle.wast_core.specs.Slots.{kind_of};
 
+use crate::conv;
 use crate::section_items::RecOrType;
 use crate::slots::SectionKind;
 use crate::values::Resolved;
-use wasm_ops::{By, Each, Encode, Refusal, Sink, Spell, WithLength, length_of};
-use wast_tree::{Export, FuncKind, FunctionType, ModuleField, TypeUse};
+use wasm_ops::{By, Each, Encode, Refusal, Sink, Spell, WithLength, length_of, width};
+use wast_tree::{
+    Data, Elem, Export, FuncKind, FunctionType, Global, Imports, Index, Memory, ModuleField, Table,
+    Tag, TypeUse,
+};
 
 /// What a field puts into the sections, at most one entry each.
 #[derive(Drop)]
 pub(crate) struct Contributed<'b, 'a> {
     types: Option<RecOrType<'b, 'a>>,
+    imports: Option<By<'b, Imports<'a>, Resolved>>,
     functions: Option<By<'b, TypeUse<'a, FunctionType<'a>>, Resolved>>,
+    tables: Option<By<'b, Table<'a>, Resolved>>,
+    memories: Option<By<'b, Memory<'a>, Resolved>>,
+    tags: Option<By<'b, Tag<'a>, Resolved>>,
+    globals: Option<By<'b, Global<'a>, Resolved>>,
     exports: Option<By<'b, Export<'a>, Resolved>>,
+    starts: Option<By<'b, Index<'a>, Resolved>>,
+    elements: Option<By<'b, Elem<'a>, Resolved>>,
     code: Option<WithLength<By<'b, FuncKind<'a>, Resolved>>>,
+    data: Option<By<'b, Data<'a>, Resolved>>,
 }
 
 /// One, where something is there.
@@ -39,17 +52,33 @@ fn count_of<T>(entry: &Option<T>) -> u32
 }
 
 impl<'b, 'a> Contributed<'b, 'a> {
+    /// No entries.
+    fn nothing() -> Self
+        ensures same { seen result ≡ nothing }
+        ensures ready { AreReady result }
+    {
+        Contributed {
+            types: None,
+            imports: None,
+            functions: None,
+            tables: None,
+            memories: None,
+            tags: None,
+            globals: None,
+            exports: None,
+            starts: None,
+            elements: None,
+            code: None,
+            data: None,
+        }
+    }
+
     /// What a field puts into the sections.
-    fn of(field: &'b ModuleField<'a>) -> Self
+    pub(crate) fn of(field: &'b ModuleField<'a>) -> Self
         ensures same { seen result ≡ contributed field.now }
         ensures ready { IsTrue (is_encodable_field field.now) → AreReady result }
     {
-        let nothing = Contributed {
-            types: None,
-            functions: None,
-            exports: None,
-            code: None,
-        };
+        let nothing = Contributed::nothing();
         match field {
             ModuleField::Ty(ty) => Contributed {
                 types: Some(RecOrType::Ty(ty)),
@@ -59,13 +88,45 @@ impl<'b, 'a> Contributed<'b, 'a> {
                 types: Some(RecOrType::Rec(rec)),
                 ..nothing
             },
+            ModuleField::Import(imports) => Contributed {
+                imports: Some(By(imports, Resolved)),
+                ..nothing
+            },
             ModuleField::Func(func) => Contributed {
                 functions: Some(By(&func.ty, Resolved)),
                 code: Some(WithLength(By(&func.kind, Resolved))),
                 ..nothing
             },
+            ModuleField::Table(table) => Contributed {
+                tables: Some(By(table, Resolved)),
+                ..nothing
+            },
+            ModuleField::Memory(memory) => Contributed {
+                memories: Some(By(memory, Resolved)),
+                ..nothing
+            },
+            ModuleField::Global(global) => Contributed {
+                globals: Some(By(global, Resolved)),
+                ..nothing
+            },
             ModuleField::Export(export) => Contributed {
                 exports: Some(By(export, Resolved)),
+                ..nothing
+            },
+            ModuleField::Start(func) => Contributed {
+                starts: Some(By(func, Resolved)),
+                ..nothing
+            },
+            ModuleField::Elem(elem) => Contributed {
+                elements: Some(By(elem, Resolved)),
+                ..nothing
+            },
+            ModuleField::Data(data) => Contributed {
+                data: Some(By(data, Resolved)),
+                ..nothing
+            },
+            ModuleField::Tag(tag) => Contributed {
+                tags: Some(By(tag, Resolved)),
                 ..nothing
             },
         }
@@ -77,9 +138,16 @@ impl<'b, 'a> Contributed<'b, 'a> {
     {
         match kind {
             SectionKind::Types => count_of(&self.types),
+            SectionKind::Imports => count_of(&self.imports),
             SectionKind::Functions => count_of(&self.functions),
+            SectionKind::Tables => count_of(&self.tables),
+            SectionKind::Memories => count_of(&self.memories),
+            SectionKind::Tags => count_of(&self.tags),
+            SectionKind::Globals => count_of(&self.globals),
             SectionKind::Exports => count_of(&self.exports),
+            SectionKind::Elements => count_of(&self.elements),
             SectionKind::Code => count_of(&self.code),
+            SectionKind::Data => count_of(&self.data),
         }
     }
 
@@ -90,9 +158,38 @@ impl<'b, 'a> Contributed<'b, 'a> {
     {
         match kind {
             SectionKind::Types => self.types.encode(out),
+            SectionKind::Imports => self.imports.encode(out),
             SectionKind::Functions => self.functions.encode(out),
+            SectionKind::Tables => self.tables.encode(out),
+            SectionKind::Memories => self.memories.encode(out),
+            SectionKind::Tags => self.tags.encode(out),
+            SectionKind::Globals => self.globals.encode(out),
             SectionKind::Exports => self.exports.encode(out),
+            SectionKind::Elements => self.elements.encode(out),
             SectionKind::Code => self.code.encode(out),
+            SectionKind::Data => self.data.encode(out),
+        }
+    }
+
+    /// Appends the start section that it has.
+    fn put_start<S: Sink>(&self, out: &mut S) -> Result<(), Refusal>
+        requires { AreReady self.now }
+        ensures { Writes S.rules (All InRangePart (map start_part (seen self.now).starts)) out.old out.new (flat_map part (map start_part (seen self.now).starts)) result }
+    {
+        match &self.starts {
+            None => Ok(()),
+            Some(func) => (8u8, WithLength(func)).encode(out),
+        }
+    }
+
+    /// How many bytes the start section has that it has.
+    fn start_size(&self) -> u64
+        requires { AreReady self.now }
+        ensures { result ≡ length (flat_map part (map start_part (seen self.now).starts)) }
+    {
+        match &self.starts {
+            None => 0,
+            Some(func) => 2 + width(u64::from(conv::index(func.0))),
         }
     }
 }
@@ -185,4 +282,40 @@ pub(crate) fn put_section<S: Sink>(
     }
     let entries = Each(&fields[..end_of(kind, fields)], EntriesOf(kind));
     (kind.id(), (extent.size, (extent.count, entries))).encode(out)
+}
+
+/// The start section of a field, where it is a start field.
+#[derive(Clone, Copy)]
+struct StartOf;
+
+impl Spell<ModuleField<'_>> for StartOf {
+    ghost spelling = { λ _ f. flat_map part (starts_in f) };
+
+    ghost in_range = { λ _ f. All InRangePart (starts_in f) };
+
+    ghost is_ready = { λ _ f. is_encodable_field f };
+
+    fn spell<S: Sink>(&self, field: &ModuleField, out: &mut S) -> Result<(), Refusal> {
+        Contributed::of(field).put_start(out)
+    }
+}
+
+/// The start sections, one for each start field.
+pub(crate) fn put_starts<S: Sink>(fields: &[ModuleField], out: &mut S) -> Result<(), Refusal>
+    requires { IsTrue (are_encodable fields.now) }
+    ensures { Writes S.rules (All InRangePart (flat_map starts_in fields.now)) out.old out.new (flat_map part (flat_map starts_in fields.now)) result }
+{
+    Each(fields, StartOf).encode(out)
+}
+
+/// How many bytes the start sections have, up to the greatest `u64`.
+pub(crate) fn starts_size(fields: &[ModuleField]) -> u64
+    requires { IsTrue (are_encodable fields.now) }
+    ensures { result ≡ counted (length (flat_map part (flat_map starts_in fields.now))) }
+{
+    let mut sum = 0u64;
+    for field in fields {
+        sum = sum.saturating_add(Contributed::of(field).start_size());
+    }
+    sum
 }

@@ -1,6 +1,6 @@
 //! The name section of a module.
 
-ghost use Rattle.std.specs.Prelude.{◌≡◌, ◌==◌, ◌∷◌, [], ◌≤◌, length, take, true, not, All, IfOk, IfErr, ◌+◌, ℕ, List, Option, false};
+ghost use Rattle.std.specs.Prelude.{◌≡◌, [], ◌≤◌, length, take, true, All, IfOk, IfErr, ◌+◌, ℕ, List, Option, false};
 ghost use Rattle.std.specs.List.{flat_map};
 ghost use Rattle.wasm_ops.specs.Sinks.{Writes};
 ghost use Rattle.wasm_ops.specs.declared.sink.Refusal.TheVariants as refusal;
@@ -8,12 +8,14 @@ ghost use Rattle.wasm_out.specs.NameSubsections.{name_entry, name_subsection, su
 ghost use Rattle.wasm_out.specs.Parts.{part, InRangePart};
 ghost use Rattle.wast_core.specs.Extents.{names_payload_of};
 ghost use Rattle.wast_core.specs.Meaning.{names_part};
-ghost use Rattle.wast_core.specs.Names.{text_seen, items_seen, counted, WritesNames};
-ghost use Rattle.wast_core.specs.Tree.{Space};
-ghost use Rattle.wast_core.specs.NamesPayload.{id_text, given_name, type_name, item_names_in, name_in, names_given, named_of, named_from, named_items, named_spaces, module_name, item_names, name_subsections, InRangeNames};
+ghost use Rattle.wast_core.specs.GivenNames.{id_text, given_name, named_from};
+ghost use Rattle.wast_core.specs.Names.{text_seen, items_seen, counted, WritesItems};
+ghost use Rattle.wast_core.specs.NamesPayload.{type_name, import_names, item_names_in, name_in, names_given, named_of, named_within, map_names, module_name, name_subsections, InRangeNames};
 
+use crate::name_maps::{NameItems, count_each, put_each, put_map, put_name};
+use crate::within::{Within, WithinItems};
 use wasm_ops::{Each, Encode, Name, Refusal, Sink, Spell, WithLength, length_of};
-use wast_tree::{Id, ModuleField, NameAnnotation, Space, Type};
+use wast_tree::{Id, ImportItems, ModuleField, NameAnnotation, Space, Type};
 
 fn id_text<'a>(id: &Option<Id<'a>>) -> Option<&'a str>
     ensures { text_seen result ≡ id_text id.now }
@@ -48,6 +50,17 @@ enum Items<'b, 'a> {
     Types(&'b [Type<'a>]),
 }
 
+/// Finds the items of an import.
+fn imported<'b, 'a>(items: &'b ImportItems<'a>) -> Items<'b, 'a>
+    ensures { items_seen result ≡ import_names items.now }
+{
+    match items {
+        ImportItems::Single { sig, .. } => {
+            Items::One(sig.kind.space(), given_name(&sig.name, &sig.id))
+        }
+    }
+}
+
 /// Finds the items of a field.
 fn items_of<'b, 'a>(field: &'b ModuleField<'a>) -> Items<'b, 'a>
     ensures { items_seen result ≡ item_names_in field.now }
@@ -55,61 +68,27 @@ fn items_of<'b, 'a>(field: &'b ModuleField<'a>) -> Items<'b, 'a>
     match field {
         ModuleField::Ty(ty) => Items::One(Space::Ty, given_name(&ty.name, &ty.id)),
         ModuleField::Rec(rec) => Items::Types(rec.types.as_slice()),
+        ModuleField::Import(imports) => imported(&imports.items),
         ModuleField::Func(func) => Items::One(Space::Func, given_name(&func.name, &func.id)),
-        ModuleField::Export(_) => Items::Nothing,
+        ModuleField::Table(table) => Items::One(Space::Table, given_name(&table.name, &table.id)),
+        ModuleField::Memory(memory) => {
+            Items::One(Space::Memory, given_name(&memory.name, &memory.id))
+        }
+        ModuleField::Global(global) => {
+            Items::One(Space::Global, given_name(&global.name, &global.id))
+        }
+        ModuleField::Elem(elem) => Items::One(Space::Elem, given_name(&elem.name, &elem.id)),
+        ModuleField::Data(data) => Items::One(Space::Data, given_name(&data.name, &data.id)),
+        ModuleField::Tag(tag) => Items::One(Space::Tag, given_name(&tag.name, &tag.id)),
+        ModuleField::Export(_) | ModuleField::Start(_) => Items::Nothing,
     }
-}
-
-/// What holds items with names. Positions and counts stay at the greatest `u64` where they would pass it: from 2^32 on,
-/// no name stands at a position, and no count is in range.
-trait HasNames {
-    /// The names of its items in a space.
-    ghost names: { Space → Self → List (Option (List ℕ)) };
-
-    /// How many of its items in a space have a name.
-    fn count(&self, space: Space) -> u64
-        ensures { result ≡ counted (length (named_from 0 (names space self.now))) };
-
-    /// Appends the names of its items in a space, the first of which stands at a position, and answers the position
-    /// behind the last. It refuses as [`Encode::encode`] does; then nothing was appended.
-    fn put<S: Sink>(&self, space: Space, position: u64, out: &mut S) -> Result<u64, Refusal>
-        ensures written { WritesNames S.rules (names space self.now) position out.old out.new result }
-        ensures next { IfOk result (λ p. p ≡ counted (position + length (names space self.now))) };
 }
 
 /// One, where an item is of the space and has a name.
 fn count_item(space: Space, own: Space, name: Option<&str>) -> u64
     ensures { result ≡ length (named_from 0 (name_in space (own, text_seen name.entry))) }
 {
-    if space.is(own) && name.is_some() {
-        1
-    } else {
-        0
-    }
-}
-
-/// How many items in a list have a name.
-fn count_each<T: HasNames>(space: Space, parts: &[T]) -> u64
-    ensures { result ≡ counted (length (named_from 0 (flat_map (T.names space) parts.now))) }
-{
-    let mut sum = 0u64;
-    for part in parts {
-        sum = sum.saturating_add(part.count(space));
-    }
-    sum
-}
-
-/// Appends the name of an item at its position, where it has one. From 2^32 on, a position is out of range.
-fn put_name<S: Sink>(position: u64, given: Option<&str>, out: &mut S) -> Result<(), Refusal>
-    ensures { WritesNames S.rules (text_seen given.entry ∷ []) position out.old out.new result }
-{
-    let Some(text) = given else {
-        return Ok(());
-    };
-    let Ok(index) = u32::try_from(position) else {
-        return Err(Refusal::TooLarge);
-    };
-    (index, Name(text)).encode(out)
+    u64::from(space.is(own) && name.is_some())
 }
 
 /// Appends the name of an item where it is one of the space, and answers the position behind it.
@@ -120,98 +99,63 @@ fn put_item<S: Sink>(
     position: u64,
     out: &mut S,
 ) -> Result<u64, Refusal>
-    ensures written { WritesNames S.rules (name_in space (own, text_seen name.entry)) position out.old out.new result }
+    ensures written { WritesItems S.rules name_entry InRangeNameEntry (name_in space (own, text_seen name.entry)) position out.old out.new result }
     ensures next { IfOk result (λ p. p ≡ counted (position + length (name_in space (own, text_seen name.entry)))) }
 {
     if !space.is(own) {
         return Ok(position);
     }
-    put_name(position, name, out)?;
-    Ok(position.saturating_add(1))
+    put_name(position, name, out)
 }
 
-/// Appends the names of the items in a list, and answers the position behind the last.
-fn put_each<T: HasNames, S: Sink>(
-    space: Space,
-    parts: &[T],
-    first: u64,
-    out: &mut S,
-) -> Result<u64, Refusal>
-    ensures written { WritesNames S.rules (flat_map (T.names space) parts.now) first out.old out.new result }
-    ensures next { IfOk result (λ p. p ≡ counted (first + length (flat_map (T.names space) parts.now))) }
-{
-    let start = out.size();
-    let mut position = first;
-    for part in parts {
-        match part.put(space, position, out) {
-            Ok(next) => position = next,
-            Err(refusal) => {
-                out.cut(start);
-                return Err(refusal);
-            }
-        }
-    }
-    Ok(position)
-}
+impl<'a> NameItems<Type<'a>> for Space {
+    ghost Entry = { List ℕ };
 
-impl HasNames for Type<'_> {
-    ghost names = { λ s t. name_in s (type_name t) };
+    ghost items = { λ s t. name_in s (type_name t) };
 
-    fn count(&self, space: Space) -> u64 {
-        count_item(space, Space::Ty, given_name(&self.name, &self.id))
+    ghost entry = { name_entry };
+
+    ghost in_range = { InRangeNameEntry };
+
+    fn count(&self, part: &Type<'a>) -> u64 {
+        count_item(*self, Space::Ty, given_name(&part.name, &part.id))
     }
 
-    fn put<S: Sink>(&self, space: Space, position: u64, out: &mut S) -> Result<u64, Refusal> {
-        let name = given_name(&self.name, &self.id);
-        put_item(space, Space::Ty, name, position, out)
+    fn put<S: Sink>(&self, part: &Type<'a>, position: u64, out: &mut S) -> Result<u64, Refusal> {
+        let name = given_name(&part.name, &part.id);
+        put_item(*self, Space::Ty, name, position, out)
     }
 }
 
-impl HasNames for ModuleField<'_> {
-    ghost names = { names_given };
+impl<'a> NameItems<ModuleField<'a>> for Space {
+    ghost Entry = { List ℕ };
 
-    fn count(&self, space: Space) -> u64 {
-        match items_of(self) {
+    ghost items = { names_given };
+
+    ghost entry = { name_entry };
+
+    ghost in_range = { InRangeNameEntry };
+
+    fn count(&self, part: &ModuleField<'a>) -> u64 {
+        match items_of(part) {
             Items::Nothing => 0,
-            Items::One(own, name) => count_item(space, own, name),
-            Items::Types(types) => count_each(space, types),
+            Items::One(own, name) => count_item(*self, own, name),
+            Items::Types(types) => count_each(self, types),
         }
     }
 
-    fn put<S: Sink>(&self, space: Space, position: u64, out: &mut S) -> Result<u64, Refusal> {
-        match items_of(self) {
+    fn put<S: Sink>(
+        &self,
+        part: &ModuleField<'a>,
+        position: u64,
+        out: &mut S,
+    ) -> Result<u64, Refusal> {
+        match items_of(part) {
             Items::Nothing => Ok(position),
-            Items::One(own, name) => put_item(space, own, name, position, out),
-            Items::Types(types) => put_each(space, types, position, out),
+            Items::One(own, name) => put_item(*self, own, name, position, out),
+            Items::Types(types) => put_each(self, types, position, out),
         }
     }
-}
-
-/// The names of the items of a space, by their positions.
-#[derive(Clone, Copy)]
-struct ItemNames<'b, 'a> {
-    space: Space,
-    fields: &'b [ModuleField<'a>],
-}
-
-impl Encode for ItemNames<'_, '_> {
-    ghost spelling = { λ s. flat_map name_entry (named_items s.space s.fields.now) };
-
-    ghost in_range = { λ s. All InRangeNameEntry (named_items s.space s.fields.now) };
-
-    ghost is_ready = { λ _. true };
-
-    fn encode<S: Sink>(&self, out: &mut S) -> Result<(), Refusal> {
-        put_each(self.space, self.fields, 0, out)?;
-        Ok(())
-    }
-}
-
-/// How many items of a space have a name.
-fn count_names(space: Space, fields: &[ModuleField]) -> u64
-    ensures { result ≡ counted (length (named_items space fields.now)) }
-{
-    count_each(space, fields)
 }
 
 /// The id of the subsection of a space (custom sections, name section).
@@ -256,39 +200,74 @@ fn end_of(space: Space, fields: &[ModuleField]) -> usize
     end
 }
 
-/// The subsection of the names of the items of a space, where these fields have any.
-fn put_item_names<S: Sink>(space: Space, fields: &[ModuleField], out: &mut S) -> Result<(), Refusal>
-    ensures { Writes S.rules (All InRangeNameSubsection (item_names fields.now space)) out.old out.new (flat_map name_subsection (item_names fields.now space)) result }
+/// The id of the subsection of what stands within items (custom sections, name section).
+fn id_within(within: Within) -> u8
+    ensures { result ≡ subsection_id (named_within within) }
 {
-    let count = count_names(space, fields);
-    if count == 0 {
-        return Ok(());
+    match within {
+        Within::Locals => 2,
+        Within::Fields => 10,
+        Within::Parameters => 12,
+        Within::TagParameters => 13,
     }
-    let Ok(count) = u32::try_from(count) else {
-        return Err(Refusal::TooLarge);
-    };
-    let names = ItemNames { space, fields };
-    (id_of(space), WithLength((count, names))).encode(out)
 }
 
-/// The subsections of the names of items of these fields.
+/// A map of names by position.
+#[derive(Clone, Copy)]
+pub(crate) enum NameMap {
+    /// The names of the items of a space.
+    Items(Space),
+    /// The names of what stands within items, in a list for each.
+    Within(Within),
+}
+
+/// The names in these fields.
 #[derive(Clone, Copy)]
 struct NamesOf<'b, 'a>(&'b [ModuleField<'a>]);
 
-impl Spell<Space> for NamesOf<'_, '_> {
-    ghost spelling = { λ w s. flat_map name_subsection (item_names w.0.now s) };
+impl Spell<NameMap> for NamesOf<'_, '_> {
+    ghost spelling = { λ w m. flat_map name_subsection (map_names w.0.now m) };
 
-    ghost in_range = { λ w s. All InRangeNameSubsection (item_names w.0.now s) };
+    ghost in_range = { λ w m. All InRangeNameSubsection (map_names w.0.now m) };
 
     ghost is_ready = { λ _ _. true };
 
-    fn spell<S: Sink>(&self, space: &Space, out: &mut S) -> Result<(), Refusal> {
-        put_item_names(*space, &self.0[..end_of(*space, self.0)], out)
+    fn spell<S: Sink>(&self, map: &NameMap, out: &mut S) -> Result<(), Refusal> {
+        match map {
+            NameMap::Items(space) => {
+                put_map(
+                    id_of(*space),
+                    *space,
+                    &self.0[..end_of(*space, self.0)],
+                    out,
+                )
+            }
+            NameMap::Within(within) => {
+                let way = WithinItems {
+                    within: *within,
+                    fields: self.0,
+                };
+                put_map(id_within(*within), way, self.0, out)
+            }
+        }
     }
 }
 
-/// The spaces whose items have names, in the order of their subsections.
-const NAMED_SPACES: [Space; 2] = [Space::Func, Space::Ty];
+/// The maps of names, in the order of their subsections.
+const NAME_MAPS: [NameMap; 12] = [
+    NameMap::Items(Space::Func),
+    NameMap::Within(Within::Locals),
+    NameMap::Items(Space::Ty),
+    NameMap::Items(Space::Table),
+    NameMap::Items(Space::Memory),
+    NameMap::Items(Space::Global),
+    NameMap::Items(Space::Elem),
+    NameMap::Items(Space::Data),
+    NameMap::Within(Within::Fields),
+    NameMap::Items(Space::Tag),
+    NameMap::Within(Within::Parameters),
+    NameMap::Within(Within::TagParameters),
+];
 
 /// The subsection of the name of the module, where it has one.
 #[derive(Clone, Copy)]
@@ -324,16 +303,9 @@ impl Encode for Subsections<'_, '_> {
     ghost is_ready = { λ _. true };
 
     fn encode<S: Sink>(&self, out: &mut S) -> Result<(), Refusal> {
-        let spaces = NAMED_SPACES;
-        (ModuleName(self.name), Each(&spaces, NamesOf(self.fields))).encode(out)
+        let maps = NAME_MAPS;
+        (ModuleName(self.name), Each(&maps, NamesOf(self.fields))).encode(out)
     }
-}
-
-/// Whether there are names.
-fn has_names(name: Option<&str>, fields: &[ModuleField]) -> bool
-    ensures { result ≡ not (length (name_subsections (text_seen name.entry) fields.now) == 0) }
-{
-    name.is_some() || count_names(Space::Func, fields) != 0 || count_names(Space::Ty, fields) != 0
 }
 
 /// How long the payload of the name section is; 0 where there are no names. It refuses as too large, where a number,
@@ -342,10 +314,15 @@ pub(crate) fn names_size(name: Option<&str>, fields: &[ModuleField]) -> Result<u
     ensures ok { IfOk result (λ n. n ≡ length (names_payload_of (name_subsections (text_seen name.entry) fields.now))) }
     ensures err { IfErr result (λ e. (e ≡ refusal.TooLarge) × (All InRangePart (names_part (name_subsections (text_seen name.entry) fields.now)) × InRangeNames (text_seen name.entry) fields.now → ⊥)) }
 {
-    if !has_names(name, fields) {
+    let subsections = length_of(&Subsections { name, fields })?;
+    if subsections == 0 {
         return Ok(0);
     }
-    length_of(&(Name("name"), Subsections { name, fields }))
+    // `name` as a name: its length, and four bytes
+    match u32::try_from(5 + u64::from(subsections)) {
+        Ok(size) => Ok(size),
+        Err(_) => Err(Refusal::TooLarge),
+    }
 }
 
 /// The name section, where there are names. It needs the length of its payload.

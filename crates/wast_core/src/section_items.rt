@@ -11,6 +11,7 @@ ghost use Rattle.wast_core.specs.Encodable.{is_encodable_type_use};
 ghost use Rattle.wast_core.specs.Meaning as meaning;
 
 use crate::conv;
+use crate::conv_entities::type_index;
 use crate::values::Resolved;
 use std::alloc::Global;
 use wasm_ops::{Counted, Encode, Refusal, Sink, Spell};
@@ -133,10 +134,7 @@ impl SectionItem for FuncSectionTy<'_, '_> {
     ghost is_encodable = { λ item. is_encodable_type_use item.0.now };
 
     fn encode<'e>(&self, _alloc: Global, section: &mut FunctionSection) -> Result<(), Error<'e>> {
-        match &self.0.index {
-            Some(index) => section.function(conv::index(index)),
-            None => unreachable!(),
-        }
+        section.function(type_index(self.0))
     }
 
     fn put<'e, S: Sink>(&self, out: &mut S) -> Result<(), Error<'e>> {

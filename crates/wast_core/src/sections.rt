@@ -9,10 +9,10 @@ ghost use Rattle.wast_core.specs.Encodable.{are_encodable};
 ghost use Rattle.wast_core.specs.Extents.{IsExtent, section_size};
 ghost use Rattle.wast_core.specs.Measured.{is_measured};
 ghost use Rattle.wast_core.specs.Meaning.{in_slot};
-ghost use Rattle.wast_core.specs.Names.{text_seen};
+ghost use Rattle.wast_core.specs.Names.{counted, text_seen};
 ghost use Rattle.wast_core.specs.Slots.{kind_of};
 
-use crate::entries::{Extent, extent_of, put_section};
+use crate::entries::{Extent, extent_of, put_section, put_starts, starts_size};
 use crate::names_payload::{names_size, put_names};
 use crate::slots::{ORDER, SectionKind, Slot};
 use wasm_ops::{Each, Encode, Raw, Refusal, Sink, Spell, width};
@@ -25,9 +25,16 @@ pub(crate) struct BinaryModule<'b, 'a> {
     name: Option<&'b str>,
     fields: &'b [ModuleField<'a>],
     types: Extent,
+    imports: Extent,
     functions: Extent,
+    tables: Extent,
+    memories: Extent,
+    tags: Extent,
+    globals: Extent,
     exports: Extent,
+    elements: Extent,
     code: Extent,
+    data: Extent,
     names: u32,
 }
 
@@ -57,9 +64,16 @@ impl<'b, 'a> BinaryModule<'b, 'a> {
             name,
             fields,
             types: extent_of(SectionKind::Types, fields)?,
+            imports: extent_of(SectionKind::Imports, fields)?,
             functions: extent_of(SectionKind::Functions, fields)?,
+            tables: extent_of(SectionKind::Tables, fields)?,
+            memories: extent_of(SectionKind::Memories, fields)?,
+            tags: extent_of(SectionKind::Tags, fields)?,
+            globals: extent_of(SectionKind::Globals, fields)?,
             exports: extent_of(SectionKind::Exports, fields)?,
+            elements: extent_of(SectionKind::Elements, fields)?,
             code: extent_of(SectionKind::Code, fields)?,
+            data: extent_of(SectionKind::Data, fields)?,
             names: names_size(name, fields)?,
         })
     }
@@ -71,22 +85,52 @@ impl<'b, 'a> BinaryModule<'b, 'a> {
     {
         match kind {
             SectionKind::Types => self.types,
+            SectionKind::Imports => self.imports,
             SectionKind::Functions => self.functions,
+            SectionKind::Tables => self.tables,
+            SectionKind::Memories => self.memories,
+            SectionKind::Tags => self.tags,
+            SectionKind::Globals => self.globals,
             SectionKind::Exports => self.exports,
+            SectionKind::Elements => self.elements,
             SectionKind::Code => self.code,
+            SectionKind::Data => self.data,
         }
     }
 
-    /// How many bytes the module has.
+    /// How many bytes stand in a place, up to the greatest `u64`.
+    fn size_in(&self, slot: &Slot) -> u64
+        requires { IsTrue (is_measured self.now) }
+        ensures { result ≡ counted (length (flat_map part (in_slot (text_seen self.now.name) self.now.fields.now slot.now))) }
+    {
+        match slot {
+            Slot::Section(kind) => section_size(self.extent(*kind).size),
+            Slot::Start => starts_size(self.fields),
+            Slot::Names => section_size(self.names),
+            Slot::BeforeFirst | Slot::Before(_) | Slot::After(_) | Slot::AfterLast => 0,
+            Slot::BeforeStart | Slot::AfterStart | Slot::DataCount | Slot::Hints => 0,
+        }
+    }
+
+    /// How many bytes stand in places, one after another, up to the greatest `u64`.
+    fn sum_of(&self, slots: &[Slot]) -> u64
+        requires { IsTrue (is_measured self.now) }
+        ensures { result ≡ counted (length (flat_map (λ s. flat_map part (in_slot (text_seen self.now.name) self.now.fields.now s)) slots.now)) }
+    {
+        let mut sum = 0u64;
+        for slot in slots {
+            sum = sum.saturating_add(self.size_in(slot));
+        }
+        sum
+    }
+
+    /// How many bytes the module has, up to the greatest `u64`.
     pub(crate) fn size(&self) -> u64
         requires { IsTrue (is_measured self.now) }
-        ensures { result ≡ length (bytes_of (text_seen self.now.name) self.now.fields.now) }
+        ensures { result ≡ counted (length (bytes_of (text_seen self.now.name) self.now.fields.now)) }
     {
-        let lists = section_size(self.types.size)
-            + section_size(self.functions.size)
-            + section_size(self.exports.size)
-            + section_size(self.code.size);
-        HEADER.len() as u64 + lists + section_size(self.names)
+        let slots = ORDER;
+        (HEADER.len() as u64).saturating_add(self.sum_of(&slots))
     }
 }
 
@@ -101,9 +145,10 @@ impl Spell<Slot> for BinaryModule<'_, '_> {
     fn spell<S: Sink>(&self, slot: &Slot, out: &mut S) -> Result<(), Refusal> {
         match slot {
             Slot::Section(kind) => put_section(*kind, self.fields, self.extent(*kind), out),
+            Slot::Start => put_starts(self.fields, out),
             Slot::Names => put_names(self.name, self.fields, self.names, out),
-            Slot::BeforeFirst | Slot::Before(_) | Slot::Hints | Slot::After(_) | Slot::AfterLast =>
-                Ok(()),
+            Slot::BeforeFirst | Slot::Before(_) | Slot::After(_) | Slot::AfterLast => Ok(()),
+            Slot::BeforeStart | Slot::AfterStart | Slot::DataCount | Slot::Hints => Ok(()),
         }
     }
 }

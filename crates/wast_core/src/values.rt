@@ -1,11 +1,13 @@
 //! Parts of a resolved tree, as they are spelled.
 
 ghost use Rattle.std.specs.Prelude.{◌≡◌, true, IsTrue};
-ghost use Rattle.std.specs.List.{flat_map, list_all};
+ghost use Rattle.std.specs.List.{list_all};
 ghost use Rattle.wast_tree.specs.Ids.{is_number};
-ghost use Rattle.wast_tree.specs.Occurrences.{in_instr, asked_in_steps};
+ghost use Rattle.wast_tree.specs.Occurrences.{in_heap};
 ghost use Rattle.wasm_ops.specs.declared.instrs.IndexOp.TheVariants.{Call};
 ghost use Rattle.wasm_ops.specs.declared.types.CompositeInnerType.TheVariants as composite;
+ghost use Rattle.wasm_ops.specs.ConstantInstrs.{ref_null_instr};
+ghost use Rattle.wasm_ops.specs.Covered.{is_covered_heap_type};
 ghost use Rattle.wasm_ops.specs.IndexInstrs.{index_instr};
 ghost use Rattle.wasm_ops.specs.Leb128.{unsigned};
 ghost use Rattle.wasm_ops.specs.Sinks.{Writes};
@@ -15,15 +17,19 @@ ghost use Rattle.wasm_ops.specs.Table.{instr, InRangeInstr};
 ghost use Rattle.wasm_out.specs.Bodies.{content, InRangeContent};
 ghost use Rattle.wasm_out.specs.Parts.{export_entry, InRangeExport};
 ghost use Rattle.wast_resolve.specs.Resolved.{is_resolved};
-ghost use Rattle.wast_core.specs.Encodable.{is_encodable_val, is_encodable_param, is_encodable_signature, is_encodable_struct_field, is_encodable_struct, is_encodable_array, is_encodable_inner, is_encodable_def, is_encodable_type, is_encodable_type_use, is_encodable_local, is_encodable_kind};
+ghost use Rattle.wast_core.specs.Encodable.{is_encodable_val, is_encodable_param, is_encodable_signature, is_encodable_struct_field, is_encodable_struct, is_encodable_array, is_encodable_inner, is_encodable_def, is_encodable_type, is_encodable_type_use, is_encodable_instr, is_encodable_local, is_encodable_kind};
 ghost use Rattle.wast_core.specs.Meaning as meaning;
 
 use crate::conv;
-use wasm_ops::{By, Counted, Each, Encode, IndexInstr, IndexOp, Name, Refusal, Sink, Spell};
+use crate::conv_entities::type_index;
+use wasm_ops::{
+    By, Counted, Each, Encode, I32Const, I64Const, IndexInstr, IndexOp, Name, RefNull, Refusal,
+    Sink, Spell,
+};
 use wasm_out::{LocalType, Locals};
 use wast_tree::{
-    ArrayType, Export, FuncKind, FunctionType, Id, Index, InnerTypeKind, Instruction, Local,
-    NameAnnotation, StructField, StructType, Type, TypeDef, TypeUse, ValType,
+    ArrayType, Export, FuncKind, FunctionType, HeapType, Id, Index, InnerTypeKind, Instruction,
+    Local, NameAnnotation, StructField, StructType, Type, TypeDef, TypeUse, ValType,
 };
 
 /// A part of a resolved tree, by the numbers of its indices.
@@ -180,10 +186,7 @@ impl Spell<TypeUse<'_, FunctionType<'_>>> for Resolved {
     ghost is_ready = { λ _ u. is_encodable_type_use u };
 
     fn spell<S: Sink>(&self, type_use: &TypeUse<FunctionType>, out: &mut S) -> Result<(), Refusal> {
-        match &type_use.index {
-            Some(index) => self.spell(index, out),
-            None => unreachable!(),
-        }
+        type_index(type_use).encode(out)
     }
 }
 
@@ -199,17 +202,31 @@ fn put_index<S: Sink>(op: IndexOp, index: &Index, out: &mut S) -> Result<(), Ref
     .encode(out)
 }
 
+/// A null reference of a heap type.
+fn put_null<S: Sink>(ty: &HeapType, out: &mut S) -> Result<(), Refusal>
+    requires resolved { IsTrue (is_resolved (in_heap ty.now)) }
+    requires covered { IsTrue (is_covered_heap_type (meaning.heap_type ty.now)) }
+    ensures { Writes S.rules (InRangeInstr (ref_null_instr (meaning.heap_type ty.now))) out.old out.new (instr (ref_null_instr (meaning.heap_type ty.now))) result }
+{
+    RefNull(conv::heap_type(ty)).encode(out)
+}
+
 impl Spell<Instruction<'_>> for Resolved {
     ghost spelling = { λ _ i. instr (meaning.instr i) };
 
     ghost in_range = { λ _ i. InRangeInstr (meaning.instr i) };
 
-    ghost is_ready = { λ _ i. is_resolved (asked_in_steps (in_instr i)) };
+    ghost is_ready = { λ _ i. is_encodable_instr i };
 
     fn spell<S: Sink>(&self, instruction: &Instruction, out: &mut S) -> Result<(), Refusal> {
         match instruction {
             Instruction::Plain(op) => op.encode(out),
             Instruction::call(func) => put_index(IndexOp::Call, func, out),
+            Instruction::global_get(global) => put_index(IndexOp::GlobalGet, global, out),
+            Instruction::i32_const(value) => I32Const(*value).encode(out),
+            Instruction::i64_const(value) => I64Const(*value).encode(out),
+            Instruction::ref_null(ty) => put_null(ty, out),
+            Instruction::ref_func(func) => put_index(IndexOp::RefFunc, func, out),
         }
     }
 }
@@ -232,7 +249,7 @@ fn put_content<S: Sink>(
     out: &mut S,
 ) -> Result<(), Refusal>
     requires locals { IsTrue (list_all is_encodable_local locals.now) }
-    requires instrs { IsTrue (is_resolved (asked_in_steps (flat_map in_instr instructions.now))) }
+    requires instrs { IsTrue (list_all is_encodable_instr instructions.now) }
     ensures { Writes S.rules (InRangeContent (meaning.body_of locals.now instructions.now)) out.old out.new (content (meaning.body_of locals.now instructions.now)) result }
 {
     (

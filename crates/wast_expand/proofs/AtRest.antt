@@ -2,17 +2,20 @@
 use Rattle.std.proofs.Common.{◌≡◌, ℕ, ◌+◌, Bool, true, false, List, [], ◌∷◌, ◌++◌, map, length, append-nil, Option, Some, None, refl, sym, ap, ◌∙◌, arith}
 use Rattle.std.specs.List.{flat_map}
 use Rattle.std.proofs.lemmas.List.Concat.{flat_map-append}
-use Rattle.wast_expand.specs.Tree.{Index, ValType, FunctionType, Instruction, FuncKind, ModuleField}
+use Rattle.wast_expand.specs.Tree.{Index, ValType, FunctionType, TypeUse, Instruction, FuncKind, TagType, ItemKind, ImportItems, ModuleField}
 use Rattle.wast_expand.specs.Tree.instr
 use Rattle.wast_expand.specs.Tree.func
+use Rattle.wast_expand.specs.Tree.tag
+use Rattle.wast_expand.specs.Tree.kind
+use Rattle.wast_expand.specs.Tree.import_items
 use Rattle.wast_expand.specs.Tree.field
 use Rattle.wast_expand.specs.Signatures.{Signature}
-use Rattle.wast_expand.specs.NeedingUses.{needed_without, needed_by_use, needed_by_instr, needed_by_kind, needed_by_field}
+use Rattle.wast_expand.specs.NeedingUses.{needed_without, needed_by_use, needed_by_instr, needed_by_kind, needed_by_tag_type, needed_by_item_kind, needed_by_import, needed_by_field}
 use Rattle.wast_expand.specs.ImpliedTypes.{written, is_among, first_new, implied}
 use Rattle.wast_expand.specs.TypeSpace.{types_in, type_space}
 use Rattle.wast_expand.specs.Filling.{one_if, given_if, filled, wanted}
 use Rattle.wast_expand.specs.Expanders.{LookUp, index_of}
-use Rattle.wast_expand.specs.Expanded.{lacks_id, with_id, implied_types, typed, bindings, bound_index, bound_instr, bound_kind, bound_field, expanded}
+use Rattle.wast_expand.specs.Expanded.{lacks_id, with_id, implied_types, typed, bindings, bound_index, bound_use, bound_instr, bound_kind, bound_tag_type, bound_item_kind, bound_import_items, bound_field, expanded}
 use Rattle.wast_expand.specs.Laws.{TypesAreTheSpace, StaysExpanded, WantsNoMore}
 use Rattle.wast_expand.proofs.Adding.{types_again}
 use Rattle.wast_expand.proofs.Covered.{uses_are_bound}
@@ -103,11 +106,27 @@ module _ (find : LookUp) where
   kind_stays : (k : FuncKind) → needed_by_kind k ≡ [] → bound_kind find k ≡ k
   kind_stays (func.Inline locals e) h = ap (λ (xs : List Instruction). func.Inline locals (record e { instrs = xs })) (each_stays needed_by_instr (bound_instr find) instr_stays e.instrs h)
 
+  use_stays : (u : TypeUse FunctionType) → needed_by_use u ≡ [] → bound_use find u ≡ u
+  use_stays u h = ap (λ (i : Option Index). record u { index = i }) (index_stays u.index u.inline h)
+
+  tag_type_stays : (t : TagType) → needed_by_tag_type t ≡ [] → bound_tag_type find t ≡ t
+  tag_type_stays (tag.Exception u) h = ap tag.Exception (use_stays u h)
+
+  item_kind_stays : (k : ItemKind) → needed_by_item_kind k ≡ [] → bound_item_kind find k ≡ k
+  item_kind_stays (kind.Func u) h = ap kind.Func (use_stays u h)
+  item_kind_stays (kind.Tag t) h = ap kind.Tag (tag_type_stays t h)
+  item_kind_stays k h = refl
+
+  import_stays : (i : ImportItems) → needed_by_import i ≡ [] → bound_import_items find i ≡ i
+  import_stays (import_items.Single source name sig) h = ap (λ (k : ItemKind). import_items.Single source name (record sig { kind = k })) (item_kind_stays sig.kind h)
+
   field_stays : (x : ModuleField) → needed_by_field x ≡ [] → bound_field find x ≡ x
   field_stays (field.Func f) h = λ i. field.Func (record f {
     kind = kind_stays f.kind (right_none (needed_by_use f.ty) (needed_by_kind f.kind) h) i;
     ty = record f.ty { index = index_stays f.ty.index f.ty.inline (left_none (needed_by_use f.ty) (needed_by_kind f.kind) h) i };
   })
+  field_stays (field.Import m) h = ap (λ (items : ImportItems). field.Import (record m { items = items })) (import_stays m.items h)
+  field_stays (field.Tag t) h = ap (λ (ty : TagType). field.Tag (record t { ty = ty })) (tag_type_stays t.ty h)
   field_stays x h = refl
 
 -- Nothing is implied.

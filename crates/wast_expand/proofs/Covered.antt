@@ -6,17 +6,20 @@ use Rattle.std.specs.Cmp.{first_so, second_so}
 use Rattle.std.specs.List.{flat_map, list_all, list_any}
 use Rattle.std.proofs.lemmas.List.Folds.{list_all-append}
 use Rattle.std.proofs.lemmas.List.Concat.{flat_map-append}
-use Rattle.wast_expand.specs.Tree.{Index, FunctionType, Instruction, FuncKind, ModuleField}
+use Rattle.wast_expand.specs.Tree.{Index, FunctionType, Instruction, FuncKind, TagType, ItemKind, ImportItems, ModuleField}
 use Rattle.wast_expand.specs.Tree.instr
 use Rattle.wast_expand.specs.Tree.func
+use Rattle.wast_expand.specs.Tree.tag
+use Rattle.wast_expand.specs.Tree.kind
+use Rattle.wast_expand.specs.Tree.import_items
 use Rattle.wast_expand.specs.Tree.field
 use Rattle.wast_expand.specs.Signatures.{Signature, same_signature}
 use Rattle.wast_expand.specs.SignatureLaws.{signatures_equiv}
-use Rattle.wast_expand.specs.NeedingUses.{inline_signature, needed_without, needed_by_use, needed_by_instr, needed_by_kind, needed_by_field, needed}
+use Rattle.wast_expand.specs.NeedingUses.{inline_signature, needed_without, needed_by_use, needed_by_instr, needed_by_kind, needed_by_tag_type, needed_by_item_kind, needed_by_import, needed_by_field, needed}
 use Rattle.wast_expand.specs.ImpliedTypes.{written, is_among, first_new, implied}
 use Rattle.wast_expand.specs.Filling.{filled, wanted}
 use Rattle.wast_expand.specs.Expanders.{LookUp, index_of}
-use Rattle.wast_expand.specs.Expanded.{lacks_id, with_id, implied_types, typed, bindings_in, bindings, bound_index, bound_instr, bound_kind, bound_field}
+use Rattle.wast_expand.specs.Expanded.{lacks_id, with_id, implied_types, typed, bindings_in, bindings, bound_index, bound_instr, bound_kind, bound_tag_type, bound_item_kind, bound_import_items, bound_field}
 use Rattle.wast_expand.specs.Laws.{UsesAreBound, ImpliedAreNew}
 use Rattle.wast_expand.proofs.Adding.{lookup-append, known_after}
 use Rattle.wast_expand.proofs.Expanding.{needed_filled, written_known}
@@ -116,10 +119,23 @@ module _ (find : LookUp) where
   kind_bound : (k : FuncKind) → found (needed_by_kind k) ≡ true → needed_by_kind (bound_kind find k) ≡ []
   kind_bound (func.Inline locals e) h = each_bound needed_by_instr (bound_instr find) instr_bound e.instrs h
 
+  tag_type_bound : (t : TagType) → found (needed_by_tag_type t) ≡ true → needed_by_tag_type (bound_tag_type find t) ≡ []
+  tag_type_bound (tag.Exception u) h = index_bound u.index u.inline h
+
+  item_kind_bound : (k : ItemKind) → found (needed_by_item_kind k) ≡ true → needed_by_item_kind (bound_item_kind find k) ≡ []
+  item_kind_bound (kind.Func u) h = index_bound u.index u.inline h
+  item_kind_bound (kind.Tag t) h = tag_type_bound t h
+  item_kind_bound k h = refl
+
+  import_bound : (i : ImportItems) → found (needed_by_import i) ≡ true → needed_by_import (bound_import_items find i) ≡ []
+  import_bound (import_items.Single source name sig) h = item_kind_bound sig.kind h
+
   pub field_bound : (x : ModuleField) → found (needed_by_field x) ≡ true → needed_by_field (bound_field find x) ≡ []
   field_bound (field.Func f) h =
       ap (λ ss. ss ++ needed_by_kind (bound_kind find f.kind)) (index_bound f.ty.index f.ty.inline (found_first (needed_by_use f.ty) (needed_by_kind f.kind) h))
       ∙ kind_bound f.kind (found_second (needed_by_use f.ty) (needed_by_kind f.kind) h)
+  field_bound (field.Import i) h = import_bound i.items h
+  field_bound (field.Tag t) h = tag_type_bound t.ty h
   field_bound x h = refl
 
 pub uses_are_bound : UsesAreBound

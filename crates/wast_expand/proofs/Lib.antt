@@ -6,4 +6,5 @@ pub mod Expanding
 pub mod Covered
 pub mod AtRest
 pub mod AtItsIndex
+pub mod Positions
 pub mod Worked

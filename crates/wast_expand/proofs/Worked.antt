@@ -1,6 +1,6 @@
 -- What the definitions say of worked modules, computed.
 use Rattle.std.proofs.Common.{refl}
-use Rattle.wast_expand.specs.WorkedExpansions.{SameSignatures, SameReferences, Row2, Row7, Row8, Row23, Row37, Several, AfterStruct, ByIdAndNumber, FirstOfTwo}
+use Rattle.wast_expand.specs.WorkedExpansions.{SameSignatures, SameReferences, Row2, Row7, Row8, Row23, Row37, Several, AfterStruct, ByIdAndNumber, FirstOfTwo, UsesInOrder}
 
 pub same_signatures : SameSignatures
 same_signatures = (refl, refl, refl, refl, refl)
@@ -9,13 +9,13 @@ pub same_references : SameReferences
 same_references a b = (refl, refl, refl, refl, refl, refl, refl, refl, refl, refl, refl)
 
 pub row2 : Row2
-row2 = (refl, refl, refl, refl, refl, refl)
+row2 = (refl, refl, refl, refl, refl, refl, refl)
 
 pub row7 : Row7
-row7 a = (refl, refl, refl, refl, refl, refl)
+row7 a = (refl, refl, refl, refl, refl, refl, refl)
 
 pub row8 : Row8
-row8 = (refl, refl, refl, refl, refl)
+row8 = (refl, refl, refl, refl, refl, refl)
 
 pub row23 : Row23
 row23 = (refl, refl, refl, refl, refl, refl)
@@ -34,3 +34,6 @@ by_id_and_number a b c = (refl, refl, refl, refl, refl)
 
 pub first_of_two : FirstOfTwo
 first_of_two a b = (refl, refl)
+
+pub uses_in_order : UsesInOrder
+uses_in_order a = (refl, refl, refl, refl)

@@ -17,8 +17,16 @@ written_kind (inner.Array t) = []
 abbrev pub written_in : ModuleField → List Signature
 written_in (field.Ty t) = written_kind t.def.kind
 written_in (field.Rec r) = []
+written_in (field.Import i) = []
 written_in (field.Func f) = []
+written_in (field.Table t) = []
+written_in (field.Memory m) = []
+written_in (field.Global g) = []
 written_in (field.Export e) = []
+written_in (field.Start i) = []
+written_in (field.Elem e) = []
+written_in (field.Data d) = []
+written_in (field.Tag t) = []
 
 -- the signatures of the function types that are fields of their own
 abbrev pub written : List ModuleField → List Signature

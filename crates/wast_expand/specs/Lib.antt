@@ -9,6 +9,7 @@ pub mod Filling
 pub mod Expanders
 pub mod Expanded
 pub mod Completed
+pub mod Positioned
 pub mod Binding
 pub mod Laws
 pub mod WorkedExpansions

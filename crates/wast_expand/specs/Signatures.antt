@@ -3,7 +3,7 @@ use Rattle.std.specs.Prelude.{ℕ, ◌==◌, Bool, true, false, ◌&&◌, List, 
 use Rattle.std.specs.Bool.{beq}
 use lib.Pointwise.{pointwise}
 use Rattle.wast_tree.specs.Ids.{same_index}
-use Rattle.wast_expand.specs.Tree.{Id, NameAnnotation, AbstractHeapType, HeapType, RefType, ValType, FunctionType}
+use Rattle.wast_expand.specs.Tree.{Id, Index, NameAnnotation, AbstractHeapType, HeapType, RefType, ValType, FunctionType}
 use Rattle.wast_expand.specs.Tree.abstract
 use Rattle.wast_expand.specs.Tree.heap
 use Rattle.wast_expand.specs.Tree.value
@@ -37,15 +37,15 @@ rank_of_heap abstract.NoExtern = 9
 rank_of_heap abstract.None = 10
 rank_of_heap abstract.I31 = 11
 
--- a number and an id that denote one type are written differently
-abbrev pub same_heap : HeapType → HeapType → Bool
-same_heap (heap.Abstract s a) (heap.Abstract t b) = beq s t && rank_of_heap a == rank_of_heap b
-same_heap (heap.Concrete i) (heap.Concrete j) = same_index i j
-same_heap (heap.Abstract s a) (heap.Concrete j) = false
-same_heap (heap.Concrete i) (heap.Abstract t b) = false
+-- Equality of types, by how two indices are compared.
+abbrev pub same_heap_by : (Index → Index → Bool) → HeapType → HeapType → Bool
+same_heap_by same (heap.Abstract s a) (heap.Abstract t b) = beq s t && rank_of_heap a == rank_of_heap b
+same_heap_by same (heap.Concrete i) (heap.Concrete j) = same i j
+same_heap_by same (heap.Abstract s a) (heap.Concrete j) = false
+same_heap_by same (heap.Concrete i) (heap.Abstract t b) = false
 
-abbrev pub same_ref : RefType → RefType → Bool
-same_ref r q = beq r.nullable q.nullable && same_heap r.heap q.heap
+abbrev pub same_ref_by : (Index → Index → Bool) → RefType → RefType → Bool
+same_ref_by same r q = beq r.nullable q.nullable && same_heap_by same r.heap q.heap
 
 -- the place of a value type among them all
 abbrev pub rank_of : ValType → ℕ
@@ -65,18 +65,33 @@ reference_in value.F64 = None
 reference_in value.V128 = None
 reference_in (value.Ref r) = Some r
 
-abbrev pub same_reference : Option RefType → Option RefType → Bool
-same_reference None None = true
-same_reference (Some r) (Some q) = same_ref r q
-same_reference None (Some q) = false
-same_reference (Some r) None = false
+abbrev pub same_reference_by : (Index → Index → Bool) → Option RefType → Option RefType → Bool
+same_reference_by same None None = true
+same_reference_by same (Some r) (Some q) = same_ref_by same r q
+same_reference_by same None (Some q) = false
+same_reference_by same (Some r) None = false
+
+abbrev pub same_value_by : (Index → Index → Bool) → ValType → ValType → Bool
+same_value_by same a b = rank_of a == rank_of b && same_reference_by same (reference_in a) (reference_in b)
+
+abbrev pub same_values_by : (Index → Index → Bool) → List ValType → List ValType → Bool
+same_values_by same vs ws = pointwise (same_value_by same) vs ws
+
+abbrev pub same_signature_by : (Index → Index → Bool) → Signature → Signature → Bool
+same_signature_by same s t = same_values_by same s.0 t.0 && same_values_by same s.1 t.1
+
+-- Equality of what is written: a number and an id that denote one type differ.
+abbrev pub same_heap : HeapType → HeapType → Bool
+same_heap a b = same_heap_by same_index a b
+
+abbrev pub same_ref : RefType → RefType → Bool
+same_ref r q = same_ref_by same_index r q
 
 abbrev pub same_value : ValType → ValType → Bool
-same_value a b = rank_of a == rank_of b && same_reference (reference_in a) (reference_in b)
+same_value a b = same_value_by same_index a b
 
 abbrev pub same_values : List ValType → List ValType → Bool
-same_values vs ws = pointwise same_value vs ws
+same_values vs ws = same_values_by same_index vs ws
 
--- equal as they are written
 abbrev pub same_signature : Signature → Signature → Bool
-same_signature s t = same_values s.0 t.0 && same_values s.1 t.1
+same_signature s t = same_signature_by same_index s t

@@ -30,9 +30,19 @@ pub use Rattle.wast_tree.specs.declared.instrs.Plain.TheVariants as plain
 pub use Rattle.wast_tree.specs.declared.instrs.Instruction.{Instruction}
 pub use Rattle.wast_tree.specs.declared.instrs.Instruction.TheVariants as instr
 pub use Rattle.wast_tree.specs.declared.instrs.Expression.{Expression}
+pub use Rattle.wast_tree.specs.declared.fields.TagKind.TheVariants as tag_kind
 pub use Rattle.wast_tree.specs.declared.fields.FuncKind.{FuncKind}
 pub use Rattle.wast_tree.specs.declared.fields.FuncKind.TheVariants as func
 pub use Rattle.wast_tree.specs.declared.fields.Func.{Func}
+pub use Rattle.wast_tree.specs.declared.entities.TagType.{TagType}
+pub use Rattle.wast_tree.specs.declared.entities.TagType.TheVariants as tag
+pub use Rattle.wast_tree.specs.declared.imports.Imports.{Imports}
+pub use Rattle.wast_tree.specs.declared.imports.ImportItems.{ImportItems}
+pub use Rattle.wast_tree.specs.declared.imports.ImportItems.TheVariants as import_items
+pub use Rattle.wast_tree.specs.declared.imports.ItemSig.{ItemSig}
+pub use Rattle.wast_tree.specs.declared.imports.ItemKind.{ItemKind}
+pub use Rattle.wast_tree.specs.declared.imports.ItemKind.TheVariants as kind
+pub use Rattle.wast_tree.specs.declared.fields.Tag.{Tag}
 pub use Rattle.wast_tree.specs.declared.fields.Export.{Export}
 pub use Rattle.wast_tree.specs.declared.fields.ModuleField.{ModuleField}
 pub use Rattle.wast_tree.specs.declared.fields.ModuleField.TheVariants as field

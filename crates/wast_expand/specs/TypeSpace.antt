@@ -17,8 +17,16 @@ taken_kind (inner.Array t) = None
 abbrev pub types_in : ModuleField → List (Option Signature)
 types_in (field.Ty t) = taken_kind t.def.kind ∷ []
 types_in (field.Rec r) = map (λ t. None) r.types
+types_in (field.Import i) = []
 types_in (field.Func f) = []
+types_in (field.Table t) = []
+types_in (field.Memory m) = []
+types_in (field.Global g) = []
 types_in (field.Export e) = []
+types_in (field.Start i) = []
+types_in (field.Elem e) = []
+types_in (field.Data d) = []
+types_in (field.Tag t) = []
 
 abbrev pub type_space : List ModuleField → List (Option Signature)
 type_space fields = flat_map types_in fields ++ map Some (implied fields)
@@ -35,8 +43,16 @@ index_for fields s = position (has_signature s) (type_space fields)
 abbrev pub ids_in : ModuleField → List (Option Id)
 ids_in (field.Ty t) = t.id ∷ []
 ids_in (field.Rec r) = map (λ t. t.id) r.types
+ids_in (field.Import i) = []
 ids_in (field.Func f) = []
+ids_in (field.Table t) = []
+ids_in (field.Memory m) = []
+ids_in (field.Global g) = []
 ids_in (field.Export e) = []
+ids_in (field.Start i) = []
+ids_in (field.Elem e) = []
+ids_in (field.Data d) = []
+ids_in (field.Tag t) = []
 
 abbrev pub type_ids : List ModuleField → List (Option Id)
 type_ids fields = flat_map ids_in fields

@@ -7,15 +7,20 @@ use Rattle.wast_expand.specs.Tree.heap
 use Rattle.wast_expand.specs.Tree.value
 use Rattle.wast_expand.specs.Tree.inner
 use Rattle.wast_expand.specs.Tree.func
+use Rattle.wast_expand.specs.Tree.tag
+use Rattle.wast_expand.specs.Tree.tag_kind
+use Rattle.wast_expand.specs.Tree.kind
+use Rattle.wast_expand.specs.Tree.import_items
 use Rattle.wast_expand.specs.Tree.field
 use Rattle.wast_tree.specs.Ids.{generated}
-use Rattle.wast_tree.specs.WorkedModules.{Address, place, id_at, by_id, by_number, plain_def, plain_type}
+use Rattle.wast_tree.specs.WorkedModules.{Address, text, place, id_at, by_id, by_number, plain_def, plain_type}
 use Rattle.wast_expand.specs.Signatures.{Signature, empty_signature, same_value, same_signature}
 use Rattle.wast_expand.specs.NeedingUses.{needed}
 use Rattle.wast_expand.specs.ImpliedTypes.{implied}
 use Rattle.wast_expand.specs.TypeSpace.{index_for}
 use Rattle.wast_expand.specs.Expanded.{unnamed_type, implied_type, expanded, ids_wanted}
 use Rattle.wast_expand.specs.Completed.{completed}
+use Rattle.wast_expand.specs.Positioned.{positioned}
 
 -- the id of a generation for a type that no text defines, and as an index
 abbrev pub made : ℕ → Id
@@ -89,6 +94,7 @@ Row2 =
     × (index_for row2 empty_signature ≡ Some 0)
     × (ids_wanted row2 ≡ 1)
     × (completed row2 ≡ row2 ++ unnamed_type empty_signature ∷ [])
+    × (positioned row2 ≡ func_at 8 (Some (by_number 0 0)) None ∷ unnamed_type empty_signature ∷ [])
     × (expanded 5 row2 ≡ func_at 8 (Some (by_made 5)) None ∷ implied_type 5 empty_signature ∷ [])
 
 -- `(module (func (result i32 i64)) (type $t (func (result i32 i64))))`: a use takes a type that is written later.
@@ -108,6 +114,7 @@ Row7 = (a : Address) →
     × (index_for (row7 a) ([], results7) ≡ Some 0)
     × (ids_wanted (row7 a) ≡ 0)
     × (completed (row7 a) ≡ row7 a)
+    × (positioned (row7 a) ≡ row7_with a (Some (by_number 0 0)))
     × (expanded 5 (row7 a) ≡ row7_with a (Some (index.Id (id_at a (codes "t") 38))))
 
 -- `(module (rec (type (func))) (func))`: no member of a group is taken, nor given an id, but it has a place.
@@ -120,6 +127,7 @@ Row8 =
     × (implied (row8_with None) ≡ empty_signature ∷ [])
     × (index_for (row8_with None) empty_signature ≡ Some 1)
     × (ids_wanted (row8_with None) ≡ 1)
+    × (positioned (row8_with None) ≡ row8_with (Some (by_number 1 0)) ++ unnamed_type empty_signature ∷ [])
     × (expanded 5 (row8_with None) ≡ row8_with (Some (by_made 5)) ++ implied_type 5 empty_signature ∷ [])
 
 -- `(module (type (struct)) (func (type 0) (param i32)))`: a use with an index needs no type, and the type has an id.
@@ -213,3 +221,26 @@ abbrev pub FirstOfTwo : Type 0
 FirstOfTwo = (a b : Address) →
     (index_for (twice_with a b None) empty_signature ≡ Some 0)
     × (expanded 5 (twice_with a b None) ≡ twice_with a b (Some (index.Id (id_at a (codes "a") 14))))
+
+-- `(module (import "e" "f" (func (param i32))) (tag (param i32)) (func))`: imported functions and tags need types as
+-- functions do, in the order of the fields.
+abbrev pub takes_i32 : FunctionType
+takes_i32 = function_type (value.I32 ∷ []) []
+
+abbrev pub uses_with : Address → (a b c : Option Index) → List ModuleField
+uses_with e a b c =
+    field.Import (record {
+      span = place 9;
+      items = import_items.Single (text e (codes "e")) (text e (codes "f")) (record { span = place 25; id = None; name = None; kind = kind.Func (record { index = a; inline = Some takes_i32 }) });
+    })
+    ∷ field.Tag (record { span = place 45; id = None; name = None; exports = record { names = [] }; ty = tag.Exception (record { index = b; inline = Some takes_i32 }); kind = tag_kind.Inline })
+    ∷ func_at 62 c None ∷ []
+
+abbrev pub UsesInOrder : Type 0
+UsesInOrder = (a : Address) →
+    (needed (uses_with a None None None) ≡ (value.I32 ∷ [], []) ∷ (value.I32 ∷ [], []) ∷ empty_signature ∷ [])
+    × (implied (uses_with a None None None) ≡ (value.I32 ∷ [], []) ∷ empty_signature ∷ [])
+    × (positioned (uses_with a None None None)
+    ≡ uses_with a (Some (by_number 0 0)) (Some (by_number 0 0)) (Some (by_number 1 0)) ++ (unnamed_type (value.I32 ∷ [], []) ∷ unnamed_type empty_signature ∷ []))
+    × (expanded 5 (uses_with a None None None)
+    ≡ uses_with a (Some (by_made 5)) (Some (by_made 5)) (Some (by_made 6)) ++ (implied_type 5 (value.I32 ∷ [], []) ∷ implied_type 6 empty_signature ∷ []))

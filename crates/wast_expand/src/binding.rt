@@ -5,18 +5,18 @@ ghost use Rattle.wast_tree.specs.Ids.{generated};
 ghost use Rattle.wast_tree.specs.Faults.{out_of_memory};
 ghost use Rattle.wast_expand.specs.Tree.index;
 ghost use Rattle.wast_expand.specs.Signatures.{Signature};
-ghost use Rattle.wast_expand.specs.NeedingUses.{needed_by_use, needed_by_instr, needed_by_expression, needed_by_kind, needed_by_func, needed_by_field, inline_signature};
+ghost use Rattle.wast_expand.specs.NeedingUses.{needed_by_use, needed_by_instr, needed_by_expression, needed_by_kind, needed_by_func, needed_by_tag_type, needed_by_item_kind, needed_by_import, needed_by_field, inline_signature};
 ghost use Rattle.wast_expand.specs.Filling.{RunsOut};
 ghost use Rattle.wast_expand.specs.Expanders.{Bindings, LookUp, index_of, with_more, Extends};
-ghost use Rattle.wast_expand.specs.Expanded.{start_of_text, implied_type, bound_use, bound_instr, bound_expression, bound_kind, bound_func, bound_field};
+ghost use Rattle.wast_expand.specs.Expanded.{start_of_text, implied_type, bound_use, bound_instr, bound_expression, bound_kind, bound_func, bound_tag_type, bound_item_kind, bound_sig, bound_import_items, bound_import, bound_tag, bound_field};
 ghost use Rattle.wast_expand.specs.Binding.{state, next_after, Adds};
 
 use crate::expanders::Expander;
 use crate::keys::{FuncKey, TypeKey, TypeReference};
 use std::alloc::Global;
 use wast_tree::{
-    Error, Expression, Func, FuncKind, FunctionType, Gensym, Index, Instruction, ModuleField, Seq,
-    Span, Type, TypeUse,
+    Error, Expression, Func, FuncKind, FunctionType, Gensym, ImportItems, Imports, Index,
+    Instruction, ItemKind, ItemSig, ModuleField, Seq, Span, Tag, TagType, Type, TypeUse,
 };
 
 /// A part of the tree in which type uses may stand.
@@ -75,11 +75,146 @@ impl<'a> Bind<'a> for ModuleField<'a> {
         match self {
             ModuleField::Ty(_) => Ok(()),
             ModuleField::Rec(_) => Ok(()),
+            ModuleField::Import(imports) => {
+                imports.bind(alloc, cx, implied, gensym)?;
+                Ok(())
+            }
             ModuleField::Func(func) => {
                 func.bind(alloc, cx, implied, gensym)?;
                 Ok(())
             }
+            ModuleField::Table(_) => Ok(()),
+            ModuleField::Memory(_) => Ok(()),
+            ModuleField::Global(_) => Ok(()),
             ModuleField::Export(_) => Ok(()),
+            ModuleField::Start(_) => Ok(()),
+            ModuleField::Elem(_) => Ok(()),
+            ModuleField::Data(_) => Ok(()),
+            ModuleField::Tag(tag) => {
+                tag.bind(alloc, cx, implied, gensym)?;
+                Ok(())
+            }
+        }
+    }
+}
+
+impl<'a> Bind<'a> for Imports<'a> {
+    ghost needed = { λ i. needed_by_import i.items };
+
+    ghost bound = { bound_import };
+
+    fn bind(
+        &mut self,
+        alloc: Global,
+        cx: &mut Expander<'a>,
+        implied: &mut Seq<ModuleField<'a>>,
+        gensym: &mut Gensym,
+    ) -> Result<(), Error<'a>> {
+        self.items.bind(alloc, cx, implied, gensym)?;
+        Ok(())
+    }
+}
+
+impl<'a> Bind<'a> for ImportItems<'a> {
+    ghost needed = { needed_by_import };
+
+    ghost bound = { bound_import_items };
+
+    fn bind(
+        &mut self,
+        alloc: Global,
+        cx: &mut Expander<'a>,
+        implied: &mut Seq<ModuleField<'a>>,
+        gensym: &mut Gensym,
+    ) -> Result<(), Error<'a>> {
+        match self {
+            ImportItems::Single { sig, .. } => {
+                sig.bind(alloc, cx, implied, gensym)?;
+                Ok(())
+            }
+        }
+    }
+}
+
+impl<'a> Bind<'a> for ItemSig<'a> {
+    ghost needed = { λ s. needed_by_item_kind s.kind };
+
+    ghost bound = { bound_sig };
+
+    fn bind(
+        &mut self,
+        alloc: Global,
+        cx: &mut Expander<'a>,
+        implied: &mut Seq<ModuleField<'a>>,
+        gensym: &mut Gensym,
+    ) -> Result<(), Error<'a>> {
+        self.kind.bind(alloc, cx, implied, gensym)?;
+        Ok(())
+    }
+}
+
+impl<'a> Bind<'a> for ItemKind<'a> {
+    ghost needed = { needed_by_item_kind };
+
+    ghost bound = { bound_item_kind };
+
+    fn bind(
+        &mut self,
+        alloc: Global,
+        cx: &mut Expander<'a>,
+        implied: &mut Seq<ModuleField<'a>>,
+        gensym: &mut Gensym,
+    ) -> Result<(), Error<'a>> {
+        match self {
+            ItemKind::Func(ty) => {
+                ty.bind(alloc, cx, implied, gensym)?;
+                Ok(())
+            }
+            ItemKind::Table(_) => Ok(()),
+            ItemKind::Memory(_) => Ok(()),
+            ItemKind::Global(_) => Ok(()),
+            ItemKind::Tag(ty) => {
+                ty.bind(alloc, cx, implied, gensym)?;
+                Ok(())
+            }
+        }
+    }
+}
+
+impl<'a> Bind<'a> for Tag<'a> {
+    ghost needed = { λ t. needed_by_tag_type t.ty };
+
+    ghost bound = { bound_tag };
+
+    fn bind(
+        &mut self,
+        alloc: Global,
+        cx: &mut Expander<'a>,
+        implied: &mut Seq<ModuleField<'a>>,
+        gensym: &mut Gensym,
+    ) -> Result<(), Error<'a>> {
+        self.ty.bind(alloc, cx, implied, gensym)?;
+        Ok(())
+    }
+}
+
+impl<'a> Bind<'a> for TagType<'a> {
+    ghost needed = { needed_by_tag_type };
+
+    ghost bound = { bound_tag_type };
+
+    fn bind(
+        &mut self,
+        alloc: Global,
+        cx: &mut Expander<'a>,
+        implied: &mut Seq<ModuleField<'a>>,
+        gensym: &mut Gensym,
+    ) -> Result<(), Error<'a>> {
+        match self {
+            TagType::Exception(ty) => {
+                ty.bind(alloc, cx, implied, gensym)?;
+                Ok(())
+            }
         }
     }
 }
@@ -155,6 +290,11 @@ impl<'a> Bind<'a> for Instruction<'a> {
         match self {
             Instruction::Plain(_) => Ok(()),
             Instruction::call(_) => Ok(()),
+            Instruction::global_get(_) => Ok(()),
+            Instruction::i32_const(_) => Ok(()),
+            Instruction::i64_const(_) => Ok(()),
+            Instruction::ref_null(_) => Ok(()),
+            Instruction::ref_func(_) => Ok(()),
         }
     }
 }

@@ -1,6 +1,6 @@
 //! Worked modules, of which the definitions compute what they say.
 
-ghost use Rattle.wast_expand.specs.WorkedExpansions.{SameSignatures, SameReferences, Row2, Row7, Row8, Row23, Row37, Several, AfterStruct, ByIdAndNumber, FirstOfTwo};
+ghost use Rattle.wast_expand.specs.WorkedExpansions.{SameSignatures, SameReferences, Row2, Row7, Row8, Row23, Row37, Several, AfterStruct, ByIdAndNumber, FirstOfTwo, UsesInOrder};
 
 /// Which signatures are equal as they are written.
 #[tactic(auto, using(crate::proofs::Worked::same_signatures))]
@@ -66,4 +66,10 @@ pub(crate) fn by_id_and_number()
 #[tactic(auto, using(crate::proofs::Worked::first_of_two))]
 pub(crate) fn first_of_two()
     ensures { FirstOfTwo }
+{}
+
+/// An imported function, a tag and a function: the types that they need are implied in this order.
+#[tactic(auto, using(crate::proofs::Worked::uses_in_order))]
+pub(crate) fn uses_in_order()
+    ensures { UsesInOrder }
 {}

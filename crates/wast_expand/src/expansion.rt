@@ -89,8 +89,16 @@ fn name_type<'a>(field: &mut ModuleField<'a>, gensym: &mut Gensym) -> Result<(),
             Ok(())
         }
         ModuleField::Rec(_) => Ok(()),
+        ModuleField::Import(_) => Ok(()),
         ModuleField::Func(_) => Ok(()),
+        ModuleField::Table(_) => Ok(()),
+        ModuleField::Memory(_) => Ok(()),
+        ModuleField::Global(_) => Ok(()),
         ModuleField::Export(_) => Ok(()),
+        ModuleField::Start(_) => Ok(()),
+        ModuleField::Elem(_) => Ok(()),
+        ModuleField::Data(_) => Ok(()),
+        ModuleField::Tag(_) => Ok(()),
     }
 }
 
@@ -123,7 +131,17 @@ fn bind_type<'a>(
             bind_kind(alloc, &ty.def.kind, ty.id, cx)?;
             Ok(())
         }
-        ModuleField::Rec(_) | ModuleField::Func(_) | ModuleField::Export(_) => Ok(()),
+        ModuleField::Import(_)
+        | ModuleField::Func(_)
+        | ModuleField::Table(_)
+        | ModuleField::Memory(_)
+        | ModuleField::Global(_)
+        | ModuleField::Export(_)
+        | ModuleField::Start(_)
+        | ModuleField::Elem(_)
+        | ModuleField::Data(_)
+        | ModuleField::Tag(_)
+        | ModuleField::Rec(_) => Ok(()),
     }
 }
 

@@ -122,9 +122,17 @@ fn seen<'a>(field: &ModuleField<'a>) -> Option<Index<'a>> {
             Some(id) => Some(Index::Id(id)),
             None => None,
         },
-        ModuleField::Rec(_) => None,
         ModuleField::Func(func) => func.ty.index,
-        ModuleField::Export(_) => None,
+        ModuleField::Rec(_)
+        | ModuleField::Import(_)
+        | ModuleField::Table(_)
+        | ModuleField::Memory(_)
+        | ModuleField::Global(_)
+        | ModuleField::Export(_)
+        | ModuleField::Start(_)
+        | ModuleField::Elem(_)
+        | ModuleField::Data(_)
+        | ModuleField::Tag(_) => None,
     }
 }
 

@@ -5,35 +5,35 @@ use Rattle.std.specs.Option.{option_or}
 use Rattle.std.proofs.lemmas.Bool.{eqb-true}
 use Rattle.std.proofs.lemmas.List.{map-append, length-map}
 use Rattle.wast_tree.specs.Ids.{Name, Written, Generated, same_name, generation_of, Mark}
-use Rattle.wast_tree.specs.Faults.{Duplicate}
+use Rattle.wast_tree.specs.Faults.{Refusal, Duplicate}
 use Rattle.wast_tree.specs.Spaces.{word_of, name_if, same_space, is_called, position_of, is_borne}
 use Rattle.wast_tree.specs.Items.{Item}
 use Rattle.wast_tree.specs.Known.{name_in, names_in}
 use Rattle.wast_tree.specs.Generations.{generation_if, greatest_item}
 use Rattle.wast_tree.proofs.Bearing.{borne_among, borne_by_both}
 use Rattle.wast_resolve.specs.Tree.{Span, Space}
-use Rattle.wast_resolve.specs.Demands.{first_unmet, each_after, new_name_in, item_demand, item_demands}
-use Rattle.wast_resolve.proofs.Called.{position_head}
+use Rattle.wast_resolve.specs.Demands.{Demand, first_unmet, each_after, new_name_by, own_demand, field_demands, item_demand, item_demands, field_counts}
+use Rattle.wast_namespace.proofs.Called.{position_head}
 use Rattle.wast_resolve.proofs.Unmet.{first_unmet-or}
 
 pub data Change : Type 0 where
   -- an item that stays
   Kept : Item → Change
-  -- an item without an id, which is given one at this place
-  Given : Space → Span → Change
+  -- an item without an id, with these fields, which is given one at this place
+  Given : Space → Span → List (Option Mark) → Change
 
 abbrev pub old_of : Change → Item
 old_of (Kept x) = x
-old_of (Given s p) = record { space = s; id = None }
+old_of (Given s p fields) = record { space = s; id = None; fields = fields }
 
 abbrev pub new_of : ℕ → Change → Item
 new_of n (Kept x) = x
-new_of n (Given s p) = record { space = s; id = Some (Generated n, p) }
+new_of n (Given s p fields) = record { space = s; id = Some (Generated n, p); fields = fields }
 
 -- the generation of the next id
 abbrev pub next_of : ℕ → Change → ℕ
 next_of n (Kept x) = n
-next_of n (Given s p) = n + 1
+next_of n (Given s p fields) = n + 1
 
 abbrev pub olds : List Change → List Item
 olds cs = map old_of cs
@@ -48,7 +48,7 @@ not_equal false m n e f = refl
 
 rises : (n : ℕ) (c : Change) → n ≤ next_of n c
 rises n (Kept x) = omega arith
-rises n (Given s p) = omega arith
+rises n (Given s p fields) = omega arith
 
 -- An older name is not that of a given id.
 other_name : (q : Name) (n : ℕ) → generation_of q < n → same_name q (Generated n) ≡ false
@@ -57,7 +57,7 @@ other_name (Generated m) n lt = not_equal (m == n) m n refl (λ e. omega (arith,
 
 called_one : (q : Name) (s : Space) (n : ℕ) (c : Change) → generation_of q < n → map (is_called q) (name_in s (new_of n c)) ≡ map (is_called q) (name_in s (old_of c))
 called_one q s n (Kept x) lt = refl
-called_one q s n (Given t p) lt = by_space (same_space s t)
+called_one q s n (Given t p fields) lt = by_space (same_space s t)
   where
     by_space : (b : Bool) → map (is_called q) (cond b (Some (Generated n) ∷ []) []) ≡ map (is_called q) (cond b (None ∷ []) [])
     by_space true = ap (λ z. z ∷ []) (other_name q n lt)
@@ -108,7 +108,7 @@ record Before (old n : ℕ) (xs ys : List Item) : Type 0 where
 
 given_below : (n : ℕ) (c : Change) → generation_if (old_of c).id < n → generation_if (new_of n c).id < next_of n c
 given_below n (Kept x) lt = lt
-given_below n (Given s p) lt = omega arith
+given_below n (Given s p fields) lt = omega arith
 
 one_more : (old n : ℕ) (xs ys : List Item) (c : Change) → generation_if (old_of c).id < old → Before old n xs ys → Before old (next_of n c) (xs ++ old_of c ∷ []) (ys ++ new_of n c ∷ [])
 one_more old n xs ys c lt h = let above = h.above in let r = rises n c in record {
@@ -121,9 +121,13 @@ one_more old n xs ys c lt h = let above = h.above in let r = rises n c in record
       borne_by_both s (Generated m) ys (new_of n c ∷ []) ∙ (ap (λ b. b || is_borne (Generated m) (names_in s (new_of n c ∷ []))) (h.new s m (omega (arith, le, r))) ∙ not_borne s (new_of n c) m (omega (arith, g, le)));
 }
 
-same_new : (word : List ℕ) (xs ys : List (Option Name)) (o : Option Mark) → ((m : Mark) → o ≡ Some m → is_borne m.0 ys ≡ is_borne m.0 xs) → new_name_in word ys o ≡ new_name_in word xs o
-same_new word xs ys None h = refl
-same_new word xs ys (Some m) h = ap (λ b. record { fault = Duplicate word; place = m.1; met = not b } ∷ []) (h m refl)
+same_new : (fault : Name → Refusal) (xs ys : List (Option Name)) (o : Option Mark) → ((m : Mark) → o ≡ Some m → is_borne m.0 ys ≡ is_borne m.0 xs) → new_name_by fault ys o ≡ new_name_by fault xs o
+same_new fault xs ys None h = refl
+same_new fault xs ys (Some m) h = ap (λ b. record { fault = fault m.0; place = m.1; met = not b } ∷ []) (h m refl)
+
+-- Demands that answer alike do so with others after them that do.
+both_alike : (xs ys more others : List Demand) → first_unmet xs ≡ first_unmet ys → first_unmet more ≡ first_unmet others → first_unmet (xs ++ more) ≡ first_unmet (ys ++ others)
+both_alike xs ys more others h k = first_unmet-or xs more ∙ (ap (λ o. option_or o (first_unmet more)) h ∙ (ap (option_or (first_unmet ys)) k ∙ sym (first_unmet-or ys others)))
 
 -- Ids that are new clash with none.
 clashes : (old n : ℕ) (xs ys : List Item) (cs : List Change) → greatest_item (olds cs) < old → Before old n xs ys → first_unmet (each_after item_demand ys (news n cs)) ≡ first_unmet (each_after item_demand xs (olds cs))
@@ -134,14 +138,23 @@ clashes old n xs ys (c ∷ cs) lt h = one c (clashes old (next_of n c) (xs ++ ol
         → first_unmet (each_after item_demand (ys ++ new_of n c ∷ []) (news (next_of n c) cs)) ≡ first_unmet (each_after item_demand (xs ++ old_of c ∷ []) (olds cs))
         → greatest_item (olds (c ∷ cs)) < old → first_unmet (each_after item_demand ys (news n (c ∷ cs))) ≡ first_unmet (each_after item_demand xs (olds (c ∷ cs)))
     one (Kept x) rest lt =
-        let same : item_demand ys x ≡ item_demand xs x = same_new (word_of x.space) (names_in x.space xs) (names_in x.space ys) x.id
+        let same : own_demand ys x ≡ own_demand xs x = same_new (λ name. Duplicate (word_of x.space)) (names_in x.space xs) (names_in x.space ys) x.id
         (λ m is. h.same x.space m.0 (let g : generation_if x.id ≡ generation_of m.0 = ap generation_if is in omega (arith, g, lt))) in
-        let after = each_after item_demand (ys ++ x ∷ []) (news n cs) in
-        let before = each_after item_demand (xs ++ x ∷ []) (olds cs) in
-        first_unmet-or (item_demand ys x) after ∙ (ap (λ ds. option_or (first_unmet ds) (first_unmet after)) same ∙ (ap (λ o. option_or (first_unmet (item_demand xs x)) o) rest ∙ sym (first_unmet-or (item_demand xs x) before)))
-    one (Given s p) rest lt =
-        let after = each_after item_demand (ys ++ new_of n (Given s p) ∷ []) (news (n + 1) cs) in
-        ap (λ b. cond (not b) (first_unmet after) (Some (Duplicate (word_of s), p))) (h.new s n (omega arith)) ∙ rest
+        both_alike (item_demand ys x) (item_demand xs x) (each_after item_demand (ys ++ x ∷ []) (news n cs)) (each_after item_demand (xs ++ x ∷ []) (olds cs)) (ap (λ ds. first_unmet (ds ++ field_demands x.fields)) same) rest
+    one (Given s p fields) rest lt =
+        let x = new_of n (Given s p fields) in
+        let y = old_of (Given s p fields) in
+        both_alike (item_demand ys x) (item_demand xs y) (each_after item_demand (ys ++ x ∷ []) (news (n + 1) cs)) (each_after item_demand (xs ++ y ∷ []) (olds cs))
+        (ap (λ b. cond (not b) (first_unmet (field_demands fields)) (Some (Duplicate (word_of s), p))) (h.new s n (omega arith))) rest
 
 pub same_clashes : (n : ℕ) (cs : List Change) → greatest_item (olds cs) < n → first_unmet (item_demands (news n cs)) ≡ first_unmet (item_demands (olds cs))
 same_clashes n cs lt = clashes n n [] [] cs lt (record { above = omega arith; same = λ s q less. refl; new = λ s m le. refl })
+
+-- The fields stay.
+one_count : (n : ℕ) (c : Change) → length (new_of n c).fields ≡ length (old_of c).fields
+one_count n (Kept x) = refl
+one_count n (Given s p fields) = refl
+
+pub same_counts : (n : ℕ) (cs : List Change) → field_counts (news n cs) ≡ field_counts (olds cs)
+same_counts n [] = refl
+same_counts n (c ∷ cs) = ap (λ m. m ∷ field_counts (news (next_of n c) cs)) (one_count n c) ∙ ap (λ ms. length (old_of c).fields ∷ ms) (same_counts (next_of n c) cs)

@@ -10,7 +10,7 @@ use Rattle.wast_tree.specs.Visits.{Tells, Visits}
 use Rattle.wast_resolve.specs.Tree.{Space}
 use Rattle.wast_resolve.specs.Gathers.{Stops, Gathers}
 
-stops_more : (t : Told) (n m : ℕ) → n ≤ m → Stops t n → Stops t m
+pub stops_more : (t : Told) (n m : ℕ) → n ≤ m → Stops t n → Stops t m
 stops_more t n m le h = grind (arith)
 
 gathers_none : (r : Result (List (Option Name)) Error) → Gathers r [] r
@@ -20,7 +20,7 @@ gathers_none (Err e) = refl
 longer : (a b c : List (Option Name)) → length (a ++ b) ≤ length (a ++ (b ++ c))
 longer a b c = omega (arith, length-append a b, length-append a (b ++ c), length-append b c)
 
-gathers_both : (r s t : Result (List (Option Name)) Error) (xs ys : List (Option Name)) → Gathers r xs s → Gathers s ys t → Gathers r (xs ++ ys) t
+pub gathers_both : (r s t : Result (List (Option Name)) Error) (xs ys : List (Option Name)) → Gathers r xs s → Gathers s ys t → Gathers r (xs ++ ys) t
 gathers_both (Err e) (Err d) t xs ys h k = k ∙ h
 gathers_both (Err e) (Ok s) t xs ys h k = cc
 gathers_both (Ok r) (Ok s) (Ok t) xs ys h k = k ∙ (ap (λ z. z ++ ys) h ∙ append_assoc r xs ys)

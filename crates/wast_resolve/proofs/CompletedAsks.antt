@@ -1,44 +1,47 @@
 -- What passes of all that the fields ask passes of what they ask with the implied types, since each of these stands in a use.
-use Rattle.std.proofs.Common.{◌≡◌, ℕ, ◌<◌, Bool, true, ◌&&◌, List, [], ◌∷◌, ◌++◌, map, append-nil, Option, Some, None, refl, sym, ap, ◌∙◌, arith}
+use Rattle.std.proofs.Common.{◌≡◌, ℕ, ◌<◌, Bool, true, ◌&&◌, List, [], ◌∷◌, ◌++◌, map, Option, Some, None, refl, sym, ap, ◌∙◌, arith}
 use Rattle.std.specs.Prelude.{nat_lt}
 use Rattle.std.specs.Cmp.{first_so, second_so}
 use Rattle.std.specs.List.{flat_map, list_all}
 use Rattle.std.proofs.lemmas.Bool.{ltb-true, lt-ltb}
 use Rattle.std.proofs.lemmas.List.Folds.{list_all-append, list_all-map}
 use Rattle.std.proofs.lemmas.Grind.{flat_map-append, common_steps}
-use Rattle.wast_tree.specs.Occurrences.{Ask, if_there, in_index, in_id, in_val, in_param, in_signature, in_instr, in_locals, in_func_kind, in_field, in_module, outside, asked_in_step, asked_in_steps, asked_in, asked}
+use Rattle.wast_tree.specs.Occurrences.{Ask, if_there, in_index, in_id, in_val, in_param, in_signature, in_instr, in_locals, in_body, in_use, in_tag_type, in_item_kind, in_import, in_field, in_module, outside, asked_in_step, asked_in_steps, asked_in, asked}
 use Rattle.wast_tree.specs.Generations.{generation_in, greatest_asked}
-use Rattle.wast_tree.proofs.Visiting.{each_of_each, asked_both, asked_outside}
+use Rattle.wast_tree.proofs.Visiting.{each_of_each, asked_both, asked_outside, asked_use}
 use Rattle.wast_expand.specs.Signatures.{Signature, type_of_param, signature_of}
-use Rattle.wast_expand.specs.NeedingUses.{needed_without, needed_by_use, needed_by_instr, needed_by_kind, needed_by_field, needed}
+use Rattle.wast_expand.specs.NeedingUses.{needed_without, needed_by_use, needed_by_instr, needed_by_kind, needed_by_tag_type, needed_by_item_kind, needed_by_import, needed_by_field, needed}
 use Rattle.wast_expand.specs.ImpliedTypes.{implied}
 use Rattle.wast_expand.specs.Expanded.{nameless, unnamed_type}
 use Rattle.wast_expand.specs.Completed.{completed}
-use Rattle.wast_resolve.specs.Tree.{Id, Index, NameAnnotation, ValType, FunctionType, Instruction, FuncKind, ModuleField}
+use Rattle.wast_resolve.specs.Tree.{Id, Index, NameAnnotation, ValType, FunctionType, TypeUse, Instruction, FuncKind, TagType, ItemKind, ImportItems, ModuleField}
+use Rattle.wast_resolve.specs.Tree.tag
+use Rattle.wast_resolve.specs.Tree.kind
+use Rattle.wast_resolve.specs.Tree.import_items
 use Rattle.wast_resolve.specs.Tree.space
 use Rattle.wast_resolve.specs.Tree.func
 use Rattle.wast_resolve.specs.Tree.field
 use Rattle.wast_resolve.proofs.ImpliedSignatures.{both_so, all_pass, all_parts, values_pass, all_implied}
-use Rattle.wast_resolve.proofs.ExpandedAsks.{asked_func}
+use Rattle.wast_resolve.proofs.ExpandedAsks.{asked_parts}
 
 module _ (ok : Ask → Bool) where
-  abbrev pass : List Ask → Bool
+  abbrev pub pass : List Ask → Bool
   pass asks = list_all ok asks
 
   -- what a value type, and a parameter, asks passes
-  abbrev value_passes : ValType → Bool
+  abbrev pub value_passes : ValType → Bool
   value_passes v = pass (in_val v)
 
-  abbrev param_passes : Option Id × Option NameAnnotation × ValType → Bool
+  abbrev pub param_passes : Option Id × Option NameAnnotation × ValType → Bool
   param_passes p = pass (in_param p)
 
   abbrev all_pass_in : List Signature → Bool
   all_pass_in ss = list_all (values_pass value_passes) ss
 
-  second_part : (xs ys : List Ask) → pass (xs ++ ys) ≡ true → pass ys ≡ true
+  pub second_part : (xs ys : List Ask) → pass (xs ++ ys) ≡ true → pass ys ≡ true
   second_part xs ys h = second_so (pass xs) (pass ys) (sym (list_all-append ok xs ys) ∙ h)
 
-  first_part : (xs ys : List Ask) → pass (xs ++ ys) ≡ true → pass xs ≡ true
+  pub first_part : (xs ys : List Ask) → pass (xs ++ ys) ≡ true → pass xs ≡ true
   first_part xs ys h = first_so (pass xs) (pass ys) (sym (list_all-append ok xs ys) ∙ h)
 
   signature_passes : (t : FunctionType) → pass (in_signature t) ≡ (list_all param_passes t.params && list_all value_passes t.results)
@@ -47,7 +50,7 @@ module _ (ok : Ask → Bool) where
       ∙ (ap (λ b. b && pass (flat_map in_val t.results)) (all_parts ok in_param t.params) ∙ ap (λ b. list_all param_passes t.params && b) (all_parts ok in_val t.results))
 
   -- of what the uses need
-  signature_needs : (t : FunctionType) → pass (in_signature t) ≡ true → values_pass value_passes (signature_of t) ≡ true
+  pub signature_needs : (t : FunctionType) → pass (in_signature t) ≡ true → values_pass value_passes (signature_of t) ≡ true
   signature_needs t h =
       let both = sym (signature_passes t) ∙ h in
       let params = first_so (list_all param_passes t.params) (list_all value_passes t.results) both in
@@ -63,23 +66,37 @@ module _ (ok : Ask → Bool) where
   instr_needs : (x : Instruction) → pass (asked_in_steps (in_instr x)) ≡ true → all_pass_in (needed_by_instr x) ≡ true
   instr_needs x h = grind (arith, common_steps)
 
-  kind_needs : (k : FuncKind) → pass (asked (in_func_kind k)) ≡ true → all_pass_in (needed_by_kind k) ≡ true
+  kind_needs : (k : FuncKind) → pass (asked_in_steps (in_body k)) ≡ true → all_pass_in (needed_by_kind k) ≡ true
   kind_needs (func.Inline locals e) h =
-      let each = each_of_each in_instr asked_in_step e.instrs in
-      let steps = append-nil (asked_in_steps (flat_map in_instr e.instrs)) ∙ each in
+      let steps = each_of_each in_instr asked_in_step e.instrs in
       all_parts (values_pass value_passes) needed_by_instr e.instrs
       ∙ all_pass (λ x. pass (asked_in_steps (in_instr x))) (λ x. all_pass_in (needed_by_instr x)) instr_needs e.instrs (sym (all_parts ok (λ x. asked_in_steps (in_instr x)) e.instrs) ∙ (sym (ap pass steps) ∙ h))
+
+  in_use_needs : (u : TypeUse FunctionType) → pass (asked (in_use u)) ≡ true → all_pass_in (needed_by_use u) ≡ true
+  in_use_needs u h = use_needs u.index u.inline (second_part (if_there (in_index space.Ty) u.index) (if_there in_signature u.inline) (sym (ap pass (asked_use u)) ∙ h))
+
+  tag_needs : (t : TagType) → pass (asked (in_tag_type t)) ≡ true → all_pass_in (needed_by_tag_type t) ≡ true
+  tag_needs (tag.Exception u) h = in_use_needs u h
+
+  item_kind_needs : (k : ItemKind) → pass (asked (in_item_kind k)) ≡ true → all_pass_in (needed_by_item_kind k) ≡ true
+  item_kind_needs (kind.Func u) h = in_use_needs u h
+  item_kind_needs (kind.Tag t) h = tag_needs t h
+  item_kind_needs k h = refl
+
+  import_needs : (i : ImportItems) → pass (asked (in_import i)) ≡ true → all_pass_in (needed_by_import i) ≡ true
+  import_needs (import_items.Single source name sig) h = item_kind_needs sig.kind h
 
   field_needs : (x : ModuleField) → pass (asked (in_field x)) ≡ true → all_pass_in (needed_by_field x) ≡ true
   field_needs (field.Func f) h =
       let index = if_there (in_index space.Ty) f.ty.index in
       let inline = if_there in_signature f.ty.inline in
-      let kind = outside (in_locals f.kind) ++ in_func_kind f.kind in
-      let rest = second_part index (inline ++ asked kind) (sym (ap pass (asked_func f)) ∙ h) in
-      let body = sym (ap pass (asked_both (outside (in_locals f.kind)) (in_func_kind f.kind))) ∙ second_part inline (asked kind) rest in
+      let kind = in_locals f.kind ++ asked_in_steps (in_body f.kind) in
+      let rest = second_part index (inline ++ kind) (sym (ap pass (asked_parts f)) ∙ h) in
       list_all-append (values_pass value_passes) (needed_by_use f.ty) (needed_by_kind f.kind)
-      ∙ both_so (all_pass_in (needed_by_use f.ty)) (all_pass_in (needed_by_kind f.kind)) (use_needs f.ty.index f.ty.inline (first_part inline (asked kind) rest))
-      (kind_needs f.kind (second_part (asked (outside (in_locals f.kind))) (asked (in_func_kind f.kind)) body))
+      ∙ both_so (all_pass_in (needed_by_use f.ty)) (all_pass_in (needed_by_kind f.kind)) (use_needs f.ty.index f.ty.inline (first_part inline kind rest))
+      (kind_needs f.kind (second_part (in_locals f.kind) (asked_in_steps (in_body f.kind)) (second_part inline kind rest)))
+  field_needs (field.Import i) h = import_needs i.items h
+  field_needs (field.Tag t) h = tag_needs t.ty h
   field_needs x h = refl
 
   fields_need : (fields : List ModuleField) → pass (asked (in_module fields)) ≡ true → all_pass_in (needed fields) ≡ true
@@ -106,10 +123,10 @@ module _ (ok : Ask → Bool) where
 
 -- So no generation is new among them.
 module _ (n : ℕ) where
-  abbrev is_below : Ask → Bool
+  abbrev pub is_below : Ask → Bool
   is_below a = nat_lt (generation_in a) n
 
-  each_below : (asks : List Ask) → greatest_asked asks < n → list_all is_below asks ≡ true
+  pub each_below : (asks : List Ask) → greatest_asked asks < n → list_all is_below asks ≡ true
   each_below [] lt = refl
   each_below (a ∷ asks) lt = both_so (is_below a) (list_all is_below asks) (lt-ltb (generation_in a) n (omega (arith, lt))) (each_below asks (omega (arith, lt)))
 

@@ -1,34 +1,47 @@
 -- What an expanded list answers, and what is so of it when it is resolved.
-use Rattle.std.proofs.Common.{◌≡◌, ℕ, ◌+◌, ◌<◌, Bool, true, false, not, ◌&&◌, ◌||◌, List, [], ◌∷◌, ◌++◌, map, Some, is_some, refl, sym, ap, ◌∙◌, subst, arith}
+use Rattle.std.proofs.Common.{◌≡◌, ℕ, ◌+◌, ◌<◌, Bool, true, false, not, ◌&&◌, ◌||◌, List, [], ◌∷◌, ◌++◌, map, append-nil, Option, Some, None, is_some, refl, sym, ap, ◌∙◌, subst, arith}
 use Rattle.std.specs.Prelude.{max}
 use Rattle.std.specs.Cmp.{first_so, second_so}
 use Rattle.std.specs.List.{list_any}
 use Rattle.std.specs.Option.{option_or}
 use Rattle.wast_tree.specs.Ids.{Name, name_of, mark_of, generation_of, is_generated}
+use Rattle.wast_tree.specs.Faults.{Refusal}
+use Rattle.std.proofs.lemmas.Bool.{ltb-true}
 use Rattle.wast_tree.specs.Spaces.{word_of, name_if, same_space, is_called, is_borne}
 use Rattle.wast_tree.specs.Items.{Item, items}
 use Rattle.wast_tree.specs.Known.{Known, known, names_in}
-use Rattle.wast_tree.specs.Occurrences.{Ask, Wants, Bare, asked, in_module}
+use Rattle.wast_tree.specs.Occurrences.{Ask, Wants, Bare, outside, if_there, in_index, in_signature, matched_by, in_locals, in_func_kind, in_func, in_use, in_tag_type, in_item_kind, in_import, in_field, asked, in_module}
 use Rattle.wast_tree.specs.Generations.{generation_in, greatest_item, greatest_asked, greatest_generation}
 use Rattle.wast_tree.specs.WellFormed.{is_settled, are_settled, are_plain, has_settled_indices}
 use Rattle.wast_tree.proofs.Bearing.{borne_among, borne_by_both}
 use Rattle.std.proofs.lemmas.Grind.{flat_map-append}
 use Rattle.wast_tree.specs.Items.{items_in}
-use Rattle.wast_expand.specs.Signatures.{Signature}
+use Rattle.wast_expand.specs.Signatures.{Signature, signature_of}
+use Rattle.wast_expand.specs.NeedingUses.{inline_signature}
 use Rattle.wast_expand.specs.ImpliedTypes.{implied}
 use Rattle.wast_expand.specs.Expanders.{LookUp, index_of}
-use Rattle.wast_expand.specs.Expanded.{unnamed_type, typed, bindings, expanded, ids_wanted}
+use Rattle.wast_expand.specs.Expanded.{unnamed_type, typed, bindings, bound_index, bound_use, bound_kind, bound_func, bound_tag_type, bound_item_kind, bound_import_items, bound_field, expanded, ids_wanted}
 use Rattle.wast_expand.specs.Completed.{completed}
-use Rattle.wast_resolve.specs.Tree.{Index, Space, ModuleField}
+use Rattle.wast_resolve.specs.Tree.{Index, Span, Space, FunctionType, TypeUse, Func, TagType, ItemKind, ImportItems, ModuleField}
+use Rattle.wast_resolve.specs.Tree.tag
+use Rattle.wast_resolve.specs.Tree.kind
+use Rattle.wast_resolve.specs.Tree.import_items
 use Rattle.wast_resolve.specs.Tree.index
 use Rattle.wast_resolve.specs.Tree.space
-use Rattle.wast_resolve.specs.Demands.{first_unmet, unknown, ask_demand, ask_demands, item_demands, use_demands}
+use Rattle.wast_resolve.specs.Tree.field
+use Rattle.wast_resolve.specs.Scopes.{Scope, scope, denoted}
+use Rattle.wast_resolve.specs.Demands.{Demand, first_unmet, unknown, ask_demands, item_demands, match_demands, start, step_demands, use_demand, use_demands, order_demands, name_demands, demands, item_counts, local_counts}
 use Rattle.wast_resolve.specs.Laws.{SameAnswer, SameCounts, ExpandedStaysWellFormed, NoIdIsLeft, FinishedStaysWellFormed, FinishedIsBelow}
-use Rattle.wast_resolve.proofs.AtRest.{uses_demand, all_numbered, still_well_formed, still_below}
-use Rattle.wast_resolve.proofs.Unmet.{first_unmet-or}
-use Rattle.wast_resolve.proofs.ExpandedItems.{bound_items, expanded_position, expanded_clashes, expanded_counts, expanded_below}
-use Rattle.wast_resolve.proofs.ExpandedAsks.{bound_measure, typed_asks}
-use Rattle.wast_resolve.proofs.CompletedAsks.{completed_pass, completed_below}
+use Rattle.wast_resolve.proofs.AtRest.{all_numbered, still_well_formed, still_below}
+use Rattle.wast_resolve.proofs.Unmet.{first_unmet-or, met_parts}
+use Rattle.wast_resolve.proofs.OrderKept.{expanded_orders}
+use Rattle.wast_resolve.proofs.ExpandedItems.{bound_items, expanded_position, expanded_clashes, expanded_item_counts, expanded_below}
+use Rattle.wast_resolve.proofs.ExpandedTypes.{same_signatures, same_local_counts}
+use Rattle.wast_resolve.proofs.Functions.{func_demands, type_use_demands}
+use Rattle.wast_resolve.proofs.FoundMatches.{what_is_found, it_matches}
+use Rattle.wast_resolve.proofs.AlikeScopes.{all_occurrences, all_types, uses_alike}
+use Rattle.wast_resolve.proofs.ExpandedAsks.{bound_locals, bound_in_kind, bound_measure, typed_asks}
+use Rattle.wast_resolve.proofs.CompletedAsks.{is_below, each_below, completed_pass, completed_below}
 use Rattle.wast_resolve.proofs.ExpandedPlain.{plain_expanded}
 use Rattle.wast_resolve.proofs.FoundTypes.{IsTypeOf, found}
 
@@ -54,17 +67,8 @@ completed_borne q s fields =
     or_false true = refl
     or_false false = refl
 
--- Where old names are borne alike, the same is demanded and the same is settled.
+-- Where old names are borne alike, the same is settled.
 module _ (n : ℕ) (k l : Known) (same : (s : Space) (q : Name) → generation_of q < n → is_some (k.number s q) ≡ is_some (l.number s q)) where
-  demand_alike : (a : Ask) → generation_in a < n → ask_demand k a ≡ ask_demand l a
-  demand_alike (Wants s (index.Num m p)) lt = refl
-  demand_alike (Wants s (index.Id id)) lt = ap (unknown (word_of s) (mark_of id)) (same s (name_of id) lt)
-  demand_alike (Bare m) lt = refl
-
-  pub demands_alike : (asks : List Ask) → greatest_asked asks < n → ask_demands k asks ≡ ask_demands l asks
-  demands_alike [] lt = refl
-  demands_alike (a ∷ asks) lt = ap (λ ds. ds ++ ask_demands k asks) (demand_alike a (omega (arith, lt))) ∙ ap (λ ds. ask_demand l a ++ ds) (demands_alike asks (omega (arith, lt)))
-
   settled_alike : (a : Ask) → generation_in a < n → is_settled k a ≡ is_settled l a
   settled_alike (Wants s (index.Num m p)) lt = refl
   settled_alike (Wants s (index.Id id)) lt = ap (λ b. not (is_generated (name_of id)) || b) (same s (name_of id) lt)
@@ -83,6 +87,9 @@ module _ (n : ℕ) (fields : List ModuleField) where
 
   abbrev new : Known
   new = known (items (expanded n fields))
+
+  abbrev new_scope : Scope
+  new_scope = scope (expanded n fields)
 
   -- What a signature is bound to is a known type.
   found_known : (s : Signature) (i : Index) → find s ≡ Some i → IsTypeOf (items (expanded n fields)) i
@@ -109,15 +116,7 @@ module _ (n : ℕ) (fields : List ModuleField) where
   found_below : (i : Index) → IsTypeOf (items (expanded n fields)) i → (asks : List Ask) → greatest_with (Wants space.Ty i ∷ asks) ≡ greatest_with asks
   found_below i h asks = let b = h.below in ap (λ j. greatest_with (Wants space.Ty j ∷ asks)) h.is ∙ omega (arith, b)
 
-  -- What the uses demand, what is settled, and the greatest generation go by what the fields ask with the implied types.
-  uses_met : first_unmet (use_demands new (in_module (expanded n fields))) ≡ first_unmet (ask_demands new (asked (in_module (completed fields))))
-  uses_met =
-      ap first_unmet (uses_demand new (in_module (expanded n fields)))
-      ∙ (bound_measure find (λ (asks : List Ask). first_unmet (ask_demands new asks))
-      (λ a xs ys h. first_unmet-or (ask_demand new a) (ask_demands new xs) ∙ (ap (option_or (first_unmet (ask_demand new a))) h ∙ sym (first_unmet-or (ask_demand new a) (ask_demands new ys))))
-      (λ s i asks e. found_met i (found_known s i e) asks) types
-      ∙ ap (λ os. first_unmet (ask_demands new (asked os))) (typed_asks n fields))
-
+  -- What is settled, and the greatest generation, go by what the fields ask with the implied types.
   uses_settled : are_settled new (asked (in_module (expanded n fields))) ≡ are_settled new (asked (in_module (completed fields)))
   uses_settled =
       bound_measure find (λ (asks : List Ask). are_settled new asks) (λ a xs ys h. ap (λ b. is_settled new a && b) h) (λ s i asks e. found_settled i (found_known s i e) asks) types
@@ -127,6 +126,84 @@ module _ (n : ℕ) (fields : List ModuleField) where
   uses_below =
       bound_measure find greatest_with (λ a xs ys h. omega (arith, h)) (λ s i asks e. found_below i (found_known s i e) asks) types
       ∙ ap (λ os. greatest_with (asked os)) (typed_asks n fields)
+
+  -- Where no items clash, uses demand what they demand in the list without their indices: each index that is filled in is
+  -- known, and an inline type matches it once its names are known.
+  module _ (free : first_unmet (item_demands (items (expanded n fields))) ≡ None) where
+    nothing_more : (o p : Option (Refusal × Span)) → (o ≡ None → p ≡ None) → option_or o p ≡ option_or o None
+    nothing_more None p h = h refl
+    nothing_more (Some f) p h = refl
+
+    abbrev use_demanded : (i : Option Index) (inline : Option FunctionType) → List Demand
+    use_demanded i inline = ask_demands new (if_there (in_index space.Ty) i ++ if_there in_signature inline) ++ step_demands new_scope start (matched_by i inline)
+
+    given_index : (i : Index) (inline : Option FunctionType) → find (inline_signature inline) ≡ Some i → first_unmet (use_demanded (Some i) inline) ≡ first_unmet (use_demanded None inline)
+    given_index i None e =
+        ap first_unmet (append-nil (ask_demands new (Wants space.Ty i ∷ []))) ∙ found_met i (found_known (inline_signature None) i e) []
+    given_index i (Some t) e =
+        let asked = in_signature t in
+        let matched = match_demands new_scope i t ++ [] in
+        let known : first_unmet (ask_demands new (Wants space.Ty i ∷ asked)) ≡ first_unmet (ask_demands new asked) = found_met i (found_known (signature_of t) i e) asked in
+        first_unmet-or (ask_demands new (Wants space.Ty i ∷ asked)) matched
+        ∙ (ap (λ o. option_or o (first_unmet matched)) known
+        ∙ (nothing_more (first_unmet (ask_demands new asked)) (first_unmet matched)
+        (λ met. ap first_unmet (append-nil (match_demands new_scope i t)) ∙ it_matches new_scope t i (what_is_found n fields free (signature_of t) i e) met)
+        ∙ sym (first_unmet-or (ask_demands new asked) [])))
+
+    bound_use_met : (i : Option Index) (inline : Option FunctionType) → first_unmet (use_demanded (bound_index find i inline) inline) ≡ first_unmet (use_demanded i inline)
+    bound_use_met (Some i) inline = refl
+    bound_use_met None inline = by_found (find (inline_signature inline)) refl
+      where
+        by_found : (o : Option Index) → find (inline_signature inline) ≡ o → first_unmet (use_demanded o inline) ≡ first_unmet (use_demanded None inline)
+        by_found None e = refl
+        by_found (Some i) e = given_index i inline e
+
+    func_met : (f : Func) → first_unmet (use_demands new_scope (in_func (bound_func find f))) ≡ first_unmet (use_demands new_scope (in_func f))
+    func_met f =
+        let parts = λ (f : Func). func_demands new_scope f ∙ ap (λ ds. ds ++ use_demands new_scope (outside (in_locals f.kind) ++ in_func_kind f.ty.inline f.kind)) (type_use_demands new_scope f.ty) in
+        let kind = use_demands new_scope (outside (in_locals f.kind) ++ in_func_kind f.ty.inline f.kind) in
+        let same : use_demands new_scope (outside (in_locals (bound_kind find f.kind)) ++ in_func_kind f.ty.inline (bound_kind find f.kind)) ≡ kind =
+        ap (λ ls. use_demands new_scope (outside ls ++ in_func_kind f.ty.inline (bound_kind find f.kind))) (bound_locals find f.kind)
+        ∙ ap (λ os. use_demands new_scope (outside (in_locals f.kind) ++ os)) (bound_in_kind find f.ty.inline f.kind) in
+        let i = bound_index find f.ty.index f.ty.inline in
+        ap first_unmet (parts (bound_func find f))
+        ∙ (ap (λ ds. first_unmet (use_demanded i f.ty.inline ++ ds)) same
+        ∙ (first_unmet-or (use_demanded i f.ty.inline) kind
+        ∙ (ap (λ o. option_or o (first_unmet kind)) (bound_use_met f.ty.index f.ty.inline)
+        ∙ (sym (first_unmet-or (use_demanded f.ty.index f.ty.inline) kind) ∙ sym (ap first_unmet (parts f))))))
+
+    use_met : (u : TypeUse FunctionType) → first_unmet (use_demands new_scope (in_use (bound_use find u))) ≡ first_unmet (use_demands new_scope (in_use u))
+    use_met u = ap first_unmet (type_use_demands new_scope (bound_use find u)) ∙ (bound_use_met u.index u.inline ∙ sym (ap first_unmet (type_use_demands new_scope u)))
+
+    tag_met : (t : TagType) → first_unmet (use_demands new_scope (in_tag_type (bound_tag_type find t))) ≡ first_unmet (use_demands new_scope (in_tag_type t))
+    tag_met (tag.Exception u) = use_met u
+
+    item_kind_met : (k : ItemKind) → first_unmet (use_demands new_scope (in_item_kind (bound_item_kind find k))) ≡ first_unmet (use_demands new_scope (in_item_kind k))
+    item_kind_met (kind.Func u) = use_met u
+    item_kind_met (kind.Tag t) = tag_met t
+    item_kind_met k = refl
+
+    import_met : (i : ImportItems) → first_unmet (use_demands new_scope (in_import (bound_import_items find i))) ≡ first_unmet (use_demands new_scope (in_import i))
+    import_met (import_items.Single source name sig) = item_kind_met sig.kind
+
+    field_met : (x : ModuleField) → first_unmet (use_demands new_scope (in_field (bound_field find x))) ≡ first_unmet (use_demands new_scope (in_field x))
+    field_met (field.Func f) = func_met f
+    field_met (field.Import i) = import_met i.items
+    field_met (field.Tag t) = tag_met t.ty
+    field_met x = refl
+
+    fields_met : (xs : List ModuleField) → first_unmet (use_demands new_scope (in_module (map (bound_field find) xs))) ≡ first_unmet (use_demands new_scope (in_module xs))
+    fields_met [] = refl
+    fields_met (x ∷ xs) =
+        let bound = map (bound_field find) xs in
+        ap first_unmet (flat_map-append (use_demand new_scope) (in_field (bound_field find x)) (in_module bound))
+        ∙ (first_unmet-or (use_demands new_scope (in_field (bound_field find x))) (use_demands new_scope (in_module bound))
+        ∙ (ap (λ o. option_or o (first_unmet (use_demands new_scope (in_module bound)))) (field_met x)
+        ∙ (ap (option_or (first_unmet (use_demands new_scope (in_field x)))) (fields_met xs)
+        ∙ (sym (first_unmet-or (use_demands new_scope (in_field x)) (use_demands new_scope (in_module xs))) ∙ sym (ap first_unmet (flat_map-append (use_demand new_scope) (in_field x) (in_module xs)))))))
+
+    pub uses_met : first_unmet (use_demands new_scope (in_module (expanded n fields))) ≡ first_unmet (use_demands new_scope (in_module (completed fields)))
+    uses_met = fields_met types ∙ ap (λ os. first_unmet (use_demands new_scope os)) (typed_asks n fields)
 
   module _ (above : greatest_generation fields < n) where
     old_items_below : greatest_item (items fields) < n
@@ -138,10 +215,19 @@ module _ (n : ℕ) (fields : List ModuleField) where
     known_alike : (s : Space) (q : Name) → generation_of q < n → is_some (new.number s q) ≡ is_some ((known (items (completed fields))).number s q)
     known_alike s q lt = ap is_some (expanded_position n fields old_items_below q s lt)
 
-    pub same_uses : first_unmet (use_demands new (in_module (expanded n fields))) ≡ first_unmet (use_demands (known (items (completed fields))) (in_module (completed fields)))
-    same_uses =
-        let k = known (items (completed fields)) in
-        uses_met ∙ (ap first_unmet (demands_alike n new k known_alike (asked (in_module (completed fields))) old_asks_below) ∙ sym (ap first_unmet (uses_demand k (in_module (completed fields)))))
+    -- old names and numbers denote the same
+    denoted_alike : (s : Space) (i : Index) → is_below n (Wants s i) ≡ true → denoted (new.number s) i ≡ denoted ((known (items (completed fields))).number s) i
+    denoted_alike s (index.Num m p) h = refl
+    denoted_alike s (index.Id id) h = expanded_position n fields old_items_below (name_of id) s (ltb-true (generation_of (name_of id)) n h)
+
+    pub same_uses : first_unmet (item_demands (items (expanded n fields))) ≡ None
+        → first_unmet (use_demands new_scope (in_module (expanded n fields))) ≡ first_unmet (use_demands (scope (completed fields)) (in_module (completed fields)))
+    same_uses free =
+        let all_below = each_below n (asked (in_module (completed fields))) old_asks_below in
+        uses_met free
+        ∙ ap first_unmet
+        (uses_alike (is_below n) new_scope (scope (completed fields)) (same_signatures n fields) (all_types (is_below n) (completed fields) all_below) denoted_alike (in_module (completed fields))
+        (all_occurrences (is_below n) (completed fields) all_below))
 
     pub still_settled : has_settled_indices fields ≡ true → has_settled_indices (expanded n fields) ≡ true
     still_settled h =
@@ -154,17 +240,34 @@ module _ (n : ℕ) (fields : List ModuleField) where
         let c = old_asks_below in
         omega arith
 
+pub same_names : (n : ℕ) (fields : List ModuleField) → greatest_generation fields < n → first_unmet (name_demands (expanded n fields)) ≡ first_unmet (name_demands (completed fields))
+same_names n fields above =
+    let e = expanded n fields in
+    let c = completed fields in
+    first_unmet-or (item_demands (items e)) (use_demands (scope e) (in_module e))
+    ∙ (by_clash (first_unmet (item_demands (items e))) (first_unmet (item_demands (items c))) (first_unmet (use_demands (scope e) (in_module e))) (first_unmet (use_demands (scope c) (in_module c)))
+    (expanded_clashes n fields (old_items_below n fields above)) (same_uses n fields above)
+    ∙ sym (first_unmet-or (item_demands (items c)) (use_demands (scope c) (in_module c))))
+  where
+    by_clash : (o p r s : Option (Refusal × Span)) → o ≡ p → (o ≡ None → r ≡ s) → option_or o r ≡ option_or p s
+    by_clash None p r s e h = h refl ∙ ap (λ q. option_or q s) e
+    by_clash (Some f) p r s e h = ap (λ q. option_or q s) e
+
 pub same_answer : SameAnswer
 same_answer n fields above =
-    let new = known (items (expanded n fields)) in
-    let old = known (items (completed fields)) in
-    first_unmet-or (item_demands (items (expanded n fields))) (use_demands new (in_module (expanded n fields)))
-    ∙ (ap (λ o. option_or o (first_unmet (use_demands new (in_module (expanded n fields))))) (expanded_clashes n fields (old_items_below n fields above))
-    ∙ (ap (option_or (first_unmet (item_demands (items (completed fields))))) (same_uses n fields above)
-    ∙ sym (first_unmet-or (item_demands (items (completed fields))) (use_demands old (in_module (completed fields))))))
+    let e = expanded n fields in
+    let c = completed fields in
+    first_unmet-or (order_demands e) (name_demands e)
+    ∙ (ap (λ ds. option_or (first_unmet ds) (first_unmet (name_demands e))) (expanded_orders n fields)
+    ∙ (ap (option_or (first_unmet (order_demands c))) (same_names n fields above) ∙ sym (first_unmet-or (order_demands c) (name_demands c))))
+
+-- Where each demand of the completed list is met, so is each demand of names of the expanded one.
+pub names_met : (n : ℕ) (fields : List ModuleField) → greatest_generation fields < n → first_unmet (demands (completed fields)) ≡ None → first_unmet (name_demands (expanded n fields)) ≡ None
+names_met n fields above met = same_names n fields above ∙ (met_parts (order_demands (completed fields)) (name_demands (completed fields)) met).1
 
 pub same_counts : SameCounts
-same_counts n fields above = expanded_counts n fields (old_items_below n fields above)
+same_counts n fields above =
+    ap (λ ms. ms ++ local_counts (expanded n fields)) (expanded_item_counts n fields (old_items_below n fields above)) ∙ ap (λ ms. item_counts (items (completed fields)) ++ ms) (same_local_counts n fields)
 
 pub expanded_well_formed : ExpandedStaysWellFormed
 expanded_well_formed n fields above h =
@@ -172,10 +275,10 @@ expanded_well_formed n fields above h =
     ∙ plain_expanded n fields (second_so (has_settled_indices fields) (are_plain fields) h)
 
 pub finished_numbered : NoIdIsLeft
-finished_numbered n fields above met = all_numbered (expanded n fields) (same_answer n fields above ∙ met)
+finished_numbered n fields above met = all_numbered (expanded n fields) (names_met n fields above met)
 
 pub finished_well_formed : FinishedStaysWellFormed
-finished_well_formed n fields above h met = still_well_formed (expanded n fields) (expanded_well_formed n fields above h) (same_answer n fields above ∙ met)
+finished_well_formed n fields above h met = still_well_formed (expanded n fields) (expanded_well_formed n fields above h) (names_met n fields above met)
 
 pub finished_below : FinishedIsBelow
 finished_below n fields above =

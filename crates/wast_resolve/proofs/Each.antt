@@ -26,11 +26,11 @@ module _ {X A : Type 0} {g : A → List Demand} {f : X → List A} {w : X → X}
       b ∙ ap (λ x. x ∷ drop (suc i) olds) e
 
   -- the list about the item that is walked next
-  split : {nows : List X} {i : ℕ} {x : X} → IsHalfway g f w olds nows i → i < length olds → x ≡ get_or nows i x → flat_map f olds ≡ flat_map f (take i olds) ++ (f x ++ flat_map f (drop (suc i) olds))
-  split {nows} {i} {x} p lt is =
+  pub split : {B : Type 0} (e : X → List B) {nows : List X} {i : ℕ} {x : X} → IsHalfway g f w olds nows i → i < length olds → x ≡ get_or nows i x → flat_map e olds ≡ flat_map e (take i olds) ++ (e x ++ flat_map e (drop (suc i) olds))
+  split e {nows} {i} {x} p lt is =
       let lt2 : i < length nows = omega (arith, p.len) in
       let rest : drop i olds ≡ x ∷ drop (suc i) olds = same_item x p lt2 ∙ ap (λ z. z ∷ drop (suc i) olds) (sym is) in
-      ap (flat_map f) (sym (take-append-drop i olds)) ∙ (flat_map-append f (take i olds) (drop i olds) ∙ ap (λ zs. flat_map f (take i olds) ++ flat_map f zs) rest)
+      ap (flat_map e) (sym (take-append-drop i olds)) ∙ (flat_map-append e (take i olds) (drop i olds) ∙ ap (λ zs. flat_map e (take i olds) ++ flat_map e zs) rest)
 
   pub goes_on : {nows : List X} {i : ℕ} {x y : X} → IsHalfway g f w olds nows i → i < length olds → x ≡ get_or nows i x → first_unmet (flat_map g (f x)) ≡ None → y ≡ w x → IsHalfway g f w olds (set nows i y) (i + 1)
   goes_on {nows} {i} {x} {y} p lt is met new =
@@ -47,8 +47,13 @@ module _ {X A : Type 0} {g : A → List Demand} {f : X → List A} {w : X → X}
         become = take_more_set nows i y lt2 ∙ (ap (λ zs. zs ++ y ∷ []) p.become ∙ (ap (λ z. map w (take i olds) ++ z ∷ []) new ∙ (sym (map-append w (take i olds) (x ∷ [])) ∙ ap (map w) (sym more))));
       }
 
-  pub stops : {nows : List X} {i : ℕ} {x : X} (t : Told) → IsHalfway g f w olds nows i → i < length olds → x ≡ get_or nows i x → Answers ⊥ ⊥ t (first_unmet (flat_map g (f x))) → Answers ⊥ ⊥ t (first_unmet (flat_map g (flat_map f olds)))
-  stops {nows} {i} {x} t p lt is failed =
+  -- what is refused at an item, where K and M say what may be refused without a place
+  pub stops_with : {nows : List X} {i : ℕ} {x : X} (K M : Type 0) (t : Told) → IsHalfway g f w olds nows i → i < length olds → x ≡ get_or nows i x → Answers K M t (first_unmet (flat_map g (f x)))
+      → Answers K M t (first_unmet (flat_map g (flat_map f olds)))
+  stops_with {nows} {i} {x} K M t p lt is failed =
       let others = flat_map f (drop (suc i) olds) in
-      subst (λ os. Answers ⊥ ⊥ t (first_unmet (flat_map g os))) (sym (split p lt is))
-      (second_fails g (flat_map f (take i olds)) (f x ++ others) ⊥ ⊥ t p.met (first_fails g (f x) others ⊥ ⊥ t failed))
+      subst (λ os. Answers K M t (first_unmet (flat_map g os))) (sym (split f p lt is))
+      (second_fails g (flat_map f (take i olds)) (f x ++ others) K M t p.met (first_fails g (f x) others K M t failed))
+
+  pub stops : {nows : List X} {i : ℕ} {x : X} (t : Told) → IsHalfway g f w olds nows i → i < length olds → x ≡ get_or nows i x → Answers ⊥ ⊥ t (first_unmet (flat_map g (f x))) → Answers ⊥ ⊥ t (first_unmet (flat_map g (flat_map f olds)))
+  stops t p lt is failed = stops_with ⊥ ⊥ t p lt is failed

@@ -2,29 +2,29 @@
 use Rattle.std.proofs.Common.{◌≡◌, ℕ, ◌+◌, Bool, true, false, List, [], ◌∷◌, ◌++◌, map, append_assoc, Option, Some, None, refl, sym, ap, ◌∙◌, arith}
 use Rattle.std.specs.List.{flat_map}
 use Rattle.std.proofs.lemmas.Grind.{flat_map-append, common_steps}
-use Rattle.wast_tree.specs.Occurrences.{Ask, Wants, Body, if_there, in_index, in_signature, in_type_use, in_instr, in_locals, in_func_kind, in_func, in_field, in_module, outside, asked}
-use Rattle.wast_tree.proofs.Visiting.{asked_both, asked_outside}
+use Rattle.wast_tree.specs.Occurrences.{Ask, Wants, Body, if_there, in_index, in_signature, in_instr, in_locals, in_body, declared, in_func_kind, in_func, in_use, in_tag_type, in_item_kind, in_import, in_field, in_module, asked_in_steps, asked}
+use Rattle.wast_tree.proofs.Visiting.{asked_both, asked_func, asked_use}
 use Rattle.wast_expand.specs.Signatures.{Signature}
 use Rattle.wast_expand.specs.NeedingUses.{inline_signature}
 use Rattle.wast_expand.specs.ImpliedTypes.{implied}
 use Rattle.wast_expand.specs.Filling.{one_if, given_if, filled, wanted}
 use Rattle.wast_expand.specs.Expanders.{LookUp}
-use Rattle.wast_expand.specs.Expanded.{lacks_id, with_id, unnamed_type, implied_types, typed, bound_index, bound_instr, bound_kind, bound_func, bound_field}
+use Rattle.wast_expand.specs.Expanded.{lacks_id, with_id, unnamed_type, implied_types, typed, bound_index, bound_use, bound_instr, bound_kind, bound_func, bound_tag_type, bound_item_kind, bound_import_items, bound_field}
 use Rattle.wast_expand.specs.Completed.{completed}
-use Rattle.wast_resolve.specs.Tree.{Index, FunctionType, Instruction, FuncKind, Func, ModuleField}
+use Rattle.wast_resolve.specs.Tree.{Index, FunctionType, TypeUse, Instruction, FuncKind, Func, TagType, ItemKind, ImportItems, ModuleField}
+use Rattle.wast_resolve.specs.Tree.tag
+use Rattle.wast_resolve.specs.Tree.kind
+use Rattle.wast_resolve.specs.Tree.import_items
 use Rattle.wast_resolve.specs.Tree.space
 use Rattle.wast_resolve.specs.Tree.func
 use Rattle.wast_resolve.specs.Tree.field
 
 -- a function asks its type's index, then what the rest of its type use asks, then what it is made of
 abbrev asked_in_rest : Option FunctionType → FuncKind → List Ask
-asked_in_rest inline k = if_there in_signature inline ++ asked (outside (in_locals k) ++ in_func_kind k)
+asked_in_rest inline k = if_there in_signature inline ++ (in_locals k ++ asked_in_steps (in_body k))
 
-pub asked_func : (f : Func) → asked (in_func f) ≡ if_there (in_index space.Ty) f.ty.index ++ asked_in_rest f.ty.inline f.kind
-asked_func f =
-    let kind = outside (in_locals f.kind) ++ in_func_kind f.kind in
-    asked_both (outside (in_type_use f.ty)) kind
-    ∙ (ap (λ ps. ps ++ asked kind) (asked_outside (in_type_use f.ty)) ∙ append_assoc (if_there (in_index space.Ty) f.ty.index) (if_there in_signature f.ty.inline) (asked kind))
+pub asked_parts : (f : Func) → asked (in_func f) ≡ if_there (in_index space.Ty) f.ty.index ++ asked_in_rest f.ty.inline f.kind
+asked_parts f = asked_func f ∙ append_assoc (if_there (in_index space.Ty) f.ty.index) (if_there in_signature f.ty.inline) (in_locals f.kind ++ asked_in_steps (in_body f.kind))
 
 module _ (find : LookUp) where
   bound_in_instr : (x : Instruction) → in_instr (bound_instr find x) ≡ in_instr x
@@ -34,14 +34,22 @@ module _ (find : LookUp) where
   bound_in_instrs [] = refl
   bound_in_instrs (x ∷ xs) = ap (λ ss. ss ++ flat_map in_instr (map (bound_instr find) xs)) (bound_in_instr x) ∙ ap (λ ss. in_instr x ++ ss) (bound_in_instrs xs)
 
-  bound_locals : (k : FuncKind) → in_locals (bound_kind find k) ≡ in_locals k
-  bound_locals k = grind (arith, common_steps)
+  pub bound_locals : (k : FuncKind) → in_locals (bound_kind find k) ≡ in_locals k
+  bound_locals (func.Inline locals e) = refl
 
-  bound_in_kind : (k : FuncKind) → in_func_kind (bound_kind find k) ≡ in_func_kind k
-  bound_in_kind (func.Inline locals e) = ap (λ ss. Body ss ∷ []) (bound_in_instrs e.instrs)
+  bound_body : (k : FuncKind) → in_body (bound_kind find k) ≡ in_body k
+  bound_body (func.Inline locals e) = bound_in_instrs e.instrs
+
+  pub bound_declared : (inline : Option FunctionType) (k : FuncKind) → declared inline (bound_kind find k) ≡ declared inline k
+  bound_declared inline (func.Inline locals e) = refl
+
+  pub bound_in_kind : (inline : Option FunctionType) (k : FuncKind) → in_func_kind inline (bound_kind find k) ≡ in_func_kind inline k
+  bound_in_kind inline (func.Inline locals e) = ap (λ ss. Body (declared inline (func.Inline locals e) ++ ss) ∷ []) (bound_in_instrs e.instrs)
 
   bound_rest : (inline : Option FunctionType) (k : FuncKind) → asked_in_rest inline (bound_kind find k) ≡ asked_in_rest inline k
-  bound_rest inline k = ap (λ ps. if_there in_signature inline ++ asked (outside ps ++ in_func_kind (bound_kind find k))) (bound_locals k) ∙ ap (λ os. if_there in_signature inline ++ asked (outside (in_locals k) ++ os)) (bound_in_kind k)
+  bound_rest inline k =
+      ap (λ ps. if_there in_signature inline ++ (ps ++ asked_in_steps (in_body (bound_kind find k)))) (bound_locals k)
+      ∙ ap (λ ss. if_there in_signature inline ++ (in_locals k ++ asked_in_steps ss)) (bound_body k)
 
 -- What goes by each ask, and by those that were there alone, goes by what the fields ask.
 module _ {M : Type 0} (find : LookUp) (measure : List Ask → M) (each : (a : Ask) (ps qs : List Ask) → measure ps ≡ measure qs → measure (a ∷ ps) ≡ measure (a ∷ qs))
@@ -64,12 +72,34 @@ module _ {M : Type 0} (find : LookUp) (measure : List Ask → M) (each : (a : As
       let new = if_there (in_index space.Ty) (bound_index find f.ty.index f.ty.inline) in
       let old = if_there (in_index space.Ty) f.ty.index in
       let rest = asked_in_rest f.ty.inline f.kind in
-      ap (λ cs. measure (cs ++ ps)) (asked_func (bound_func find f) ∙ ap (λ cs. new ++ cs) (bound_rest find f.ty.inline f.kind))
+      ap (λ cs. measure (cs ++ ps)) (asked_parts (bound_func find f) ∙ ap (λ cs. new ++ cs) (bound_rest find f.ty.inline f.kind))
       ∙ (ap measure (append_assoc new rest ps) ∙ (index_measure f.ty.index f.ty.inline (rest ++ ps) (rest ++ qs) (after rest ps qs h)
-      ∙ (ap measure (sym (append_assoc old rest qs)) ∙ ap (λ cs. measure (cs ++ qs)) (sym (asked_func f)))))
+      ∙ (ap measure (sym (append_assoc old rest qs)) ∙ ap (λ cs. measure (cs ++ qs)) (sym (asked_parts f)))))
+
+  use_measure : (u : TypeUse FunctionType) (ps qs : List Ask) → measure ps ≡ measure qs → measure (asked (in_use (bound_use find u)) ++ ps) ≡ measure (asked (in_use u) ++ qs)
+  use_measure u ps qs h =
+      let new = if_there (in_index space.Ty) (bound_index find u.index u.inline) in
+      let old = if_there (in_index space.Ty) u.index in
+      let rest = if_there in_signature u.inline in
+      ap (λ cs. measure (cs ++ ps)) (asked_use (bound_use find u))
+      ∙ (ap measure (append_assoc new rest ps) ∙ (index_measure u.index u.inline (rest ++ ps) (rest ++ qs) (after rest ps qs h)
+      ∙ (ap measure (sym (append_assoc old rest qs)) ∙ ap (λ cs. measure (cs ++ qs)) (sym (asked_use u)))))
+
+  tag_measure : (t : TagType) (ps qs : List Ask) → measure ps ≡ measure qs → measure (asked (in_tag_type (bound_tag_type find t)) ++ ps) ≡ measure (asked (in_tag_type t) ++ qs)
+  tag_measure (tag.Exception u) ps qs h = use_measure u ps qs h
+
+  kind_measure : (k : ItemKind) (ps qs : List Ask) → measure ps ≡ measure qs → measure (asked (in_item_kind (bound_item_kind find k)) ++ ps) ≡ measure (asked (in_item_kind k) ++ qs)
+  kind_measure (kind.Func u) ps qs h = use_measure u ps qs h
+  kind_measure (kind.Tag t) ps qs h = tag_measure t ps qs h
+  kind_measure k ps qs h = after (asked (in_item_kind k)) ps qs h
+
+  import_measure : (i : ImportItems) (ps qs : List Ask) → measure ps ≡ measure qs → measure (asked (in_import (bound_import_items find i)) ++ ps) ≡ measure (asked (in_import i) ++ qs)
+  import_measure (import_items.Single source name sig) ps qs h = kind_measure sig.kind ps qs h
 
   field_measure : (x : ModuleField) (ps qs : List Ask) → measure ps ≡ measure qs → measure (asked (in_field (bound_field find x)) ++ ps) ≡ measure (asked (in_field x) ++ qs)
   field_measure (field.Func f) ps qs h = func_measure f ps qs h
+  field_measure (field.Import i) ps qs h = import_measure i.items ps qs h
+  field_measure (field.Tag t) ps qs h = tag_measure t.ty ps qs h
   field_measure x ps qs h = after (asked (in_field x)) ps qs h
 
   pub bound_measure : (xs : List ModuleField) → measure (asked (in_module (map (bound_field find) xs))) ≡ measure (asked (in_module xs))

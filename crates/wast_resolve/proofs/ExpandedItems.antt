@@ -7,35 +7,35 @@ use Rattle.std.proofs.lemmas.Grind.{flat_map-append}
 use mathlib.Core.Path.{fun_ext}
 use Rattle.wast_tree.specs.Ids.{Name, generation_of}
 use Rattle.wast_tree.specs.Spaces.{position_of, spaces}
-use Rattle.wast_tree.specs.Items.{Item, item, items_of_type, items_in, items}
+use Rattle.wast_tree.specs.Items.{Item, field_ids, fields_of, item, space_of_kind, items_of_import, items_in, items}
 use Rattle.wast_tree.specs.Known.{names_in}
 use Rattle.wast_tree.specs.Generations.{greatest_item}
 use Rattle.wast_expand.specs.Signatures.{Signature}
 use Rattle.wast_expand.specs.ImpliedTypes.{implied}
 use Rattle.wast_expand.specs.Filling.{one_if, given_if, filled, wanted}
 use Rattle.wast_expand.specs.Expanders.{LookUp, index_of}
-use Rattle.wast_expand.specs.Expanded.{lacks_id, with_id, start_of_text, unnamed_type, implied_types, typed, bindings, bound_field, expanded, ids_wanted}
+use Rattle.wast_expand.specs.Expanded.{lacks_id, with_id, start_of_text, unnamed_type, implied_types, typed, bindings, bound_item_kind, bound_import_items, bound_field, expanded, ids_wanted}
 use Rattle.wast_expand.specs.Completed.{completed}
-use Rattle.wast_resolve.specs.Tree.{Id, Span, Space, ModuleField}
+use Rattle.wast_resolve.specs.Tree.{Id, Span, Space, StructField, ItemKind, ImportItems, ModuleField}
+use Rattle.wast_resolve.specs.Tree.kind
+use Rattle.wast_resolve.specs.Tree.import_items
 use Rattle.wast_resolve.specs.Tree.space
 use Rattle.wast_resolve.specs.Tree.ty
 use Rattle.wast_resolve.specs.Tree.field
-use Rattle.wast_resolve.specs.Demands.{first_unmet, item_demands, counts}
-use Rattle.wast_resolve.proofs.Changes.{Change, Kept, Given, old_of, new_of, olds, news, same_position, same_length, same_clashes}
+use Rattle.wast_resolve.specs.Demands.{first_unmet, item_demands, space_counts, field_counts, item_counts}
+use Rattle.wast_resolve.proofs.Changes.{Change, Kept, Given, old_of, new_of, olds, news, same_position, same_length, same_clashes, same_counts}
 
 -- what is done to the items of a field, and of types that are implied
-abbrev type_change : Bool → Option Id → Span → Change
-type_change true id p = Given space.Ty p
-type_change false id p = Kept (item space.Ty id)
+abbrev type_change : Bool → Option Id → Span → List StructField → Change
+type_change true id p fields = Given space.Ty p (field_ids fields)
+type_change false id p fields = Kept (item space.Ty id fields)
 
 abbrev pub change_in : ModuleField → List Change
-change_in (field.Ty t) = type_change (is_none t.id) t.id t.span ∷ []
-change_in (field.Rec r) = map Kept (flat_map items_of_type r.types)
-change_in (field.Func f) = Kept (item space.Func f.id) ∷ []
-change_in (field.Export e) = []
+change_in (field.Ty t) = type_change (is_none t.id) t.id t.span (fields_of t.def.kind) ∷ []
+change_in x = map Kept (items_in x)
 
 abbrev pub implied_change : Signature → Change
-implied_change s = Given space.Ty start_of_text
+implied_change s = Given space.Ty start_of_text []
 
 abbrev pub changes : List ModuleField → List Change
 changes fields = flat_map change_in fields ++ map implied_change (implied fields)
@@ -50,14 +50,13 @@ new_kept n [] ys cs h = h
 new_kept n (x ∷ xs) ys cs h = ap (λ zs. x ∷ zs) (new_kept n xs ys cs h)
 
 -- without ids
-old_type : (id : Option Id) (p : Span) → item space.Ty id ≡ old_of (type_change (is_none id) id p)
-old_type None p = refl
-old_type (Some id) p = refl
+old_type : (id : Option Id) (p : Span) (fields : List StructField) → item space.Ty id fields ≡ old_of (type_change (is_none id) id p fields)
+old_type None p fields = refl
+old_type (Some id) p fields = refl
 
 old_field : (x : ModuleField) → items_in x ≡ olds (change_in x)
-old_field (field.Ty t) = ap (λ y. y ∷ []) (old_type t.id t.span)
-old_field (field.Rec r) = old_kept (flat_map items_of_type r.types)
-old_field x = refl
+old_field (field.Ty t) = ap (λ y. y ∷ []) (old_type t.id t.span (fields_of t.def.kind))
+old_field x = old_kept (items_in x)
 
 old_fields : (xs : List ModuleField) → items xs ≡ olds (flat_map change_in xs)
 old_fields [] = refl
@@ -92,21 +91,29 @@ new_fields n (x ∷ xs) ss =
     ∙ (one x (rest ((n + one_if (lacks_id x)) + wanted lacks_id xs)) (flat_map change_in xs ++ map implied_change ss) (new_fields (n + one_if (lacks_id x)) xs ss)
     ∙ ap (news n) (sym (append_assoc (change_in x) (flat_map change_in xs) (map implied_change ss))))
   where
-    by_id : (b : Bool) (t : ty.«Type») (ys : List Item) (cs : List Change) → ys ≡ news (n + one_if b) cs → items_in (given_if b with_id n (field.Ty t)) ++ ys ≡ news n (type_change b t.id t.span ∷ cs)
-    by_id true t ys cs h = ap (λ zs. new_of n (Given space.Ty t.span) ∷ zs) h
-    by_id false t ys cs h = ap (λ zs. item space.Ty t.id ∷ zs) (h ∙ ap (λ m. news m cs) (add_zero n))
+    by_id : (b : Bool) (t : ty.«Type») (ys : List Item) (cs : List Change) → ys ≡ news (n + one_if b) cs → items_in (given_if b with_id n (field.Ty t)) ++ ys ≡ news n (type_change b t.id t.span (fields_of t.def.kind) ∷ cs)
+    by_id true t ys cs h = ap (λ zs. new_of n (Given space.Ty t.span (field_ids (fields_of t.def.kind))) ∷ zs) h
+    by_id false t ys cs h = ap (λ zs. item space.Ty t.id (fields_of t.def.kind) ∷ zs) (h ∙ ap (λ m. news m cs) (add_zero n))
 
     one : (x : ModuleField) (ys : List Item) (cs : List Change) → ys ≡ news (n + one_if (lacks_id x)) cs → items_in (given_if (lacks_id x) with_id n x) ++ ys ≡ news n (change_in x ++ cs)
     one (field.Ty t) ys cs h = by_id (is_none t.id) t ys cs h
-    one (field.Rec r) ys cs h = new_kept n (flat_map items_of_type r.types) ys cs (h ∙ ap (λ m. news m cs) (add_zero n))
-    one (field.Func f) ys cs h = ap (λ zs. item space.Func f.id ∷ zs) (h ∙ ap (λ m. news m cs) (add_zero n))
-    one (field.Export e) ys cs h = h ∙ ap (λ m. news m cs) (add_zero n)
+    one x ys cs h = new_kept n (items_in x) ys cs (h ∙ ap (λ m. news m cs) (add_zero n))
 
 pub typed_items : (n : ℕ) (fields : List ModuleField) → items (typed n fields) ≡ news n (changes fields)
 typed_items n fields = new_fields n fields (implied fields)
 
 bound_items_in : (find : LookUp) (x : ModuleField) → items_in (bound_field find x) ≡ items_in x
-bound_items_in find (field.Ty t) = refl
+bound_items_in find (field.Import i) = same_import i.items
+  where
+    same_space_of : (k : ItemKind) → space_of_kind (bound_item_kind find k) ≡ space_of_kind k
+    same_space_of (kind.Func u) = refl
+    same_space_of (kind.Table t) = refl
+    same_space_of (kind.Memory t) = refl
+    same_space_of (kind.Global t) = refl
+    same_space_of (kind.Tag t) = refl
+
+    same_import : (i : ImportItems) → items_of_import (bound_import_items find i) ≡ items_of_import i
+    same_import (import_items.Single source name sig) = ap (λ s. item s sig.id [] ∷ []) (same_space_of sig.kind)
 bound_items_in find x = refl
 
 pub bound_items : (find : LookUp) (xs : List ModuleField) → items (map (bound_field find) xs) ≡ items xs
@@ -136,12 +143,12 @@ old_greatest fields =
 abbrev given_in : List Change → ℕ
 given_in [] = 0
 given_in (Kept x ∷ cs) = given_in cs
-given_in (Given s p ∷ cs) = 1 + given_in cs
+given_in (Given s p fields ∷ cs) = 1 + given_in cs
 
 news_below : (n : ℕ) (cs : List Change) → greatest_item (olds cs) < n → greatest_item (news n cs) < n + given_in cs
 news_below n [] lt = omega arith
 news_below n (Kept x ∷ cs) lt = let e = news_below n cs (omega (arith, lt)) in omega (arith, lt)
-news_below n (Given s p ∷ cs) lt = let e = news_below (n + 1) cs (omega (arith, lt)) in omega (arith, lt)
+news_below n (Given s p fields ∷ cs) lt = let e = news_below (n + 1) cs (omega (arith, lt)) in omega (arith, lt)
 
 given_kept : (xs : List Item) (cs : List Change) → given_in (map Kept xs ++ cs) ≡ given_in cs
 given_kept [] cs = refl
@@ -150,19 +157,16 @@ given_kept (x ∷ xs) cs = given_kept xs cs
 given_fields : (xs : List ModuleField) (ss : List Signature) → given_in (flat_map change_in xs ++ map implied_change ss) ≡ wanted lacks_id xs + length ss
 given_fields [] [] = refl
 given_fields [] (s ∷ ss) = let e = given_fields [] ss in omega arith
-given_fields (field.Rec r ∷ xs) ss =
-    let members = flat_map items_of_type r.types in
-    let assoc = ap given_in (append_assoc (map Kept members) (flat_map change_in xs) (map implied_change ss)) in
-    let kept = given_kept members (flat_map change_in xs ++ map implied_change ss) in
-    omega (arith, assoc, kept, given_fields xs ss)
-given_fields (field.Func f ∷ xs) ss = omega (arith, given_fields xs ss)
-given_fields (field.Export e ∷ xs) ss = omega (arith, given_fields xs ss)
-given_fields (field.Ty t ∷ xs) ss = by_id (is_none t.id) t.id t.span (given_fields xs ss)
+given_fields (field.Ty t ∷ xs) ss = by_id (is_none t.id) t.id t.span (fields_of t.def.kind) (given_fields xs ss)
   where
-    by_id : (b : Bool) (id : Option Id) (p : Span) → given_in (flat_map change_in xs ++ map implied_change ss) ≡ wanted lacks_id xs + length ss
-        → given_in (type_change b id p ∷ (flat_map change_in xs ++ map implied_change ss)) ≡ (one_if b + wanted lacks_id xs) + length ss
-    by_id true id p h = omega (arith, h)
-    by_id false id p h = omega (arith, h)
+    by_id : (b : Bool) (id : Option Id) (p : Span) (fields : List StructField) → given_in (flat_map change_in xs ++ map implied_change ss) ≡ wanted lacks_id xs + length ss
+        → given_in (type_change b id p fields ∷ (flat_map change_in xs ++ map implied_change ss)) ≡ (one_if b + wanted lacks_id xs) + length ss
+    by_id true id p fields h = omega (arith, h)
+    by_id false id p fields h = omega (arith, h)
+given_fields (x ∷ xs) ss =
+    let kept = ap given_in (append_assoc (map Kept (items_in x)) (flat_map change_in xs) (map implied_change ss)) in
+    let same = given_kept (items_in x) (flat_map change_in xs ++ map implied_change ss) in
+    omega (arith, kept, same, given_fields xs ss)
 
 -- The items of the two lists compared, where the counter is above the ids of the fields.
 module _ (n : ℕ) (fields : List ModuleField) (above : greatest_item (items fields) < n) where
@@ -175,10 +179,17 @@ module _ (n : ℕ) (fields : List ModuleField) (above : greatest_item (items fie
       let e = old_greatest fields in
       ap (λ xs. first_unmet (item_demands xs)) (new_items n fields) ∙ (same_clashes n (changes fields) (omega (arith, above)) ∙ ap (λ xs. first_unmet (item_demands xs)) (sym (old_items fields)))
 
-  pub expanded_counts : counts (expanded n fields) ≡ counts (completed fields)
-  expanded_counts =
+  expanded_space_counts : space_counts (items (expanded n fields)) ≡ space_counts (items (completed fields))
+  expanded_space_counts =
       ap (λ (f : Space → ℕ). map f spaces) (fun_ext (λ (s : Space).
       ap (λ xs. length (names_in s xs)) (new_items n fields) ∙ (same_length s n (changes fields) (omega (arith, above)) ∙ ap (λ xs. length (names_in s xs)) (sym (old_items fields)))))
+
+  expanded_field_counts : field_counts (items (expanded n fields)) ≡ field_counts (items (completed fields))
+  expanded_field_counts = ap field_counts (new_items n fields) ∙ (same_counts n (changes fields) ∙ ap field_counts (sym (old_items fields)))
+
+  pub expanded_item_counts : item_counts (items (expanded n fields)) ≡ item_counts (items (completed fields))
+  expanded_item_counts =
+      ap (λ ns. ns ++ field_counts (items (expanded n fields))) expanded_space_counts ∙ ap (λ ns. space_counts (items (completed fields)) ++ ns) expanded_field_counts
 
   pub expanded_below : greatest_item (items (expanded n fields)) < n + ids_wanted fields
   expanded_below =

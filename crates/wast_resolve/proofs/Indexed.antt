@@ -6,16 +6,19 @@ use Rattle.wast_tree.specs.Items.{items}
 use Rattle.wast_tree.specs.Occurrences.{in_instr}
 use Rattle.wast_tree.specs.Known.{Known, known}
 use Rattle.wast_expand.specs.Signatures.{Signature}
-use Rattle.wast_expand.specs.NeedingUses.{needed_without, needed_by_use, needed_by_instr, needed_by_kind, needed_by_field, needed}
+use Rattle.wast_expand.specs.NeedingUses.{needed_without, needed_by_use, needed_by_instr, needed_by_kind, needed_by_tag_type, needed_by_item_kind, needed_by_import, needed_by_field, needed}
 use Rattle.wast_expand.specs.Expanded.{expanded}
 use Rattle.wast_expand.proofs.AtRest.{left_none, right_none}
 use Rattle.wast_expand.proofs.Covered.{uses_are_bound}
-use Rattle.wast_resolve.specs.Tree.{Index, FunctionType, Instruction, FuncKind, ModuleField}
+use Rattle.wast_resolve.specs.Tree.{Index, FunctionType, Instruction, FuncKind, TagType, ItemKind, ImportItems, ModuleField}
+use Rattle.wast_resolve.specs.Tree.tag
+use Rattle.wast_resolve.specs.Tree.kind
+use Rattle.wast_resolve.specs.Tree.import_items
 use Rattle.wast_resolve.specs.Tree.space
 use Rattle.wast_resolve.specs.Tree.func
 use Rattle.wast_resolve.specs.Tree.field
-use Rattle.wast_resolve.specs.Demands.{Here, Start, after_all}
-use Rattle.wast_resolve.specs.Resolved.{numbered_at, resolved_signature, resolved_instr, resolved_instrs, resolved_func_kind, resolved_field}
+use Rattle.wast_resolve.specs.Demands.{Here, after_all}
+use Rattle.wast_resolve.specs.Resolved.{numbered_at, resolved_signature, resolved_instr, resolved_instrs, body_of, resolved_func_kind, resolved_tag_type, resolved_item_kind, resolved_import_items, resolved_field}
 use Rattle.wast_resolve.specs.Laws.{UsesHaveIndices}
 
 -- where neither part needs anything, both need nothing
@@ -37,13 +40,26 @@ module _ (k : Known) where
       none_both (needed_by_instr (resolved_instr k h i)) (flat_map needed_by_instr rest) (has_instr h i (left_none (needed_by_instr i) (flat_map needed_by_instr is) none))
       (has_instrs (after_all h (in_instr i)) is (right_none (needed_by_instr i) (flat_map needed_by_instr is) none))
 
-  has_kind : (f : FuncKind) → needed_by_kind f ≡ [] → needed_by_kind (resolved_func_kind k f) ≡ []
-  has_kind (func.Inline locals e) none = has_instrs Start e.instrs none
+  has_kind : (inline : Option FunctionType) (f : FuncKind) → needed_by_kind f ≡ [] → needed_by_kind (resolved_func_kind k inline f) ≡ []
+  has_kind inline (func.Inline locals e) none = has_instrs (body_of inline (func.Inline locals e)) e.instrs none
+
+  has_tag : (t : TagType) → needed_by_tag_type t ≡ [] → needed_by_tag_type (resolved_tag_type k t) ≡ []
+  has_tag (tag.Exception u) none = has_index u.index u.inline none
+
+  has_item_kind : (t : ItemKind) → needed_by_item_kind t ≡ [] → needed_by_item_kind (resolved_item_kind k t) ≡ []
+  has_item_kind (kind.Func u) none = has_index u.index u.inline none
+  has_item_kind (kind.Tag t) none = has_tag t none
+  has_item_kind t none = refl
+
+  has_import : (i : ImportItems) → needed_by_import i ≡ [] → needed_by_import (resolved_import_items k i) ≡ []
+  has_import (import_items.Single source name sig) none = has_item_kind sig.kind none
 
   has_field : (x : ModuleField) → needed_by_field x ≡ [] → needed_by_field (resolved_field k x) ≡ []
   has_field (field.Func f) none =
-      none_both _ (needed_by_kind (resolved_func_kind k f.kind)) (has_index f.ty.index f.ty.inline (left_none (needed_by_use f.ty) (needed_by_kind f.kind) none))
-      (has_kind f.kind (right_none (needed_by_use f.ty) (needed_by_kind f.kind) none))
+      none_both _ (needed_by_kind (resolved_func_kind k f.ty.inline f.kind)) (has_index f.ty.index f.ty.inline (left_none (needed_by_use f.ty) (needed_by_kind f.kind) none))
+      (has_kind f.ty.inline f.kind (right_none (needed_by_use f.ty) (needed_by_kind f.kind) none))
+  has_field (field.Import i) none = has_import i.items none
+  has_field (field.Tag t) none = has_tag t.ty none
   has_field x none = refl
 
   has_fields : (xs : List ModuleField) → needed xs ≡ [] → needed (map (resolved_field k) xs) ≡ []

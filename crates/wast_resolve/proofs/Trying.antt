@@ -1,12 +1,13 @@
 -- The spaces that were filled so far, by their ranks.
-use Rattle.std.proofs.Common.{◌≡◌, ℕ, ◌+◌, ◌<◌, ◌≤◌, ◌^◌, ◌⊎◌, inl, inr, List, [], ◌∷◌, ◌++◌, sym, ap, ◌∙◌, subst, arith, length, map, get_or, length-append}
+use Rattle.std.proofs.Common.{◌≡◌, ℕ, ◌+◌, ◌<◌, ◌≤◌, ◌^◌, ◌⊎◌, inl, inr, List, [], ◌∷◌, ◌++◌, refl, sym, ap, ◌∙◌, subst, arith, length, map, get_or, length-append, append_assoc}
 use Rattle.std.specs.Prelude.{⊤, Option, Some, None, Contains}
 use Rattle.std.specs.FinMap.{get-empty}
 use Rattle.std.proofs.Math.ListN.{set, length-set, get_or-map, get_or-append}
 use Rattle.std.proofs.Math.Seq.{get_or-append_seam}
 use Rattle.std.proofs.lemmas.List.{get_or-set_same, get_or-set_other}
 use Rattle.std.proofs.lemmas.List.FromFn.{get_or-range_with_len}
-use Rattle.std.proofs.lemmas.List.Elements.{Contains-get_or}
+use Rattle.std.proofs.lemmas.List.{map-append}
+use Rattle.std.proofs.lemmas.List.Elements.{Contains-get_or, Contains-append_left, Contains-append_right}
 use Rattle.wast_tree.specs.Ids.{Name}
 use Rattle.wast_tree.specs.Faults.{Told, Refusal}
 use Rattle.wast_tree.specs.Spaces.{spaces, rank_of, position_of}
@@ -14,11 +15,12 @@ use Rattle.wast_tree.specs.Items.{Item, items}
 use Rattle.wast_tree.specs.Known.{known, names_in}
 use Rattle.wast_resolve.specs.Tree.{Space, Span, ModuleField}
 use Rattle.wast_resolve.specs.Tree.space
-use Rattle.wast_resolve.specs.Demands.{Answers, IsCrowded, counts}
-use Rattle.wast_resolve.specs.Namespaces.{NameSpace, key_cmp, key_of, empty_from, number_in}
-use Rattle.wast_resolve.specs.Resolvers.{known_of}
+use Rattle.wast_resolve.specs.Demands.{Answers, IsCrowded, space_counts, field_counts, item_counts, local_counts, counts}
+use Rattle.wast_namespace.specs.Namespaces.{NameSpace, key_cmp, key_of, empty_from, number_in}
+use Rattle.wast_resolve.specs.Resolvers.{known_in}
 use Rattle.wast_resolve.specs.Gathers.{Stops}
-use Rattle.wast_resolve.specs.Filling.{HasFirstClash, IsTried}
+use Rattle.wast_namespace.specs.Filling.{HasFirstClash, IsTried}
+use Rattle.wast_resolve.proofs.FoundClashes.{AreMany}
 
 at_rank : (s d : Space) → get_or spaces (rank_of s) d ≡ s
 at_rank s d = grind (arith)
@@ -29,7 +31,7 @@ below_8 s = grind (arith)
 pub rank_at : (i : ℕ) (d : Space) → i < 8 → rank_of (get_or spaces i d) ≡ i
 rank_at i d lt = sym (get_or-map rank_of spaces i d) ∙ (get_or-range_with_len 0 8 i (rank_of d) lt ∙ omega arith)
 
-same_rank : (s t : Space) → rank_of s ≡ rank_of t → s ≡ t
+pub same_rank : (s t : Space) → rank_of s ≡ rank_of t → s ≡ t
 same_rank s t e = sym (at_rank s space.Func) ∙ (ap (λ i. get_or spaces i space.Func) e ∙ at_rank t space.Func)
 
 -- the names of the items by their spaces
@@ -81,14 +83,14 @@ module _ (names : Space → List (Option Name)) where
   tried_number ns s (Some p) h e = cc
 
   pub all_numbers : (tried : List NameSpace) (clashes : List (Option ℕ)) → (i : ℕ) → 8 ≤ i → AreTried names tried clashes i → ((s : Space) → get_or clashes (rank_of s) None ≡ None)
-      → (s : Space) (name : Name) → (known_of tried).number s name ≡ position_of name (names s)
+      → (s : Space) (name : Name) → (known_in tried).number s name ≡ position_of name (names s)
   all_numbers tried clashes i le p free s = tried_number (names s) (get_or tried (rank_of s) (empty_from 0)) (get_or clashes (rank_of s) None) (p.each s (let b = below_8 s in omega arith)) (free s)
 
-pub known_by : (xs : List Item) (tried : List NameSpace) → ((s : Space) (name : Name) → (known_of tried).number s name ≡ position_of name (names_in s xs)) → known_of tried ≡ known xs
+pub known_by : (xs : List Item) (tried : List NameSpace) → ((s : Space) (name : Name) → (known_in tried).number s name ≡ position_of name (names_in s xs)) → known_in tried ≡ known xs
 known_by xs tried h = λ i. record { number = λ s name. h s name i }
 
 -- no spaces know what no items make known
-pub nothing_known : known_of [] ≡ known []
+pub nothing_known : known_in [] ≡ known []
 nothing_known = known_by [] [] (λ s name. get-empty key_cmp (key_of name))
 
 counted_space : (f : Space → ℕ) (s : Space) → Contains (map f spaces) (f s)
@@ -97,9 +99,29 @@ counted_space f s = subst (λ n. Contains (map f spaces) n) (get_or-map f spaces
 crowded : (fields : List ModuleField) (n : ℕ) → Contains (counts fields) n → 2 ^ 32 ≤ n → IsCrowded fields
 crowded fields n c le = (n, (c, le))
 
+among_items : (fields : List ModuleField) (n : ℕ) → Contains (item_counts (items fields)) n → Contains (counts fields) n
+among_items fields n c = Contains-append_left (item_counts (items fields)) (local_counts fields) n c
+
 stops_one : (t : Told) (fields : List ModuleField) (o : Option (Refusal × Span)) (n : ℕ) → Contains (counts fields) n → Stops t n → Answers ⊤ (IsCrowded fields) t o
 stops_one t fields o n c h = grind (arith, crowded)
 
 -- what stopped one space is an answer for all
 pub stops_all : (t : Told) (fields : List ModuleField) (s : Space) (o : Option (Refusal × Span)) → Stops t (length (names_in s (items fields))) → Answers ⊤ (IsCrowded fields) t o
-stops_all t fields s o h = stops_one t fields o (length (names_in s (items fields))) (counted_space (λ s. length (names_in s (items fields))) s) h
+stops_all t fields s o h =
+    let xs = items fields in
+    let n = length (names_in s xs) in
+    stops_one t fields o n (among_items fields n (Contains-append_left (space_counts xs) (field_counts xs) n (counted_space (λ s. length (names_in s xs)) s))) h
+
+many_after : (many : Type 0) (before xs : List Item) → ((n : ℕ) → Contains (field_counts (before ++ xs)) n → 2 ^ 32 ≤ n → many) → AreMany many xs
+many_after many before [] h = tt
+many_after many before (x ∷ xs) h = (
+  (λ le. h (length x.fields) (subst (λ (ns : List ℕ). Contains ns (length x.fields)) (sym (map-append (λ (x : Item). length x.fields) before (x ∷ xs)))
+      (Contains-append_right (field_counts before) (field_counts (x ∷ xs)) (length x.fields) (0, omega arith, refl))) le),
+  many_after many (before ++ x ∷ []) xs (λ n c le. h n (subst (λ (ys : List Item). Contains (field_counts ys) n) (append_assoc before (x ∷ []) xs) c) le),
+)
+
+-- a struct of so many fields makes the fields crowded
+pub many_fields : (fields : List ModuleField) → AreMany (IsCrowded fields) (items fields)
+many_fields fields =
+    let xs = items fields in
+    many_after (IsCrowded fields) [] xs (λ n c le. crowded fields n (among_items fields n (Contains-append_right (space_counts xs) (field_counts xs) n c)) le)

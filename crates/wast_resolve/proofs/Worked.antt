@@ -1,6 +1,7 @@
 -- The worked modules, computed.
 use Rattle.std.proofs.Common.{refl}
-use Rattle.wast_resolve.specs.WorkedAnswers.{Row27, Row31, Row32, Row2, Row7, Row24, TwoFunctions, ClashOfTypes}
+use Rattle.wast_resolve.specs.WorkedAnswers.{Row27, Row31, Row32, Row2, Row7, Row8, Row24, TwoFunctions, ClashOfTypes, FieldsOfOneStruct, FieldsOfTwoStructs, ClashesInOrder, Row14, Row22, Row23, UnknownNames, MatchedByNumber, Row17}
+use Rattle.wast_resolve.specs.WorkedImports.{Row12, Row21, BehindAMemory, ImportsInOrder, ImportedTwice, UnknownStart}
 
 pub row27 : Row27
 row27 a b c d e f = (refl, refl, refl)
@@ -12,10 +13,13 @@ pub row32 : Row32
 row32 a b = refl
 
 pub row2 : Row2
-row2 = (refl, refl)
+row2 = (refl, refl, refl)
 
 pub row7 : Row7
-row7 a = (refl, refl)
+row7 a = (refl, refl, refl, refl)
+
+pub row8 : Row8
+row8 = (refl, refl, refl)
 
 pub row24 : Row24
 row24 = (refl, refl)
@@ -25,3 +29,48 @@ two_functions a = (refl, refl)
 
 pub clash_of_types : ClashOfTypes
 clash_of_types a b = (refl, refl)
+
+pub fields_of_one_struct : FieldsOfOneStruct
+fields_of_one_struct a b = (refl, refl, refl)
+
+pub fields_of_two_structs : FieldsOfTwoStructs
+fields_of_two_structs a b = refl
+
+pub clashes_in_order : ClashesInOrder
+clashes_in_order a b c d = (refl, refl, refl, refl)
+
+pub row14 : Row14
+row14 a b = refl
+
+pub row22 : Row22
+row22 = refl
+
+pub row23 : Row23
+row23 = refl
+
+pub unknown_names : UnknownNames
+unknown_names a b c = (refl, refl)
+
+pub matched_by_number : MatchedByNumber
+matched_by_number a b c d e = (refl, refl, refl)
+
+pub row17 : Row17
+row17 a b c = (refl, refl)
+
+pub row12 : Row12
+row12 a b = refl
+
+pub row21 : Row21
+row21 a b = refl
+
+pub behind_a_memory : BehindAMemory
+behind_a_memory a b = refl
+
+pub imports_in_order : ImportsInOrder
+imports_in_order a b c d = (refl, refl)
+
+pub imported_twice : ImportedTwice
+imported_twice a b c d e f = (refl, refl)
+
+pub unknown_start : UnknownStart
+unknown_start a = refl

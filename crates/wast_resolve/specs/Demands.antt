@@ -1,55 +1,58 @@
--- What a module demands of its names, in the order in which it is answered (text format: identifiers, indices, modules).
-use Rattle.std.specs.Prelude.{◌≡◌, ⊤, ℕ, ◌+◌, ◌≤◌, ◌^◌, ◌⊎◌, Bool, not, is_some, if◌then◌else◌, List, [], ◌∷◌, ◌++◌, length, map, flat_map, Option, Some, None, Contains}
-use Rattle.wast_resolve.specs.Tree.{Span, Index, ModuleField}
-use Rattle.wast_resolve.specs.Tree.index
-use Rattle.wast_tree.specs.Ids.{Name, text_of, Mark, mark_of, name_of}
-use Rattle.wast_tree.specs.Faults.{Refusal, Duplicate, Unknown, TooLarge, Memory, Told, At, Nowhere, told}
+-- What a module demands of its imports and names, in the order in which it is answered (text format: identifiers, indices, modules).
+use Rattle.std.specs.Prelude.{⊤, ℕ, ◌+◌, ◌≤◌, ◌^◌, ◌⊎◌, Bool, false, not, List, [], ◌∷◌, ◌++◌, length, map, flat_map, Option, Some, None, codes, Contains}
+use Rattle.wast_resolve.specs.Tree.{Span, Index, FunctionType, ModuleField}
+use Rattle.wast_resolve.specs.Tree.space
+use Rattle.wast_resolve.specs.Tree.field
+use Rattle.wast_tree.specs.Ids.{Name, text_of, Mark, span_of_index}
+use Rattle.wast_tree.specs.Faults.{Refusal, Duplicate, DuplicateField, OutOfBounds, NotFunc, NoMatch, told}
 use Rattle.wast_tree.specs.declared.faults.Error.{Error}
-use Rattle.wast_tree.specs.Spaces.{spaces, word_of, is_borne}
+use Rattle.wast_tree.specs.Spaces.{spaces, word_of, name_if, is_borne}
 use Rattle.wast_tree.specs.Items.{Item, items}
-use Rattle.wast_tree.specs.Occurrences.{Ask, Wants, Bare, Step, Named, Occurrence, Outside, Body, in_module}
-use Rattle.wast_tree.specs.Known.{Known, known, names_in}
+use Rattle.wast_tree.specs.Occurrences.{Ask, Wants, Bare, Step, Named, Matches, Declares, Occurrence, Outside, Body, declared, in_module}
+use Rattle.wast_tree.specs.Known.{Known, names_in}
+use Rattle.wast_expand.specs.Signatures.{Signature}
 use Rattle.wast_expand.specs.Expanded.{ids_wanted}
 use Rattle.wast_expand.specs.Completed.{completed}
-
--- a fault at a place, and whether what is demanded there holds
-pub record Demand : Type 0 where
-  pub fault : Refusal
-  pub place : Span
-  pub met : Bool
-
-abbrev pub one_demand : Refusal → Span → Bool → List Demand
-one_demand fault place met = record { fault = fault; place = place; met = met } ∷ []
-
--- the fault of the first demand that is not met, at its place
-abbrev pub first_unmet : List Demand → Option (Refusal × Span)
-first_unmet [] = None
-first_unmet (d ∷ ds) = if d.met then first_unmet ds else Some (d.fault, d.place)
+pub use Rattle.wast_namespace.specs.FirstUnmet.{Demand, one_demand, first_unmet, unknown, known_index, Answers}
+use Rattle.wast_resolve.specs.ImportOrder.{order_demand}
+use Rattle.wast_resolve.specs.Scopes.{Scope, scope, denoted, type_at}
+use Rattle.wast_resolve.specs.Matches.{matches}
 
 -- what each demands, after those before it
 abbrev pub each_after : {A : Type 0} → (List A → A → List Demand) → List A → List A → List Demand
 each_after f before [] = []
 each_after f before (x ∷ xs) = f before x ++ each_after f (before ++ x ∷ []) xs
 
--- No earlier item of its space bears an item's id.
-abbrev pub new_name_in : List ℕ → List (Option Name) → Option Mark → List Demand
-new_name_in word earlier None = []
-new_name_in word earlier (Some m) = one_demand (Duplicate word) m.1 (not (is_borne m.0 earlier))
+-- The name of an id is none of the earlier ones; where it is, this is the fault.
+abbrev pub new_name_by : (Name → Refusal) → List (Option Name) → Option Mark → List Demand
+new_name_by fault earlier None = []
+new_name_by fault earlier (Some m) = one_demand (fault m.0) m.1 (not (is_borne m.0 earlier))
 
+abbrev pub new_name_in : List ℕ → List (Option Name) → Option Mark → List Demand
+new_name_in word earlier id = new_name_by (λ name. Duplicate word) earlier id
+
+abbrev pub new_field_name_in : List ℕ → List (Option Name) → Option Mark → List Demand
+new_field_name_in word earlier id = new_name_by (λ name. DuplicateField word (text_of name)) earlier id
+
+-- No earlier item of its space bears an item's id.
+abbrev pub own_demand : List Item → Item → List Demand
+own_demand before x = new_name_in (word_of x.space) (names_in x.space before) x.id
+
+-- No earlier field of its struct bears a field's id.
+abbrev pub field_demand : List (Option Mark) → Option Mark → List Demand
+field_demand before id = new_field_name_in (codes "field") (map name_if before) id
+
+abbrev pub field_demands : List (Option Mark) → List Demand
+field_demands ids = each_after field_demand [] ids
+
+-- an item, and directly after it its fields
 abbrev pub item_demand : List Item → Item → List Demand
-item_demand before x = new_name_in (word_of x.space) (names_in x.space before) x.id
+item_demand before x = own_demand before x ++ field_demands x.fields
 
 abbrev pub item_demands : List Item → List Demand
 item_demands xs = each_after item_demand [] xs
 
 -- An id where an index is wanted denotes an item of the space.
-abbrev pub unknown : List ℕ → Mark → Bool → List Demand
-unknown word m met = one_demand (Unknown word (text_of m.0)) m.1 met
-
-abbrev pub known_index : (Name → Option ℕ) → List ℕ → Index → List Demand
-known_index number word (index.Num n span) = []
-known_index number word (index.Id id) = unknown word (mark_of id) (is_some (number (name_of id)))
-
 abbrev pub ask_demand : Known → Ask → List Demand
 ask_demand k (Wants s i) = known_index (k.number s) (word_of s) i
 ask_demand k (Bare m) = []
@@ -57,56 +60,104 @@ ask_demand k (Bare m) = []
 abbrev pub ask_demands : Known → List Ask → List Demand
 ask_demands k asks = flat_map (ask_demand k) asks
 
--- what a step of a body may read of the steps before it: nothing yet
-pub data Here : Type 0 where
-  Start : Here
+-- An inline type matches what the index beside it denotes: a type, of a function, of the same signature.
+abbrev pub match_with : (Signature → Bool) → Span → Option (Option Signature) → List Demand
+match_with same place None = one_demand OutOfBounds place false
+match_with same place (Some None) = one_demand NotFunc place false
+match_with same place (Some (Some s)) = one_demand NoMatch place (same s)
+
+abbrev pub match_demands : Scope → Index → FunctionType → List Demand
+match_demands c i t = match_with (matches c.known t) (span_of_index i) (type_at c.types (denoted (c.known.number space.Ty) i))
+
+-- what a step of a body may read of the steps before it: the names of the parameters and locals
+pub record Here : Type 0 where
+  pub locals : List (Option Name)
+
+abbrev pub start : Here
+start = record { locals = [] }
 
 abbrev pub after : Here → Step → Here
 after h (Named a) = h
+after h (Matches i t) = h
+after h (Declares m) = record { locals = h.locals ++ name_if m ∷ [] }
 
 abbrev pub after_all : Here → List Step → Here
 after_all h [] = h
 after_all h (s ∷ ss) = after_all (after h s) ss
 
-abbrev pub step_demand : Known → Here → Step → List Demand
-step_demand k h (Named a) = ask_demand k a
+-- No earlier parameter or local has the name of one that is declared.
+abbrev pub step_demand : Scope → Here → Step → List Demand
+step_demand c h (Named a) = ask_demand c.known a
+step_demand c h (Matches i t) = match_demands c i t
+step_demand c h (Declares m) = new_name_in (codes "local") h.locals m
 
 -- what the steps demand, the first of them here
-abbrev pub step_demands : Known → Here → List Step → List Demand
-step_demands k h [] = []
-step_demands k h (s ∷ ss) = step_demand k h s ++ step_demands k (after h s) ss
+abbrev pub step_demands : Scope → Here → List Step → List Demand
+step_demands c h [] = []
+step_demands c h (s ∷ ss) = step_demand c h s ++ step_demands c (after h s) ss
 
-abbrev pub use_demand : Known → Occurrence → List Demand
-use_demand k (Outside a) = ask_demand k a
-use_demand k (Body ss) = step_demands k Start ss
+abbrev pub use_demand : Scope → Occurrence → List Demand
+use_demand c (Outside a) = ask_demand c.known a
+use_demand c (Body ss) = step_demands c start ss
 
-abbrev pub use_demands : Known → List Occurrence → List Demand
-use_demands k os = flat_map (use_demand k) os
+abbrev pub use_demands : Scope → List Occurrence → List Demand
+use_demands c os = flat_map (use_demand c) os
 
--- first those of all items, and then those of the indices
+-- of names: first those of all items, and then those of what stands beside them
+abbrev pub name_demands : List ModuleField → List Demand
+name_demands fields = item_demands (items fields) ++ use_demands (scope fields) (in_module fields)
+
+-- of each import, by the fields before it
+abbrev pub order_demands : List ModuleField → List Demand
+order_demands fields = each_after order_demand [] fields
+
+-- first the order of imports, and then names
 abbrev pub demands : List ModuleField → List Demand
-demands fields = item_demands (items fields) ++ use_demands (known (items fields)) (in_module fields)
+demands fields = order_demands fields ++ name_demands fields
 
--- How many there are of all that is counted: the items of each space.
+-- How many there are of all that is counted: the items of each space, the fields of each item, and the parameters and
+-- locals of each function.
+abbrev pub space_counts : List Item → List ℕ
+space_counts xs = map (λ s. length (names_in s xs)) spaces
+
+abbrev pub field_counts : List Item → List ℕ
+field_counts xs = map (λ x. length x.fields) xs
+
+abbrev pub item_counts : List Item → List ℕ
+item_counts xs = space_counts xs ++ field_counts xs
+
+abbrev pub local_counts_in : ModuleField → List ℕ
+local_counts_in (field.Ty t) = []
+local_counts_in (field.Rec r) = []
+local_counts_in (field.Import i) = []
+local_counts_in (field.Func f) = length (declared f.ty.inline f.kind) ∷ []
+local_counts_in (field.Table t) = []
+local_counts_in (field.Memory m) = []
+local_counts_in (field.Global g) = []
+local_counts_in (field.Export e) = []
+local_counts_in (field.Start i) = []
+local_counts_in (field.Elem e) = []
+local_counts_in (field.Data d) = []
+local_counts_in (field.Tag t) = []
+
+abbrev pub local_counts : List ModuleField → List ℕ
+local_counts fields = flat_map local_counts_in fields
+
 abbrev pub counts : List ModuleField → List ℕ
-counts fields = map (λ s. length (names_in s (items fields))) spaces
+counts fields = item_counts (items fields) ++ local_counts fields
+
+-- One of some numbers is 2^32 or more.
+abbrev pub HasMany : List ℕ → Type 0
+HasMany ns = (n : ℕ) × (Contains ns n × (2 ^ 32 ≤ n))
 
 -- There are 2^32 or more of something.
 abbrev pub IsCrowded : List ModuleField → Type 0
-IsCrowded fields = (n : ℕ) × (Contains (counts fields) n × (2 ^ 32 ≤ n))
-
--- What an error of resolving tells: the first unmet demand, or where memory may be refused that it was, or where there
--- may be too many of something that there were.
-abbrev pub Answers : (memory many : Type 0) → Told → Option (Refusal × Span) → Type 0
-Answers memory many (At fault place) unmet = unmet ≡ Some (fault, place)
-Answers memory many (Nowhere Memory) unmet = memory
-Answers memory many (Nowhere TooLarge) unmet = many
-Answers memory many (Nowhere fault) unmet = ⊥
+IsCrowded fields = HasMany (counts fields)
 
 -- Why numbering the fields is refused: by the first unmet demand, at its place; or memory was refused, or there are too
 -- many of something.
 abbrev pub IsUnnumbered : List ModuleField → Error → Type 0
-IsUnnumbered fields e = Answers ⊤ (IsCrowded fields) (told e) (first_unmet (demands fields))
+IsUnnumbered fields e = Answers ⊤ (IsCrowded fields) (told e) (first_unmet (name_demands fields))
 
 -- Once each type stands there, there are too many of something; or the counter that gives them ids would pass 64 bits.
 abbrev pub IsTooLarge : ℕ → List ModuleField → Type 0

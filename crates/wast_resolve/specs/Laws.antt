@@ -1,14 +1,22 @@
--- What is so of the resolved list of fields, where the counter begins above the generations of their ids.
-use Rattle.std.specs.Prelude.{◌≡◌, ℕ, ◌+◌, ◌<◌, true, [], None, List}
-use Rattle.wast_tree.specs.Occurrences.{asked, in_module}
-use Rattle.wast_tree.specs.WellFormed.{is_well_formed}
+-- What is so of the resolved list of fields, where the counter begins above the generations of their ids; and of types that
+-- the resolver of a module resolves.
+use Rattle.std.specs.Prelude.{◌≡◌, ℕ, ◌+◌, ◌<◌, true, [], None, List, Result}
+use Rattle.std.specs.Borrow.{Bor}
+use Rattle.wast_tree.specs.Occurrences.{Ask, asked, in_module}
+use Rattle.wast_tree.specs.WellFormed.{are_settled, is_well_formed}
+use Rattle.wast_tree.specs.declared.faults.Error.{Error}
 use Rattle.wast_tree.specs.Generations.{greatest_generation}
 use Rattle.wast_expand.specs.NeedingUses.{needed}
 use Rattle.wast_expand.specs.Expanded.{expanded, ids_wanted}
 use Rattle.wast_expand.specs.Completed.{completed}
-use Rattle.wast_resolve.specs.Tree.{ModuleField}
-use Rattle.wast_resolve.specs.Demands.{first_unmet, demands, counts}
-use Rattle.wast_resolve.specs.Resolved.{is_resolved}
+use Rattle.wast_resolve.specs.Tree.{Index, ModuleField}
+use Rattle.wast_resolve.specs.Tree.space
+use Rattle.wast_resolve.specs.Demands.{first_unmet, ask_demands, demands, counts}
+use Rattle.wast_resolve.specs.Resolved.{numbered_at, is_resolved}
+use Rattle.wast_resolve.specs.Resolvers.{Resolution, known_of}
+use Rattle.wast_resolve.specs.LookUps.{IsSettledFor, LooksTypesUp}
+use Rattle.wast_resolve.specs.CoreTypes.{CallsOn, HasNeeds, blank}
+use Rattle.wast_resolve.specs.Walking.{Walks}
 use Rattle.wast_resolve.specs.Finished.{finished}
 
 -- The ids that are filled in change no answer: what is unmet first with them is unmet first without them.
@@ -38,3 +46,14 @@ FinishedIsBelow = (n : ℕ) (fields : List ModuleField) → greatest_generation 
 -- Each type use has an index.
 abbrev pub UsesHaveIndices : Type 0
 UsesHaveIndices = (n : ℕ) (fields : List ModuleField) → needed (finished n fields) ≡ []
+
+-- By the resolver of a module, the calls on the indices of a part of a type succeed where each of its demands is met, and
+-- then it has its numbers; the error is the first unmet demand.
+abbrev pub ByResolver : {T : Type 0} → (T → List Ask) → ((Index → Index) → T → T) → Type 0
+ByResolver {T} asks changed = (old new : Bor Resolution) (before after : T) (result : Result (Unit {0}) Error)
+    → CallsOn (LooksTypesUp (λ names. known_of names.now)) old (asks before) new (asks after) result → changed blank after ≡ changed blank before
+    → Walks ⊥ ⊥ (ask_demands (known_of old.now) (asks before)) (changed (numbered_at (known_of old.now) space.Ty) before) after result
+
+-- and it has what it needs where the generated ids in the part are those of types.
+abbrev pub NeedsOfResolver : {T : Type 0} → (T → List Ask) → Type 0
+NeedsOfResolver {T} asks = (names : Bor Resolution) (x : T) → are_settled (known_of names.now) (asks x) ≡ true → HasNeeds (λ names i. IsSettledFor (known_of names.now) space.Ty i) names (asks x)

@@ -1,12 +1,15 @@
 -- What a look-up of an index needs, and what it answers.
-use Rattle.std.specs.Prelude.{◌≡◌, None, IsTrue}
+use Rattle.std.specs.Prelude.{◌≡◌, ℕ, Some, None, Result, IfOk, IfErr, IsTrue}
 use Rattle.wast_tree.specs.declared.faults.Error.{Error}
 use Rattle.wast_tree.specs.Faults.{told}
 use Rattle.wast_tree.specs.Occurrences.{in_index}
 use Rattle.wast_tree.specs.Known.{Known}
 use Rattle.wast_tree.specs.WellFormed.{are_settled}
 use Rattle.wast_resolve.specs.Tree.{Space, Index}
+use Rattle.wast_resolve.specs.Tree.space
 use Rattle.wast_resolve.specs.Demands.{first_unmet, ask_demands, Answers}
+use Rattle.wast_resolve.specs.Scopes.{denoted}
+use Rattle.wast_resolve.specs.Resolved.{numbered_at}
 
 -- a generated id is known
 abbrev pub IsSettledFor : Known → Space → Index → Type 0
@@ -19,3 +22,13 @@ IsMetBy k s i = first_unmet (ask_demands k (in_index s i)) ≡ None
 -- the error is E4 at an id that is not known
 abbrev pub AnswersFor : Known → Space → Index → Error → Type 0
 AnswersFor k s i e = Answers ⊥ ⊥ (told e) (first_unmet (ask_demands k (in_index s i)))
+
+-- an index before and after it is looked up, and the answer
+pub record LooksUp (k : Known) (s : Space) (old new : Index) (result : Result ℕ Error) : Type 0 where
+  pub number : IfOk result (λ n. denoted (k.number s) old ≡ Some n)
+  pub refusal : IfErr result (AnswersFor k s old)
+  pub index : new ≡ numbered_at k s old
+
+-- a call on the index of a type, of a resolver that looks it up by what it makes known, and that stays
+abbrev pub LooksTypesUp : {C : Type 0} → (C → Known) → C → Index → C → Index → Result ℕ Error → Type 0
+LooksTypesUp known_by old i new j result = (new ≡ old) × LooksUp (known_by old) space.Ty i j result

@@ -1,13 +1,15 @@
 -- The name spaces of a module as a value, and what they make known (text format: indices, modules).
-use Rattle.std.specs.Prelude.{List, [], slice_index_or, refl}
+use Rattle.std.specs.Prelude.{List, [], Option, slice_index_or, refl}
 use Rattle.std.specs.Coded.{Coded, coded_list, code_by}
 use Rattle.wast_resolve.specs.Tree.{Space}
 use Rattle.wast_resolve.specs.Tree.space
 use Rattle.wast_tree.specs.Spaces.{rank_of}
 use Rattle.wast_tree.specs.Known.{Known}
+use Rattle.wast_expand.specs.Signatures.{Signature}
 use Rattle.wast_resolve.specs.declared.resolver.Ns.{Ns}
 use Rattle.wast_resolve.specs.declared.resolver.Ns.TheVariants as ns
-use Rattle.wast_resolve.specs.Namespaces.{NameSpace, coded_space, empty_from, number_in}
+use Rattle.wast_namespace.specs.Namespaces.{NameSpace, coded_space, empty_from, number_in}
+use Rattle.wast_resolve.specs.Scopes.{Scope}
 
 abbrev pub space_of : Ns → Space
 space_of ns.Func = space.Func
@@ -21,9 +23,27 @@ space_of ns.Ty = space.Ty
 abbrev pub space_in : List NameSpace → Space → NameSpace
 space_in spaces s = slice_index_or spaces (rank_of s) (empty_from 0)
 
--- what the name spaces make known
-abbrev pub known_of : List NameSpace → Known
-known_of spaces = record { number = λ s name. number_in (space_in spaces s) name }
+-- what name spaces make known
+abbrev pub known_in : List NameSpace → Known
+known_in spaces = record { number = λ s name. number_in (space_in spaces s) name }
+
+-- what a resolver is seen as: the name spaces, and the function types by position
+pub record Resolution : Type 0 where
+  pub spaces : List NameSpace
+  pub types : List (Option Signature)
+
+abbrev pub known_of : Resolution → Known
+known_of r = known_in r.spaces
+
+abbrev pub scope_of : Resolution → Scope
+scope_of r = record { known = known_of r; types = r.types }
+
+-- with name spaces alone
+abbrev pub without_types : List NameSpace → Resolution
+without_types spaces = record { spaces = spaces; types = [] }
+
+abbrev pub with_types : Resolution → List (Option Signature) → Resolution
+with_types r types = record { spaces = r.spaces; types = types }
 
 -- what the names of a module are seen as
 pub record Bindings : Type 0 where
@@ -37,4 +57,4 @@ no_bindings = record { spaces = [] }
 
 -- what the names make known
 abbrev pub known_to : Bindings → Known
-known_to names = known_of names.spaces
+known_to names = known_in names.spaces

@@ -32,6 +32,40 @@ pub use Rattle.wast_tree.specs.declared.instrs.Plain.TheVariants as plain
 pub use Rattle.wast_tree.specs.declared.instrs.Instruction.{Instruction}
 pub use Rattle.wast_tree.specs.declared.instrs.Instruction.TheVariants as instr
 pub use Rattle.wast_tree.specs.declared.instrs.Expression.{Expression}
+pub use Rattle.wast_tree.specs.declared.entities.Limits.{Limits}
+pub use Rattle.wast_tree.specs.declared.entities.TableType.{TableType}
+pub use Rattle.wast_tree.specs.declared.entities.MemoryType.{MemoryType}
+pub use Rattle.wast_tree.specs.declared.entities.GlobalType.{GlobalType}
+pub use Rattle.wast_tree.specs.declared.entities.TagType.{TagType}
+pub use Rattle.wast_tree.specs.declared.entities.TagType.TheVariants as tag
+pub use Rattle.wast_tree.specs.declared.imports.Imports.{Imports}
+pub use Rattle.wast_tree.specs.declared.imports.ImportItems.{ImportItems}
+pub use Rattle.wast_tree.specs.declared.imports.ImportItems.TheVariants as import_items
+pub use Rattle.wast_tree.specs.declared.imports.ItemSig.{ItemSig}
+pub use Rattle.wast_tree.specs.declared.imports.ItemKind.{ItemKind}
+pub use Rattle.wast_tree.specs.declared.imports.ItemKind.TheVariants as kind
+pub use Rattle.wast_tree.specs.declared.segments.Elem.{Elem}
+pub use Rattle.wast_tree.specs.declared.segments.ElemKind.{ElemKind}
+pub use Rattle.wast_tree.specs.declared.segments.ElemKind.TheVariants as elem
+pub use Rattle.wast_tree.specs.declared.segments.ElemPayload.{ElemPayload}
+pub use Rattle.wast_tree.specs.declared.segments.ElemPayload.TheVariants as payload
+pub use Rattle.wast_tree.specs.declared.segments.Data.{Data}
+pub use Rattle.wast_tree.specs.declared.segments.DataKind.{DataKind}
+pub use Rattle.wast_tree.specs.declared.segments.DataKind.TheVariants as data_kind
+pub use Rattle.wast_tree.specs.declared.segments.DataVal.{DataVal}
+pub use Rattle.wast_tree.specs.declared.segments.DataVal.TheVariants as bytes
+pub use Rattle.wast_tree.specs.declared.fields.Table.{Table}
+pub use Rattle.wast_tree.specs.declared.fields.TableKind.{TableKind}
+pub use Rattle.wast_tree.specs.declared.fields.TableKind.TheVariants as table
+pub use Rattle.wast_tree.specs.declared.fields.Memory.{Memory}
+pub use Rattle.wast_tree.specs.declared.fields.MemoryKind.{MemoryKind}
+pub use Rattle.wast_tree.specs.declared.fields.MemoryKind.TheVariants as memory
+pub use Rattle.wast_tree.specs.declared.fields.Global.{Global}
+pub use Rattle.wast_tree.specs.declared.fields.GlobalKind.{GlobalKind}
+pub use Rattle.wast_tree.specs.declared.fields.GlobalKind.TheVariants as global
+pub use Rattle.wast_tree.specs.declared.fields.Tag.{Tag}
+pub use Rattle.wast_tree.specs.declared.fields.TagKind.{TagKind}
+pub use Rattle.wast_tree.specs.declared.fields.TagKind.TheVariants as tag_kind
 pub use Rattle.wast_tree.specs.declared.fields.Local.{Local}
 pub use Rattle.wast_tree.specs.declared.fields.FuncKind.{FuncKind}
 pub use Rattle.wast_tree.specs.declared.fields.FuncKind.TheVariants as func

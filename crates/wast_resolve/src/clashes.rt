@@ -1,30 +1,35 @@
 //! The first clash of a module, where the first one of each space is known.
 
-ghost use Rattle.std.specs.Prelude.{◌≡◌, None, MatchOption, option_map, slice_index_or};
+ghost use Rattle.std.specs.Prelude.{◌≡◌, ⊤, [], None, MatchOption, option_map, slice_index_or};
+ghost use Rattle.wast_tree.specs.Ids.{marked};
 ghost use Rattle.wast_tree.specs.Faults.{told};
 ghost use Rattle.wast_tree.specs.Spaces.{rank_of};
-ghost use Rattle.wast_tree.specs.Items.{item, items};
+ghost use Rattle.wast_tree.specs.Items.{field_ids, item, items};
 ghost use Rattle.wast_tree.specs.Known.{names_in};
 ghost use Rattle.wast_resolve.specs.Tree.{Space};
-ghost use Rattle.wast_resolve.specs.Demands.{first_unmet, item_demands, Answers};
-ghost use Rattle.wast_resolve.specs.Filling.{HasFirstClash};
-ghost use Rattle.wast_resolve.specs.Clashes.{countdown, counted_down, clash_told};
+ghost use Rattle.wast_resolve.specs.Demands.{first_unmet, item_demands, Answers, IsCrowded};
+ghost use Rattle.wast_namespace.specs.Filling.{HasFirstClash};
+ghost use Rattle.wast_resolve.specs.Clashes.{countdown, counted_down, CountsDown, clash_told, field_clash_told, FindsAmong};
 
-use wast_tree::{Error, Fault, Id, ItemVisitor, ModuleField, Space, visit_items};
+use crate::gathers::gather_fields;
+use std::alloc::Global;
+use wast_tree::{Error, Fault, Id, ItemVisitor, ModuleField, Space, StructField, visit_items};
 
 /// Counts down to the first clash of each space, until it comes to one of them.
 #[derive(Drop)]
 struct Finder<'a> {
+    alloc: Global,
     /// By the ranks of the spaces, how many items of the space come before its first clash, if one is ahead.
     ahead: [Option<u32>; 8],
-    /// The clash that it came to.
+    /// The clash that it came to, or why it stopped.
     found: Option<Error<'a>>,
 }
 
-impl<'a> ItemVisitor<'a> for Finder<'a> {
-    ghost told = { λ old x new. countdown new ≡ counted_down (countdown old) x };
-
-    fn item(&mut self, space: Space, id: &Option<Id<'a>>) {
+impl<'a> Finder<'a> {
+    /// One more item, without its fields.
+    fn count_down(&mut self, space: Space, id: &Option<Id<'a>>)
+        ensures { countdown self.new ≡ counted_down (countdown self.old) (item space id.now []) }
+    {
         if self.found.is_some() {
             return;
         }
@@ -37,9 +42,20 @@ impl<'a> ItemVisitor<'a> for Finder<'a> {
     }
 }
 
+impl<'a> ItemVisitor<'a> for Finder<'a> {
+    ghost told = { λ old x new. CountsDown (countdown old) x (countdown new) };
+
+    fn item(&mut self, space: Space, id: &Option<Id<'a>>, fields: &[StructField<'a>]) {
+        self.count_down(space, id);
+        if self.found.is_none() {
+            self.found = clash_among(self.alloc, fields);
+        }
+    }
+}
+
 /// E2 at the id of an item, if it bears one.
 fn clash<'a>(space: Space, id: &Option<Id<'a>>) -> Option<Error<'a>>
-    ensures { option_map told result ≡ clash_told (item space id.now) }
+    ensures { option_map told result ≡ clash_told (item space id.now []) }
 {
     match id {
         None => None,
@@ -47,19 +63,49 @@ fn clash<'a>(space: Space, id: &Option<Id<'a>>) -> Option<Error<'a>>
     }
 }
 
-/// E2 at the first item, in the order of the fields, whose id an earlier item of its space bears.
+/// E3 at the first field of a struct whose id an earlier one bears, if there is one.
 ///
-/// It needs, by the ranks of the spaces, the position in each of the first such item of the space, if there is one. It
-/// takes no memory.
+/// It takes memory only where some field has an id: E12 where it is refused, and E10 only where there are 2^32 fields or
+/// more.
+fn clash_among<'a>(alloc: Global, fields: &[StructField<'a>]) -> Option<Error<'a>>
+    ensures { FindsAmong (field_ids fields.now) (option_map told result) }
+{
+    match gather_fields(alloc, fields) {
+        Err(e) => Some(e),
+        Ok(gathering) => {
+            let at = gathering.first_clash()?;
+            field_clash(&fields[at as usize].id)
+        }
+    }
+}
+
+/// E3 at the id of a field, if it bears one.
+fn field_clash<'a>(id: &Option<Id<'a>>) -> Option<Error<'a>>
+    ensures { option_map told result ≡ field_clash_told (marked id.now) }
+{
+    match id {
+        None => None,
+        Some(id) => Some(Error::new(id.span(), Fault::DuplicateField("field", id.name()))),
+    }
+}
+
+/// The first clash, in the order of the items: E2 at an item whose id an earlier item of its space bears, and then E3 at a
+/// field of it whose id an earlier field of the struct bears.
+///
+/// It needs, by the ranks of the spaces, the position in each of the first item with a clash, if there is one. It takes
+/// memory only for structs of which some field has an id: E12 where it is refused, and E10 only where some struct has 2^32
+/// or more fields.
 pub(crate) fn first_clash<'a>(
+    alloc: Global,
     fields: &[ModuleField<'a>],
     clashes: [Option<u32>; 8],
 ) -> Option<Error<'a>>
     requires { (s : Space) → HasFirstClash (names_in s (items fields.now)) (slice_index_or clashes (rank_of s) None) }
-    ensures first { let unmet = first_unmet (item_demands (items fields.now)) in MatchOption result (unmet ≡ None) (λ e. Answers ⊥ ⊥ (told e) unmet) }
+    ensures first { let unmet = first_unmet (item_demands (items fields.now)) in MatchOption result (unmet ≡ None) (λ e. Answers ⊤ (IsCrowded fields.now) (told e) unmet) }
     ensures free { result ≡ None → (s : Space) → slice_index_or clashes (rank_of s) None ≡ None }
 {
     let mut finder = Finder {
+        alloc,
         ahead: clashes,
         found: None,
     };

@@ -1,6 +1,7 @@
 //! Worked modules, whose answers the definitions compute.
 
-ghost use Rattle.wast_resolve.specs.WorkedAnswers.{Row27, Row31, Row32, Row2, Row7, Row24, TwoFunctions, ClashOfTypes};
+ghost use Rattle.wast_resolve.specs.WorkedAnswers.{Row27, Row31, Row32, Row2, Row7, Row8, Row24, TwoFunctions, ClashOfTypes, FieldsOfOneStruct, FieldsOfTwoStructs, ClashesInOrder, Row14, Row22, Row23, UnknownNames, MatchedByNumber, Row17};
+ghost use Rattle.wast_resolve.specs.WorkedImports.{Row12, Row21, BehindAMemory, ImportsInOrder, ImportedTwice, UnknownStart};
 
 /// A type, a function that calls itself and its export: each index becomes 0, at the place of its id.
 #[tactic(auto, using(crate::proofs::Worked::row27))]
@@ -20,11 +21,12 @@ pub(crate) fn row32()
     ensures { Row32 }
 {}
 
-/// Functions without an index: of a type that is implied, and of one that is written later.
-#[tactic(auto, using(crate::proofs::Worked::row2, crate::proofs::Worked::row7, crate::proofs::Worked::two_functions))]
+/// Functions without an index: of a type that is implied, also beside one of a group, and of one that is written later.
+#[tactic(auto, using(crate::proofs::Worked::row2, crate::proofs::Worked::row7, crate::proofs::Worked::row8, crate::proofs::Worked::two_functions))]
 pub(crate) fn without_an_index()
     ensures implied { Row2 }
     ensures later { Row7 }
+    ensures beside_a_group { Row8 }
     ensures twice { TwoFunctions }
 {}
 
@@ -38,4 +40,49 @@ pub(crate) fn row24()
 #[tactic(auto, using(crate::proofs::Worked::clash_of_types))]
 pub(crate) fn clash_of_types()
     ensures { ClashOfTypes }
+{}
+
+/// Fields of structs: E3 at the second bearer of an id in one struct, each clash in the order of the fields.
+#[tactic(auto, using(crate::proofs::Worked::fields_of_one_struct, crate::proofs::Worked::fields_of_two_structs, crate::proofs::Worked::clashes_in_order))]
+pub(crate) fn fields_of_structs()
+    ensures one { FieldsOfOneStruct }
+    ensures two { FieldsOfTwoStructs }
+    ensures order { ClashesInOrder }
+{}
+
+/// Inline types beside an index: of another signature (E7), of no type (E6), and of a type that is no function type (E5).
+#[tactic(auto, using(crate::proofs::Worked::row14, crate::proofs::Worked::row22, crate::proofs::Worked::row23))]
+pub(crate) fn inline_types()
+    ensures no_match { Row14 }
+    ensures out_of_bounds { Row22 }
+    ensures not_func { Row23 }
+{}
+
+/// Inline types with references: the names of a use are asked before it is matched, and the type is not.
+#[tactic(auto, using(crate::proofs::Worked::unknown_names, crate::proofs::Worked::matched_by_number))]
+pub(crate) fn inline_references()
+    ensures unknown { UnknownNames }
+    ensures by_number { MatchedByNumber }
+{}
+
+/// A parameter and a local of one id: E2 at the local, behind the types of the locals.
+#[tactic(auto, using(crate::proofs::Worked::row17))]
+pub(crate) fn row17()
+    ensures { Row17 }
+{}
+
+/// Imports behind what is defined: E1 at the first, by what is defined last, and before any clash of names.
+#[tactic(auto, using(crate::proofs::Worked::row12, crate::proofs::Worked::row21, crate::proofs::Worked::behind_a_memory, crate::proofs::Worked::imports_in_order, crate::proofs::Worked::imported_twice))]
+pub(crate) fn imports_in_order()
+    ensures function { Row12 }
+    ensures tag { Row21 }
+    ensures memory { BehindAMemory }
+    ensures order { ImportsInOrder }
+    ensures twice { ImportedTwice }
+{}
+
+/// A start of a function that is not there: E4 at the index.
+#[tactic(auto, using(crate::proofs::Worked::unknown_start))]
+pub(crate) fn unknown_start()
+    ensures { UnknownStart }
 {}

@@ -1,6 +1,8 @@
-//! Laws of the resolved list of fields, for callers to cite.
+//! Laws for callers to cite: of the resolved list of fields, and of types that the resolver of a module resolves.
 
-ghost use Rattle.wast_resolve.specs.Laws.{SameAnswer, SameCounts, ExpandedStaysWellFormed, NoIdIsLeft, FinishedStaysWellFormed, FinishedIsBelow, UsesHaveIndices};
+ghost use Rattle.wast_tree.specs.Occurrences.{in_heap, in_ref, in_val, in_storage, in_signature, in_def, in_type};
+ghost use Rattle.wast_resolve.specs.Resolved.{changed_heap, changed_ref, changed_val, changed_storage, changed_signature, changed_def, changed_type};
+ghost use Rattle.wast_resolve.specs.Laws.{ByResolver, NeedsOfResolver, SameAnswer, SameCounts, ExpandedStaysWellFormed, NoIdIsLeft, FinishedStaysWellFormed, FinishedIsBelow, UsesHaveIndices};
 
 /// Where the counter begins above the ids of the fields, the ids that are filled in change no answer and no count, and
 /// well formed fields stay well formed. In the resolved list of fields whose demands are met no id is left where an index
@@ -15,4 +17,26 @@ pub fn resolved_laws()
     ensures well_formed { FinishedStaysWellFormed }
     ensures generations { FinishedIsBelow }
     ensures indices { UsesHaveIndices }
+{}
+
+/// What the functions over [`ResolveCoreType`](crate::ResolveCoreType) promise of a type is, by the resolver of a module,
+/// that the type has its numbers where each of its ids denotes a type, and that the error is E4 at the first that does not.
+/// The resolver has what it needs of a type where the generated ids in it are those of types, as in well formed fields. It
+/// does nothing.
+#[tactic(auto, using(crate::proofs::CallingNames::by_resolver, crate::proofs::CallingNames::needs_of_resolver, crate::proofs::PartsOfTypes::heap_part, crate::proofs::PartsOfTypes::ref_part, crate::proofs::PartsOfTypes::val_part, crate::proofs::PartsOfTypes::storage_part))]
+pub fn core_type_laws()
+    ensures types { ByResolver in_type changed_type }
+    ensures defs { ByResolver in_def changed_def }
+    ensures functions { ByResolver in_signature changed_signature }
+    ensures values { ByResolver in_val changed_val }
+    ensures references { ByResolver in_ref changed_ref }
+    ensures heaps { ByResolver in_heap changed_heap }
+    ensures storages { ByResolver in_storage changed_storage }
+    ensures types_needs { NeedsOfResolver in_type }
+    ensures defs_needs { NeedsOfResolver in_def }
+    ensures functions_needs { NeedsOfResolver in_signature }
+    ensures values_needs { NeedsOfResolver in_val }
+    ensures references_needs { NeedsOfResolver in_ref }
+    ensures heaps_needs { NeedsOfResolver in_heap }
+    ensures storages_needs { NeedsOfResolver in_storage }
 {}

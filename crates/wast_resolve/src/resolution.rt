@@ -14,6 +14,7 @@ ghost use Rattle.wast_resolve.specs.Finished.{finished};
 ghost use Rattle.wast_resolve.specs.Resolvers.{no_bindings, known_to};
 ghost use Rattle.wast_resolve.specs.LookUps.{IsSettledFor, IsMetBy, AnswersFor};
 
+use crate::imports::in_order;
 use crate::passes;
 use crate::resolver::Resolver;
 use std::alloc::Global;
@@ -33,7 +34,7 @@ impl<'a> Model for Names<'a> {
 
     ghost coded = { coded_bindings };
 
-    ghost view = { λ n. record { spaces = n.resolver } };
+    ghost view = { λ n. record { spaces = n.resolver.spaces } };
 }
 
 impl<'a> Names<'a> {
@@ -44,7 +45,7 @@ impl<'a> Names<'a> {
         ensures value { result ≡ no_bindings }
     {
         Names {
-            resolver: Resolver::new(Vec::new(alloc)),
+            resolver: Resolver::new(alloc, Vec::new(alloc)),
         }
     }
 
@@ -113,11 +114,14 @@ impl<'a> Names<'a> {
 /// given to each type at the end. It needs well formed fields, as [`wast_tree::well_formed`] tells, and a counter above
 /// [`wast_tree::gensym_bound`], and leaves it above the ids that it gives.
 ///
-/// The error is the first demand that is not met: E2 at the second bearer of an id in a space, in the order of the fields,
-/// and after all of these E4 at an id that denotes nothing. It is E12 where memory was refused, and E10 only where some space
-/// has 2^32 or more items or where the counter would pass the greatest `u64`. On an error the fields are dropped, and the
-/// counter stands where it stood or higher.
-
+/// The error is the first demand that is not met: E1 at an import that stands behind a function, table, memory, global or tag
+/// of the module; after that, in the order of the fields, E2 at the second bearer of an id in a space, and directly after a
+/// type E3 at the second bearer of an id among the fields of its struct; after all of these, field by field,
+/// E4 at an id that denotes nothing; E6, E5 or E7 at an index whose type is not the inline type beside it; and E2 at the
+/// second of two parameters and locals of one id. It is E12 where memory was refused, and E10 only where some space has 2^32
+/// or more items, where some struct has as many fields, where a function declares as many parameters and locals, or where
+/// the counter would pass the greatest `u64`. On an error the fields are dropped, and the counter stands where it stood or
+/// higher.
 pub fn resolve<'a>(
     alloc: Global,
     fields: Seq<ModuleField<'a>>,
@@ -132,6 +136,7 @@ pub fn resolve<'a>(
     ensures counter { OnOk result (gensym.new ≡ gensym.old + ids_wanted fields.entry) }
     ensures rising { gensym.old ≤ gensym.new }
 {
+    let fields = in_order(fields)?;
     let fields = wast_expand::types::expand(alloc, fields, gensym)?;
     let (fields, resolver) = passes::resolve(alloc, fields)?;
     Ok((fields, Names { resolver }))

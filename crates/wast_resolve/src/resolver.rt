@@ -4,12 +4,19 @@ ghost use Rattle.std.specs.Prelude.{◌≡◌, Some, IfOk, IfErr};
 ghost use Rattle.wast_tree.specs.Ids.{name_of};
 ghost use Rattle.wast_resolve.specs.LookUps.{IsSettledFor, AnswersFor};
 ghost use Rattle.wast_resolve.specs.Resolved.{numbered_at};
-ghost use Rattle.wast_resolve.specs.Namespaces.{denoted, number_in};
-ghost use Rattle.wast_resolve.specs.Resolvers.{space_of, space_in, known_of};
+ghost use Rattle.wast_namespace.specs.Namespaces.{number_in};
+ghost use Rattle.wast_resolve.specs.Scopes.{denoted};
+ghost use Rattle.wast_resolve.specs.Matches.{same_type};
+ghost use Rattle.wast_resolve.specs.Demands.{first_unmet, match_demands};
+ghost use Rattle.wast_namespace.specs.Outcomes.{Outcome};
+ghost use Rattle.wast_resolve.specs.Resolvers.{space_of, space_in, known_of, scope_of, without_types, with_types};
 
-use crate::namespace::Namespace;
+use crate::matches::has_signature;
+use std::alloc::Global;
 use std::marker::Model;
-use wast_tree::{Error, Fault, Id, Index, Space};
+use wast_expand::FuncKey;
+use wast_namespace::Namespace;
+use wast_tree::{Error, Fault, FunctionType, Id, Index, Space};
 
 /// A space of items that an index can stand for (text format, indices).
 #[derive(Clone, Copy, Debug, PartialEq, Eq, Hash)]
@@ -44,30 +51,45 @@ impl Ns {
     }
 }
 
-/// What the ids of a module denote in each space (text format, indices).
+/// What the ids of a module denote in each space, and its function types (text format, indices and types).
 #[derive(Drop)]
 pub struct Resolver<'a> {
     spaces: Vec<Namespace<'a>>,
+    // by their positions, as they are written
+    types: Vec<Option<FuncKey<'a>>>,
 }
 
 impl<'a> Model for Resolver<'a> {
-    ghost use Rattle.std.specs.Prelude.{List};
-    ghost use Rattle.std.specs.Coded.{coded_list};
-    ghost use Rattle.wast_resolve.specs.Namespaces.{NameSpace, coded_space};
+    ghost use Rattle.std.specs.Coded.{codes};
+    ghost use Rattle.wast_namespace.specs.Namespaces.{coded_space};
+    ghost use Rattle.wast_resolve.specs.Resolvers.{Resolution};
 
-    ghost Value = { List NameSpace };
+    ghost Value = { Resolution };
 
-    ghost coded = { coded_list coded_space };
+    ghost coded = { Prim.hlevel (codes, coded_space) };
 
-    ghost view = { λ r. r.spaces.items };
+    ghost view = { λ r. record { spaces = r.spaces.items; types = r.types.items } };
 }
 
 impl<'a> Resolver<'a> {
-    /// These name spaces, by their ranks. It takes no memory.
-    pub(crate) fn new(spaces: Vec<Namespace<'a>>) -> Self
-        ensures { result ≡ spaces.entry.items }
+    /// These name spaces, by their ranks, and no types. It takes no memory.
+    pub(crate) fn new(alloc: Global, spaces: Vec<Namespace<'a>>) -> Self
+        ensures { result ≡ without_types spaces.entry.items }
     {
-        Resolver { spaces }
+        Resolver {
+            spaces,
+            types: Vec::new(alloc),
+        }
+    }
+
+    /// The same name spaces, and these types. It takes no memory.
+    pub(crate) fn with_types(self, types: Vec<Option<FuncKey<'a>>>) -> Self
+        ensures { result ≡ with_types self.entry types.entry.items }
+    {
+        Resolver {
+            spaces: self.spaces,
+            types,
+        }
     }
 
     /// The number of an index in a space: a number is its own, and an id that is known is replaced by its number, at the
@@ -101,9 +123,55 @@ impl<'a> Resolver<'a> {
         Ok(number)
     }
 
+    /// The number that an index denotes in a space, if it denotes one.
+    fn denoted(&self, space: Space, idx: &Index<'a>) -> Option<u32>
+        ensures { result ≡ denoted ((known_of self.now).number space) idx.now }
+    {
+        match idx {
+            Index::Num(number, _) => Some(*number),
+            Index::Id(id) => self.find(space, id),
+        }
+    }
+
+    /// Whether two indices denote one type.
+    pub(crate) fn same_type(&self, a: &Index<'a>, b: &Index<'a>) -> bool
+        ensures { result ≡ same_type (known_of self.now) a.now b.now }
+    {
+        match (self.denoted(Space::Ty, a), self.denoted(Space::Ty, b)) {
+            (Some(m), Some(n)) => m == n,
+            (Some(_), None) => false,
+            (None, Some(_)) => false,
+            (None, None) => false,
+        }
+    }
+
+    /// Nothing, where an index denotes a function type of the signature of an inline type; else E6, E5 or E7 at the index.
+    pub(crate) fn check_match(
+        &self,
+        idx: &Index<'a>,
+        inline: &FunctionType<'a>,
+    ) -> Result<(), Error<'a>>
+        ensures { Outcome ⊥ ⊥ (first_unmet (match_demands (scope_of self.now) idx.now inline.now)) result }
+    {
+        let Some(number) = self.denoted(Space::Ty, idx) else {
+            return Err(Error::new(idx.span(), Fault::OutOfBounds));
+        };
+        match self.types.get(number as usize) {
+            None => Err(Error::new(idx.span(), Fault::OutOfBounds)),
+            Some(None) => Err(Error::new(idx.span(), Fault::NotFunc)),
+            Some(Some(key)) => {
+                if has_signature(self, inline, key) {
+                    Ok(())
+                } else {
+                    Err(Error::new(idx.span(), Fault::NoMatch))
+                }
+            }
+        }
+    }
+
     /// The number that an id denotes in a space.
     fn find(&self, space: Space, id: &Id<'a>) -> Option<u32>
-        ensures { result ≡ number_in (space_in self.now space) (name_of id.now) }
+        ensures { result ≡ number_in (space_in self.now.spaces space) (name_of id.now) }
     {
         let rank = space.rank();
         if rank < self.spaces.len() {

@@ -7,13 +7,13 @@ ghost use Rattle.wast_tree.specs.Known.{known, names_in};
 ghost use Rattle.wast_resolve.specs.Demands.{first_unmet, item_demands, Answers, IsCrowded};
 ghost use Rattle.wast_resolve.specs.Resolvers.{known_of};
 ghost use Rattle.wast_resolve.specs.Gathers.{Stops};
-ghost use Rattle.wast_resolve.specs.Filling.{IsTried};
+ghost use Rattle.wast_namespace.specs.Filling.{IsTried};
 
 use crate::clashes::first_clash;
 use crate::gathers::gather;
-use crate::namespace::Namespace;
 use crate::resolver::Resolver;
 use std::alloc::Global;
+use wast_namespace::Namespace;
 use wast_tree::{Error, ModuleField, Space};
 
 /// The name space of a space and no clash, or the position of the first item whose id an earlier one bears.
@@ -33,8 +33,9 @@ fn try_space<'a>(
 
 /// The name spaces of the fields.
 ///
-/// The error is E2 at the first item, in the order of the fields, whose id an earlier one of its space bears; E12 where
-/// memory was refused, and E10 only where some space has 2^32 or more items.
+/// The error is the first of these, in the order of the fields: E2 at an item whose id an earlier one of its space bears,
+/// and directly after it E3 at a field of its struct whose id an earlier field bears. It is E12 where memory was refused,
+/// and E10 only where some space has 2^32 or more items, or some struct as many fields.
 pub(crate) fn name_spaces<'a>(
     alloc: Global,
     fields: &[ModuleField<'a>],
@@ -50,8 +51,8 @@ pub(crate) fn name_spaces<'a>(
         spaces.push(names)?;
         clashes[rank] = clash;
     }
-    match first_clash(fields, clashes) {
+    match first_clash(alloc, fields, clashes) {
         Some(clash) => Err(clash),
-        None => Ok(Resolver::new(spaces)),
+        None => Ok(Resolver::new(alloc, spaces)),
     }
 }

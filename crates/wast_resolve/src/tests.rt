@@ -1,123 +1,32 @@
-//! Examples of name spaces and of resolving, whose answers come from outside.
+//! Examples of resolving, whose answers come from outside.
 
-ghost use Rattle.std.specs.Prelude.{◌<◌, IsTrue};
+ghost use Rattle.std.specs.Prelude.{⊤, ◌<◌, IsTrue};
 ghost use Rattle.wast_tree.specs.Generations.{greatest_generation};
 ghost use Rattle.wast_tree.specs.WellFormed.{is_well_formed};
 
-use crate::filling::Gathering;
-use crate::{Namespace, discard_names, resolve, resolve_error};
+use crate::spaces::name_spaces;
+use crate::{
+    ResolveCoreType, discard_names, resolve, resolve_heaptype, resolve_reftype,
+    resolve_storagetype, resolve_type, resolve_type_def, resolve_type_func, resolve_valtype,
+};
 use std::alloc::Global;
 use std::process::Abort;
 use wast_tree::{
-    Error, Expression, Fault, Func, FuncKind, FunctionType, Gensym, Id, Index, InlineExport,
-    InnerTypeKind, ModuleField, Seq, Span, Type, TypeDef, TypeUse, discard_fields, gensym_bound,
-    well_formed,
+    Error, Expression, Fault, Func, FuncKind, FunctionType, Gensym, HeapType, Id, Index,
+    InlineExport, InnerTypeKind, Local, ModuleField, RefType, Seq, Span, StorageType, StructField,
+    StructType, Type, TypeDef, TypeUse, ValType, discard_fields, gensym_bound, well_formed,
 };
 
 fn at(offset: usize) -> Span {
     Span { offset }
 }
 
-#[test]
-fn a_second_bearer_takes_the_name(rt: HostRuntime) {
-    let again = Id::new("a", at(2));
-    let mut space = Namespace::new(rt.alloc());
-    assert!(rt; space.register(Some(Id::new("a", at(1))), "func") == Ok(0));
-    assert!(rt; !space.is_full());
-    assert!(rt;
-        space.register(Some(again), "func") == Err(Error::new(at(2), Fault::Duplicate("func")))
-    );
-    let mut idx = Index::Id(Id::new("a", at(3)));
-    assert!(rt; space.try_resolve(&mut idx) == Some(1));
-    assert!(rt; idx.span() == at(3) && idx == Index::Num(1, at(0)));
-    assert!(rt; !space.is_full());
-    assert!(rt; space.alloc() == 2);
-}
-
-#[test]
-fn an_item_without_a_name_takes_a_number(rt: HostRuntime) {
-    let mut space = Namespace::with_count(rt.alloc(), 4);
-    assert!(rt; space.register(None, "func") == Ok(4));
-    assert!(rt; space.register_specific(Id::new("c", at(5)), 9, "func") == Ok(()));
-    assert!(rt; !space.is_full());
-    assert!(rt; space.alloc() == 5);
-}
-
-// As `a_second_bearer_takes_the_name` leaves it.
-#[test]
-fn a_second_number_takes_the_name(rt: HostRuntime) {
-    let a = Id::new("a", at(1));
-    let mut space = Namespace::new(rt.alloc());
-    assert!(rt; space.register(Some(a), "func").is_ok() && !space.is_full());
-    assert!(rt; space.register(Some(a), "func").is_err() && !space.is_full());
-    assert!(rt; space.alloc() == 2);
-    assert!(rt;
-        space.register_specific(Id::new("a", at(2)), 7, "func")
-            == Err(Error::new(at(2), Fault::DuplicateField("func", "a")))
-    );
-    let mut idx = Index::Id(a);
-    assert!(rt; space.resolve(&mut idx, "func") == Ok(7));
-    assert!(rt; !space.is_full());
-    assert!(rt; space.alloc() == 3);
-}
-
-#[test]
-fn an_unknown_name_stays(rt: HostRuntime) {
-    let other = Id::new("b", at(4));
-    let mut idx = Index::Id(other);
-    assert!(rt;
-        Namespace::new(rt.alloc()).resolve(&mut idx, "func") == Err(resolve_error(other, "func"))
-    );
-    assert!(rt; idx == Index::Id(other));
-}
-
-#[test]
-fn a_count_ends_below_two_to_the_32(rt: HostRuntime) {
-    let mut space = Namespace::with_count(rt.alloc(), 4294967294);
-    assert!(rt; space.alloc() == 4294967294);
-    assert!(rt; space.is_full());
-    let error = resolve_error(Id::new("x", at(9)), "table");
-    assert!(rt; error.number() == 4);
-    assert!(rt; error == Error::new(at(9), Fault::Unknown("table", "x")));
-}
-
-#[test]
-fn pairs_go_by_their_names(rt: HostRuntime) {
-    let mut space = Namespace::new(rt.alloc());
-    assert!(rt; space.register(Some(Id::new("b", at(1))), "func") == Ok(0));
-    assert!(rt; !space.is_full());
-    assert!(rt; space.register(Some(Id::new("a", at(2))), "func") == Ok(1));
-    assert!(rt; space.pairs() == [(Id::new("a", at(0)), 1), (Id::new("b", at(0)), 0)].as_slice());
-}
-
-// `abcdefgh1` and `abcdefgh2` have one head.
-#[test]
-fn a_space_is_filled_at_once(rt: HostRuntime) {
-    let mut items = Gathering::new(rt.alloc(), 3).expect(&rt, "no memory");
-    for name in ["abcdefgh2", "", "b", "abcdefgh1"] {
-        let id = if name.is_empty() {
-            None
-        } else {
-            Some(Id::new(name, at(1)))
-        };
-        assert!(rt; !items.is_full());
-        assert!(rt; items.add(id) == Ok(()));
-    }
-    let space = items
-        .filled(rt.alloc())
-        .expect(&rt, "no memory")
-        .expect(&rt, "a clash");
-    let mut first = Index::Id(Id::new("abcdefgh1", at(2)));
-    let mut second = Index::Id(Id::new("abcdefgh2", at(2)));
-    let mut missing = Index::Id(Id::new("abcdefgh", at(2)));
-    assert!(rt; space.try_resolve(&mut first) == Some(3));
-    assert!(rt; space.try_resolve(&mut second) == Some(0));
-    assert!(rt; space.try_resolve(&mut missing).is_none());
-    assert!(rt; space.pairs().len() == 3 && !space.is_full());
-}
-
-/// `(func)`
-fn func(alloc: Global) -> ModuleField<'static> {
+/// `(func ..)` with the type use and the locals.
+fn func_of(
+    alloc: Global,
+    ty: TypeUse<'static, FunctionType<'static>>,
+    locals: Seq<Local<'static>>,
+) -> ModuleField<'static> {
     ModuleField::Func(Func {
         span: at(9),
         id: None,
@@ -126,15 +35,55 @@ fn func(alloc: Global) -> ModuleField<'static> {
             names: Seq::new(alloc),
         },
         kind: FuncKind::Inline {
-            locals: Seq::new(alloc),
+            locals,
             expression: Expression {
                 instrs: Seq::new(alloc),
                 branch_hints: Seq::new(alloc),
             },
         },
-        ty: TypeUse {
-            index: None,
-            inline: None,
+        ty,
+    })
+}
+
+/// `(func)`
+fn func(alloc: Global) -> ModuleField<'static> {
+    let ty = TypeUse {
+        index: None,
+        inline: None,
+    };
+    func_of(alloc, ty, Seq::new(alloc))
+}
+
+/// `(func (type ..) ..)` with the index of its type and an inline type.
+fn typed_func(
+    alloc: Global,
+    index: Index<'static>,
+    inline: FunctionType<'static>,
+) -> ModuleField<'static> {
+    let ty = TypeUse {
+        index: Some(index),
+        inline: Some(inline),
+    };
+    func_of(alloc, ty, Seq::new(alloc))
+}
+
+/// `(type ..)` of a kind.
+fn type_of(
+    alloc: Global,
+    id: Option<Id<'static>>,
+    kind: InnerTypeKind<'static>,
+) -> ModuleField<'static> {
+    ModuleField::Ty(Type {
+        span: at(16),
+        id,
+        name: None,
+        def: TypeDef {
+            kind,
+            shared: false,
+            parents: Seq::new(alloc),
+            descriptor: None,
+            describes: None,
+            final_type: None,
         },
     })
 }
@@ -145,19 +94,7 @@ fn ty(alloc: Global) -> ModuleField<'static> {
         params: Seq::new(alloc),
         results: Seq::new(alloc),
     };
-    ModuleField::Ty(Type {
-        span: at(16),
-        id: None,
-        name: None,
-        def: TypeDef {
-            kind: InnerTypeKind::Func(function),
-            shared: false,
-            parents: Seq::new(alloc),
-            descriptor: None,
-            describes: None,
-            final_type: None,
-        },
-    })
+    type_of(alloc, None, InnerTypeKind::Func(function))
 }
 
 /// The fields, where they can be resolved with this counter.
@@ -199,5 +136,305 @@ fn a_type_is_given_an_id(rt: HostRuntime) {
         has_its_type(&rt, fields.as_slice(), 5, offset);
         discard_fields(fields);
         offset = 16;
+    }
+}
+
+/// `(type (struct (field $.. i32) (field $.. i32)))`, whose ids stand at 1 and 2
+fn two_fields<'a>(rt: &impl Abort, alloc: Global, names: [&'a str; 2]) -> ModuleField<'a> {
+    let mut fields = Seq::new(alloc);
+    for i in 0..2 {
+        let field = StructField {
+            id: Some(Id::new(names[i], at(i + 1))),
+            name: None,
+            mutable: false,
+            ty: StorageType::Val(ValType::I32),
+        };
+        fields.push(field).expect(rt, "memory");
+    }
+    ModuleField::Ty(Type {
+        span: at(0),
+        id: None,
+        name: None,
+        def: TypeDef {
+            kind: InnerTypeKind::Struct(StructType { fields }),
+            shared: false,
+            parents: Seq::new(alloc),
+            descriptor: None,
+            describes: None,
+            final_type: None,
+        },
+    })
+}
+
+// Two structs: each has fields of its own, and the second of the last struct is `$a`, or `$b` as the first.
+#[test]
+fn fields_of_a_struct_differ(rt: HostRuntime) {
+    let alloc = rt.alloc();
+    for last in ["a", "b"] {
+        let structs = vec![in alloc;
+            two_fields(&rt, alloc, ["a", "b"]),
+            two_fields(&rt, alloc, ["b", last]),
+        ]
+        .expect(&rt, "memory");
+        let mut gensym = Gensym::new(1);
+        let fields = ready(&rt, Seq::from_vec(structs), 1);
+        match resolve(alloc, fields, &mut gensym) {
+            Ok((fields, names)) => {
+                assert!(rt; last == "a");
+                discard_fields(fields);
+                discard_names(names);
+            }
+            Err(e) => {
+                assert!(rt; last == "b");
+                assert!(rt; e == Error::new(at(2), Fault::DuplicateField("field", "b")));
+            }
+        }
+    }
+}
+
+/// Answers the numbers from `next` on, and at `end` an error.
+#[derive(Drop)]
+struct Counted {
+    next: u32,
+    end: u32,
+}
+
+impl<'a> ResolveCoreType<'a> for Counted {
+    ghost needs = { λ counted i. ⊤ };
+
+    ghost called = { λ old i new j result. ⊤ };
+
+    fn resolve_type_name(&mut self, name: &mut Index<'a>) -> Result<u32, Error<'a>> {
+        if self.next >= self.end {
+            return Err(no_more(name.span()));
+        }
+        let number = self.next;
+        *name = Index::Num(number, name.span());
+        self.next = number + 1;
+        Ok(number)
+    }
+}
+
+fn no_more(span: Span) -> Error<'static> {
+    Error::new(span, Fault::Unknown("type", "x"))
+}
+
+fn x_at(offset: usize) -> Index<'static> {
+    Index::Id(Id::new("x", at(offset)))
+}
+
+/// `(ref $x)`
+fn ref_at(offset: usize) -> ValType<'static> {
+    ValType::Ref(RefType {
+        nullable: false,
+        heap: HeapType::Concrete(x_at(offset)),
+    })
+}
+
+/// `(ref 0)` and so on, and no other type.
+fn is_ref_to(ty: ValType<'_>, number: u32) -> bool {
+    match ty {
+        ValType::Ref(ty) => ty.heap == HeapType::Concrete(Index::Num(number, at(0))),
+        _ => false,
+    }
+}
+
+#[test]
+fn each_part_of_a_type_has_an_index(rt: HostRuntime) {
+    let mut cx = Counted { next: 0, end: 4 };
+    let mut heap = HeapType::Concrete(x_at(0));
+    let mut reference = RefType {
+        nullable: true,
+        heap,
+    };
+    let mut value = ref_at(2);
+    let mut storage = StorageType::Val(value);
+    assert!(rt; resolve_heaptype(&mut cx, &mut heap) == Ok(()));
+    assert!(rt; resolve_reftype(&mut cx, &mut reference) == Ok(()));
+    assert!(rt; resolve_valtype(&mut cx, &mut value) == Ok(()));
+    assert!(rt; resolve_storagetype(&mut cx, &mut storage) == Ok(()));
+    assert!(rt; heap == HeapType::Concrete(Index::Num(0, at(0))));
+    assert!(rt; reference.nullable && reference.heap == HeapType::Concrete(Index::Num(1, at(0))));
+    assert!(rt; is_ref_to(value, 2));
+    assert!(rt; matches!(storage, StorageType::Val(ty) if is_ref_to(ty, 3)));
+    assert!(rt; resolve_storagetype(&mut cx, &mut StorageType::I8) == Ok(()));
+    assert!(rt; resolve_valtype(&mut cx, &mut value) == Err(no_more(at(2))));
+}
+
+/// `(type $x (sub $x (descriptor $x) (describes $x) (func (param (ref $x)) (result (ref $x)))))`, its indices at the
+/// places 0 to 4
+fn described(rt: &impl Abort, alloc: Global) -> Type<'static> {
+    let function = FunctionType {
+        params: Seq::from_vec(vec![in alloc; (None, None, ref_at(3))].expect(rt, "memory")),
+        results: Seq::from_vec(vec![in alloc; ref_at(4)].expect(rt, "memory")),
+    };
+    Type {
+        span: at(9),
+        id: Some(Id::new("x", at(9))),
+        name: None,
+        def: TypeDef {
+            kind: InnerTypeKind::Func(function),
+            shared: false,
+            parents: Seq::from_vec(vec![in alloc; x_at(0)].expect(rt, "memory")),
+            descriptor: Some(x_at(1)),
+            describes: Some(x_at(2)),
+            final_type: None,
+        },
+    }
+}
+
+/// Resolves the function type, or does nothing.
+fn resolve_function(cx: &mut Counted, kind: &mut InnerTypeKind<'static>) {
+    if let InnerTypeKind::Func(function) = kind {
+        drop(resolve_type_func(cx, function));
+    }
+}
+
+/// The type has these numbers, in order.
+fn has_numbers(rt: &impl Abort, ty: &Type<'_>, numbers: [u32; 5]) {
+    let def = &ty.def;
+    assert!(rt; def.parents.as_slice() == [Index::Num(numbers[0], at(0))].as_slice());
+    assert!(rt; def.descriptor == Some(Index::Num(numbers[1], at(0))));
+    assert!(rt; def.describes == Some(Index::Num(numbers[2], at(0))));
+    if let InnerTypeKind::Func(function) = &def.kind {
+        let params = function.params.as_slice();
+        let results = function.results.as_slice();
+        assert!(rt; params.len() == 1 && is_ref_to(params[0].2, numbers[3]));
+        assert!(rt; results.len() == 1 && is_ref_to(results[0], numbers[4]));
+    }
+}
+
+#[test]
+fn types_are_resolved_in_order(rt: HostRuntime) {
+    let alloc = rt.alloc();
+    let mut ty = described(&rt, alloc);
+    let mut cx = Counted { next: 0, end: 1 };
+    assert!(rt; resolve_type(&mut cx, &mut ty) == Err(no_more(at(1))));
+    assert!(rt; ty.def.descriptor == Some(x_at(1)) && ty.def.describes == Some(x_at(2)));
+    cx.end = 16;
+    assert!(rt; resolve_type(&mut cx, &mut ty) == Ok(()));
+    has_numbers(&rt, &ty, [1, 2, 3, 4, 5]);
+    assert!(rt; resolve_type_def(&mut cx, &mut ty.def) == Ok(()));
+    has_numbers(&rt, &ty, [6, 7, 8, 9, 10]);
+    resolve_function(&mut cx, &mut ty.def.kind);
+    has_numbers(&rt, &ty, [6, 7, 8, 11, 12]);
+    let fields = Seq::from_vec(vec![in alloc; ModuleField::Ty(ty)].expect(&rt, "memory"));
+    discard_fields(fields);
+}
+
+#[test]
+#[tactic(auto, using(crate::proofs::Calling::needs_of_one))]
+fn a_resolver_finds_the_types_of_its_module(rt: HostRuntime) {
+    let alloc = rt.alloc();
+    let fields = vec![in alloc; ty(alloc), ModuleField::Ty(described(&rt, alloc))];
+    let fields = Seq::from_vec(fields.expect(&rt, "memory"));
+    let resolver = name_spaces(alloc, fields.as_slice()).expect(&rt, "names");
+    discard_fields(fields);
+    let mut names = &resolver;
+    let mut known = HeapType::Concrete(Index::Id(Id::new("x", at(7))));
+    let mut unknown = HeapType::Concrete(Index::Id(Id::new("y", at(7))));
+    assert!(rt; resolve_heaptype(&mut names, &mut known) == Ok(()));
+    assert!(rt; known == HeapType::Concrete(Index::Num(1, at(0))));
+    let error = Error::new(at(7), Fault::Unknown("type", "y"));
+    assert!(rt; resolve_heaptype(&mut names, &mut unknown) == Err(error));
+}
+
+/// `(param .. i32)`
+fn takes(rt: &impl Abort, alloc: Global, id: Option<Id<'static>>) -> FunctionType<'static> {
+    let params = vec![in alloc; (id, None, ValType::I32)].expect(rt, "memory");
+    FunctionType {
+        params: Seq::from_vec(params),
+        results: Seq::new(alloc),
+    }
+}
+
+/// `(result i32)`
+fn gives(rt: &impl Abort, alloc: Global) -> FunctionType<'static> {
+    let results = vec![in alloc; ValType::I32].expect(rt, "memory");
+    FunctionType {
+        params: Seq::new(alloc),
+        results: Seq::from_vec(results),
+    }
+}
+
+/// Resolving the fields is refused so; or it succeeds, where no fault is given.
+fn answers(
+    rt: &impl Abort,
+    alloc: Global,
+    fields: Vec<ModuleField<'static>>,
+    fault: Option<Error<'static>>,
+) {
+    let mut gensym = Gensym::new(1);
+    let fields = ready(rt, Seq::from_vec(fields), 1);
+    match resolve(alloc, fields, &mut gensym) {
+        Ok((fields, names)) => {
+            discard_names(names);
+            discard_fields(fields);
+            assert!(rt; fault.is_none());
+        }
+        Err(e) => assert!(rt; fault == Some(e)),
+    }
+}
+
+// Rows 14, 22 and 23, and `(module (type $t (func (param i32))) (func (type $t) (param i32)))`
+#[test]
+fn inline_types_are_matched(rt: HostRuntime) {
+    let alloc = rt.alloc();
+    let t = Some(Id::new("t", at(14)));
+    let named = Index::Id(Id::new("t", at(49)));
+    for (inline, fault) in [
+        (gives(&rt, alloc), Some(Error::new(at(49), Fault::NoMatch))),
+        (takes(&rt, alloc, None), None),
+    ] {
+        let written = type_of(alloc, t, InnerTypeKind::Func(takes(&rt, alloc, None)));
+        let used = typed_func(alloc, named, inline);
+        answers(
+            &rt,
+            alloc,
+            vec![in alloc; written, used].expect(&rt, "memory"),
+            fault,
+        );
+    }
+    let used = typed_func(alloc, Index::Num(5, at(20)), takes(&rt, alloc, None));
+    let fault = Error::new(at(20), Fault::OutOfBounds);
+    answers(
+        &rt,
+        alloc,
+        vec![in alloc; used].expect(&rt, "memory"),
+        Some(fault),
+    );
+    let fields = Seq::new(alloc);
+    let written = type_of(alloc, None, InnerTypeKind::Struct(StructType { fields }));
+    let used = typed_func(alloc, Index::Num(0, at(36)), takes(&rt, alloc, None));
+    let fault = Error::new(at(36), Fault::NotFunc);
+    answers(
+        &rt,
+        alloc,
+        vec![in alloc; written, used].expect(&rt, "memory"),
+        Some(fault),
+    );
+}
+
+// `(module (func (param $a i32) (local $b i32)))` and row 17
+#[test]
+fn names_of_locals_differ(rt: HostRuntime) {
+    let alloc = rt.alloc();
+    for (name, fault) in [
+        ("b", None),
+        ("a", Some(Error::new(at(36), Fault::Duplicate("local")))),
+    ] {
+        let local = Local {
+            id: Some(Id::new(name, at(36))),
+            name: None,
+            ty: ValType::I32,
+        };
+        let locals = Seq::from_vec(vec![in alloc; local].expect(&rt, "memory"));
+        let inline = takes(&rt, alloc, Some(Id::new("a", at(21))));
+        let ty = TypeUse {
+            index: None,
+            inline: Some(inline),
+        };
+        let fields = vec![in alloc; func_of(alloc, ty, locals)].expect(&rt, "memory");
+        answers(&rt, alloc, fields, fault);
     }
 }

@@ -1,35 +1,49 @@
 //! Walks over the tree in its place: each id where an index is wanted becomes the number that it denotes.
 #![tactic(auto, using(crate::proofs::Parts::both_met, crate::proofs::Parts::first_fails, crate::proofs::Parts::second_fails, crate::proofs::Parts::id_met))]
 
-ghost use Rattle.std.specs.Prelude.{List, [], ◌∷◌, ◌++◌, map, flat_map, option_map};
+ghost use Rattle.std.specs.Prelude.{⊤, ◌≤◌, ◌^◌, List, [], ◌∷◌, ◌++◌, length, map, flat_map, option_map};
 ghost use Rattle.wast_tree.specs.Known.{Known};
-ghost use Rattle.wast_tree.specs.Occurrences.{Ask, Body, if_there, outside, in_index, in_heap, in_ref, in_val, in_storage, in_param, in_signature, in_struct_field, in_struct, in_array, in_inner, in_def, in_type, in_rec, in_type_use, in_instr, in_expression, in_local, in_locals, in_func_kind, in_func, in_export, in_field, in_module};
-ghost use Rattle.wast_resolve.specs.Demands.{Start, ask_demands, step_demands, use_demands};
-ghost use Rattle.wast_resolve.specs.Resolved.{numbered_at, resolved_heap, resolved_ref, resolved_val, resolved_storage, resolved_param, resolved_signature, resolved_struct_field, resolved_struct, resolved_array, resolved_inner, resolved_def, resolved_type, resolved_rec, resolved_type_use, resolved_local, resolved_instr, resolved_instrs, resolved_expression, resolved_locals, resolved_body, resolved_func, resolved_export, resolved_field};
-ghost use Rattle.wast_resolve.specs.Resolvers.{known_of};
+ghost use Rattle.wast_tree.specs.Occurrences.{Ask, Body, if_there, outside, in_index, in_heap, in_ref, in_val, in_storage, in_param, in_signature, in_struct_field, in_struct, in_array, in_inner, in_def, in_type, in_rec, in_type_use, in_instr, in_expression, in_local, in_locals, in_body, matched, declared, in_func_kind, in_func, in_table_type, in_global_type, in_export, in_field, in_module};
+ghost use Rattle.wast_resolve.specs.Demands.{Here, start, first_unmet, ask_demands, step_demands, use_demands, local_counts_in, local_counts, HasMany};
+ghost use Rattle.wast_namespace.specs.Outcomes.{Outcome};
+ghost use Rattle.wast_resolve.specs.Resolved.{numbered_at, resolved_heap, resolved_ref, resolved_val, resolved_storage, resolved_param, resolved_signature, resolved_struct_field, resolved_struct, resolved_array, resolved_inner, resolved_def, resolved_type, resolved_rec, resolved_type_use, resolved_local, resolved_instr, resolved_instrs, resolved_expression, resolved_locals, resolved_body, resolved_func_kind, resolved_func, resolved_table_type, resolved_global_type, resolved_export, resolved_field};
+ghost use Rattle.wast_resolve.specs.Resolvers.{known_of, scope_of};
+ghost use Rattle.wast_resolve.specs.LookUps.{LooksTypesUp};
+ghost use Rattle.wast_resolve.specs.Tree.field;
 ghost use Rattle.wast_resolve.specs.Walking.{Walks, Steps};
 
+use crate::apart::{WalkApart, walk_outside, walk_outside_index};
+use crate::core_types::{
+    ResolveCoreType, resolve_heaptype, resolve_reftype, resolve_type, resolve_type_func,
+    resolve_valtype,
+};
+use crate::locals::check_locals;
 use crate::resolver::Resolver;
+use std::alloc::Global;
 use wast_tree::{
-    ArrayType, Error, Export, Expression, Func, FuncKind, FunctionType, HeapType, Id, Index,
-    InnerTypeKind, Instruction, Local, ModuleField, NameAnnotation, Rec, RefType, Seq, Space,
-    StorageType, StructField, StructType, Type, TypeDef, TypeUse, ValType,
+    ArrayType, Error, Export, Expression, Func, FuncKind, FunctionType, GlobalType, HeapType, Id,
+    Index, InnerTypeKind, Instruction, Local, ModuleField, NameAnnotation, Rec, RefType, Seq,
+    Space, StorageType, StructField, StructType, TableType, Type, TypeDef, TypeUse, ValType,
 };
 
 /// Walks over an index of a space. The error is E4 at an id that denotes nothing.
-fn walk_index<'a>(
+pub(crate) fn walk_index<'a>(
     names: &Resolver<'a>,
     space: Space,
     index: &mut Index<'a>,
 ) -> Result<(), Error<'a>>
     ensures { Walks ⊥ ⊥ (ask_demands (known_of names.now) (in_index space index.old)) (numbered_at (known_of names.now) space index.old) index.new result }
 {
+    // A second walk meets numbers alone.
+    if let Index::Num(_, _) = index {
+        return Ok(());
+    }
     names.number(index, space)?;
     Ok(())
 }
 
 /// Walks over an index of a space, if there is one.
-fn walk_optional<'a>(
+pub(crate) fn walk_optional<'a>(
     names: &Resolver<'a>,
     space: Space,
     index: &mut Option<Index<'a>>,
@@ -42,8 +56,8 @@ fn walk_optional<'a>(
     }
 }
 
-/// Walks over the indices of a space, in order.
-fn walk_indices<'a>(
+/// Walks over indices of a space, in order.
+pub(crate) fn walk_indices<'a>(
     names: &Resolver<'a>,
     space: Space,
     indices: &mut Seq<Index<'a>>,
@@ -56,8 +70,24 @@ fn walk_indices<'a>(
     Ok(())
 }
 
+/// The names of a module as a resolver of the indices of types, which needs nothing of them.
+#[derive(Drop)]
+struct ByNames<'r, 'a> {
+    names: &'r Resolver<'a>,
+}
+
+impl<'r, 'a> ResolveCoreType<'a> for ByNames<'r, 'a> {
+    ghost needs = { λ names i. ⊤ };
+
+    ghost called = { LooksTypesUp (λ by. known_of by.names.now) };
+
+    fn resolve_type_name(&mut self, name: &mut Index<'a>) -> Result<u32, Error<'a>> {
+        self.names.number(name, Space::Ty)
+    }
+}
+
 /// A part of the tree, outside of bodies, in which indices may stand.
-trait Walk<'a> {
+pub(crate) trait Walk<'a> {
     /// What stands in it.
     ghost asks: { Self → List Ask };
 
@@ -70,7 +100,10 @@ trait Walk<'a> {
 }
 
 /// Walks over each part of a list, in order.
-fn walk_each<'a, T: Walk<'a>>(names: &Resolver<'a>, parts: &mut Seq<T>) -> Result<(), Error<'a>>
+pub(crate) fn walk_each<'a, T: Walk<'a>>(
+    names: &Resolver<'a>,
+    parts: &mut Seq<T>,
+) -> Result<(), Error<'a>>
     ensures { Walks ⊥ ⊥ (ask_demands (known_of names.now) (flat_map T.asks parts.old)) (map (T.numbered (known_of names.now)) parts.old) parts.new result }
 {
     for i in 0..parts.len() {
@@ -79,16 +112,14 @@ fn walk_each<'a, T: Walk<'a>>(names: &Resolver<'a>, parts: &mut Seq<T>) -> Resul
     Ok(())
 }
 
-impl<'a> Walk<'a> for HeapType<'a> {
-    ghost asks = { in_heap };
+impl<'a> Walk<'a> for ValType<'a> {
+    ghost asks = { in_val };
 
-    ghost numbered = { resolved_heap };
+    ghost numbered = { resolved_val };
 
     fn walk(&mut self, names: &Resolver<'a>) -> Result<(), Error<'a>> {
-        match self {
-            HeapType::Abstract { .. } => Ok(()),
-            HeapType::Concrete(index) => walk_index(names, Space::Ty, index),
-        }
+        resolve_valtype(&mut ByNames { names }, self)?;
+        Ok(())
     }
 }
 
@@ -98,49 +129,18 @@ impl<'a> Walk<'a> for RefType<'a> {
     ghost numbered = { resolved_ref };
 
     fn walk(&mut self, names: &Resolver<'a>) -> Result<(), Error<'a>> {
-        self.heap.walk(names)?;
+        resolve_reftype(&mut ByNames { names }, self)?;
         Ok(())
     }
 }
 
-impl<'a> Walk<'a> for ValType<'a> {
-    ghost asks = { in_val };
+impl<'a> Walk<'a> for HeapType<'a> {
+    ghost asks = { in_heap };
 
-    ghost numbered = { resolved_val };
-
-    fn walk(&mut self, names: &Resolver<'a>) -> Result<(), Error<'a>> {
-        match self {
-            ValType::I32 => Ok(()),
-            ValType::I64 => Ok(()),
-            ValType::F32 => Ok(()),
-            ValType::F64 => Ok(()),
-            ValType::V128 => Ok(()),
-            ValType::Ref(ty) => ty.walk(names),
-        }
-    }
-}
-
-impl<'a> Walk<'a> for StorageType<'a> {
-    ghost asks = { in_storage };
-
-    ghost numbered = { resolved_storage };
+    ghost numbered = { resolved_heap };
 
     fn walk(&mut self, names: &Resolver<'a>) -> Result<(), Error<'a>> {
-        match self {
-            StorageType::I8 => Ok(()),
-            StorageType::I16 => Ok(()),
-            StorageType::Val(ty) => ty.walk(names),
-        }
-    }
-}
-
-impl<'a> Walk<'a> for (Option<Id<'a>>, Option<NameAnnotation<'a>>, ValType<'a>) {
-    ghost asks = { in_param };
-
-    ghost numbered = { resolved_param };
-
-    fn walk(&mut self, names: &Resolver<'a>) -> Result<(), Error<'a>> {
-        self.2.walk(names)?;
+        resolve_heaptype(&mut ByNames { names }, self)?;
         Ok(())
     }
 }
@@ -151,69 +151,7 @@ impl<'a> Walk<'a> for FunctionType<'a> {
     ghost numbered = { resolved_signature };
 
     fn walk(&mut self, names: &Resolver<'a>) -> Result<(), Error<'a>> {
-        walk_each(names, &mut self.params)?;
-        walk_each(names, &mut self.results)?;
-        Ok(())
-    }
-}
-
-impl<'a> Walk<'a> for StructField<'a> {
-    ghost asks = { in_struct_field };
-
-    ghost numbered = { resolved_struct_field };
-
-    fn walk(&mut self, names: &Resolver<'a>) -> Result<(), Error<'a>> {
-        self.ty.walk(names)?;
-        Ok(())
-    }
-}
-
-impl<'a> Walk<'a> for StructType<'a> {
-    ghost asks = { in_struct };
-
-    ghost numbered = { resolved_struct };
-
-    fn walk(&mut self, names: &Resolver<'a>) -> Result<(), Error<'a>> {
-        walk_each(names, &mut self.fields)?;
-        Ok(())
-    }
-}
-
-impl<'a> Walk<'a> for ArrayType<'a> {
-    ghost asks = { in_array };
-
-    ghost numbered = { resolved_array };
-
-    fn walk(&mut self, names: &Resolver<'a>) -> Result<(), Error<'a>> {
-        self.ty.walk(names)?;
-        Ok(())
-    }
-}
-
-impl<'a> Walk<'a> for InnerTypeKind<'a> {
-    ghost asks = { in_inner };
-
-    ghost numbered = { resolved_inner };
-
-    fn walk(&mut self, names: &Resolver<'a>) -> Result<(), Error<'a>> {
-        match self {
-            InnerTypeKind::Func(ty) => ty.walk(names),
-            InnerTypeKind::Struct(ty) => ty.walk(names),
-            InnerTypeKind::Array(ty) => ty.walk(names),
-        }
-    }
-}
-
-impl<'a> Walk<'a> for TypeDef<'a> {
-    ghost asks = { in_def };
-
-    ghost numbered = { resolved_def };
-
-    fn walk(&mut self, names: &Resolver<'a>) -> Result<(), Error<'a>> {
-        walk_indices(names, Space::Ty, &mut self.parents)?;
-        walk_optional(names, Space::Ty, &mut self.descriptor)?;
-        walk_optional(names, Space::Ty, &mut self.describes)?;
-        self.kind.walk(names)?;
+        resolve_type_func(&mut ByNames { names }, self)?;
         Ok(())
     }
 }
@@ -224,7 +162,7 @@ impl<'a> Walk<'a> for Type<'a> {
     ghost numbered = { resolved_type };
 
     fn walk(&mut self, names: &Resolver<'a>) -> Result<(), Error<'a>> {
-        self.def.walk(names)?;
+        resolve_type(&mut ByNames { names }, self)?;
         Ok(())
     }
 }
@@ -265,6 +203,28 @@ impl<'a> Walk<'a> for TypeUse<'a, FunctionType<'a>> {
     }
 }
 
+impl<'a> Walk<'a> for TableType<'a> {
+    ghost asks = { in_table_type };
+
+    ghost numbered = { resolved_table_type };
+
+    fn walk(&mut self, names: &Resolver<'a>) -> Result<(), Error<'a>> {
+        self.elem.walk(names)?;
+        Ok(())
+    }
+}
+
+impl<'a> Walk<'a> for GlobalType<'a> {
+    ghost asks = { in_global_type };
+
+    ghost numbered = { resolved_global_type };
+
+    fn walk(&mut self, names: &Resolver<'a>) -> Result<(), Error<'a>> {
+        self.ty.walk(names)?;
+        Ok(())
+    }
+}
+
 impl<'a> Walk<'a> for Local<'a> {
     ghost asks = { in_local };
 
@@ -289,28 +249,22 @@ impl<'a> Walk<'a> for Export<'a> {
 
 /// Walks over an instruction.
 fn walk_instr<'a>(names: &Resolver<'a>, instr: &mut Instruction<'a>) -> Result<(), Error<'a>>
-    ensures { Steps ⊥ ⊥ (known_of names.now) Start Start (in_instr instr.old) (resolved_instr (known_of names.now) Start instr.old) instr.new result }
+    ensures { (h : Here) → Steps ⊥ ⊥ (scope_of names.now) h h (in_instr instr.old) (resolved_instr (known_of names.now) h instr.old) instr.new result }
 {
     match instr {
         Instruction::Plain(_) => Ok(()),
         Instruction::call(func) => walk_index(names, Space::Func, func),
+        Instruction::global_get(global) => walk_index(names, Space::Global, global),
+        Instruction::i32_const(_) => Ok(()),
+        Instruction::i64_const(_) => Ok(()),
+        Instruction::ref_null(heap) => heap.walk(names),
+        Instruction::ref_func(func) => walk_index(names, Space::Func, func),
     }
-}
-
-/// Walks over a body.
-fn walk_expression<'a>(
-    names: &Resolver<'a>,
-    expression: &mut Expression<'a>,
-) -> Result<(), Error<'a>>
-    ensures { Walks ⊥ ⊥ (use_demands (known_of names.now) (Body (in_expression expression.old) ∷ [])) (resolved_expression (known_of names.now) expression.old) expression.new result }
-{
-    walk_instrs(names, &mut expression.instrs)?;
-    Ok(())
 }
 
 /// Walks over instructions, in order.
 fn walk_instrs<'a>(names: &Resolver<'a>, instrs: &mut Seq<Instruction<'a>>) -> Result<(), Error<'a>>
-    ensures { Steps ⊥ ⊥ (known_of names.now) Start Start (flat_map in_instr instrs.old) (resolved_instrs (known_of names.now) Start instrs.old) instrs.new result }
+    ensures { (h : Here) → Steps ⊥ ⊥ (scope_of names.now) h h (flat_map in_instr instrs.old) (resolved_instrs (known_of names.now) h instrs.old) instrs.new result }
 {
     for i in 0..instrs.len() {
         walk_instr(names, instrs.at_mut(i))?;
@@ -318,13 +272,41 @@ fn walk_instrs<'a>(names: &Resolver<'a>, instrs: &mut Seq<Instruction<'a>>) -> R
     Ok(())
 }
 
-/// Walks over a function: its type use, the types of its locals, and then its body.
-fn walk_func<'a>(names: &Resolver<'a>, func: &mut Func<'a>) -> Result<(), Error<'a>>
-    ensures { Walks ⊥ ⊥ (use_demands (known_of names.now) (in_func func.old)) (resolved_func (known_of names.now) func.old) func.new result }
+/// Walks over an expression.
+pub(crate) fn walk_expression<'a>(
+    names: &Resolver<'a>,
+    expression: &mut Expression<'a>,
+) -> Result<(), Error<'a>>
+    ensures { (h : Here) → Walks ⊥ ⊥ (step_demands (scope_of names.now) h (in_expression expression.old)) (resolved_expression (known_of names.now) h expression.old) expression.new result }
 {
-    func.ty.walk(names)?;
-    walk_locals(names, &mut func.kind)?;
-    walk_body(names, &mut func.kind)?;
+    walk_instrs(names, &mut expression.instrs)?;
+    Ok(())
+}
+
+/// Whether the inline type of a type use is that of the index beside it: E6, E5 or E7 at the index.
+fn check_type_use<'a>(
+    names: &Resolver<'a>,
+    ty: &TypeUse<'a, FunctionType<'a>>,
+) -> Result<(), Error<'a>>
+    ensures { Outcome ⊥ ⊥ (first_unmet (step_demands (scope_of names.now) start (matched ty.now))) result }
+{
+    match (&ty.index, &ty.inline) {
+        (Some(index), Some(inline)) => names.check_match(index, inline),
+        (Some(_), None) => Ok(()),
+        (None, Some(_)) => Ok(()),
+        (None, None) => Ok(()),
+    }
+}
+
+/// Walks over a type use: the index, the names of the inline type, and then whether the two match.
+pub(crate) fn walk_type_use<'a>(
+    names: &Resolver<'a>,
+    ty: &mut TypeUse<'a, FunctionType<'a>>,
+) -> Result<(), Error<'a>>
+    ensures { Walks ⊥ ⊥ (use_demands (scope_of names.now) (outside (in_type_use ty.old) ++ Body (matched ty.old) ∷ [])) (resolved_type_use (known_of names.now) ty.old) ty.new result }
+{
+    ty.walk(names)?;
+    check_type_use(names, ty)?;
     Ok(())
 }
 
@@ -339,34 +321,75 @@ fn walk_locals<'a>(names: &Resolver<'a>, kind: &mut FuncKind<'a>) -> Result<(), 
 
 /// Walks over the body of a function.
 fn walk_body<'a>(names: &Resolver<'a>, kind: &mut FuncKind<'a>) -> Result<(), Error<'a>>
-    ensures { Walks ⊥ ⊥ (use_demands (known_of names.now) (in_func_kind kind.old)) (resolved_body (known_of names.now) kind.old) kind.new result }
+    ensures { (h : Here) → Walks ⊥ ⊥ (step_demands (scope_of names.now) h (in_body kind.old)) (resolved_body (known_of names.now) h kind.old) kind.new result }
 {
     match kind {
         FuncKind::Inline { expression, .. } => walk_expression(names, expression),
     }
 }
 
+/// Walks over what a function is made of: the types of the locals, whether the names of parameters and locals differ, and
+/// then the body.
+fn walk_kind<'a>(
+    alloc: Global,
+    names: &Resolver<'a>,
+    inline: &Option<FunctionType<'a>>,
+    kind: &mut FuncKind<'a>,
+) -> Result<(), Error<'a>>
+    ensures { Walks ⊤ (2 ^ 32 ≤ length (declared inline.now kind.old)) (use_demands (scope_of names.now) (outside (in_locals kind.old) ++ in_func_kind inline.now kind.old)) (resolved_func_kind (known_of names.now) inline.now kind.old) kind.new result }
+{
+    walk_locals(names, kind)?;
+    check_locals(alloc, inline, kind)?;
+    walk_body(names, kind)?;
+    Ok(())
+}
+
+/// Walks over a function: its type use, and then what it is made of.
+fn walk_func<'a>(alloc: Global, names: &Resolver<'a>, func: &mut Func<'a>) -> Result<(), Error<'a>>
+    ensures { Walks ⊤ (HasMany (local_counts_in (field.Func func.old))) (use_demands (scope_of names.now) (in_func func.old)) (resolved_func (known_of names.now) func.old) func.new result }
+{
+    walk_type_use(names, &mut func.ty)?;
+    walk_kind(alloc, names, &func.ty.inline, &mut func.kind)?;
+    Ok(())
+}
+
 /// Walks over a field.
-fn walk_field<'a>(names: &Resolver<'a>, field: &mut ModuleField<'a>) -> Result<(), Error<'a>>
-    ensures { Walks ⊥ ⊥ (use_demands (known_of names.now) (in_field field.old)) (resolved_field (known_of names.now) field.old) field.new result }
+fn walk_field<'a>(
+    alloc: Global,
+    names: &Resolver<'a>,
+    field: &mut ModuleField<'a>,
+) -> Result<(), Error<'a>>
+    ensures { Walks ⊤ (HasMany (local_counts_in field.old)) (use_demands (scope_of names.now) (in_field field.old)) (resolved_field (known_of names.now) field.old) field.new result }
 {
     match field {
-        ModuleField::Ty(ty) => ty.walk(names),
-        ModuleField::Rec(rec) => rec.walk(names),
-        ModuleField::Func(func) => walk_func(names, func),
-        ModuleField::Export(export) => export.walk(names),
+        ModuleField::Ty(ty) => walk_outside(names, ty),
+        ModuleField::Rec(rec) => walk_outside(names, rec),
+        ModuleField::Import(imports) => imports.walk_apart(names),
+        ModuleField::Func(func) => walk_func(alloc, names, func),
+        ModuleField::Table(table) => table.walk_apart(names),
+        ModuleField::Memory(memory) => memory.walk_apart(names),
+        ModuleField::Global(global) => global.walk_apart(names),
+        ModuleField::Export(export) => walk_outside(names, export),
+        ModuleField::Start(func) => walk_outside_index(names, Space::Func, func),
+        ModuleField::Elem(elem) => elem.walk_apart(names),
+        ModuleField::Data(data) => data.walk_apart(names),
+        ModuleField::Tag(tag) => tag.walk_apart(names),
     }
 }
 
 /// Walks over the fields, in order.
+///
+/// It takes memory for the names of parameters and locals: E12 where it is refused, and E10 only where a function has 2^32
+/// of them or more.
 pub(crate) fn walk_fields<'a>(
+    alloc: Global,
     names: &Resolver<'a>,
     fields: &mut Seq<ModuleField<'a>>,
 ) -> Result<(), Error<'a>>
-    ensures { Walks ⊥ ⊥ (use_demands (known_of names.now) (in_module fields.old)) (map (resolved_field (known_of names.now)) fields.old) fields.new result }
+    ensures { Walks ⊤ (HasMany (local_counts fields.old)) (use_demands (scope_of names.now) (in_module fields.old)) (map (resolved_field (known_of names.now)) fields.old) fields.new result }
 {
     for i in 0..fields.len() {
-        walk_field(names, fields.at_mut(i))?;
+        walk_field(alloc, names, fields.at_mut(i))?;
     }
     Ok(())
 }

@@ -5,6 +5,7 @@ mod answers;
 #[cfg(test)]
 mod core_tests;
 mod errors;
+mod field_samples;
 mod numbers;
 #[cfg(test)]
 mod resolve_tests;
@@ -12,6 +13,7 @@ mod runs;
 mod samples;
 #[cfg(test)]
 mod tests;
+mod type_samples;
 
 pub use errors::RunError;
 pub use runs::run;

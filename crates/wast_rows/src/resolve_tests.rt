@@ -43,8 +43,8 @@ fn is_zero_at(index: Index<'_>, offset: usize) -> bool {
 fn callee<'a>(kind: &FuncKind<'a>) -> Option<Index<'a>> {
     let FuncKind::Inline { expression, .. } = kind;
     match expression.instrs.as_slice().first()? {
-        Instruction::Plain(_) => None,
         Instruction::call(func) => Some(*func),
+        _ => None,
     }
 }
 
@@ -52,12 +52,13 @@ fn callee<'a>(kind: &FuncKind<'a>) -> Option<Index<'a>> {
 fn has_numbers(rt: &impl Abort, fields: &Seq<ModuleField<'_>>) {
     for field in fields.as_slice() {
         match field {
-            ModuleField::Ty(_) | ModuleField::Rec(_) => {}
+            ModuleField::Ty(_) => {}
             ModuleField::Func(func) => {
                 assert!(rt; func.ty.index.is_some_and(|i| is_zero_at(i, 40)));
                 assert!(rt; callee(&func.kind).is_some_and(|i| is_zero_at(i, 49)));
             }
             ModuleField::Export(export) => assert!(rt; is_zero_at(export.item, 71)),
+            _ => panic!(rt; "another field"),
         }
     }
     assert!(rt; fields.len() == 3);

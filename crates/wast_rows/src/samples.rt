@@ -1,12 +1,13 @@
 //! The modules of the worked rows.
 
-ghost use Rattle.std.specs.Prelude.{◌≡◌, ◌↔◌, IsTrue, IsSome, IfSome, IfErr, Contains};
+ghost use Rattle.std.specs.Prelude.{◌≡◌, IsTrue, is_some, IfSome, IfErr};
 ghost use Rattle.wast_tree.specs.Faults.{out_of_memory};
 ghost use Rattle.wast_tree.specs.Occurrences.{in_def};
 ghost use Rattle.wast_resolve.specs.Resolved.{is_resolved};
 ghost use Rattle.wast_core.specs.Encodable.{is_encodable_def};
-ghost use Rattle.wast_rows.specs.RowNumbers.{row_numbers};
+ghost use Rattle.wast_rows.specs.RowNumbers.{is_row};
 
+use crate::{field_samples, type_samples};
 use std::alloc::Global;
 use wast_core::{Module, ModuleKind};
 use wast_tree::{
@@ -19,7 +20,7 @@ pub(crate) fn at(offset: usize) -> Span {
     Span { offset }
 }
 
-fn id(name: &str, offset: usize) -> Id<'_> {
+pub(crate) fn id(name: &str, offset: usize) -> Id<'_> {
     Id::new(name, at(offset))
 }
 
@@ -54,7 +55,7 @@ pub(crate) fn type_at<'a>(id: Option<Id<'a>>, offset: usize, def: TypeDef<'a>) -
 }
 
 /// `(type $name (func))` at a place.
-fn empty_type<'a>(alloc: Global, name: Id<'a>, offset: usize) -> ModuleField<'a> {
+pub(crate) fn empty_type<'a>(alloc: Global, name: Id<'a>, offset: usize) -> ModuleField<'a> {
     ModuleField::Ty(type_at(Some(name), offset, plain_type(alloc)))
 }
 
@@ -66,15 +67,19 @@ pub(crate) fn func<'a>(
     ty: Option<Index<'a>>,
     instrs: Seq<Instruction<'a>>,
 ) -> ModuleField<'a> {
-    func_of(alloc, id, offset, ty, Seq::new(alloc), instrs)
+    let ty = TypeUse {
+        index: ty,
+        inline: None,
+    };
+    func_using(alloc, id, offset, ty, Seq::new(alloc), instrs)
 }
 
-/// `(func ..)` at a place, with the index of its type where one is written, and with locals.
-fn func_of<'a>(
+/// `(func ..)` at a place, with its type use and locals.
+pub(crate) fn func_using<'a>(
     alloc: Global,
     id: Option<Id<'a>>,
     offset: usize,
-    ty: Option<Index<'a>>,
+    ty: TypeUse<'a, FunctionType<'a>>,
     locals: Seq<Local<'a>>,
     instrs: Seq<Instruction<'a>>,
 ) -> ModuleField<'a> {
@@ -92,10 +97,7 @@ fn func_of<'a>(
                 branch_hints: Seq::new(alloc),
             },
         },
-        ty: TypeUse {
-            index: ty,
-            inline: None,
-        },
+        ty,
     })
 }
 
@@ -192,8 +194,12 @@ fn function_with_locals<'a>(alloc: Global) -> Result<Module<'a>, Error<'a>>
             ty,
         })?;
     }
+    let ty = TypeUse {
+        index: None,
+        inline: None,
+    };
     let mut fields = Seq::new(alloc);
-    fields.push(func_of(alloc, None, 9, None, locals, Seq::new(alloc)))?;
+    fields.push(func_using(alloc, None, 9, ty, locals, Seq::new(alloc)))?;
     Ok(module(ModuleKind::Text(fields)))
 }
 
@@ -229,24 +235,40 @@ fn function_of_an_open_type<'a>(alloc: Global) -> Result<Module<'a>, Error<'a>>
 
 /// The module of a worked row, or out of memory; `None` where there is no such row.
 ///
-/// The rows are 1, 2, 3, 8, 24, 27, 31, 32, 33, 36 and 37. Places are offsets in the text of the row's module: of a field
+/// The rows are 1, 2, 3, 7, 8, 12, 13, 14, 17, 21 to 24, 27, 30 to 41 and 65. Places are offsets in the text of the row's module: of a field
 /// that of its keyword, of an id that of its `$`.
 pub fn sample<'a>(alloc: Global, n: u32) -> Option<Result<Module<'a>, Error<'a>>>
-    ensures there { IsSome result ↔ Contains row_numbers n }
+    ensures there { is_some result ≡ is_row n }
     ensures refusal { IfSome result (λ made. IfErr made (λ e. e ≡ out_of_memory)) }
 {
     match n {
         1 => Some(Ok(module(ModuleKind::Text(Seq::new(alloc))))),
         2 => Some(one_function(alloc, None, None)),
         3 => Some(one_function(alloc, Some(id("f", 14)), None)),
+        7 => Some(type_samples::type_written_later(alloc)),
         8 => Some(group_and_function(alloc)),
+        12 => Some(field_samples::import_after_a_function(alloc)),
+        13 => Some(field_samples::unknown_start_before_a_clash(alloc)),
+        14 => Some(type_samples::results_for_parameters(alloc)),
+        17 => Some(type_samples::local_named_as_a_parameter(alloc)),
+        21 => Some(field_samples::import_after_a_tag(alloc)),
+        22 => Some(type_samples::index_of_no_type(alloc)),
+        23 => Some(type_samples::function_of_a_struct(alloc)),
         24 => Some(one_function(alloc, None, Some(Index::Num(5, at(20))))),
         27 => Some(exported_call(alloc)),
+        30 => Some(field_samples::started_import(alloc)),
         31 => Some(unknown_export(alloc)),
         32 => Some(same_type_twice(alloc)),
         33 => Some(function_with_locals(alloc)),
+        34 => Some(type_samples::struct_with_a_named_field(alloc)),
+        35 => Some(type_samples::local_behind_a_parameter(alloc)),
         36 => Some(type_below_another(alloc)),
         37 => Some(function_of_an_open_type(alloc)),
+        38 => Some(field_samples::three_imports(alloc)),
+        39 => Some(field_samples::memory_with_data(alloc)),
+        40 => Some(field_samples::table_with_elements(alloc)),
+        41 => Some(field_samples::wide_shared_memory(alloc)),
+        65 => Some(type_samples::name_and_number_of_a_type(alloc)),
         _ => None,
     }
 }

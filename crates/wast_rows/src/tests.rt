@@ -48,6 +48,58 @@ fn rows_of_types_have_their_lines(rt: HostRuntime) -> Result<(), Fail> {
 }
 
 #[test]
+fn rows_of_type_uses_have_their_lines(rt: HostRuntime) -> Result<(), Fail> {
+    let output = answers(rt.alloc(), b"7\n14\n17\n22\n23\n65\n")?;
+    let want = concat!(
+        "0061736d010000000106016000027f7e030201000a05010300000b000b046e616d65040401000174\n",
+        "fault at 49: inline function type doesn't match type reference\n",
+        "fault at 36: duplicate local identifier\n",
+        "fault at 20: unknown type: type index out of bounds\n",
+        "fault at 36: invalid type: not a function type\n",
+        "0061736d01000000010e0360000060016400006001640000030201020a040102000b000b046e616d65040401000161\n",
+    );
+    assert_eq!(rt; output.as_slice(), want.as_bytes());
+    Ok(())
+}
+
+#[test]
+fn rows_of_inner_names_have_their_lines(rt: HostRuntime) -> Result<(), Fail> {
+    let output = answers(rt.alloc(), b"34\n35\n")?;
+    let want = concat!(
+        "0061736d010000000105015f017f010013046e616d650404010001730a06010001000179\n",
+        "0061736d0100000001050160017f00030201000a06010401017e0b0015046e616d65020601000101016c0c06010001000170\n",
+    );
+    assert_eq!(rt; output.as_slice(), want.as_bytes());
+    Ok(())
+}
+
+#[test]
+fn rows_of_imports_have_their_lines(rt: HostRuntime) -> Result<(), Fail> {
+    let output = answers(rt.alloc(), b"12\n13\n21\n30\n38\n")?;
+    let want = concat!(
+        "fault at 16: import after function\n",
+        "fault at 35: duplicate func identifier\n",
+        "fault at 15: import after tag\n",
+        "0061736d0100000001050160017f00020701016d01660000080100000b046e616d65010401000166\n",
+        "0061736d0100000002180301650174017000010165016d0201010201650167037f00\n",
+    );
+    assert_eq!(rt; output.as_slice(), want.as_bytes());
+    Ok(())
+}
+
+#[test]
+fn rows_of_definitions_have_their_lines(rt: HostRuntime) -> Result<(), Fail> {
+    let output = answers(rt.alloc(), b"39\n40\n41\n")?;
+    let want = concat!(
+        "0061736d0100000005030100010606017e01427f0b0b0b020101780041080b02797a000b046e616d65070401000167\n",
+        "0061736d01000000040401700001090a02030000057001d0700b\n",
+        "0061736d010000000505010f010200\n",
+    );
+    assert_eq!(rt; output.as_slice(), want.as_bytes());
+    Ok(())
+}
+
+#[test]
 fn each_line_has_its_answer(rt: HostRuntime) -> Result<(), Fail> {
     let none = "no row\n";
     let row_and_none = "0061736d01000000\nno row\n";

@@ -1,12 +1,15 @@
 -- What the definitions say of worked modules, computed.
 use Rattle.std.proofs.Common.{refl}
-use Rattle.wast_tree.specs.Private.Examples.{SameIds, StandsInRow27, StandsEverywhere, KnownInRows, WellFormedRows, SettledIndices, UnsettledIndices, WellFormedFuncs, WellFormedTypes, GenerationsOfRows}
+use Rattle.wast_tree.specs.Private.Examples.{SameIds, StandsInRow27, StandsInFilledMemory, StandsEverywhere, KnownInRows, WellFormedRows, SettledIndices, UnsettledIndices, WellFormedFuncs, WellFormedTypes, WellFormedSegments, WellFormedEntities, GenerationsOfRows}
 
 pub same_ids : SameIds
 same_ids a b = (refl, refl, refl, refl, refl, refl, refl, refl)
 
 pub stands_in_row27 : StandsInRow27
 stands_in_row27 a b c d e f = (refl, refl, refl)
+
+pub stands_in_filled_memory : StandsInFilledMemory
+stands_in_filled_memory a b c d e = (refl, refl, refl)
 
 pub stands_everywhere : StandsEverywhere
 stands_everywhere a = (refl, refl)
@@ -24,10 +27,16 @@ pub unsettled_indices : UnsettledIndices
 unsettled_indices = (refl, refl, refl, refl, refl, refl, refl)
 
 pub well_formed_funcs : WellFormedFuncs
-well_formed_funcs a = (refl, refl, refl, refl, refl, refl, refl, refl, refl)
+well_formed_funcs a = (refl, refl, refl, refl, refl, refl, refl, refl, refl, refl)
 
 pub well_formed_types : WellFormedTypes
 well_formed_types a = (refl, refl, refl, refl, refl, refl, refl, refl, refl, refl, refl, refl)
+
+pub well_formed_segments : WellFormedSegments
+well_formed_segments = (refl, refl, refl, refl, refl)
+
+pub well_formed_entities : WellFormedEntities
+well_formed_entities = (refl, refl, refl, refl, refl)
 
 pub generations_of_rows : GenerationsOfRows
 generations_of_rows a b c d e f = (refl, refl, refl, refl, refl, refl, refl)

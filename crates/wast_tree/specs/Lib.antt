@@ -1,9 +1,11 @@
 -- What the contracts cite. The tree, its ids and its spaces come first; then what a list of fields gives: its items, what
 -- it asks, what it makes known, whether it is well formed, and the greatest generation of its ids.
+pub mod DataBytes
 pub mod Faults
 pub mod Generations
 pub mod Gensym
 pub mod Ids
+pub mod Imports
 pub mod Items
 pub mod Known
 pub mod Lending

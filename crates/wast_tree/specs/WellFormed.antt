@@ -1,14 +1,24 @@
 -- Which lists of fields are well formed, as a test.
-use Rattle.std.specs.Prelude.{ℕ, Bool, true, not, ◌&&◌, ◌||◌, ◌==◌, is_none, is_some, length, List, Option, Some, None}
+use Rattle.std.specs.Prelude.{ℕ, Bool, true, false, not, ◌&&◌, ◌||◌, ◌==◌, is_none, is_some, length, List, Option, Some, None}
 use Rattle.std.specs.List.{list_all}
-use Rattle.wast_tree.specs.Tree.{Id, Index, NameAnnotation, HeapType, ValType, StorageType, StructField, FunctionType, TypeUse, InnerTypeKind, TypeDef, Local, Expression, FuncKind, Func, ModuleField}
+use Rattle.wast_tree.specs.Tree.{Id, Index, NameAnnotation, HeapType, ValType, StorageType, StructField, FunctionType, TypeUse, InnerTypeKind, TypeDef, AbstractHeapType, RefType, Local, Instruction, Expression, FuncKind, Func, TableType, GlobalType, TagType, ItemKind, ImportItems, TableKind, Table, Memory, GlobalKind, Global, Tag, ElemKind, ElemPayload, Elem, DataKind, ModuleField}
 use Rattle.wast_tree.specs.Tree.index
 use Rattle.wast_tree.specs.Tree.heap
 use Rattle.wast_tree.specs.Tree.value
 use Rattle.wast_tree.specs.Tree.storage
 use Rattle.wast_tree.specs.Tree.inner
 use Rattle.wast_tree.specs.Tree.ty
+use Rattle.wast_tree.specs.Tree.abstract
+use Rattle.wast_tree.specs.Tree.instr
 use Rattle.wast_tree.specs.Tree.func
+use Rattle.wast_tree.specs.Tree.tag
+use Rattle.wast_tree.specs.Tree.import_items
+use Rattle.wast_tree.specs.Tree.kind
+use Rattle.wast_tree.specs.Tree.table
+use Rattle.wast_tree.specs.Tree.global
+use Rattle.wast_tree.specs.Tree.elem
+use Rattle.wast_tree.specs.Tree.payload
+use Rattle.wast_tree.specs.Tree.data_kind
 use Rattle.wast_tree.specs.Tree.field
 use Rattle.wast_tree.specs.Ids.{Name, is_generated, name_of}
 use Rattle.wast_tree.specs.Items.{items}
@@ -50,18 +60,14 @@ is_plain_storage storage.I8 = true
 is_plain_storage storage.I16 = true
 is_plain_storage (storage.Val t) = is_plain_val t
 
--- neither id nor name annotation, of a parameter, a field of a struct or a local
-abbrev pub is_nameless : Option Id → Option NameAnnotation → Bool
-is_nameless id name = is_none id && is_none name
-
 abbrev pub is_plain_param : Option Id × Option NameAnnotation × ValType → Bool
-is_plain_param p = is_nameless p.0 p.1 && is_plain_val p.2
+is_plain_param p = is_plain_val p.2
 
 abbrev pub is_plain_signature : FunctionType → Bool
 is_plain_signature t = list_all is_plain_param t.params && list_all is_plain_val t.results
 
 abbrev pub is_plain_struct_field : StructField → Bool
-is_plain_struct_field f = is_nameless f.id f.name && is_plain_storage f.ty
+is_plain_struct_field f = is_plain_storage f.ty
 
 abbrev pub is_plain_inner : InnerTypeKind → Bool
 is_plain_inner (inner.Func t) = is_plain_signature t
@@ -80,16 +86,32 @@ is_plain_def d = not d.shared && (is_none d.descriptor && (is_none d.describes &
 abbrev pub is_plain_type : ty.«Type» → Bool
 is_plain_type t = is_plain_def t.def
 
--- A type use has no inline type.
+abbrev pub is_plain_inline : Option FunctionType → Bool
+is_plain_inline None = true
+is_plain_inline (Some t) = is_plain_signature t
+
 abbrev pub is_plain_type_use : TypeUse FunctionType → Bool
-is_plain_type_use u = is_none u.inline
+is_plain_type_use u = is_plain_inline u.inline
+
+abbrev pub is_plain_instr : Instruction → Bool
+is_plain_instr (instr.Plain op) = true
+is_plain_instr (instr.call f) = true
+is_plain_instr (instr.global_get g) = true
+is_plain_instr (instr.i32_const n) = true
+is_plain_instr (instr.i64_const n) = true
+is_plain_instr (instr.ref_null h) = is_plain_heap h
+is_plain_instr (instr.ref_func f) = true
 
 -- no branch hints
 abbrev pub is_plain_expression : Expression → Bool
-is_plain_expression e = length e.branch_hints == 0
+is_plain_expression e = (length e.branch_hints == 0) && list_all is_plain_instr e.instrs
+
+abbrev pub is_plain_expression_if : Option Expression → Bool
+is_plain_expression_if None = true
+is_plain_expression_if (Some e) = is_plain_expression e
 
 abbrev pub is_plain_local : Local → Bool
-is_plain_local l = is_nameless l.id l.name && is_plain_val l.ty
+is_plain_local l = is_plain_val l.ty
 
 abbrev pub is_plain_func_kind : FuncKind → Bool
 is_plain_func_kind (func.Inline locals e) = list_all is_plain_local locals && is_plain_expression e
@@ -98,11 +120,110 @@ is_plain_func_kind (func.Inline locals e) = list_all is_plain_local locals && is
 abbrev pub is_plain_func : Func → Bool
 is_plain_func f = (length f.exports.names == 0) && (is_plain_type_use f.ty && is_plain_func_kind f.kind)
 
+-- a table or a global that is not shared
+abbrev pub is_plain_table_type : TableType → Bool
+is_plain_table_type t = not t.shared && is_plain_heap t.elem.heap
+
+abbrev pub is_plain_global_type : GlobalType → Bool
+is_plain_global_type t = not t.shared && is_plain_val t.ty
+
+abbrev pub is_plain_tag_type : TagType → Bool
+is_plain_tag_type (tag.Exception u) = is_plain_type_use u
+
+abbrev pub is_plain_item_kind : ItemKind → Bool
+is_plain_item_kind (kind.Func u) = is_plain_type_use u
+is_plain_item_kind (kind.Table t) = is_plain_table_type t
+is_plain_item_kind (kind.Memory t) = true
+is_plain_item_kind (kind.Global t) = is_plain_global_type t
+is_plain_item_kind (kind.Tag t) = is_plain_tag_type t
+
+abbrev pub is_plain_import : ImportItems → Bool
+is_plain_import (import_items.Single source name sig) = is_plain_item_kind sig.kind
+
+abbrev pub is_plain_table_kind : TableKind → Bool
+is_plain_table_kind (table.Normal ty init) = is_plain_table_type ty && is_plain_expression_if init
+
+abbrev pub is_plain_table : Table → Bool
+is_plain_table t = (length t.exports.names == 0) && is_plain_table_kind t.kind
+
+abbrev pub is_plain_memory : Memory → Bool
+is_plain_memory m = length m.exports.names == 0
+
+abbrev pub is_plain_global_kind : GlobalKind → Bool
+is_plain_global_kind (global.Inline e) = is_plain_expression e
+
+abbrev pub is_plain_global : Global → Bool
+is_plain_global g = (length g.exports.names == 0) && (is_plain_global_type g.ty && is_plain_global_kind g.kind)
+
+abbrev pub is_plain_tag : Tag → Bool
+is_plain_tag t = (length t.exports.names == 0) && is_plain_tag_type t.ty
+
+-- `funcref`
+abbrev pub is_func : AbstractHeapType → Bool
+is_func abstract.Func = true
+is_func abstract.Extern = false
+is_func abstract.Exn = false
+is_func abstract.NoExn = false
+is_func abstract.Any = false
+is_func abstract.Eq = false
+is_func abstract.Struct = false
+is_func abstract.Array = false
+is_func abstract.NoFunc = false
+is_func abstract.NoExtern = false
+is_func abstract.None = false
+is_func abstract.I31 = false
+
+abbrev pub is_func_heap : HeapType → Bool
+is_func_heap (heap.Abstract shared ty) = not shared && is_func ty
+is_func_heap (heap.Concrete i) = false
+
+abbrev pub is_funcref : RefType → Bool
+is_funcref r = r.nullable && is_func_heap r.heap
+
+-- functions, or references to any functions
+abbrev pub holds_functions : ElemPayload → Bool
+holds_functions (payload.Indices is) = true
+holds_functions (payload.Exprs ty es) = is_funcref ty
+
+abbrev pub is_some_or : Option Index → Bool → Bool
+is_some_or None other = other
+is_some_or (Some i) other = true
+
+-- An active segment without a table holds functions: the binary format has no place for another type (element section).
+abbrev pub suits : ElemKind → ElemPayload → Bool
+suits elem.Passive p = true
+suits elem.Declared p = true
+suits (elem.Active table offset) p = is_some_or table (holds_functions p)
+
+abbrev pub is_plain_elem_kind : ElemKind → Bool
+is_plain_elem_kind elem.Passive = true
+is_plain_elem_kind elem.Declared = true
+is_plain_elem_kind (elem.Active table offset) = is_plain_expression offset
+
+abbrev pub is_plain_payload : ElemPayload → Bool
+is_plain_payload (payload.Indices is) = true
+is_plain_payload (payload.Exprs ty es) = is_plain_heap ty.heap && list_all is_plain_expression es
+
+abbrev pub is_plain_elem : Elem → Bool
+is_plain_elem e = suits e.kind e.payload && (is_plain_elem_kind e.kind && is_plain_payload e.payload)
+
+abbrev pub is_plain_data_kind : DataKind → Bool
+is_plain_data_kind data_kind.Passive = true
+is_plain_data_kind (data_kind.Active memory offset) = is_plain_expression offset
+
 abbrev pub is_plain_field : ModuleField → Bool
 is_plain_field (field.Ty t) = is_plain_type t
 is_plain_field (field.Rec r) = list_all is_plain_type r.types
+is_plain_field (field.Import i) = is_plain_import i.items
 is_plain_field (field.Func f) = is_plain_func f
+is_plain_field (field.Table t) = is_plain_table t
+is_plain_field (field.Memory m) = is_plain_memory m
+is_plain_field (field.Global g) = is_plain_global g
 is_plain_field (field.Export e) = true
+is_plain_field (field.Start i) = true
+is_plain_field (field.Elem e) = is_plain_elem e
+is_plain_field (field.Data d) = is_plain_data_kind d.kind
+is_plain_field (field.Tag t) = is_plain_tag t
 
 abbrev pub are_plain : List ModuleField → Bool
 are_plain fields = list_all is_plain_field fields

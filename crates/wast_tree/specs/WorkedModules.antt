@@ -1,12 +1,18 @@
 -- Worked modules as lists of fields (text format: modules). A text may lie anywhere in memory.
 use Rattle.std.specs.Prelude.{ℕ, ◌+◌, false, List, [], ◌∷◌, Option, Some, None, codes}
 use Rattle.std.specs.Borrow.{Bor}
-use Rattle.wast_tree.specs.Tree.{Span, Id, Index, TypeDef, Instruction, Func, Export, ModuleField}
+use Rattle.wast_tree.specs.Tree.{Span, Id, Index, TypeDef, Instruction, MemoryType, GlobalType, Func, Memory, Data, Export, ModuleField}
 use Rattle.wast_tree.specs.Tree.index
+use Rattle.wast_tree.specs.Tree.value
 use Rattle.wast_tree.specs.Tree.inner
 use Rattle.wast_tree.specs.Tree.ty
 use Rattle.wast_tree.specs.Tree.instr
 use Rattle.wast_tree.specs.Tree.func
+use Rattle.wast_tree.specs.Tree.import_items
+use Rattle.wast_tree.specs.Tree.kind
+use Rattle.wast_tree.specs.Tree.memory
+use Rattle.wast_tree.specs.Tree.data_kind
+use Rattle.wast_tree.specs.Tree.bytes
 use Rattle.wast_tree.specs.Tree.export
 use Rattle.wast_tree.specs.Tree.field
 use Rattle.wast_tree.specs.Ids.{written}
@@ -79,3 +85,38 @@ row31 a b c d e = type_field a 8 ∷ export_field b 25 (by_id c (codes "g") 43) 
 -- `(module (type $t (func)) (type $t (func)))`
 abbrev pub row32 : (a b : Address) → List ModuleField
 row32 a b = type_field a 8 ∷ type_field b 25 ∷ []
+
+-- a global that holds an `i32`, and a memory of at least one page
+abbrev pub plain_global_type : GlobalType
+plain_global_type = record { ty = value.I32; mutable = false; shared = false }
+
+abbrev pub plain_memory_type : MemoryType
+plain_memory_type = record { limits = record { is64 = false; min = 1; max = None }; shared = false; page_size_log2 = None }
+
+-- `(memory .. 1)`, which begins at n
+abbrev pub plain_memory : Option Id → ℕ → Memory
+plain_memory id n = record { span = place (n + 1); id = id; name = None; exports = record { names = [] }; kind = memory.Normal plain_memory_type }
+
+-- `(data (memory ..) (offset global.get ..) "a")`, which begins at n
+abbrev pub plain_data : Address → ℕ → Index → Index → Data
+plain_data a n filled start = record {
+  span = place (n + 1);
+  id = None;
+  name = None;
+  kind = data_kind.Active filled (record { instrs = instr.global_get start ∷ []; branch_hints = [] });
+  bytes = bytes.«String» (text a (codes "a")) ∷ [];
+}
+
+-- `(import "e" "g" (global $g i32))` and `(memory $m 1)`, which begin at n
+abbrev pub import_field : Address → ℕ → ModuleField
+import_field a n = field.Import (record {
+  span = place (n + 1);
+  items = import_items.Single (text a (codes "e")) (text a (codes "g")) (record { span = place (n + 17); id = Some (id_at a (codes "g") (n + 24)); name = None; kind = kind.Global plain_global_type });
+})
+
+abbrev pub memory_field : Address → ℕ → ModuleField
+memory_field a n = field.Memory (plain_memory (Some (id_at a (codes "m") (n + 8))) n)
+
+-- `(module (import "e" "g" (global $g i32)) (memory $m 1) (data (memory $m) (offset global.get $g) "a"))`
+abbrev pub filled_memory : (a b c d e : Address) → List ModuleField
+filled_memory a b c d e = import_field a 8 ∷ memory_field b 41 ∷ field.Data (plain_data c 55 (by_id d (codes "m") 69) (by_id e (codes "g") 92)) ∷ []

@@ -10,6 +10,7 @@ ghost use Rattle.wast_tree.specs.Private.Bearers.{bears};
 use crate::fields::ModuleField;
 use crate::ids::Id;
 use crate::spaces::Space;
+use crate::types::StructField;
 use crate::visits::{ItemVisitor, visit_items_in};
 
 /// An id, and the space in which an item with it is looked for.
@@ -39,7 +40,7 @@ fn is_called(bearer: &Option<Id<'_>>, id: &Id<'_>) -> bool
 impl<'i, 'b, 'a> ItemVisitor<'a> for Bearer<'i, 'b> {
     ghost told = { λ old x new. (new.sought ≡ old.sought) × (new.found ≡ (old.found || bears old.sought x)) };
 
-    fn item(&mut self, space: Space, id: &Option<Id<'a>>) {
+    fn item(&mut self, space: Space, id: &Option<Id<'a>>, _fields: &[StructField<'a>]) {
         self.found = self.found || self.sought.space.is(space) && is_called(id, self.sought.id);
     }
 }

@@ -6,11 +6,12 @@ ghost use Rattle.wast_tree.specs.Ids.{name_of};
 ghost use Rattle.wast_tree.specs.Spaces.{is_borne};
 ghost use Rattle.wast_tree.specs.Items.{items};
 ghost use Rattle.wast_tree.specs.Known.{known, names_in};
-ghost use Rattle.wast_tree.specs.WellFormed.{is_settled_index, is_settled, is_plain_heap, is_plain_val, is_plain_storage, is_nameless, is_plain_param, is_plain_struct_field, is_plain_inner, is_plain_type, is_plain_local, is_plain_type_use, is_plain_func_kind, is_plain_func, is_plain_field, has_settled_indices, is_well_formed};
+ghost use Rattle.wast_tree.specs.WellFormed.{is_settled_index, is_settled, is_plain_heap, is_plain_val, is_plain_storage, is_plain_param, is_plain_signature, is_plain_struct_field, is_plain_inner, is_plain_type, is_plain_local, is_plain_instr, is_plain_expression, is_plain_type_use, is_plain_func_kind, is_plain_func, is_plain_field, has_settled_indices, is_well_formed};
 
 use crate::bearers::bearer_from;
 use crate::fields::{Func, FuncKind, Local, ModuleField};
 use crate::ids::{Id, Index, NameAnnotation};
+use crate::instrs::{Expression, Instruction};
 use crate::spaces::Space;
 use crate::types::{
     FunctionType, HeapType, InnerTypeKind, StorageType, StructField, Type, TypeUse, ValType,
@@ -83,7 +84,7 @@ fn has_settled_indices(fields: &[ModuleField<'_>]) -> bool
 }
 
 /// A part of the tree that keeps to what the tree covers today, or does not.
-trait IsPlain {
+pub(crate) trait IsPlain {
     ghost plain: { Self → Bool };
 
     /// Whether it does.
@@ -92,7 +93,7 @@ trait IsPlain {
 }
 
 /// Whether each part of a list does.
-fn are_plain<T: IsPlain>(parts: &[T]) -> bool
+pub(crate) fn are_plain<T: IsPlain>(parts: &[T]) -> bool
     ensures { result ≡ list_all T.plain parts.now }
 {
     parts.iter().all(|part| part.is_plain())
@@ -131,18 +132,11 @@ impl IsPlain for StorageType<'_> {
     }
 }
 
-/// Whether there is neither an id nor a name annotation.
-fn is_nameless(id: &Option<Id>, name: &Option<NameAnnotation>) -> bool
-    ensures { result ≡ is_nameless id.now name.now }
-{
-    id.is_none() && name.is_none()
-}
-
 impl<'a> IsPlain for (Option<Id<'a>>, Option<NameAnnotation<'a>>, ValType<'a>) {
     ghost plain = { is_plain_param };
 
     fn is_plain(&self) -> bool {
-        is_nameless(&self.0, &self.1) && self.2.is_plain()
+        self.2.is_plain()
     }
 }
 
@@ -150,7 +144,15 @@ impl IsPlain for StructField<'_> {
     ghost plain = { is_plain_struct_field };
 
     fn is_plain(&self) -> bool {
-        is_nameless(&self.id, &self.name) && self.ty.is_plain()
+        self.ty.is_plain()
+    }
+}
+
+impl IsPlain for FunctionType<'_> {
+    ghost plain = { is_plain_signature };
+
+    fn is_plain(&self) -> bool {
+        are_plain(self.params.as_slice()) && are_plain(self.results.as_slice())
     }
 }
 
@@ -159,9 +161,7 @@ impl IsPlain for InnerTypeKind<'_> {
 
     fn is_plain(&self) -> bool {
         match self {
-            InnerTypeKind::Func(ty) => {
-                are_plain(ty.params.as_slice()) && are_plain(ty.results.as_slice())
-            }
+            InnerTypeKind::Func(ty) => ty.is_plain(),
             InnerTypeKind::Struct(ty) => are_plain(ty.fields.as_slice()),
             InnerTypeKind::Array(ty) => ty.ty.is_plain(),
         }
@@ -181,7 +181,10 @@ impl<'a> IsPlain for TypeUse<'a, FunctionType<'a>> {
     ghost plain = { is_plain_type_use };
 
     fn is_plain(&self) -> bool {
-        self.inline.is_none()
+        match &self.inline {
+            None => true,
+            Some(ty) => ty.is_plain(),
+        }
     }
 }
 
@@ -189,7 +192,31 @@ impl IsPlain for Local<'_> {
     ghost plain = { is_plain_local };
 
     fn is_plain(&self) -> bool {
-        is_nameless(&self.id, &self.name) && self.ty.is_plain()
+        self.ty.is_plain()
+    }
+}
+
+impl IsPlain for Instruction<'_> {
+    ghost plain = { is_plain_instr };
+
+    fn is_plain(&self) -> bool {
+        match self {
+            Instruction::Plain(_) => true,
+            Instruction::call(_) => true,
+            Instruction::global_get(_) => true,
+            Instruction::i32_const(_) => true,
+            Instruction::i64_const(_) => true,
+            Instruction::ref_null(heap) => heap.is_plain(),
+            Instruction::ref_func(_) => true,
+        }
+    }
+}
+
+impl IsPlain for Expression<'_> {
+    ghost plain = { is_plain_expression };
+
+    fn is_plain(&self) -> bool {
+        self.branch_hints.is_empty() && are_plain(self.instrs.as_slice())
     }
 }
 
@@ -199,7 +226,7 @@ impl IsPlain for FuncKind<'_> {
     fn is_plain(&self) -> bool {
         match self {
             FuncKind::Inline { locals, expression } => {
-                are_plain(locals.as_slice()) && expression.branch_hints.is_empty()
+                are_plain(locals.as_slice()) && expression.is_plain()
             }
         }
     }
@@ -220,8 +247,16 @@ impl IsPlain for ModuleField<'_> {
         match self {
             ModuleField::Ty(ty) => ty.is_plain(),
             ModuleField::Rec(rec) => are_plain(rec.types.as_slice()),
+            ModuleField::Import(import) => import.items.is_plain(),
             ModuleField::Func(func) => func.is_plain(),
+            ModuleField::Table(table) => table.is_plain(),
+            ModuleField::Memory(memory) => memory.is_plain(),
+            ModuleField::Global(global) => global.is_plain(),
             ModuleField::Export(_) => true,
+            ModuleField::Start(_) => true,
+            ModuleField::Elem(elem) => elem.is_plain(),
+            ModuleField::Data(data) => data.kind.is_plain(),
+            ModuleField::Tag(tag) => tag.is_plain(),
         }
     }
 }
@@ -229,10 +264,12 @@ impl IsPlain for ModuleField<'_> {
 /// Whether the fields are well formed (text format: indices, modules). It takes no memory.
 ///
 /// They are, where each generated id that stands for an index is that of an item of its space, and where they keep to what
-/// the tree covers today: type uses have no inline type; functions have no hints or exports of their own; parameters,
-/// locals and fields of structs have no ids and no name annotations; types are not shared, without descriptor and
-/// describes, and refer to no shared heap type. A type use may have no index. A written id may be that of no item: this
-/// is E4, which resolving answers.
+/// the tree covers today: no item is exported in place, and no expression has hints; types, tables and globals are not
+/// shared, types are without descriptor and describes, and no shared heap type is referred to. Of an active element segment
+/// without a table, which stands for the first one, expressions are of type `funcref`: for another type the binary format
+/// wants the table written. A type use may have no index, and an inline type may be another than
+/// that of the index beside it: this is E5, E6 or E7, which resolving answers. A written id may be that of no item (E4), and
+/// two parameters and locals of a function (E2), or two fields of a struct (E3), may have one id.
 ///
 /// It is quick where generated ids stand in the order of their items. In another order each may be looked for through all
 /// the fields.

@@ -1,6 +1,6 @@
 //! Worked modules, of which the definitions compute what they say.
 
-ghost use Rattle.wast_tree.specs.Private.Examples.{SameIds, StandsInRow27, StandsEverywhere, KnownInRows, WellFormedRows, SettledIndices, UnsettledIndices, WellFormedFuncs, WellFormedTypes, GenerationsOfRows};
+ghost use Rattle.wast_tree.specs.Private.Examples.{SameIds, StandsInRow27, StandsInFilledMemory, StandsEverywhere, KnownInRows, WellFormedRows, SettledIndices, UnsettledIndices, WellFormedFuncs, WellFormedTypes, WellFormedSegments, WellFormedEntities, GenerationsOfRows};
 
 /// Which ids and indices are the same.
 #[tactic(auto, using(crate::proofs::Worked::same_ids))]
@@ -9,21 +9,24 @@ pub(crate) fn same_ids()
 {}
 
 /// What stands in small modules, in which order, and what they make known.
-#[tactic(auto, using(crate::proofs::Worked::stands_in_row27, crate::proofs::Worked::stands_everywhere, crate::proofs::Worked::known_in_rows))]
+#[tactic(auto, using(crate::proofs::Worked::stands_in_row27, crate::proofs::Worked::stands_in_filled_memory, crate::proofs::Worked::stands_everywhere, crate::proofs::Worked::known_in_rows))]
 pub(crate) fn occurrences()
     ensures row27 { StandsInRow27 }
+    ensures filled_memory { StandsInFilledMemory }
     ensures everywhere { StandsEverywhere }
     ensures known { KnownInRows }
 {}
 
 /// Which modules are well formed, and which are not.
-#[tactic(auto, using(crate::proofs::Worked::well_formed_rows, crate::proofs::Worked::settled_indices, crate::proofs::Worked::unsettled_indices, crate::proofs::Worked::well_formed_funcs, crate::proofs::Worked::well_formed_types))]
+#[tactic(auto, using(crate::proofs::Worked::well_formed_rows, crate::proofs::Worked::settled_indices, crate::proofs::Worked::unsettled_indices, crate::proofs::Worked::well_formed_funcs, crate::proofs::Worked::well_formed_types, crate::proofs::Worked::well_formed_segments, crate::proofs::Worked::well_formed_entities))]
 pub(crate) fn well_formed()
     ensures rows { WellFormedRows }
     ensures settled { SettledIndices }
     ensures unsettled { UnsettledIndices }
     ensures funcs { WellFormedFuncs }
     ensures types { WellFormedTypes }
+    ensures segments { WellFormedSegments }
+    ensures entities { WellFormedEntities }
 {}
 
 /// The generations of the ids of small modules.

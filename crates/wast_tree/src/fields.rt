@@ -1,8 +1,15 @@
 //! The fields of a module in the text format.
 
+ghost use Rattle.std.specs.Prelude.{◌≡◌};
+ghost use Rattle.wast_tree.specs.Occurrences.{exported_space};
+
+use crate::entities::{GlobalType, MemoryType, TableType, TagType};
 use crate::ids::{Id, Index, NameAnnotation, Span};
+use crate::imports::Imports;
 use crate::instrs::Expression;
+use crate::segments::{Data, Elem};
 use crate::seq::Seq;
+use crate::spaces::Space;
 use crate::types::{FunctionType, Rec, Type, TypeUse, ValType};
 
 /// A field of a module (text format, modules).
@@ -12,10 +19,26 @@ pub enum ModuleField<'a> {
     Ty(Type<'a>),
     /// `(rec ..)`
     Rec(Rec<'a>),
+    /// `(import ..)`
+    Import(Imports<'a>),
     /// `(func ..)`
     Func(Func<'a>),
+    /// `(table ..)`
+    Table(Table<'a>),
+    /// `(memory ..)`
+    Memory(Memory<'a>),
+    /// `(global ..)`
+    Global(Global<'a>),
     /// `(export ..)`
     Export(Export<'a>),
+    /// `(start ..)`
+    Start(Index<'a>),
+    /// `(elem ..)`
+    Elem(Elem<'a>),
+    /// `(data ..)`
+    Data(Data<'a>),
+    /// `(tag ..)`
+    Tag(Tag<'a>),
 }
 
 /// The names under which a field exports its item: `(export "a")` within the field (text format, exports).
@@ -65,11 +88,131 @@ pub struct Local<'a> {
     pub ty: ValType<'a>,
 }
 
+/// A table: `(table $t 1 funcref)` (text format, tables).
+#[derive(Debug, Drop)]
+pub struct Table<'a> {
+    /// The place of its keyword.
+    pub span: Span,
+    /// Its id.
+    pub id: Option<Id<'a>>,
+    /// Its name annotation.
+    pub name: Option<NameAnnotation<'a>>,
+    /// The names under which it is exported in place.
+    pub exports: InlineExport<'a>,
+    /// What it is made of.
+    pub kind: TableKind<'a>,
+}
+
+/// What a table is made of (text format, tables).
+#[derive(Debug, Drop)]
+pub enum TableKind<'a> {
+    /// A type, and what each element is at first.
+    Normal {
+        /// Its type.
+        ty: TableType<'a>,
+        /// What each element is at first, where that is written.
+        init_expr: Option<Expression<'a>>,
+    },
+}
+
+/// A memory: `(memory $m 1)` (text format, memories).
+#[derive(Debug, Drop)]
+pub struct Memory<'a> {
+    /// The place of its keyword.
+    pub span: Span,
+    /// Its id.
+    pub id: Option<Id<'a>>,
+    /// Its name annotation.
+    pub name: Option<NameAnnotation<'a>>,
+    /// The names under which it is exported in place.
+    pub exports: InlineExport<'a>,
+    /// What it is made of.
+    pub kind: MemoryKind,
+}
+
+/// What a memory is made of (text format, memories).
+#[derive(Clone, Copy, Debug, PartialEq, Eq)]
+pub enum MemoryKind {
+    /// A type.
+    Normal(MemoryType),
+}
+
+/// A global: `(global $g (mut i32) (i32.const 0))` (text format, globals).
+#[derive(Debug, Drop)]
+pub struct Global<'a> {
+    /// The place of its keyword.
+    pub span: Span,
+    /// Its id.
+    pub id: Option<Id<'a>>,
+    /// Its name annotation.
+    pub name: Option<NameAnnotation<'a>>,
+    /// The names under which it is exported in place.
+    pub exports: InlineExport<'a>,
+    /// Its type.
+    pub ty: GlobalType<'a>,
+    /// What it is made of.
+    pub kind: GlobalKind<'a>,
+}
+
+/// What a global is made of (text format, globals).
+#[derive(Debug, Drop)]
+pub enum GlobalKind<'a> {
+    /// Its value at first.
+    Inline(Expression<'a>),
+}
+
+/// A tag: `(tag $t (param i32))` (text format, tags).
+#[derive(Debug, Drop)]
+pub struct Tag<'a> {
+    /// The place of its keyword.
+    pub span: Span,
+    /// Its id.
+    pub id: Option<Id<'a>>,
+    /// Its name annotation.
+    pub name: Option<NameAnnotation<'a>>,
+    /// The names under which it is exported in place.
+    pub exports: InlineExport<'a>,
+    /// Its type.
+    pub ty: TagType<'a>,
+    /// What it is made of.
+    pub kind: TagKind,
+}
+
+/// What a tag is made of (text format, tags).
+#[derive(Clone, Copy, Debug, PartialEq, Eq)]
+pub enum TagKind {
+    /// Its type alone.
+    Inline,
+}
+
 /// What an export gives out (text format, exports).
 #[derive(Clone, Copy, Debug, PartialEq, Eq)]
 pub enum ExportKind {
     /// A function.
     Func,
+    /// A table.
+    Table,
+    /// A memory.
+    Memory,
+    /// A global.
+    Global,
+    /// A tag.
+    Tag,
+}
+
+impl ExportKind {
+    /// The space of what is exported (text format, exports). It takes no memory.
+    pub fn space(self) -> Space
+        ensures { result ≡ exported_space self }
+    {
+        match self {
+            ExportKind::Func => Space::Func,
+            ExportKind::Table => Space::Table,
+            ExportKind::Memory => Space::Memory,
+            ExportKind::Global => Space::Global,
+            ExportKind::Tag => Space::Tag,
+        }
+    }
 }
 
 /// An export: `(export "a" (func $f))` (text format, exports).

@@ -7,6 +7,7 @@ ghost use Rattle.wast_tree.specs.Generations.{generation_if, generation_at, gene
 use crate::fields::ModuleField;
 use crate::ids::{Id, Index};
 use crate::spaces::Space;
+use crate::types::StructField;
 use crate::visits::{ItemVisitor, Visitor, visit_fields, visit_items};
 
 /// The greatest generation of the ids that it was told of.
@@ -26,7 +27,7 @@ impl Greatest {
 impl<'a> ItemVisitor<'a> for Greatest {
     ghost told = { λ old x new. new.generation ≡ max old.generation (generation_if x.id) };
 
-    fn item(&mut self, _space: Space, id: &Option<Id<'a>>) {
+    fn item(&mut self, _space: Space, id: &Option<Id<'a>>, _fields: &[StructField<'a>]) {
         if let Some(id) = id {
             self.see(id);
         }
@@ -50,8 +51,8 @@ impl Visitor for Greatest {
 
 /// The greatest generation of an id in the fields, and 0 where no id is generated. It takes no memory.
 ///
-/// The ids are those of items, parameters and locals, and those that stand for indices. A counter that begins above it
-/// gives ids that are new to the fields.
+/// The ids are those of items, parameters, locals and fields of structs, and those that stand for indices. A counter that
+/// begins above it gives ids that are new to the fields.
 pub fn gensym_bound(fields: &[ModuleField<'_>]) -> u64
     ensures { result ≡ greatest_generation fields.now }
 {

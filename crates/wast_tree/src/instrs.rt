@@ -1,7 +1,13 @@
 //! Instructions of the text format.
 
+ghost use Rattle.std.specs.Prelude.{◌≡◌, [], ◌∷◌, IfOk, IfErr};
+ghost use Rattle.wast_tree.specs.Faults.{out_of_memory};
+
+use crate::faults::Error;
 use crate::ids::Index;
 use crate::seq::Seq;
+use crate::types::HeapType;
+use std::alloc::Global;
 
 /// An instruction whose text is one word without a dot, and that has no immediate (text format, instructions). The number
 /// of a variant is its opcode.
@@ -31,6 +37,16 @@ pub enum Instruction<'a> {
     Plain(Plain),
     /// `call $f`
     call(Index<'a>),
+    /// `global.get $g`
+    global_get(Index<'a>),
+    /// `i32.const 1`
+    i32_const(i32),
+    /// `i64.const 1`
+    i64_const(i64),
+    /// `ref.null func`
+    ref_null(HeapType<'a>),
+    /// `ref.func $f`
+    ref_func(Index<'a>),
 }
 
 /// A branch hint: `(@metadata.code.branch_hint "\01")` (custom annotations).
@@ -49,6 +65,23 @@ pub struct Expression<'a> {
     pub instrs: Seq<Instruction<'a>>,
     /// The branch hints, in the order of the text.
     pub branch_hints: Seq<BranchHint>,
+}
+
+impl<'a> Expression<'a> {
+    /// An expression of one instruction, without branch hints (text format, expressions). It takes memory for the
+    /// instruction. The only error is E12, where that is refused; then the instruction is dropped.
+    pub fn one<'e>(alloc: Global, instruction: Instruction<'a>) -> Result<Expression<'a>, Error<'e>>
+        ensures expression { IfOk result (λ e. e ≡ record { instrs = instruction.entry ∷ []; branch_hints = [] }) }
+        ensures refusal { IfErr result (λ e. e ≡ out_of_memory) }
+    {
+        let mut instrs = Seq::new(alloc);
+        instrs.push(instruction)?;
+        let branch_hints = Seq::new(alloc);
+        Ok(Expression {
+            instrs,
+            branch_hints,
+        })
+    }
 }
 
 /// Drops an instruction, and gives its memory back.

@@ -7,13 +7,18 @@
 mod bearers;
 mod boxed;
 mod check;
+mod entities;
 mod examples;
 mod faults;
+mod field_checks;
+mod field_visits;
 mod fields;
 mod generations;
 mod gensym;
 mod ids;
+mod imports;
 mod instrs;
+mod segments;
 mod seq;
 mod spaces;
 mod types;
@@ -21,16 +26,20 @@ mod visits;
 
 pub use boxed::Boxed;
 pub use check::well_formed;
+pub use entities::{GlobalType, Limits, MemoryType, TableType, TagType};
 pub use faults::{Error, Fault, Form};
 pub use fields::{
-    Export, ExportKind, Func, FuncKind, InlineExport, Local, ModuleField, discard_fields,
+    Export, ExportKind, Func, FuncKind, Global, GlobalKind, InlineExport, Local, Memory,
+    MemoryKind, ModuleField, Table, TableKind, Tag, TagKind, discard_fields,
 };
 pub use generations::gensym_bound;
 pub use gensym::Gensym;
 pub use ids::{Id, Index, NameAnnotation, Span};
+pub use imports::{ImportItems, Imports, ItemKind, ItemSig};
 pub use instrs::{
     BareOp, BranchHint, Expression, Instruction, Plain, discard_expression, discard_instruction,
 };
+pub use segments::{Data, DataKind, DataVal, Elem, ElemKind, ElemPayload};
 pub use seq::{IntoIter, Seq};
 pub use spaces::Space;
 pub use types::{

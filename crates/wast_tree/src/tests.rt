@@ -5,8 +5,8 @@ ghost use Rattle.wast_tree.specs.Faults.{is_placed};
 
 use crate::{
     Boxed, BranchHint, Error, Export, ExportKind, Expression, Fault, Form, Func, FuncKind, Gensym,
-    Id, Index, InlineExport, Instruction, ItemVisitor, ModuleField, Seq, Space, Span, TypeUse,
-    discard_expression, discard_fields, discard_instruction, gensym_bound, visit_items,
+    Id, Index, InlineExport, Instruction, ItemVisitor, ModuleField, Seq, Space, Span, StructField,
+    TypeUse, discard_expression, discard_fields, discard_instruction, gensym_bound, visit_items,
     well_formed,
 };
 use std::alloc::Global;
@@ -300,7 +300,7 @@ struct Counts {
 impl<'a> ItemVisitor<'a> for Counts {
     ghost told = { λ _ _ _. ⊤ };
 
-    fn item(&mut self, space: Space, id: &Option<Id<'a>>) {
+    fn item(&mut self, space: Space, id: &Option<Id<'a>>, _fields: &[StructField<'a>]) {
         let rank = space.rank();
         self.items[rank] = self.items[rank].wrapping_add(1);
         if id.is_some() {

@@ -1,15 +1,16 @@
 //! Walks over the tree to read it: a visitor is told of each item, or of each id and index beside them, in order.
-#![tactic(auto, using(crate::proofs::Visiting::visits_both, crate::proofs::Visiting::visits_one, crate::proofs::Visiting::visits_none, crate::proofs::Visiting::asked_outside, crate::proofs::Visiting::asked_both))]
+#![tactic(auto, using(crate::proofs::Visiting::visits_both, crate::proofs::Visiting::visits_one, crate::proofs::Visiting::visits_none, crate::proofs::Visiting::asked_outside, crate::proofs::Visiting::asked_both, crate::proofs::Visiting::asked_steps))]
 
 ghost use Rattle.std.specs.Prelude.{◌≡◌, ◌++◌, List};
 ghost use Rattle.std.specs.Prelude.{flat_map};
 ghost use Rattle.wast_tree.specs.Ids.{mark_of};
-ghost use Rattle.wast_tree.specs.Items.{Item, item, items_of_type, items_in, items};
-ghost use Rattle.wast_tree.specs.Occurrences.{Ask, Wants, Bare, if_there, in_index, in_id, in_heap, in_ref, in_val, in_storage, in_param, in_signature, in_struct_field, in_struct, in_array, in_inner, in_def, in_type, in_rec, in_type_use, in_instr, in_expression, in_local, in_locals, in_func_kind, outside, in_func, exported_space, in_export, in_field, in_module, asked, asked_in_steps};
+ghost use Rattle.wast_tree.specs.Items.{Item, item, fields_of, items_of_type, items_of_import, items_in, items};
+ghost use Rattle.wast_tree.specs.Occurrences.{Ask, Wants, Bare, if_there, in_index, in_id, in_heap, in_ref, in_val, in_storage, in_param, in_signature, in_struct_field, in_struct, in_array, in_inner, in_def, in_type, in_rec, in_type_use, in_instr, in_expression, in_local, in_locals, in_body, outside, in_func, in_field, in_module, asked, asked_in_steps};
 ghost use Rattle.wast_tree.specs.Visits.{Visits};
 
-use crate::fields::{Export, ExportKind, Func, FuncKind, Local, ModuleField};
+use crate::fields::{Func, FuncKind, Local, ModuleField};
 use crate::ids::{Id, Index, NameAnnotation};
+use crate::imports::ImportItems;
 use crate::instrs::{Expression, Instruction};
 use crate::seq::Seq;
 use crate::spaces::Space;
@@ -23,9 +24,9 @@ pub trait ItemVisitor<'a> {
     /// How it stands before and after an item.
     ghost told: { Self → Item → Self → Type 0 };
 
-    /// An item of a space, with its id if it has one.
-    fn item(&mut self, space: Space, id: &Option<Id<'a>>)
-        ensures { told self.old (item space id.now) self.new };
+    /// An item of a space, with its id if it has one, and the fields of a struct type.
+    fn item(&mut self, space: Space, id: &Option<Id<'a>>, fields: &[StructField<'a>])
+        ensures { told self.old (item space id.now fields.now) self.new };
 }
 
 /// What is told of the ids and indices that stand in a module beside its items.
@@ -57,10 +58,45 @@ pub(crate) fn visit_items_in<'a, V: ItemVisitor<'a>>(field: &ModuleField<'a>, vi
     ensures { Visits V.told visitor.old (items_in field.now) visitor.new }
 {
     match field {
-        ModuleField::Ty(ty) => visitor.item(Space::Ty, &ty.id),
+        ModuleField::Ty(ty) => visit_type(ty, visitor),
         ModuleField::Rec(rec) => visit_members(rec.types.as_slice(), visitor),
-        ModuleField::Func(func) => visitor.item(Space::Func, &func.id),
+        ModuleField::Import(import) => visit_import(&import.items, visitor),
+        ModuleField::Func(func) => visitor.item(Space::Func, &func.id, &[]),
+        ModuleField::Table(table) => visitor.item(Space::Table, &table.id, &[]),
+        ModuleField::Memory(memory) => visitor.item(Space::Memory, &memory.id, &[]),
+        ModuleField::Global(global) => visitor.item(Space::Global, &global.id, &[]),
         ModuleField::Export(_) => {}
+        ModuleField::Start(_) => {}
+        ModuleField::Elem(elem) => visitor.item(Space::Elem, &elem.id, &[]),
+        ModuleField::Data(data) => visitor.item(Space::Data, &data.id, &[]),
+        ModuleField::Tag(tag) => visitor.item(Space::Tag, &tag.id, &[]),
+    }
+}
+
+/// Tells a visitor of what is imported.
+fn visit_import<'a, V: ItemVisitor<'a>>(items: &ImportItems<'a>, visitor: &mut V)
+    ensures { Visits V.told visitor.old (items_of_import items.now) visitor.new }
+{
+    match items {
+        ImportItems::Single { sig, .. } => visitor.item(sig.kind.space(), &sig.id, &[]),
+    }
+}
+
+/// Tells a visitor of a type, with the fields of a struct.
+fn visit_type<'a, V: ItemVisitor<'a>>(ty: &Type<'a>, visitor: &mut V)
+    ensures { Visits V.told visitor.old (items_of_type ty.now) visitor.new }
+{
+    visitor.item(Space::Ty, &ty.id, fields_of(&ty.def.kind));
+}
+
+/// The fields of a struct, and none of another type.
+fn fields_of<'k, 'a>(kind: &'k InnerTypeKind<'a>) -> &'k [StructField<'a>]
+    ensures { result.now ≡ fields_of kind.now }
+{
+    match kind {
+        InnerTypeKind::Func(_) => &[],
+        InnerTypeKind::Struct(ty) => ty.fields.as_slice(),
+        InnerTypeKind::Array(_) => &[],
     }
 }
 
@@ -69,7 +105,7 @@ fn visit_members<'a, V: ItemVisitor<'a>>(types: &[Type<'a>], visitor: &mut V)
     ensures { Visits V.told visitor.old (flat_map items_of_type types.now) visitor.new }
 {
     for ty in types {
-        visitor.item(Space::Ty, &ty.id);
+        visit_type(ty, visitor);
     }
 }
 
@@ -84,7 +120,7 @@ pub(crate) trait Visit {
 }
 
 /// Tells a visitor of each part of a list.
-fn visit_each<T: Visit, V: Visitor>(parts: &[T], visitor: &mut V)
+pub(crate) fn visit_each<T: Visit, V: Visitor>(parts: &[T], visitor: &mut V)
     ensures { Visits V.told visitor.old (flat_map T.asks parts.now) visitor.new }
 {
     for part in parts {
@@ -93,7 +129,7 @@ fn visit_each<T: Visit, V: Visitor>(parts: &[T], visitor: &mut V)
 }
 
 /// Tells a visitor of the indices of a space.
-fn visit_indices<V: Visitor>(space: Space, indices: &[Index<'_>], visitor: &mut V)
+pub(crate) fn visit_indices<V: Visitor>(space: Space, indices: &[Index<'_>], visitor: &mut V)
     ensures { Visits V.told visitor.old (flat_map (in_index space) indices.now) visitor.new }
 {
     for index in indices {
@@ -102,7 +138,7 @@ fn visit_indices<V: Visitor>(space: Space, indices: &[Index<'_>], visitor: &mut 
 }
 
 /// Tells a visitor of an index of a space, if there is one.
-fn visit_index<V: Visitor>(space: Space, index: &Option<Index<'_>>, visitor: &mut V)
+pub(crate) fn visit_index<V: Visitor>(space: Space, index: &Option<Index<'_>>, visitor: &mut V)
     ensures { Visits V.told visitor.old (if_there (in_index space) index.now) visitor.new }
 {
     if let Some(index) = index {
@@ -280,6 +316,11 @@ impl Visit for Instruction<'_> {
         match self {
             Instruction::Plain(_) => {}
             Instruction::call(func) => visitor.index(Space::Func, func),
+            Instruction::global_get(global) => visitor.index(Space::Global, global),
+            Instruction::i32_const(_) => {}
+            Instruction::i64_const(_) => {}
+            Instruction::ref_null(heap) => heap.visit(visitor),
+            Instruction::ref_func(func) => visitor.index(Space::Func, func),
         }
     }
 }
@@ -302,7 +343,7 @@ impl Visit for Local<'_> {
 }
 
 impl Visit for FuncKind<'_> {
-    ghost asks = { λ k. asked (outside (in_locals k) ++ in_func_kind k) };
+    ghost asks = { λ k. in_locals k ++ asked_in_steps (in_body k) };
 
     fn visit<V: Visitor>(&self, visitor: &mut V) {
         match self {
@@ -317,28 +358,10 @@ impl Visit for FuncKind<'_> {
 impl Visit for Func<'_> {
     ghost asks = { λ f. asked (in_func f) };
 
+    #[tactic(auto, using(crate::proofs::Visiting::visits_both, crate::proofs::Visiting::asked_func))]
     fn visit<V: Visitor>(&self, visitor: &mut V) {
         self.ty.visit(visitor);
         self.kind.visit(visitor);
-    }
-}
-
-impl ExportKind {
-    /// The space of what is exported. It takes no memory.
-    pub fn space(self) -> Space
-        ensures { result ≡ exported_space self }
-    {
-        match self {
-            ExportKind::Func => Space::Func,
-        }
-    }
-}
-
-impl Visit for Export<'_> {
-    ghost asks = { in_export };
-
-    fn visit<V: Visitor>(&self, visitor: &mut V) {
-        visitor.index(self.kind.space(), &self.item);
     }
 }
 
@@ -349,8 +372,16 @@ impl Visit for ModuleField<'_> {
         match self {
             ModuleField::Ty(ty) => ty.visit(visitor),
             ModuleField::Rec(rec) => rec.visit(visitor),
+            ModuleField::Import(import) => import.items.visit(visitor),
             ModuleField::Func(func) => func.visit(visitor),
+            ModuleField::Table(table) => table.kind.visit(visitor),
+            ModuleField::Memory(memory) => memory.kind.visit(visitor),
+            ModuleField::Global(global) => global.visit(visitor),
             ModuleField::Export(export) => export.visit(visitor),
+            ModuleField::Start(func) => visitor.index(Space::Func, func),
+            ModuleField::Elem(elem) => elem.visit(visitor),
+            ModuleField::Data(data) => data.kind.visit(visitor),
+            ModuleField::Tag(tag) => tag.ty.visit(visitor),
         }
     }
 }

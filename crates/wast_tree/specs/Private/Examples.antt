@@ -1,6 +1,6 @@
 -- What the definitions say of worked modules.
 use Rattle.std.specs.Prelude.{◌≡◌, ℕ, Bool, true, false, List, [], ◌∷◌, map, Option, Some, None, codes}
-use Rattle.wast_tree.specs.Tree.{Id, Index, Space, ValType, StructField, TypeDef, Instruction, Expression, Func, ModuleField}
+use Rattle.wast_tree.specs.Tree.{Id, Index, Space, RefType, ValType, StructField, TypeDef, Instruction, Expression, TableType, GlobalType, Func, ModuleField}
 use Rattle.wast_tree.specs.Tree.index
 use Rattle.wast_tree.specs.Tree.space
 use Rattle.wast_tree.specs.Tree.heap
@@ -12,14 +12,19 @@ use Rattle.wast_tree.specs.Tree.bare
 use Rattle.wast_tree.specs.Tree.plain
 use Rattle.wast_tree.specs.Tree.instr
 use Rattle.wast_tree.specs.Tree.func
+use Rattle.wast_tree.specs.Tree.table
+use Rattle.wast_tree.specs.Tree.memory
+use Rattle.wast_tree.specs.Tree.global
+use Rattle.wast_tree.specs.Tree.elem
+use Rattle.wast_tree.specs.Tree.payload
 use Rattle.wast_tree.specs.Tree.field
 use Rattle.wast_tree.specs.Ids.{Name, Written, Generated, Mark, mark_of, generated, same_id, same_index}
 use Rattle.wast_tree.specs.Items.{items}
-use Rattle.wast_tree.specs.Occurrences.{Wants, Bare, Named, Outside, Body, in_module, asked}
+use Rattle.wast_tree.specs.Occurrences.{Wants, Bare, Named, Matches, Declares, Outside, Body, in_module, asked}
 use Rattle.wast_tree.specs.Known.{known}
 use Rattle.wast_tree.specs.WellFormed.{has_settled_indices, is_well_formed}
 use Rattle.wast_tree.specs.Generations.{generation_if, generation_in, greatest_generation}
-use Rattle.wast_tree.specs.WorkedModules.{Address, text, place, id_at, by_id, by_number, plain_def, plain_type, plain_func, export_field, row27_with, row27, row31, row32}
+use Rattle.wast_tree.specs.WorkedModules.{Address, text, place, id_at, by_id, by_number, plain_def, plain_type, plain_func, export_field, row27_with, row27, row31, row32, plain_global_type, plain_memory_type, plain_memory, filled_memory}
 
 -- a generated id, alone, as an index and as what it is called at its place
 abbrev pub made : ℕ → Id
@@ -89,30 +94,48 @@ everywhere_generated a =
 abbrev pub StandsInRow27 : Type 0
 StandsInRow27 = (a b c d e f : Address) →
     (items (row27 a b c d e f)
-    ≡ record { space = space.Ty; id = Some (Written (codes "t"), place 14) }
-    ∷ record { space = space.Func; id = Some (Written (codes "f"), place 31) }
+    ≡ record { space = space.Ty; id = Some (Written (codes "t"), place 14); fields = [] }
+    ∷ record { space = space.Func; id = Some (Written (codes "f"), place 31); fields = [] }
     ∷ [])
     × (in_module (row27 a b c d e f)
     ≡ Outside (Wants space.Ty (by_id d (codes "t") 40))
+    ∷ Body []
     ∷ Body (Named (Wants space.Func (by_id e (codes "f") 49)) ∷ [])
     ∷ Outside (Wants space.Func (by_id f (codes "f") 71))
     ∷ [])
     × (in_module (row27_with a b c (by_number 0 40) (by_number 1 49) (by_number 2 71))
     ≡ Outside (Wants space.Ty (by_number 0 40))
+    ∷ Body []
     ∷ Body (Named (Wants space.Func (by_number 1 49)) ∷ [])
     ∷ Outside (Wants space.Func (by_number 2 71))
     ∷ [])
 
+-- An imported global and a memory are items of their spaces, and so is a data segment. Beside them stand the memory that
+-- the segment fills and, in a body, the global that its offset is.
+abbrev pub StandsInFilledMemory : Type 0
+StandsInFilledMemory = (a b c d e : Address) →
+    (items (filled_memory a b c d e)
+    ≡ record { space = space.Global; id = Some (Written (codes "g"), place 32); fields = [] }
+    ∷ record { space = space.Memory; id = Some (Written (codes "m"), place 49); fields = [] }
+    ∷ record { space = space.Data; id = None; fields = [] }
+    ∷ [])
+    × (in_module (filled_memory a b c d e)
+    ≡ Outside (Wants space.Memory (by_id d (codes "m") 69))
+    ∷ Body (Named (Wants space.Global (by_id e (codes "g") 92)) ∷ [])
+    ∷ [])
+    × (is_well_formed (filled_memory a b c d e) ≡ true)
+
 -- A type has its parents before its descriptor, what it describes, its parameters and its results; a function has its type
--- before its parameters, its locals and its body. Of the ids of parameters, locals and fields nothing is asked. The types
--- of a group are items one by one.
+-- before its parameters, its locals and its body. Of the ids of parameters, locals and fields nothing is asked outside of
+-- bodies. An inline type is matched with the index beside it, and parameters and locals are declared before the body. The
+-- types of a group are items one by one, a struct among them with its fields.
 abbrev pub StandsEverywhere : Type 0
 StandsEverywhere = (a : Address) →
     (items (everywhere_generated a)
-    ≡ record { space = space.Ty; id = Some (made_mark 1) }
-    ∷ record { space = space.Ty; id = Some (made_mark 14) }
-    ∷ record { space = space.Ty; id = Some (made_mark 17) }
-    ∷ record { space = space.Func; id = Some (made_mark 6) }
+    ≡ record { space = space.Ty; id = Some (made_mark 1); fields = [] }
+    ∷ record { space = space.Ty; id = Some (made_mark 14); fields = Some (made_mark 15) ∷ [] }
+    ∷ record { space = space.Ty; id = Some (made_mark 17); fields = [] }
+    ∷ record { space = space.Func; id = Some (made_mark 6); fields = [] }
     ∷ [])
     × (in_module (everywhere_generated a)
     ≡ Outside (Wants space.Ty (made_index 3))
@@ -126,9 +149,10 @@ StandsEverywhere = (a : Address) →
     ∷ Outside (Wants space.Ty (made_index 18))
     ∷ Outside (Wants space.Ty (made_index 9))
     ∷ Outside (Bare (made_mark 10))
+    ∷ Body (Matches (made_index 9) (record { params = (Some (made 10), None, value.I32) ∷ []; results = [] }) ∷ [])
     ∷ Outside (Wants space.Ty (made_index 19))
     ∷ Outside (Bare (made_mark 7))
-    ∷ Body (Named (Wants space.Func (made_index 8)) ∷ [])
+    ∷ Body (Declares (Some (made_mark 10)) ∷ Declares (Some (made_mark 7)) ∷ Named (Wants space.Func (made_index 8)) ∷ [])
     ∷ Outside (Wants space.Func (made_index 11))
     ∷ [])
 
@@ -192,23 +216,24 @@ is_well_formed_func f = is_well_formed (func_alone f)
 abbrev pub is_well_formed_def : TypeDef → Bool
 is_well_formed_def def = is_well_formed (def_alone def)
 
--- `(func (type 0))` is well formed, and so are `(func)` and one with a local; not so one with an inline export, a local
--- that has an id or a shared type, an inline type beside its index or alone, or a branch hint.
+-- `(func (type 0))` is well formed, and so are `(func)`, one with a local, also with an id, and one with an inline type
+-- beside its index or alone; not so one with an inline export, a local or a result of a shared type, or a branch hint.
 abbrev pub WellFormedFuncs : Type 0
 WellFormedFuncs = (a : Address) →
     (is_well_formed_func bare_func ≡ true)
     × (is_well_formed_func (record bare_func { ty = record { index = None; inline = None } }) ≡ true)
     × (is_well_formed_func (record bare_func { exports = record { names = text a (codes "a") ∷ [] } }) ≡ false)
     × (is_well_formed_func (record bare_func { kind = func.Inline (record { id = None; name = None; ty = value.I32 } ∷ []) (body_of (instr.Plain (plain.Bare bare.drop) ∷ [])) }) ≡ true)
-    × (is_well_formed_func (record bare_func { kind = func.Inline (record { id = Some (id_at a (codes "x") 20); name = None; ty = value.I32 } ∷ []) (body_of []) }) ≡ false)
+    × (is_well_formed_func (record bare_func { kind = func.Inline (record { id = Some (id_at a (codes "x") 20); name = Some (record { name = text a (codes "x") }); ty = value.I32 } ∷ []) (body_of []) }) ≡ true)
     × (is_well_formed_func (record bare_func { kind = func.Inline (record { id = None; name = None; ty = ref_func true } ∷ []) (body_of []) }) ≡ false)
-    × (is_well_formed_func (record bare_func { ty = record { index = Some (by_number 0 20); inline = Some (record { params = []; results = [] }) } }) ≡ false)
-    × (is_well_formed_func (record bare_func { ty = record { index = None; inline = Some (record { params = []; results = [] }) } }) ≡ false)
+    × (is_well_formed_func (record bare_func { ty = record { index = Some (by_number 0 20); inline = Some (record { params = []; results = ref_func false ∷ [] }) } }) ≡ true)
+    × (is_well_formed_func (record bare_func { ty = record { index = None; inline = Some (record { params = []; results = [] }) } }) ≡ true)
+    × (is_well_formed_func (record bare_func { ty = record { index = None; inline = Some (record { params = []; results = ref_func true ∷ [] }) } }) ≡ false)
     × (is_well_formed_func (record bare_func { kind = func.Inline [] (record { instrs = []; branch_hints = record { instr_index = 0; value = 1 } ∷ [] }) }) ≡ false)
 
--- `(func (param i32) (result i32))` is well formed, also open, with a parent, and with references; so are structs and
--- arrays. Not so a shared type, one with a descriptor or what it describes, one that refers to a shared heap type, or one
--- whose parameter or field has an id or a name annotation.
+-- `(func (param i32) (result i32))` is well formed, also open, with a parent, with references and with names; so are
+-- structs and arrays, also where a field has an id. Not so a shared type, one with a descriptor or what it describes, or one
+-- that refers to a shared heap type.
 abbrev pub WellFormedTypes : Type 0
 WellFormedTypes = (a : Address) →
     (is_well_formed_def (record plain_def { kind = inner.Func (record { params = (None, None, ref_func false) ∷ []; results = ref_to (by_number 0 20) ∷ [] }) }) ≡ true)
@@ -216,13 +241,43 @@ WellFormedTypes = (a : Address) →
     × (is_well_formed_def (record plain_def { shared = true }) ≡ false)
     × (is_well_formed_def (record plain_def { descriptor = Some (by_number 0 20) }) ≡ false)
     × (is_well_formed_def (record plain_def { describes = Some (by_number 0 20) }) ≡ false)
-    × (is_well_formed_def (record plain_def { kind = inner.Func (record { params = (Some (id_at a (codes "x") 20), None, value.I32) ∷ []; results = [] }) }) ≡ false)
-    × (is_well_formed_def (record plain_def { kind = inner.Func (record { params = (None, Some (record { name = text a (codes "x") }), value.I32) ∷ []; results = [] }) }) ≡ false)
+    × (is_well_formed_def (record plain_def { kind = inner.Func (record { params = (Some (id_at a (codes "x") 20), None, value.I32) ∷ []; results = [] }) }) ≡ true)
+    × (is_well_formed_def (record plain_def { kind = inner.Func (record { params = (None, Some (record { name = text a (codes "x") }), value.I32) ∷ []; results = [] }) }) ≡ true)
     × (is_well_formed_def (record plain_def { kind = inner.Func (record { params = []; results = ref_func true ∷ [] }) }) ≡ false)
     × (is_well_formed_def (record plain_def { kind = inner.Struct (record { fields = field_of None (ref_func false) ∷ [] }) }) ≡ true)
-    × (is_well_formed_def (record plain_def { kind = inner.Struct (record { fields = field_of (Some (id_at a (codes "x") 20)) value.I32 ∷ [] }) }) ≡ false)
+    × (is_well_formed_def (record plain_def { kind = inner.Struct (record { fields = field_of (Some (id_at a (codes "x") 20)) value.I32 ∷ [] }) }) ≡ true)
     × (is_well_formed_def (record plain_def { kind = inner.Array (record { mutable = false; ty = storage.I8 }) }) ≡ true)
     × (is_well_formed_def (record plain_def { kind = inner.Array (record { mutable = false; ty = storage.Val (ref_func true) }) }) ≡ false)
+
+-- An element segment without a table holds functions, or references of type `funcref`; one with a table holds others too.
+abbrev pub elems_of : Option Index → RefType → ModuleField
+elems_of table ty = field.Elem (record { span = place 1; id = None; name = None; kind = elem.Active table (body_of (instr.global_get (by_number 0 20) ∷ [])); payload = payload.Exprs ty [] })
+
+abbrev pub WellFormedSegments : Type 0
+WellFormedSegments =
+    (is_well_formed (elems_of None (record { nullable = true; heap = heap.Abstract false abstract.Func }) ∷ []) ≡ true)
+    × (is_well_formed (elems_of None (record { nullable = false; heap = heap.Abstract false abstract.Func }) ∷ []) ≡ false)
+    × (is_well_formed (elems_of None (record { nullable = true; heap = heap.Abstract false abstract.Extern }) ∷ []) ≡ false)
+    × (is_well_formed (elems_of (Some (by_number 0 20)) (record { nullable = true; heap = heap.Abstract false abstract.Extern }) ∷ []) ≡ true)
+    × (is_well_formed (elems_of (Some (by_number 0 20)) (record { nullable = true; heap = heap.Abstract true abstract.Extern }) ∷ []) ≡ false)
+
+-- A memory may be shared; a global or a table may not.
+abbrev pub global_of : GlobalType → ModuleField
+global_of ty = field.Global (record { span = place 1; id = None; name = None; exports = record { names = [] }; ty = ty; kind = global.Inline (body_of (instr.global_get (by_number 0 20) ∷ [])) })
+
+abbrev pub table_of : TableType → ModuleField
+table_of ty = field.Table (record { span = place 1; id = None; name = None; exports = record { names = [] }; kind = table.Normal ty None })
+
+abbrev pub plain_table_type : TableType
+plain_table_type = record { limits = record { is64 = false; min = 1; max = None }; elem = record { nullable = true; heap = heap.Abstract false abstract.Func }; shared = false }
+
+abbrev pub WellFormedEntities : Type 0
+WellFormedEntities =
+    (is_well_formed (global_of plain_global_type ∷ []) ≡ true)
+    × (is_well_formed (global_of (record plain_global_type { shared = true }) ∷ []) ≡ false)
+    × (is_well_formed (table_of plain_table_type ∷ []) ≡ true)
+    × (is_well_formed (table_of (record plain_table_type { shared = true }) ∷ []) ≡ false)
+    × (is_well_formed (field.Memory (record (plain_memory None 0) { kind = memory.Normal (record plain_memory_type { shared = true }) }) ∷ []) ≡ true)
 
 -- The greatest generation is that of an item or of an id beside the items; a written id has 0. No id of a module is left
 -- out.

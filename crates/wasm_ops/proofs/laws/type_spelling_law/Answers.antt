@@ -1,4 +1,5 @@
 use Rattle.wasm_ops.proofs.Codes.{name_code}
+use Rattle.wasm_ops.proofs.EntityCodes.{table_type_code, memory_type_code, global_type_code, tag_type_code, entity_type_code}
 use Rattle.wasm_ops.proofs.RefTypeCodes.{heap_type_code, ref_type_code}
 use Rattle.wasm_ops.proofs.TypeCodes.{val_type_code, storage_type_code, field_type_code, export_kind_code, func_type_code, struct_type_code, array_type_code, composite_type_code, sub_type_code}
 use Rattle.wasm_ops.proofs.laws.type_spelling_law.Goals as goal
@@ -38,3 +39,18 @@ returns-clause-composite_types c = composite_type_code
 
 pub returns-clause-sub_types : goal.returns-clause-sub_types
 returns-clause-sub_types c = sub_type_code
+
+pub returns-clause-table_types : goal.returns-clause-table_types
+returns-clause-table_types c = table_type_code
+
+pub returns-clause-memory_types : goal.returns-clause-memory_types
+returns-clause-memory_types c = memory_type_code
+
+pub returns-clause-global_types : goal.returns-clause-global_types
+returns-clause-global_types c = global_type_code
+
+pub returns-clause-tag_types : goal.returns-clause-tag_types
+returns-clause-tag_types c = tag_type_code
+
+pub returns-clause-entity_types : goal.returns-clause-entity_types
+returns-clause-entity_types c = entity_type_code

@@ -3,10 +3,10 @@ use Rattle.wasm_ops.specs.declared.instrs.IndexOp.TheVariants.{Call}
 use Rattle.wasm_ops.specs.Covered.{is_covered_val_type}
 use Rattle.wasm_ops.specs.IndexInstrs.{index_instr}
 use Rattle.wasm_ops.specs.Spelling.{InRangeValType}
-use Rattle.wasm_ops.specs.Table.{instr, IsInstr}
+use Rattle.wasm_ops.specs.Table.{instr, IsInstr, SpellsInstrs}
 use Rattle.wasm_ops.proofs.Codes.{spellable_vec}
 use Rattle.std.proofs.lemmas.List.Elements.{All-nil, All-cons}
-use Rattle.wasm_out.specs.Bodies.{Body, locals, IsSpellableContent, SpellsInstrs}
+use Rattle.wasm_out.specs.Bodies.{Body, locals, IsSpellableContent}
 use Rattle.wasm_out.proofs.Building.{spells_instr, spells_body}
 use Rattle.wasm_out.proofs.tests.calling.Goals as goal
 

@@ -7,6 +7,9 @@ returns-clause-row1 c = worked.row1
 pub returns-clause-row2 : goal.returns-clause-row2
 returns-clause-row2 c = worked.row2
 
+pub returns-clause-row8 : goal.returns-clause-row8
+returns-clause-row8 c = worked.row8
+
 pub returns-clause-row24 : goal.returns-clause-row24
 returns-clause-row24 c = worked.row24
 

@@ -1,21 +1,16 @@
-use Rattle.std.proofs.Common.{◌&&◌, sym, ap, ◌∙◌}
-use Rattle.wast_tree.specs.Occurrences.{in_instr, asked_in_step, asked_in_steps}
-use Rattle.wast_tree.proofs.Visiting.{each_of_each}
+use Rattle.std.proofs.Common.{◌&&◌}
 use Rattle.wasm_ops.specs.Covered.{is_covered_val_type}
-use Rattle.wast_resolve.specs.Resolved.{is_numbered, is_resolved}
 use Rattle.wast_core.specs.Encodable.{is_encodable_local}
 use Rattle.wast_core.specs.Meaning as meaning
-use Rattle.wast_core.proofs.EachPasses.{each_passes}
 use Rattle.wast_core.proofs.Spelled.{body_written, and_true}
 use Rattle.wast_core.proofs.TypesReady.{both_true, each_then, val_covered}
 use Rattle.wast_core.proofs.values.put_content.Goals as goal
 
 pub encode-requires : goal.encode-requires
 encode-requires g c =
-    let is = c.args.instructions.now in
     both_true _ _
     (each_then is_encodable_local (λ l. is_encodable_local l && is_covered_val_type (meaning.val_type l.ty)) (λ l h. both_true _ _ h (val_covered l.ty h)) c.args.locals.now c.requires.locals)
-    (and_true _ (sym (each_passes is_numbered (λ i. asked_in_steps (in_instr i)) is) ∙ (ap is_resolved (sym (each_of_each in_instr asked_in_step is)) ∙ c.requires.instrs)))
+    (and_true _ c.requires.instrs)
 
 pub returns : goal.returns
 returns g c = body_written g.S.Sink.rules c.args.out.now c.encode.new.out c.args.locals.now c.args.instructions.now c.encode.result c.encode.ensures

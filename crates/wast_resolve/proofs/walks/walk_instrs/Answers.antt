@@ -1,15 +1,19 @@
 use Rattle.std.proofs.Common.{arith}
 use Rattle.std.proofs.lemmas.Result.{err_from_is_err_and}
 use Rattle.wast_tree.specs.Faults.{told}
+use Rattle.wast_resolve.specs.Demands.{start}
 use Rattle.wast_resolve.proofs.Stepping.{partway_more, partway_stops}
 use Rattle.wast_resolve.proofs.walks.walk_instrs.Goals as goal
 
 pub returns-in_err-walk_instr : goal.returns-in_err-walk_instr
-returns-in_err-walk_instr c =
+returns-in_err-walk_instr c h =
     let p = err_from_is_err_and c.from_residual.result c.from_residual.ensures.1 in
-    rw (p.1, p.2) (partway_stops c.loop-i.invariant (omega (arith, c.loop-i-test.true, c.len-i-end.ensures)) c.at_mut.ensures.value ⊥ ⊥ (told c.in_err-walk_instr.field-0.0) c.in_err-walk_instr.ensures)
+    rw (p.1, p.2) (partway_stops (c.loop-i.invariant h) (omega (arith, c.loop-i-test.true, c.len-i-end.ensures)) c.at_mut.ensures.value ⊥ ⊥ (told c.in_err-walk_instr.field-0.0) (c.in_err-walk_instr.ensures h))
 
 pub loop-i-preserved : goal.loop-i-preserved
-loop-i-preserved c =
-    let done = c.in_ok-walk_instr.ensures in
-    partway_more c.loop-i.invariant (omega (arith, c.loop-i-test.true, c.len-i-end.ensures)) c.at_mut.ensures.value done.0 done.1 done.2
+loop-i-preserved c h =
+    let done = c.in_ok-walk_instr.ensures h in
+    partway_more (c.loop-i.invariant h) (omega (arith, c.loop-i-test.true, c.len-i-end.ensures)) c.at_mut.ensures.value done.0 done.1 done.2
+
+pub at_mut-requires : goal.at_mut-requires
+at_mut-requires c = omega (arith, (c.loop-i.invariant start).len, c.loop-i-test.true, c.len-i-end.ensures)

@@ -1,5 +1,6 @@
-use Rattle.std.proofs.Common.{ap, subst}
+use Rattle.std.proofs.Common.{◌<◌, ap, subst, arith}
 use Rattle.wast_core.specs.Headline.{name_of_module}
+use Rattle.wast_core.specs.Modules.{bound_of_kind}
 use Rattle.wast_core.specs.Writing.{EncodesResolved}
 use Rattle.wast_core.proofs.Encoded.{encodes}
 use Rattle.wast_core.proofs.encode.EncodeOptions.encode_module.Goals as goal
@@ -8,7 +9,9 @@ pub returns-clause-answer : goal.returns-clause-answer
 returns-clause-answer c =
     let done = c.in_ok-resolve.ensures in
     let new = c.resolve.new.self.kind in
+    let ready = c.requires.above in
+    let above : bound_of_kind c.args.module.now.kind < c.args.gensym.now = omega (arith, ready) in
     record {
-      kind = encodes c.args.gensym.now (name_of_module c.args.module.now) c.args.module.now.kind new _ c.encode_resolved.result done.answer.kind (subst (λ n. EncodesResolved n new c.encode_resolved.result) (ap name_of_module done.stays) c.encode_resolved.ensures);
+      kind = encodes c.args.gensym.now (name_of_module c.args.module.now) c.args.module.now.kind new _ c.encode_resolved.result above done.answer.kind (subst (λ n. EncodesResolved n new c.encode_resolved.result) (ap name_of_module done.stays) c.encode_resolved.ensures);
       counter = done.answer.counter;
     }

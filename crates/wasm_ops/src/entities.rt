@@ -1,0 +1,242 @@
+//! The types of tables, memories, globals and tags, and of what is imported.
+
+ghost use Rattle.std.specs.Prelude.{◌≡◌, true};
+ghost use Rattle.wasm_ops.specs.Entities.{limits_flags, limits, InRangeIfThere, table_type, InRangeTableType, is_covered_table_type, memory_type, InRangeMemoryType, is_covered_memory_type, global_type, InRangeGlobalType, is_covered_global_type, tag_type, InRangeTagType, is_covered_tag_type, entity_type, InRangeEntityType, is_covered_entity_type};
+
+use crate::encode::Encode;
+use crate::ref_types::RefType;
+use crate::sink::{Refusal, Sink};
+use crate::types::ValType;
+
+/// The byte that says what limits are, by what each of its bits says (binary format, limits).
+fn limits_flags(maximum: bool, shared: bool, wide: bool, page: bool) -> u8
+    ensures { result ≡ limits_flags maximum shared wide page }
+{
+    u8::from(maximum) + 2 * u8::from(shared) + 4 * u8::from(wide) + 8 * u8::from(page)
+}
+
+/// The size of a table or a memory (binary format, limits).
+#[derive(Clone, Copy)]
+struct Limits {
+    shared: bool,
+    wide: bool,
+    minimum: u64,
+    maximum: Option<u64>,
+    page_size_log2: Option<u32>,
+}
+
+impl Encode for Limits {
+    ghost spelling = { λ l. limits l.shared l.wide l.minimum l.maximum l.page_size_log2 };
+
+    ghost in_range = { λ l. InRangeIfThere l.page_size_log2 };
+
+    ghost is_ready = { λ _. true };
+
+    fn encode<S: Sink>(&self, out: &mut S) -> Result<(), Refusal> {
+        let flags = limits_flags(
+            self.maximum.is_some(),
+            self.shared,
+            self.wide,
+            self.page_size_log2.is_some(),
+        );
+        (flags, (self.minimum, (self.maximum, self.page_size_log2))).encode(out)
+    }
+}
+
+/// A table type (binary format, table types).
+#[derive(Clone, Copy, Debug, PartialEq, Eq)]
+pub struct TableType {
+    /// The type of its elements.
+    pub element_type: RefType,
+    /// The least number of elements.
+    pub minimum: u64,
+    /// The greatest number of elements.
+    pub maximum: Option<u64>,
+    /// Whether indices have 64 bits.
+    pub table64: bool,
+    /// Whether it is shared.
+    pub shared: bool,
+}
+
+impl TableType {
+    /// Whether the encoder covers it: it is not shared, and the encoder covers the type of its elements.
+    pub fn is_covered(&self) -> bool
+        ensures { result ≡ is_covered_table_type self.now }
+    {
+        !self.shared && self.element_type.is_covered()
+    }
+}
+
+impl Encode for TableType {
+    ghost spelling = { table_type };
+
+    ghost in_range = { InRangeTableType };
+
+    ghost is_ready = { is_covered_table_type };
+
+    fn encode<S: Sink>(&self, out: &mut S) -> Result<(), Refusal> {
+        let limits = Limits {
+            shared: self.shared,
+            wide: self.table64,
+            minimum: self.minimum,
+            maximum: self.maximum,
+            page_size_log2: None,
+        };
+        (self.element_type, limits).encode(out)
+    }
+}
+
+/// A memory type (binary format, memory types).
+#[derive(Clone, Copy, Debug, PartialEq, Eq)]
+pub struct MemoryType {
+    /// The least number of pages.
+    pub minimum: u64,
+    /// The greatest number of pages.
+    pub maximum: Option<u64>,
+    /// Whether indices have 64 bits.
+    pub memory64: bool,
+    /// Whether it is shared.
+    pub shared: bool,
+    /// The size of a page is 2 to this; where none stands, a page has 65,536 bytes (custom page sizes).
+    pub page_size_log2: Option<u32>,
+}
+
+impl MemoryType {
+    /// Whether the encoder covers it. It covers each one, and writes a page size as it is.
+    pub fn is_covered(&self) -> bool
+        ensures { result ≡ is_covered_memory_type self.now }
+    {
+        true // since no memory type is a form that is not covered
+    }
+}
+
+impl Encode for MemoryType {
+    ghost spelling = { memory_type };
+
+    ghost in_range = { InRangeMemoryType };
+
+    ghost is_ready = { is_covered_memory_type };
+
+    fn encode<S: Sink>(&self, out: &mut S) -> Result<(), Refusal> {
+        let limits = Limits {
+            shared: self.shared,
+            wide: self.memory64,
+            minimum: self.minimum,
+            maximum: self.maximum,
+            page_size_log2: self.page_size_log2,
+        };
+        limits.encode(out)
+    }
+}
+
+/// A global type (binary format, global types).
+#[derive(Clone, Copy, Debug, PartialEq, Eq)]
+pub struct GlobalType {
+    /// The type of its value.
+    pub val_type: ValType,
+    /// Whether it can be changed.
+    pub mutable: bool,
+    /// Whether it is shared.
+    pub shared: bool,
+}
+
+impl GlobalType {
+    /// Whether the encoder covers it: it is not shared, and the encoder covers the type of its value.
+    pub fn is_covered(&self) -> bool
+        ensures { result ≡ is_covered_global_type self.now }
+    {
+        !self.shared && self.val_type.is_covered()
+    }
+}
+
+impl Encode for GlobalType {
+    ghost spelling = { global_type };
+
+    ghost in_range = { InRangeGlobalType };
+
+    ghost is_ready = { is_covered_global_type };
+
+    fn encode<S: Sink>(&self, out: &mut S) -> Result<(), Refusal> {
+        (self.val_type, u8::from(self.mutable)).encode(out)
+    }
+}
+
+/// A tag type, that of an exception (binary format, tag types).
+#[derive(Clone, Copy, Debug, PartialEq, Eq)]
+pub struct TagType {
+    /// The function type whose parameters are what the exception carries.
+    pub func_type_idx: u32,
+}
+
+impl TagType {
+    /// Whether the encoder covers it. It covers each one.
+    pub fn is_covered(&self) -> bool
+        ensures { result ≡ is_covered_tag_type self.now }
+    {
+        true // since no tag type is a form that is not covered
+    }
+}
+
+impl Encode for TagType {
+    ghost spelling = { tag_type };
+
+    ghost in_range = { InRangeTagType };
+
+    ghost is_ready = { is_covered_tag_type };
+
+    fn encode<S: Sink>(&self, out: &mut S) -> Result<(), Refusal> {
+        (0x00u8, self.func_type_idx).encode(out)
+    }
+}
+
+/// The type of what is imported (binary format, external types).
+#[derive(Clone, Copy, Debug, PartialEq, Eq)]
+pub enum EntityType {
+    /// A function of the type at an index, or of one below it.
+    Function(u32),
+    /// A function of the type at an index alone.
+    FunctionExact(u32),
+    /// A table.
+    Table(TableType),
+    /// A memory.
+    Memory(MemoryType),
+    /// A global.
+    Global(GlobalType),
+    /// A tag.
+    Tag(TagType),
+}
+
+impl EntityType {
+    /// Whether the encoder covers it: it is no exact function, and the encoder covers the type that stands in it.
+    pub fn is_covered(&self) -> bool
+        ensures { result ≡ is_covered_entity_type self.now }
+    {
+        match self {
+            EntityType::Function(_) => true,
+            EntityType::FunctionExact(_) => false,
+            EntityType::Table(ty) => ty.is_covered(),
+            EntityType::Memory(ty) => ty.is_covered(),
+            EntityType::Global(ty) => ty.is_covered(),
+            EntityType::Tag(ty) => ty.is_covered(),
+        }
+    }
+}
+
+impl Encode for EntityType {
+    ghost spelling = { entity_type };
+
+    ghost in_range = { InRangeEntityType };
+
+    ghost is_ready = { is_covered_entity_type };
+
+    fn encode<S: Sink>(&self, out: &mut S) -> Result<(), Refusal> {
+        match self {
+            EntityType::Function(index) => (0x00u8, *index).encode(out),
+            EntityType::FunctionExact(_) => unreachable!(),
+            EntityType::Table(ty) => (0x01u8, *ty).encode(out),
+            EntityType::Memory(ty) => (0x02u8, *ty).encode(out),
+            EntityType::Global(ty) => (0x03u8, *ty).encode(out),
+            EntityType::Tag(ty) => (0x04u8, *ty).encode(out),
+        }
+    }
+}

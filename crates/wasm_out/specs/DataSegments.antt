@@ -1,0 +1,58 @@
+-- Segments of data: bytes, and where they stand (binary format, data section).
+use Rattle.std.specs.Prelude.{ℕ, zero, suc, Bool, true, List, ◌∷◌, ◌++◌, length}
+use Rattle.wasm_ops.specs.ConstExprs.{expression, InRangeExpression, is_covered_expression, HasRowsExpression}
+use Rattle.wasm_ops.specs.Leb128.{unsigned}
+use Rattle.wasm_ops.specs.Spelling.{InRangeU32}
+use Rattle.wasm_ops.specs.Table.{Instr}
+
+-- bytes that are there for instructions that copy them, or that stand in a memory from an offset on
+pub data DataMode : Type 0 where
+  Kept : DataMode
+  Placed : ℕ → List Instr → DataMode
+
+pub record DataEntry : Type 0 where
+  pub mode : DataMode
+  pub bytes : List ℕ
+
+-- behind their number
+abbrev pub counted_bytes : List ℕ → List ℕ
+counted_bytes bytes = unsigned (length bytes) ++ bytes
+
+abbrev pub kept_bytes : List ℕ → List ℕ
+kept_bytes bytes = 0x01 ∷ counted_bytes bytes
+
+-- the memory, the bytes of the offset, and the bytes: the first memory is not written
+abbrev pub placed_bytes : ℕ → List ℕ → List ℕ → List ℕ
+placed_bytes zero offset bytes = 0x00 ∷ (offset ++ counted_bytes bytes)
+placed_bytes (suc n) offset bytes = 0x02 ∷ (unsigned (suc n) ++ (offset ++ counted_bytes bytes))
+
+abbrev pub data_bytes : DataMode → List ℕ → List ℕ
+data_bytes Kept bytes = kept_bytes bytes
+data_bytes (Placed memory offset) bytes = placed_bytes memory (expression offset) bytes
+
+abbrev pub data_entry : DataEntry → List ℕ
+data_entry d = data_bytes d.mode d.bytes
+
+-- numbers and the number of bytes are in range
+abbrev pub InRangeDataMode : DataMode → Type 0
+InRangeDataMode Kept = Unit {0}
+InRangeDataMode (Placed memory offset) = InRangeU32 memory × InRangeExpression offset
+
+abbrev pub InRangeDataEntry : DataEntry → Type 0
+InRangeDataEntry d = InRangeDataMode d.mode × InRangeU32 (length d.bytes)
+
+-- the encoder covers its offset
+abbrev pub is_covered_data_mode : DataMode → Bool
+is_covered_data_mode Kept = true
+is_covered_data_mode (Placed memory offset) = is_covered_expression offset
+
+abbrev pub is_covered_data_entry : DataEntry → Bool
+is_covered_data_entry d = is_covered_data_mode d.mode
+
+-- the instructions of its offset are rows of the table
+abbrev pub HasRowsDataMode : DataMode → Type 0
+HasRowsDataMode Kept = Unit {0}
+HasRowsDataMode (Placed memory offset) = HasRowsExpression offset
+
+abbrev pub HasRowsDataEntry : DataEntry → Type 0
+HasRowsDataEntry d = HasRowsDataMode d.mode

@@ -1,0 +1,134 @@
+-- Segments of elements: what they hold, and where it stands (binary format, element section).
+use Rattle.std.specs.Prelude.{◌==◌, ◌&&◌, ℕ, Bool, true, false, not, Option, Some, None, List, ◌∷◌, ◌++◌, All}
+use Rattle.std.specs.List.{list_all}
+use Rattle.wasm_ops.specs.ConstExprs.{expression, InRangeExpression, is_covered_expression, HasRowsExpression}
+use Rattle.wasm_ops.specs.Covered.{is_covered_ref_type}
+use Rattle.wasm_ops.specs.Leb128.{unsigned}
+use Rattle.wasm_ops.specs.Spelling.{InRangeU32, vec, InRangeVec, abstract_byte, ref_type, InRangeRefType}
+use Rattle.wasm_ops.specs.Table.{Instr}
+use Rattle.wasm_ops.specs.declared.ref_types.HeapType.{HeapType}
+use Rattle.wasm_ops.specs.declared.ref_types.HeapType.TheVariants as heap
+use Rattle.wasm_ops.specs.declared.ref_types.AbstractHeapType.TheVariants as heaps
+use Rattle.wasm_ops.specs.declared.ref_types.RefType.{RefType}
+use Rattle.wasm_out.specs.declared.elements.ElementKind.{ElementKind}
+use Rattle.wasm_out.specs.declared.elements.ElementKind.TheVariants as kind
+
+-- what a segment holds: functions, or expressions of a reference type
+pub data ElementItems : Type 0 where
+  Indices : List ℕ → ElementItems
+  Expressions : RefType → List (List Instr) → ElementItems
+
+-- an active segment has the table, where one is written, and the offset
+pub data ElementMode : Type 0 where
+  Passive : ElementMode
+  Declared : ElementMode
+  Active : Option ℕ → List Instr → ElementMode
+
+pub record ElementEntry : Type 0 where
+  pub mode : ElementMode
+  pub items : ElementItems
+
+-- the kind of elements, and their list
+abbrev pub kind_of : ElementItems → ElementKind
+kind_of (Indices functions) = kind.Functions
+kind_of (Expressions ty expressions) = kind.Expressions ty
+
+abbrev pub listed : ElementItems → List ℕ
+listed (Indices functions) = vec unsigned functions
+listed (Expressions ty expressions) = vec expression expressions
+
+-- a segment by the kind of elements and the bytes of their list
+abbrev pub passive_bytes : ElementKind → List ℕ → List ℕ
+passive_bytes kind.Functions list = 0x01 ∷ 0x00 ∷ list
+passive_bytes (kind.Expressions ty) list = 0x05 ∷ (ref_type ty ++ list)
+
+abbrev pub declared_bytes : ElementKind → List ℕ → List ℕ
+declared_bytes kind.Functions list = 0x03 ∷ 0x00 ∷ list
+declared_bytes (kind.Expressions ty) list = 0x07 ∷ (ref_type ty ++ list)
+
+-- the same of an active one, which has a table or none, and the bytes of its offset
+abbrev pub active_bytes : Option ℕ → List ℕ → ElementKind → List ℕ → List ℕ
+active_bytes None offset kind.Functions list = 0x00 ∷ (offset ++ list)
+active_bytes (Some table) offset kind.Functions list = 0x02 ∷ (unsigned table ++ (offset ++ 0x00 ∷ list))
+active_bytes None offset (kind.Expressions ty) list = 0x04 ∷ (offset ++ list)
+active_bytes (Some table) offset (kind.Expressions ty) list = 0x06 ∷ (unsigned table ++ (offset ++ (ref_type ty ++ list)))
+
+abbrev pub element_bytes : ElementMode → ElementKind → List ℕ → List ℕ
+element_bytes Passive kind list = passive_bytes kind list
+element_bytes Declared kind list = declared_bytes kind list
+element_bytes (Active table offset) kind list = active_bytes table (expression offset) kind list
+
+abbrev pub element_entry : ElementEntry → List ℕ
+element_entry e = element_bytes e.mode (kind_of e.items) (listed e.items)
+
+-- numbers and counts are in range
+abbrev pub InRangeTable : Option ℕ → Type 0
+InRangeTable None = Unit {0}
+InRangeTable (Some table) = InRangeU32 table
+
+abbrev pub InRangeElementMode : ElementMode → Type 0
+InRangeElementMode Passive = Unit {0}
+InRangeElementMode Declared = Unit {0}
+InRangeElementMode (Active table offset) = InRangeTable table × InRangeExpression offset
+
+abbrev pub InRangeElementKind : ElementKind → Type 0
+InRangeElementKind kind.Functions = Unit {0}
+InRangeElementKind (kind.Expressions ty) = InRangeRefType ty
+
+abbrev pub InRangeListed : ElementItems → Type 0
+InRangeListed (Indices functions) = InRangeVec InRangeU32 functions
+InRangeListed (Expressions ty expressions) = InRangeVec InRangeExpression expressions
+
+abbrev pub InRangeElementEntry : ElementEntry → Type 0
+InRangeElementEntry e = InRangeElementMode e.mode × (InRangeElementKind (kind_of e.items) × InRangeListed e.items)
+
+-- a nullable reference to functions
+abbrev pub is_func : HeapType → Bool
+is_func (heap.Abstract shared ty) = not shared && (abstract_byte ty == abstract_byte heaps.Func)
+is_func (heap.Concrete index) = false
+is_func (heap.Exact index) = false
+
+abbrev pub is_funcref : RefType → Bool
+is_funcref r = r.nullable && is_func r.heap_type
+
+-- a segment without a table has no bytes for a type: it holds functions, or expressions of this one
+abbrev pub has_active_form : Option ℕ → ElementKind → Bool
+has_active_form (Some table) kind = true
+has_active_form None kind.Functions = true
+has_active_form None (kind.Expressions ty) = is_funcref ty
+
+abbrev pub has_form : ElementMode → ElementKind → Bool
+has_form Passive kind = true
+has_form Declared kind = true
+has_form (Active table offset) kind = has_active_form table kind
+
+abbrev pub is_covered_element_mode : ElementMode → Bool
+is_covered_element_mode Passive = true
+is_covered_element_mode Declared = true
+is_covered_element_mode (Active table offset) = is_covered_expression offset
+
+abbrev pub is_covered_element_kind : ElementKind → Bool
+is_covered_element_kind kind.Functions = true
+is_covered_element_kind (kind.Expressions ty) = is_covered_ref_type ty
+
+abbrev pub is_covered_listed : ElementItems → Bool
+is_covered_listed (Indices functions) = true
+is_covered_listed (Expressions ty expressions) = list_all is_covered_expression expressions
+
+-- it has a form, and the encoder covers its type and its expressions
+abbrev pub is_covered_element_entry : ElementEntry → Bool
+is_covered_element_entry e =
+    has_form e.mode (kind_of e.items) && (is_covered_element_mode e.mode && (is_covered_element_kind (kind_of e.items) && is_covered_listed e.items))
+
+-- the instructions of its expressions are rows of the table
+abbrev pub HasRowsElementMode : ElementMode → Type 0
+HasRowsElementMode Passive = Unit {0}
+HasRowsElementMode Declared = Unit {0}
+HasRowsElementMode (Active table offset) = HasRowsExpression offset
+
+abbrev pub HasRowsListed : ElementItems → Type 0
+HasRowsListed (Indices functions) = Unit {0}
+HasRowsListed (Expressions ty expressions) = All HasRowsExpression expressions
+
+abbrev pub HasRowsElementEntry : ElementEntry → Type 0
+HasRowsElementEntry e = HasRowsElementMode e.mode × HasRowsListed e.items

@@ -1,0 +1,203 @@
+//! Segments of elements, and the section that holds them.
+
+ghost use Rattle.std.specs.Prelude.{◌≡◌, ◌&&◌, ◌+◌, IsTrue};
+ghost use Rattle.wasm_ops.specs.Covered.{is_covered_ref_type};
+ghost use Rattle.wasm_ops.specs.Sinks.{Writes};
+ghost use Rattle.wasm_ops.specs.Spelling.{InRangeU32, InRangeRefType};
+ghost use Rattle.wasm_ops.specs.Table.{SpellsInstrs};
+ghost use Rattle.wasm_out.specs.Built.{Adds};
+ghost use Rattle.wasm_out.specs.BuiltElements.{segment_bytes, InRangeMode, is_ready_mode, is_form, ended, kind_in, listed_in, InRangeElements, AreElements};
+ghost use Rattle.wasm_out.specs.ElementSegments.{InRangeTable, InRangeElementKind, is_covered_element_kind, passive_bytes, declared_bytes, active_bytes, has_active_form};
+ghost use Rattle.wasm_out.specs.Parts as parts;
+ghost use Rattle.wasm_out.specs.declared.elements.ElementKind.TheVariants as kinds;
+
+use crate::builders::{ListKind, ListSection};
+use crate::sections::ELEMENT_ID;
+use wasm_ops::{ConstExpr, Counted, Encode, Itself, RefType, Refusal, Sink};
+use wast_tree::Error;
+
+/// What elements are (binary format, element section).
+#[derive(Clone, Copy, Debug, PartialEq, Eq)]
+pub enum ElementKind {
+    /// Indices of functions.
+    Functions,
+    /// Expressions of a reference type.
+    Expressions(RefType),
+}
+
+/// Where elements stand: in a table from an offset on, or in none (binary format, element section).
+#[derive(Clone, Copy, Debug)]
+pub enum SegmentMode<O> {
+    /// They are there for instructions that copy them.
+    Passive,
+    /// They may be referred to.
+    Declared,
+    /// They fill a table, from an offset on. Without a table written it is the first.
+    Active(Option<u32>, O),
+}
+
+/// A segment of elements: where they stand, of which kind they are, and their list (binary format, element section).
+#[derive(Clone, Copy)]
+pub struct ElementSegment<O, L> {
+    /// Where they stand.
+    pub mode: SegmentMode<O>,
+    /// Of which kind they are.
+    pub kind: ElementKind,
+    /// Their list.
+    pub list: L,
+}
+
+impl<O: Encode, L: Encode> ElementSegment<O, L> {
+    /// Appends a segment of functions.
+    fn put_functions<S: Sink>(&self, out: &mut S) -> Result<(), Refusal>
+        requires { IsTrue (is_ready_mode O.is_ready self.now.mode && L.is_ready self.now.list) }
+        ensures { Writes S.rules (InRangeMode O.in_range self.now.mode × L.in_range self.now.list) out.old out.new
+            (segment_bytes O.spelling self.now.mode kinds.Functions (L.spelling self.now.list)) result }
+    {
+        let list = &self.list;
+        match &self.mode {
+            SegmentMode::Passive => (0x01u8, (0x00u8, list)).encode(out),
+            SegmentMode::Declared => (0x03u8, (0x00u8, list)).encode(out),
+            SegmentMode::Active(None, offset) => (0x00u8, (offset, list)).encode(out),
+            SegmentMode::Active(Some(table), offset) => {
+                (0x02u8, (*table, (offset, (0x00u8, list)))).encode(out)
+            }
+        }
+    }
+
+    /// Appends a segment of expressions. It needs a covered type, and functions where no table is written.
+    fn put_expressions<S: Sink>(&self, ty: RefType, out: &mut S) -> Result<(), Refusal>
+        requires { IsTrue (is_covered_ref_type ty
+            && (is_ready_mode O.is_ready self.now.mode && L.is_ready self.now.list)) }
+        ensures { Writes S.rules
+            (InRangeMode O.in_range self.now.mode × (InRangeRefType ty × L.in_range self.now.list)) out.old out.new
+            (segment_bytes O.spelling self.now.mode (kinds.Expressions ty) (L.spelling self.now.list)) result }
+    {
+        let list = &self.list;
+        match &self.mode {
+            SegmentMode::Passive => (0x05u8, (ty, list)).encode(out),
+            SegmentMode::Declared => (0x07u8, (ty, list)).encode(out),
+            SegmentMode::Active(None, offset) => (0x04u8, (offset, list)).encode(out),
+            SegmentMode::Active(Some(table), offset) => {
+                (0x06u8, (*table, (offset, (ty, list)))).encode(out)
+            }
+        }
+    }
+}
+
+/// The form of its mode and its kind: of expressions without a table, which have no bytes for a type, it is that of
+/// `funcref` alone.
+impl<O: Encode, L: Encode> Encode for ElementSegment<O, L> {
+    ghost spelling = { λ s. segment_bytes O.spelling s.mode s.kind (L.spelling s.list) };
+
+    ghost in_range = { λ s. InRangeMode O.in_range s.mode × (InRangeElementKind s.kind × L.in_range s.list) };
+
+    ghost is_ready = { λ s. is_form s.mode s.kind
+        && (is_covered_element_kind s.kind && (is_ready_mode O.is_ready s.mode && L.is_ready s.list)) };
+
+    fn encode<S: Sink>(&self, out: &mut S) -> Result<(), Refusal> {
+        match self.kind {
+            ElementKind::Functions => self.put_functions(out),
+            ElementKind::Expressions(ty) => self.put_expressions(ty, out),
+        }
+    }
+}
+
+/// Elements that a builder is given (binary format, element section).
+#[derive(Debug, Drop)]
+pub enum Elements {
+    /// Functions, by their indices.
+    Functions(Vec<u32>),
+    /// Expressions of a reference type.
+    Expressions(RefType, Vec<ConstExpr>),
+}
+
+/// The kind of element sections.
+#[derive(Clone, Copy, Debug)]
+pub struct ElementSegments;
+
+impl ListKind for ElementSegments {
+    ghost kind = { parts.Elements };
+
+    fn id() -> u8 {
+        ELEMENT_ID
+    }
+}
+
+/// The element section: segments of elements (binary format, element section). Contracts see it as its items.
+pub type ElementSection = ListSection<ElementSegments>;
+
+impl ElementSection {
+    /// Adds a segment that is there for instructions that copy it. It needs expressions of a covered type.
+    ///
+    /// E10 comes only where there would be 2^32 segments, or where there are 2^32 elements or more; E12 where memory is
+    /// refused. Then the section stays as it was.
+    pub fn passive<'e>(&mut self, elements: &Elements) -> Result<(), Error<'e>>
+        requires { AreElements elements.now }
+        ensures { Adds (InRangeU32 (self.old.count + 1) × InRangeElements elements.now) self.old self.new
+            (passive_bytes (kind_in elements.now) (listed_in elements.now)) result }
+    {
+        self.add(SegmentMode::Passive, elements)
+    }
+
+    /// Adds a segment of elements that may be referred to. It needs expressions of a covered type.
+    ///
+    /// E10 comes only where there would be 2^32 segments, or where there are 2^32 elements or more; E12 where memory is
+    /// refused. Then the section stays as it was.
+    pub fn declared<'e>(&mut self, elements: &Elements) -> Result<(), Error<'e>>
+        requires { AreElements elements.now }
+        ensures { Adds (InRangeU32 (self.old.count + 1) × InRangeElements elements.now) self.old self.new
+            (declared_bytes (kind_in elements.now) (listed_in elements.now)) result }
+    {
+        self.add(SegmentMode::Declared, elements)
+    }
+
+    /// Adds a segment that fills a table from an offset on: without a table, the first. It needs a spelled offset, and
+    /// expressions of a covered type, which without a table is `funcref`.
+    ///
+    /// E10 comes only where there would be 2^32 segments, or where there are 2^32 elements or more; E12 where memory is
+    /// refused. Then the section stays as it was.
+    pub fn active<'e>(
+        &mut self,
+        table: Option<u32>,
+        offset: &ConstExpr,
+        elements: &Elements,
+    ) -> Result<(), Error<'e>>
+        requires offset { SpellsInstrs offset.now }
+        requires elements { AreElements elements.now }
+        requires form { IsTrue (has_active_form table (kind_in elements.now)) }
+        ensures { Adds (InRangeU32 (self.old.count + 1) × (InRangeTable table × InRangeElements elements.now))
+            self.old self.new (active_bytes table (ended offset.now) (kind_in elements.now) (listed_in elements.now))
+            result }
+    {
+        self.add(SegmentMode::Active(table, offset), elements)
+    }
+
+    /// Adds a segment.
+    fn add<'e>(
+        &mut self,
+        mode: SegmentMode<&ConstExpr>,
+        elements: &Elements,
+    ) -> Result<(), Error<'e>>
+        requires elements { AreElements elements.now }
+        requires form { IsTrue (is_form mode (kind_in elements.now)) }
+        ensures { Adds
+            (InRangeU32 (self.old.count + 1) × (InRangeMode (λ _. Unit {0}) mode.entry × InRangeElements elements.now))
+            self.old self.new
+            (segment_bytes (λ offset. ended offset.now) mode.entry (kind_in elements.now) (listed_in elements.now))
+            result }
+    {
+        match elements {
+            Elements::Functions(functions) => self.items.push(&ElementSegment {
+                mode,
+                kind: ElementKind::Functions,
+                list: Counted(functions, Itself),
+            }),
+            Elements::Expressions(ty, expressions) => self.items.push(&ElementSegment {
+                mode,
+                kind: ElementKind::Expressions(*ty),
+                list: Counted(expressions, Itself),
+            }),
+        }
+    }
+}

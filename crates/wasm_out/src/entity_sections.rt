@@ -1,0 +1,172 @@
+//! The sections of imports, tables, memories, tags and globals.
+
+ghost use Rattle.std.specs.Prelude.{◌≡◌, ◌+◌, ◌∷◌, ◌++◌, [], IsTrue};
+ghost use Rattle.wasm_ops.specs.Entities.{table_type, InRangeTableType, is_covered_table_type, memory_type, InRangeMemoryType, is_covered_memory_type, global_type, InRangeGlobalType, is_covered_global_type, tag_type, InRangeTagType, is_covered_tag_type, is_covered_entity_type};
+ghost use Rattle.wasm_ops.specs.Spelling.{InRangeU32};
+ghost use Rattle.wasm_ops.specs.Table.{SpellsInstrs};
+ghost use Rattle.wasm_out.specs.Built.{Adds};
+ghost use Rattle.wasm_out.specs.Parts.{section_id, import_entry, InRangeImport};
+ghost use Rattle.wasm_out.specs.Parts as parts;
+
+use crate::builders::{ListKind, ListSection};
+use crate::sections::{GLOBAL_ID, IMPORT_ID, MEMORY_ID, TABLE_ID, TAG_ID};
+use wasm_ops::{ConstExpr, EntityType, GlobalType, MemoryType, Name, TableType, TagType};
+use wast_tree::Error;
+
+/// The kind of import sections.
+#[derive(Clone, Copy, Debug)]
+pub struct Imports;
+
+impl ListKind for Imports {
+    ghost kind = { parts.Imports };
+
+    fn id() -> u8 {
+        IMPORT_ID
+    }
+}
+
+/// The import section (binary format, import section). Contracts see it as its items.
+pub type ImportSection = ListSection<Imports>;
+
+impl ImportSection {
+    /// Adds an import: the module and the name that it is imported by, and its type. It needs a covered type.
+    ///
+    /// E10 comes only where there would be 2^32 imports, or where the module or the name has 2^32 bytes or more; E12
+    /// where memory is refused. Then the section stays as it was.
+    pub fn import<'e>(&mut self, module: &str, name: &str, ty: &EntityType) -> Result<(), Error<'e>>
+        requires { IsTrue (is_covered_entity_type ty.now) }
+        ensures { Adds (InRangeU32 (self.old.count + 1)
+            × InRangeImport (record { «module» = «module».now; name = name.now; entity = ty.now })) self.old self.new
+            (import_entry (record { «module» = «module».now; name = name.now; entity = ty.now })) result }
+    {
+        self.items.push(&(Name(module), (Name(name), ty)))
+    }
+}
+
+/// The kind of table sections.
+#[derive(Clone, Copy, Debug)]
+pub struct Tables;
+
+impl ListKind for Tables {
+    ghost kind = { parts.Tables };
+
+    fn id() -> u8 {
+        TABLE_ID
+    }
+}
+
+/// The table section (binary format, table section). Contracts see it as its items.
+pub type TableSection = ListSection<Tables>;
+
+impl TableSection {
+    /// Adds a table whose elements are null at first. It needs a covered type.
+    ///
+    /// E10 comes only where there would be 2^32 tables, E12 where memory is refused. Then the section stays as it was.
+    pub fn table<'e>(&mut self, ty: &TableType) -> Result<(), Error<'e>>
+        requires { IsTrue (is_covered_table_type ty.now) }
+        ensures { Adds (InRangeU32 (self.old.count + 1) × InRangeTableType ty.now) self.old self.new
+            (table_type ty.now) result }
+    {
+        self.items.push(ty)
+    }
+
+    /// Adds a table whose elements are at first what an expression gives. It needs a covered type and a spelled list of
+    /// instructions.
+    ///
+    /// E10 comes only where there would be 2^32 tables, E12 where memory is refused. Then the section stays as it was.
+    pub fn table_with_init<'e>(&mut self, ty: &TableType, init: &ConstExpr) -> Result<(), Error<'e>>
+        requires covered { IsTrue (is_covered_table_type ty.now) }
+        requires spelled { SpellsInstrs init.now }
+        ensures { Adds (InRangeU32 (self.old.count + 1) × InRangeTableType ty.now) self.old self.new
+            (0x40 ∷ 0x00 ∷ (table_type ty.now ++ (init.now ++ 0x0b ∷ []))) result }
+    {
+        self.items.push(&(0x40u8, (0x00u8, (ty, init))))
+    }
+}
+
+/// The kind of memory sections.
+#[derive(Clone, Copy, Debug)]
+pub struct Memories;
+
+impl ListKind for Memories {
+    ghost kind = { parts.Memories };
+
+    fn id() -> u8 {
+        MEMORY_ID
+    }
+}
+
+/// The memory section (binary format, memory section). Contracts see it as its items.
+pub type MemorySection = ListSection<Memories>;
+
+impl MemorySection {
+    /// Adds a memory. It needs a covered type.
+    ///
+    /// E10 comes only where there would be 2^32 memories, E12 where memory is refused. Then the section stays as it
+    /// was.
+    pub fn memory<'e>(&mut self, ty: &MemoryType) -> Result<(), Error<'e>>
+        requires { IsTrue (is_covered_memory_type ty.now) }
+        ensures { Adds (InRangeU32 (self.old.count + 1) × InRangeMemoryType ty.now) self.old self.new
+            (memory_type ty.now) result }
+    {
+        self.items.push(ty)
+    }
+}
+
+/// The kind of tag sections.
+#[derive(Clone, Copy, Debug)]
+pub struct Tags;
+
+impl ListKind for Tags {
+    ghost kind = { parts.Tags };
+
+    fn id() -> u8 {
+        TAG_ID
+    }
+}
+
+/// The tag section (binary format, tag section). Contracts see it as its items.
+pub type TagSection = ListSection<Tags>;
+
+impl TagSection {
+    /// Adds a tag. It needs a covered type.
+    ///
+    /// E10 comes only where there would be 2^32 tags, E12 where memory is refused. Then the section stays as it was.
+    pub fn tag<'e>(&mut self, ty: &TagType) -> Result<(), Error<'e>>
+        requires { IsTrue (is_covered_tag_type ty.now) }
+        ensures { Adds (InRangeU32 (self.old.count + 1) × InRangeTagType ty.now) self.old self.new
+            (tag_type ty.now) result }
+    {
+        self.items.push(ty)
+    }
+}
+
+/// The kind of global sections.
+#[derive(Clone, Copy, Debug)]
+pub struct Globals;
+
+impl ListKind for Globals {
+    ghost kind = { parts.Globals };
+
+    fn id() -> u8 {
+        GLOBAL_ID
+    }
+}
+
+/// The global section (binary format, global section). Contracts see it as its items.
+pub type GlobalSection = ListSection<Globals>;
+
+impl GlobalSection {
+    /// Adds a global that is at first what an expression gives. It needs a covered type and a spelled list of
+    /// instructions.
+    ///
+    /// E10 comes only where there would be 2^32 globals, E12 where memory is refused. Then the section stays as it was.
+    pub fn global<'e>(&mut self, ty: &GlobalType, init: &ConstExpr) -> Result<(), Error<'e>>
+        requires covered { IsTrue (is_covered_global_type ty.now) }
+        requires spelled { SpellsInstrs init.now }
+        ensures { Adds (InRangeU32 (self.old.count + 1) × InRangeGlobalType ty.now) self.old self.new
+            (global_type ty.now ++ (init.now ++ 0x0b ∷ [])) result }
+    {
+        self.items.push(&(ty, init))
+    }
+}

@@ -1,0 +1,6 @@
+use Rattle.wast_core.specs.Meaning.{starts_in}
+use Rattle.wast_core.proofs.Sizes.{each_part_written}
+use Rattle.wast_core.proofs.entries.put_starts.Goals as goal
+
+pub returns : goal.returns
+returns g c = each_part_written g.S.Sink.rules starts_in c.args.fields.now c.args.out.now c.encode.new.out c.encode.result c.encode.ensures

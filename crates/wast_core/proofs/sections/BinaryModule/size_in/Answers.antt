@@ -1,0 +1,15 @@
+use Rattle.wast_core.specs.Names.{text_seen}
+use Rattle.wast_core.specs.NamesPayload.{name_subsections}
+use Rattle.wast_core.specs.Slots.{kind_of}
+use Rattle.wast_core.proofs.Measuring.{measured_extents}
+use Rattle.wast_core.proofs.Sizes.{listed_counted, names_counted}
+use Rattle.wast_core.proofs.sections.BinaryModule.size_in.Goals as goal
+
+pub returns-in-Section : goal.returns-in-Section
+returns-in-Section c =
+    rw c.in-Section.is (listed_counted (kind_of c.in-Section.kind) c.args.self.now.fields.now c.extent.result.count c.extent.result.size c.section_size.result c.extent.ensures c.section_size.ensures.size c.section_size.ensures.within)
+
+pub returns-in-Names : goal.returns-in-Names
+returns-in-Names c =
+    let m = c.args.self.now in
+    rw c.in-Names.is (names_counted (name_subsections (text_seen m.name) m.fields.now) m.names c.section_size-in-Names.result (measured_extents m c.requires).names c.section_size-in-Names.ensures.size c.section_size-in-Names.ensures.within)

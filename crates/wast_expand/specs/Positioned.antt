@@ -1,0 +1,16 @@
+-- The list in which each type use has the position of its type, and no id is made (text format, type uses: abbreviations).
+use Rattle.std.specs.Prelude.{List, map, option_map}
+use Rattle.wast_expand.specs.Tree.{ModuleField}
+use Rattle.wast_expand.specs.Tree.index
+use Rattle.wast_expand.specs.TypeSpace.{index_for}
+use Rattle.wast_expand.specs.Expanders.{LookUp}
+use Rattle.wast_expand.specs.Expanded.{start_of_text, bound_field}
+use Rattle.wast_expand.specs.Completed.{completed}
+
+-- a signature is bound to the position of its type in the type space
+abbrev pub by_position : List ModuleField → LookUp
+by_position fields s = option_map (λ k. index.Num k start_of_text) (index_for fields s)
+
+-- the completed list, each use without an index bound so
+abbrev pub positioned : List ModuleField → List ModuleField
+positioned fields = map (bound_field (by_position fields)) (completed fields)

@@ -1,0 +1,14 @@
+pub mod Basics
+pub mod Bytes
+pub mod Called
+pub mod Cuts
+pub mod FilledSpaces
+pub mod Gathered
+pub mod HeadOrder
+pub mod HeadRanges
+pub mod Keys
+pub mod LeastTie
+pub mod Numbered
+pub mod Rising
+pub mod Searches
+pub mod Ties

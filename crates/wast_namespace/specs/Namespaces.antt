@@ -1,0 +1,64 @@
+-- A name space as a value: a finite map from names to numbers, beside a count (text format: identifiers, indices).
+use Rattle.std.specs.Prelude.{ℕ, ◌+◌, Bool, not, is_some, List, [], Option, Some, None, refl}
+use Rattle.std.specs.declared.cmp.Ordering.{Ordering}
+use Rattle.std.specs.Ordering.{nat_cmp, ordering_then}
+use Rattle.std.specs.Option.{option_cmp}
+use Rattle.std.specs.Cmp.Lexicographic.{slice_cmp}
+use Rattle.std.specs.FinMap.{FinMap, empty, get, insert, code}
+use Rattle.std.specs.Coded.{Coded, coded×, coded_ℕ, coded_list, coded_option, code_by}
+use Rattle.wast_tree.specs.Ids.{Name, Written, Generated, text_of, Mark}
+use Rattle.wast_tree.specs.Faults.{Duplicate, DuplicateField}
+use Rattle.wast_namespace.specs.FirstUnmet.{Demand, one_demand}
+
+-- the text of a name, and its generation where it is generated
+abbrev pub Key : Type 0
+Key = List ℕ × Option ℕ
+
+abbrev pub generation_if : Name → Option ℕ
+generation_if (Written text) = None
+generation_if (Generated n) = Some n
+
+abbrev pub key_of : Name → Key
+key_of name = (text_of name, generation_if name)
+
+-- by the bytes of the text, then written names before generated ones, then by generation
+abbrev pub key_cmp : Key → Key → Ordering
+key_cmp a b = ordering_then (slice_cmp nat_cmp a.0 b.0) (option_cmp nat_cmp a.1 b.1)
+
+pub record NameSpace : Type 0 where
+  pub names : FinMap key_cmp ℕ
+  pub count : ℕ
+
+abbrev pub coded_space : Coded NameSpace
+coded_space = code_by (FinMap key_cmp ℕ × ℕ) (coded× (code (coded× (coded_list coded_ℕ) (coded_option coded_ℕ)) coded_ℕ) coded_ℕ) (λ s. (s.names, s.count)) (λ p. record { names = p.0; count = p.1 }) (λ _. refl)
+
+-- no name, and a count
+abbrev pub empty_from : ℕ → NameSpace
+empty_from count = record { names = empty; count = count }
+
+-- what a name denotes in the space
+abbrev pub number_in : NameSpace → Name → Option ℕ
+number_in s name = get s.names (key_of name)
+
+abbrev pub counted : NameSpace → NameSpace
+counted s = record { names = s.names; count = s.count + 1 }
+
+-- the name stands at n
+abbrev pub named : NameSpace → Name → ℕ → NameSpace
+named s name n = record { names = insert s.names (key_of name) n; count = s.count }
+
+-- one more item, whose name stands at the count
+abbrev pub registered : NameSpace → Option Mark → NameSpace
+registered s None = counted s
+registered s (Some m) = counted (named s m.0 s.count)
+
+-- The space has no such name yet.
+abbrev pub is_new : NameSpace → Name → Bool
+is_new s name = not (is_some (number_in s name))
+
+abbrev pub new_item : NameSpace → List ℕ → Option Mark → List Demand
+new_item s word None = []
+new_item s word (Some m) = one_demand (Duplicate word) m.1 (is_new s m.0)
+
+abbrev pub new_name : NameSpace → List ℕ → Mark → List Demand
+new_name s word m = one_demand (DuplicateField word (text_of m.0)) m.1 (is_new s m.0)

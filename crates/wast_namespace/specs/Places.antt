@@ -1,0 +1,54 @@
+-- Names in a list of pairs that is sorted by them, and what a search by a name answers.
+use Rattle.std.specs.Prelude.{◌≡◌, ℕ, ◌<◌, ◌≤◌, List, map, length, T, Result, Ok, Err, slice_index_or}
+use Rattle.std.specs.declared.cmp.Ordering.TheVariants.{Less, Equal, Greater}
+use Rattle.std.specs.FinMap.{is_sorted}
+use Rattle.wast_tree.specs.Ids.{name_of}
+use Rattle.wast_tree.specs.declared.ids.Id.{Id}
+use Rattle.wast_namespace.specs.Namespaces.{Key, key_of, key_cmp}
+
+-- what the id of a pair is called
+abbrev pub key_at : Id × ℕ → Key
+key_at e = key_of (name_of e.0)
+
+abbrev pub entry_of : Id × ℕ → Key × ℕ
+entry_of e = (key_at e, e.1)
+
+-- names with their numbers, without the places of their ids
+abbrev pub entries_of : List (Id × ℕ) → List (Key × ℕ)
+entries_of es = map entry_of es
+
+-- Names rise along the pairs, so each stands once.
+abbrev pub AreSorted : List (Id × ℕ) → Type 0
+AreSorted es = T (is_sorted key_cmp (entries_of es))
+
+-- The names before a place are smaller.
+pub record IsAbove (es : List (Id × ℕ)) (key : Key) (at : ℕ) : Type 0 where
+  pub smaller : (j : ℕ) (d : Id × ℕ) → j < at → key_cmp (key_at (slice_index_or es j d)) key ≡ Less
+
+-- The names from a place on are greater.
+pub record IsBelow (es : List (Id × ℕ)) (key : Key) (at : ℕ) : Type 0 where
+  pub greater : (j : ℕ) (d : Id × ℕ) → at ≤ j → j < length es → key_cmp (key_at (slice_index_or es j d)) key ≡ Greater
+
+-- A name can stand only from low on and before high.
+pub record IsBetween (es : List (Id × ℕ)) (key : Key) (low high : ℕ) : Type 0 where
+  pub order : low ≤ high
+  pub within : high ≤ length es
+  pub above : IsAbove es key low
+  pub below : IsBelow es key high
+
+-- The name stands at a place.
+pub record IsAt (es : List (Id × ℕ)) (key : Key) (at : ℕ) : Type 0 where
+  pub in_range : at < length es
+  pub above : IsAbove es key at
+  pub same : (d : Id × ℕ) → key_cmp (key_at (slice_index_or es at d)) key ≡ Equal
+
+-- The name stands nowhere, and would go to a place.
+pub record IsGap (es : List (Id × ℕ)) (key : Key) (at : ℕ) : Type 0 where
+  pub in_range : at ≤ length es
+  pub above : IsAbove es key at
+  pub below : IsBelow es key at
+
+-- what a search for a name answers
+abbrev pub IsPlace : List (Id × ℕ) → Key → Result ℕ ℕ → Type 0
+IsPlace es key (Ok at) = IsAt es key at
+IsPlace es key (Err at) = IsGap es key at

@@ -1,0 +1,132 @@
+//! Filling a name space at once, with the names of all its items.
+
+ghost use Rattle.std.specs.Prelude.{◌≡◌, ◌+◌, ◌<◌, ◌≤◌, ◌^◌, ◌↔◌, ◌++◌, ◌∷◌, [], IsTrue, List, Option as Maybe, length, IfOk, OnOk, OnErr};
+ghost use Rattle.std.specs.Ordering.{is_lt};
+ghost use Rattle.std.specs.List.Sorted.{IsPermutation, IsSortedBy};
+ghost use Rattle.wast_tree.specs.Ids.{Name, marked};
+ghost use Rattle.wast_tree.specs.Spaces.{name_if};
+ghost use Rattle.wast_namespace.specs.Namespaces.{key_cmp};
+ghost use Rattle.wast_namespace.specs.Places.{entry_of, entries_of};
+ghost use Rattle.wast_namespace.specs.Filling.{ArePositions, names_from, pair_cmp, IsFirstTie, HasFirstClash, Fills, least_of};
+
+use crate::heads::Heads;
+use crate::namespace::Namespace;
+use crate::order::compare;
+use std::alloc::{AllocError, Global};
+use std::cmp::Ordering;
+use std::marker::Model;
+use wast_tree::Id;
+
+/// The items of a space in their order, before its name space is filled: the list of their names.
+#[derive(Drop)]
+pub struct Gathering<'a> {
+    pairs: Vec<(Id<'a>, u32)>,
+    count: u32,
+}
+
+impl<'a> Model for Gathering<'a> {
+    ghost Value = { List (Maybe Name) };
+
+    ghost view = { λ g. names_from 0 g.pairs.items g.count };
+
+    ghost invariant = { λ g. ArePositions 0 g.pairs.items g.count };
+}
+
+impl<'a> Gathering<'a> {
+    /// No items, with memory for so many ids.
+    pub fn new(alloc: Global, room: usize) -> Result<Self, AllocError>
+        ensures { IfOk result (λ g. g ≡ []) }
+    {
+        let mut pairs = Vec::new(alloc);
+        pairs.reserve(room)?;
+        Ok(Gathering { pairs, count: 0 })
+    }
+
+    /// One more item, with the id that it bears.
+    ///
+    /// It takes memory only where there are more ids than there was to be room for. Where memory is refused nothing
+    /// changes.
+    pub fn add(&mut self, id: Option<Id<'a>>) -> Result<(), AllocError>
+        requires { length self.old + 1 < 2 ^ 32 }
+        ensures ok { OnOk result (self.new ≡ self.old ++ name_if (marked id.entry) ∷ []) }
+        ensures err { OnErr result (self.new ≡ self.old) }
+    {
+        let next = self.count + 1;
+        if let Some(id) = id {
+            self.pairs.push((id, self.count))?;
+        }
+        self.count = next;
+        Ok(())
+    }
+
+    /// Whether there are 4,294,967,295 items, so that no further one can be counted.
+    pub fn is_full(&self) -> bool
+        ensures { IsTrue result ↔ (2 ^ 32 ≤ length self.now + 1) }
+    {
+        self.count == u32::MAX
+    }
+
+    /// The position of the first item that has the name of an earlier one, if there is one. It takes no memory.
+    pub fn first_clash(self) -> Option<u32>
+        ensures { HasFirstClash self.entry result }
+    {
+        let Gathering { mut pairs, .. } = self;
+        put_in_order(&mut pairs);
+        first_tie(&pairs)
+    }
+
+    /// The name space of the items, or the position of the first item that has the name of an earlier one.
+    pub fn filled(self, alloc: Global) -> Result<Result<Namespace<'a>, u32>, AllocError>
+        ensures { IfOk result (Fills self.entry) }
+    {
+        let Gathering { mut pairs, count } = self;
+        put_in_order(&mut pairs);
+        if let Some(number) = first_tie(&pairs) {
+            return Ok(Err(number));
+        }
+        let heads = Heads::of(alloc, &pairs)?;
+        Ok(Ok(Namespace::from_sorted(pairs, heads, count)))
+    }
+}
+
+/// By the name, and then by the number.
+fn compare_pairs<'a>(a: &(Id<'a>, u32), b: &(Id<'a>, u32)) -> Ordering
+    ensures { result ≡ pair_cmp key_cmp (entry_of a.now) (entry_of b.now) }
+{
+    compare(&a.0, &b.0).then(a.1.cmp(&b.1))
+}
+
+/// Sorts by the name, and then by the number.
+fn put_in_order<'a>(pairs: &mut Vec<(Id<'a>, u32)>)
+    ensures permutation { IsPermutation pairs.old.items pairs.new.items }
+    ensures sorted { IsSortedBy (λ a b. is_lt (pair_cmp key_cmp (entry_of a) (entry_of b))) pairs.new.items }
+{
+    pairs.sort_unstable_by(|a, b| compare_pairs(a, b));
+}
+
+/// The least number of a pair that has the name of the one before it.
+fn first_tie<'a>(pairs: &[(Id<'a>, u32)]) -> Option<u32>
+    ensures { IsFirstTie (entries_of pairs.now) result }
+{
+    if pairs.is_empty() {
+        return None;
+    }
+    let mut least: Option<u32> = None;
+    'seek: for t in 0..pairs.len() - 1 {
+        if compare(&pairs[t].0, &pairs[t + 1].0).is_eq() {
+            let number = pairs[t + 1].1;
+            least = Some(lesser(least, number));
+        }
+    }
+    least
+}
+
+/// The lesser of two numbers, the first of which may be missing.
+fn lesser(least: Option<u32>, number: u32) -> u32
+    ensures { result ≡ least_of least number }
+{
+    match least {
+        Some(other) if other < number => other,
+        _ => number,
+    }
+}

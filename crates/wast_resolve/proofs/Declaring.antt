@@ -1,0 +1,155 @@
+-- The names of parameters and locals, one after the other, and the first that is there already.
+use Rattle.std.proofs.Common.{◌≡◌, ℕ, zero, suc, ◌+◌, ◌<◌, ◌≤◌, ◌^◌, Bool, true, false, List, [], ◌∷◌, ◌++◌, map, length, get_or, drop, length-append, append_assoc, Option, Some, None, refl, sym, ap, ◌∙◌, subst, arith}
+use Rattle.std.specs.Prelude.{⊤, not, cond, codes, slice_index_or}
+use Rattle.std.proofs.Math.Seq.{get_or-append_seam, take-append_seam, drop-cons}
+use Rattle.std.proofs.lemmas.List.{map-append, length-map}
+use Rattle.wast_tree.specs.Ids.{Name, Mark, marked}
+use Rattle.wast_tree.specs.Faults.{Refusal, Duplicate, Told}
+use Rattle.wast_tree.specs.Spaces.{name_if, is_borne}
+use Rattle.wast_tree.specs.Occurrences.{Step, Declares, declared_params, declared_locals, declared}
+use Rattle.wast_resolve.specs.Tree.{Span, Id, NameAnnotation, ValType, FunctionType, Local, FuncKind}
+use Rattle.wast_resolve.specs.Tree.func
+use Rattle.wast_resolve.specs.Scopes.{Scope}
+use Rattle.wast_resolve.specs.Demands.{first_unmet, Answers, start, step_demands}
+use Rattle.wast_namespace.specs.Filling.{IsClash, IsFirstClash, HasFirstClash}
+use Rattle.wast_resolve.specs.Gathers.{Stops}
+use Rattle.wast_resolve.specs.Locals.{params_in, locals_in, marks, names, said_of}
+use Rattle.wast_namespace.specs.Outcomes.{Outcome}
+use Rattle.wast_tree.specs.declared.faults.Error.{Error}
+use Rattle.std.specs.Prelude.{Result}
+use Rattle.wast_resolve.proofs.Collecting.{stops_more}
+
+-- what is unmet first, by the position of the first clash
+abbrev pub by_clash : List (Option Mark) → Option ℕ → Option (Refusal × Span)
+by_clash ms None = None
+by_clash ms (Some p) = said_of (slice_index_or ms p None)
+
+abbrev declares : List (Option Mark) → List Step
+declares ms = map Declares ms
+
+clash_here : (before rest : List (Option Name)) (q : Name) → is_borne q before ≡ true → IsClash (before ++ Some q ∷ rest) (length before)
+clash_here before rest q h = record {
+  name = q;
+  within = omega (arith, length-append before (Some q ∷ rest));
+  bears = get_or-append_seam before (Some q) rest None;
+  borne = ap (is_borne q) (take-append_seam before (Some q ∷ rest)) ∙ h;
+}
+
+abbrev name_or : Name → Option Name → Name
+name_or d None = d
+name_or d (Some n) = n
+
+-- the name of a clash stands before it
+borne_here : (before rest : List (Option Name)) (q : Name) → IsClash (before ++ Some q ∷ rest) (length before) → is_borne q before ≡ true
+borne_here before rest q c =
+    let same : Some c.name ≡ Some q = sym c.bears ∙ get_or-append_seam before (Some q) rest None in
+    ap (λ o. is_borne (name_or q o) before) (sym same) ∙ (ap (is_borne c.name) (sym (take-append_seam before (Some q ∷ rest))) ∙ c.borne)
+
+none_here : (before rest : List (Option Name)) → IsClash (before ++ None ∷ rest) (length before) → ⊥
+none_here before rest c = let e : None ≡ Some c.name = sym (get_or-append_seam before None rest None) ∙ c.bears in absurd (cc e)
+
+met_one : (b : Bool) (f : Refusal × Span) (r : Option (Refusal × Span)) → (b ≡ true → ⊥) → r ≡ None → cond (not b) r (Some f) ≡ None
+met_one true f r h e = absurd (h refl)
+met_one false f r h e = e
+
+unmet_one : (b : Bool) (f : Refusal × Span) (r : Option (Refusal × Span)) → b ≡ true → cond (not b) r (Some f) ≡ Some f
+unmet_one true f r h = refl
+unmet_one false f r h = cc
+
+later_one : (b : Bool) (f : Refusal × Span) (r s : Option (Refusal × Span)) → (b ≡ true → ⊥) → r ≡ s → cond (not b) r (Some f) ≡ s
+later_one true f r s h e = absurd (h refl)
+later_one false f r s h e = e
+
+module _ (c : Scope) where
+  -- one more name, before the rest
+  more : (before : List (Option Name)) (o : Option Name) (rest : List (Option Name)) → (before ++ o ∷ []) ++ rest ≡ before ++ o ∷ rest
+  more before o rest = append_assoc before (o ∷ []) rest
+
+  free_after : (before : List (Option Name)) (ms : List (Option Mark)) → ((p : ℕ) → IsClash (before ++ names ms) p → ⊥) → first_unmet (step_demands c (record { locals = before }) (declares ms)) ≡ None
+  free_after before [] free = refl
+  free_after before (None ∷ ms) free = free_after (before ++ None ∷ []) ms (λ p h. free p (subst (λ ns. IsClash ns p) (more before None (names ms)) h))
+  free_after before (Some m ∷ ms) free =
+      met_one (is_borne m.0 before) (Duplicate (codes "local"), m.1) _ (λ b. free (length before) (clash_here before (names ms) m.0 b))
+      (free_after (before ++ Some m.0 ∷ []) ms (λ p h. free p (subst (λ ns. IsClash ns p) (more before (Some m.0) (names ms)) h)))
+
+  next : (before : List (Option Name)) (o : Option Name) (rest : List (Option Name)) (q : ℕ) → IsFirstClash (before ++ o ∷ rest) (length before + suc q) → IsFirstClash ((before ++ o ∷ []) ++ rest) (length (before ++ o ∷ []) + q)
+  next before o rest q h =
+      let at : length before + suc q ≡ length (before ++ o ∷ []) + q = omega (arith, length-append before (o ∷ [])) in
+      subst (λ p. IsFirstClash ((before ++ o ∷ []) ++ rest) p) at (subst (λ ns. IsFirstClash ns (length before + suc q)) (sym (more before o rest)) h)
+
+  first_after : (before : List (Option Name)) (ms : List (Option Mark)) (q : ℕ) → IsFirstClash (before ++ names ms) (length before + q)
+      → first_unmet (step_demands c (record { locals = before }) (declares ms)) ≡ said_of (slice_index_or ms q None)
+  first_after before [] q h = let w = h.clash.within in absurd (omega (arith, w, length-append before []))
+  first_after before (None ∷ ms) zero h = absurd (none_here before (names ms) (subst (λ p. IsClash (before ++ None ∷ names ms) p) (omega arith) h.clash))
+  first_after before (None ∷ ms) (suc q) h = first_after (before ++ None ∷ []) ms q (next before None (names ms) q h)
+  first_after before (Some m ∷ ms) zero h =
+      unmet_one (is_borne m.0 before) (Duplicate (codes "local"), m.1) _ (borne_here before (names ms) m.0 (subst (λ p. IsClash (before ++ Some m.0 ∷ names ms) p) (omega arith) h.clash))
+  first_after before (Some m ∷ ms) (suc q) h =
+      later_one (is_borne m.0 before) (Duplicate (codes "local"), m.1) _ _ (λ b. let l = h.least (length before) (clash_here before (names ms) m.0 b) in omega arith)
+      (first_after (before ++ Some m.0 ∷ []) ms q (next before (Some m.0) (names ms) q h))
+
+  pub free_names : (ms : List (Option Mark)) → ((p : ℕ) → IsClash (names ms) p → ⊥) → first_unmet (step_demands c start (declares ms)) ≡ None
+  free_names ms free = free_after [] ms free
+
+  pub first_name : (ms : List (Option Mark)) (p : ℕ) → IsFirstClash (names ms) p → first_unmet (step_demands c start (declares ms)) ≡ said_of (slice_index_or ms p None)
+  first_name ms p h = let at : p ≡ 0 + p = omega arith in first_after [] ms p (subst (λ q. IsFirstClash (names ms) q) at h)
+
+-- what stopped the gathering of names is an answer
+pub stops_names : (t : Told) (o : Option (Refusal × Span)) (n m : ℕ) → n ≡ m → Stops t n → Answers ⊤ (2 ^ 32 ≤ m) t o
+stops_names t o n m is h = grind (arith, is)
+
+-- the names of a list, at its item at i
+pub stops_at : {T : Type 0} (f : T → Option Name) (t : Told) (a all : List (Option Name)) (xs : List T) (i : ℕ) (x : T) (o : Option Name) → i < length xs → x ≡ get_or xs i x → o ≡ f x
+    → a ++ map f (drop i xs) ≡ all → Stops t (length (a ++ o ∷ [])) → Stops t (length all)
+stops_at f t a all xs i x o lt is same whole h =
+    let rest : map f (drop i xs) ≡ f x ∷ map f (drop (suc i) xs) = ap (map f) (drop-cons xs i x lt ∙ ap (λ y. y ∷ drop (suc i) xs) (sym is)) in
+    let long = ap length (ap (λ ns. a ++ ns) (sym rest) ∙ whole) in
+    stops_more t (length (a ++ o ∷ [])) (length all) (omega (arith, long, length-append a (o ∷ []), length-append a (f x ∷ map f (drop (suc i) xs)))) h
+
+-- steps and names of what is declared
+pub each_step : {X : Type 0} (h : X → Option Mark) (zs : List X) → map (λ x. Declares (h x)) zs ≡ declares (map h zs)
+each_step h [] = refl
+each_step h (z ∷ zs) = ap (λ ss. Declares (h z) ∷ ss) (each_step h zs)
+
+each_name : {X : Type 0} (h : X → Option Mark) (zs : List X) → map (λ x. name_if (h x)) zs ≡ names (map h zs)
+each_name h [] = refl
+each_name h (z ∷ zs) = ap (λ ns. name_if (h z) ∷ ns) (each_name h zs)
+
+module _ {A B : Type 0} (f : A → Option Mark) (g : B → Option Mark) (xs : List A) (ys : List B) where
+  pub steps_are : map (λ x. Declares (f x)) xs ++ map (λ y. Declares (g y)) ys ≡ declares (marks f g xs ys)
+  steps_are = ap (λ ss. ss ++ map (λ y. Declares (g y)) ys) (each_step f xs) ∙ (ap (λ ss. declares (map f xs) ++ ss) (each_step g ys) ∙ sym (map-append Declares (map f xs) (map g ys)))
+
+  pub names_are : map (λ x. name_if (f x)) xs ++ map (λ y. name_if (g y)) ys ≡ names (marks f g xs ys)
+  names_are = ap (λ ns. ns ++ map (λ y. name_if (g y)) ys) (each_name f xs) ∙ (ap (λ ns. names (map f xs) ++ ns) (each_name g ys) ∙ sym (map-append name_if (map f xs) (map g ys)))
+
+-- nothing is unmet, or what is said of the first clash
+pub clash_answers : (c : Scope) (ms : List (Option Mark)) (o : Option ℕ) → HasFirstClash (names ms) o → first_unmet (step_demands c start (declares ms)) ≡ by_clash ms o
+clash_answers c ms None h = free_names c ms h
+clash_answers c ms (Some p) h = first_name c ms p h
+
+-- what a function declares
+pub declares_are : (inline : Option FunctionType) (f : FuncKind) → declared inline f ≡ declares (map (λ p. marked p.0) (params_in inline) ++ map (λ l. marked l.id) (locals_in f))
+declares_are inline f =
+    ap (λ ss. ss ++ declared_locals f) (of_params inline)
+    ∙ (ap (λ ss. map (λ p. Declares (marked p.0)) (params_in inline) ++ ss) (of_locals f) ∙ steps_are (λ p. marked p.0) (λ l. marked l.id) (params_in inline) (locals_in f))
+  where
+    of_params : (inline : Option FunctionType) → declared_params inline ≡ map (λ p. Declares (marked p.0)) (params_in inline)
+    of_params None = refl
+    of_params (Some t) = refl
+
+    of_locals : (f : FuncKind) → declared_locals f ≡ map (λ l. Declares (marked l.id)) (locals_in f)
+    of_locals (func.Inline locals e) = refl
+
+-- an answer for the names of these parameters and locals is one for the function
+pub names_answer : (K : Type 0) (c : Scope) (inline : Option FunctionType) (f : FuncKind) (ps : List (Option Id × Option NameAnnotation × ValType)) (ls : List Local) (r : Result (Unit {0}) Error)
+    → ps ≡ params_in inline → ls ≡ locals_in f
+    → (let ms = marks (λ p. marked p.0) (λ l. marked l.id) ps ls in Outcome K (2 ^ 32 ≤ length ms) (first_unmet (step_demands c start (declares ms))) r)
+    → Outcome K (2 ^ 32 ≤ length (declared inline f)) (first_unmet (step_demands c start (declared inline f))) r
+names_answer K c inline f ps ls r p l h =
+    let are = marks (λ p. marked p.0) (λ l. marked l.id) in
+    let ms = are (params_in inline) (locals_in f) in
+    let steps = declares_are inline f in
+    let long : length ms ≡ length (declared inline f) = sym (ap length steps ∙ length-map ms Declares) in
+    subst (λ ss. Outcome K (2 ^ 32 ≤ length (declared inline f)) (first_unmet (step_demands c start ss)) r) (sym steps)
+    (subst (λ n. Outcome K (2 ^ 32 ≤ n) (first_unmet (step_demands c start (declares ms))) r) long
+    (subst (λ ms. Outcome K (2 ^ 32 ≤ length ms) (first_unmet (step_demands c start (declares ms))) r) (ap (λ qs. are qs ls) p ∙ ap (λ ks. are (params_in inline) ks) l) h))

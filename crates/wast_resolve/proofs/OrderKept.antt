@@ -1,0 +1,67 @@
+-- Binding type uses, giving ids to types and appending implied types leave what the order of imports demands.
+use Rattle.std.proofs.Common.{◌≡◌, ℕ, ◌+◌, Bool, true, false, List, [], ◌∷◌, ◌++◌, map, Option, None, refl, sym, ap, ◌∙◌}
+use Rattle.std.specs.Option.{option_or}
+use Rattle.wast_expand.specs.Signatures.{Signature}
+use Rattle.wast_expand.specs.ImpliedTypes.{implied}
+use Rattle.wast_expand.specs.Expanders.{LookUp, index_of}
+use Rattle.wast_expand.specs.Filling.{given_if, one_if, filled, wanted}
+use Rattle.wast_expand.specs.Expanded.{lacks_id, with_id, unnamed_type, implied_types, typed, bindings, bound_field, expanded}
+use Rattle.wast_expand.specs.Completed.{completed}
+use Rattle.wast_resolve.specs.Tree.{Space, ModuleField}
+use Rattle.wast_resolve.specs.Tree.field
+use Rattle.wast_tree.specs.Imports.{defined_space}
+use Rattle.wast_resolve.specs.ImportOrder.{import_place, nothing_defined}
+use Rattle.wast_resolve.specs.Demands.{order_demands}
+use Rattle.wast_resolve.proofs.Orders.{orders_from, orders_are}
+
+-- a field and a changed one, which import and define the same
+record Alike (x y : ModuleField) : Type 0 where
+  place : import_place x ≡ import_place y
+  space : defined_space x ≡ defined_space y
+
+one_alike : (last : Option Space) (x y : ModuleField) (xs ys : List ModuleField) → Alike x y → ((o : Option Space) → orders_from o xs ≡ orders_from o ys) → orders_from last (x ∷ xs) ≡ orders_from last (y ∷ ys)
+one_alike last x y xs ys a rest =
+    ap (λ o. nothing_defined last o ++ orders_from (option_or (defined_space x) last) xs) a.place
+    ∙ (ap (λ o. nothing_defined last (import_place y) ++ orders_from (option_or o last) xs) a.space ∙ ap (λ ds. nothing_defined last (import_place y) ++ ds) (rest (option_or (defined_space y) last)))
+
+bound_alike : (find : LookUp) (x : ModuleField) → Alike (bound_field find x) x
+bound_alike find (field.Func f) = record { place = refl; space = refl }
+bound_alike find x = record { place = refl; space = refl }
+
+bound_orders : (find : LookUp) (last : Option Space) (xs : List ModuleField) → orders_from last (map (bound_field find) xs) ≡ orders_from last xs
+bound_orders find last [] = refl
+bound_orders find last (x ∷ xs) = one_alike last (bound_field find x) x (map (bound_field find) xs) xs (bound_alike find x) (λ o. bound_orders find o xs)
+
+given_alike : (b : Bool) (n : ℕ) (x : ModuleField) → Alike (given_if b with_id n x) x
+given_alike false n x = record { place = refl; space = refl }
+given_alike true n (field.Ty t) = record { place = refl; space = refl }
+given_alike true n x = record { place = refl; space = refl }
+
+filled_orders : (n : ℕ) (last : Option Space) (xs : List ModuleField) → orders_from last (filled lacks_id with_id n xs) ≡ orders_from last xs
+filled_orders n last [] = refl
+filled_orders n last (x ∷ xs) =
+    one_alike last (given_if (lacks_id x) with_id n x) x (filled lacks_id with_id (n + one_if (lacks_id x)) xs) xs (given_alike (lacks_id x) n x) (λ o. filled_orders (n + one_if (lacks_id x)) o xs)
+
+-- Types demand nothing of it.
+none_unnamed : (last : Option Space) (ss : List Signature) → orders_from last (map unnamed_type ss) ≡ []
+none_unnamed last [] = refl
+none_unnamed last (s ∷ ss) = none_unnamed last ss
+
+none_implied : (n : ℕ) (last : Option Space) (ss : List Signature) → orders_from last (implied_types n ss) ≡ []
+none_implied n last [] = refl
+none_implied n last (s ∷ ss) = none_implied (n + 1) last ss
+
+behind : (ys : List ModuleField) → ((o : Option Space) → orders_from o ys ≡ []) → (last : Option Space) (xs : List ModuleField) → orders_from last (xs ++ ys) ≡ orders_from last xs
+behind ys none last [] = none last
+behind ys none last (x ∷ xs) = ap (λ ds. nothing_defined last (import_place x) ++ ds) (behind ys none (option_or (defined_space x) last) xs)
+
+pub completed_orders : (fields : List ModuleField) → order_demands (completed fields) ≡ order_demands fields
+completed_orders fields = orders_are (completed fields) ∙ (behind (map unnamed_type (implied fields)) (λ o. none_unnamed o (implied fields)) None fields ∙ sym (orders_are fields))
+
+pub expanded_orders : (n : ℕ) (fields : List ModuleField) → order_demands (expanded n fields) ≡ order_demands (completed fields)
+expanded_orders n fields =
+    let m : ℕ = n + wanted lacks_id fields in
+    orders_are (expanded n fields)
+    ∙ (bound_orders (index_of (bindings (typed n fields))) None (typed n fields)
+    ∙ (behind (implied_types m (implied fields)) (λ o. none_implied m o (implied fields)) None (filled lacks_id with_id n fields)
+    ∙ (filled_orders n None fields ∙ (sym (orders_are fields) ∙ sym (completed_orders fields)))))

@@ -1,0 +1,400 @@
+//! Walks over fields whose parts stand apart: what is asked outside of bodies, type uses, and constant expressions.
+#![tactic(auto, using(crate::proofs::Parts::both_met, crate::proofs::Parts::first_fails, crate::proofs::Parts::second_fails))]
+
+ghost use Rattle.std.specs.Prelude.{List, [], map, flat_map, option_map};
+ghost use Rattle.wast_tree.specs.Known.{Known};
+ghost use Rattle.wast_tree.specs.Occurrences.{Occurrence, outside, if_there, in_index, in_use, in_tag_type, in_item_kind, in_import, in_constant, in_constant_if, in_table_kind, in_memory_kind, in_global_kind, in_global, in_elem_kind, in_payload, in_elem, in_data_kind};
+ghost use Rattle.wast_resolve.specs.Demands.{use_demands};
+ghost use Rattle.wast_resolve.specs.Resolved.{numbered_at, resolved_type_use, resolved_tag_type, resolved_item_kind, resolved_sig, resolved_import_items, resolved_import, resolved_constant, resolved_table_kind, resolved_table, resolved_global_kind, resolved_global, resolved_tag, resolved_elem_kind, resolved_payload, resolved_elem, resolved_data_kind, resolved_data};
+ghost use Rattle.wast_resolve.specs.Resolvers.{known_of, scope_of};
+ghost use Rattle.wast_resolve.specs.TwoSteps.{in_type_of_table, in_init, with_table_type, with_init, in_elem_table, in_elem_offset, with_elem_table, with_elem_offset, in_elements, in_element_type, with_elements, with_element_type, in_data_memory, in_data_offset, with_data_memory, with_data_offset};
+ghost use Rattle.wast_resolve.specs.Walking.{Walks};
+
+use crate::resolver::Resolver;
+use crate::walks::{
+    Walk, walk_each, walk_expression, walk_index, walk_indices, walk_optional, walk_type_use,
+};
+use wast_tree::{
+    Data, DataKind, Elem, ElemKind, ElemPayload, Error, Expression, FunctionType, Global,
+    GlobalKind, ImportItems, Imports, Index, ItemKind, ItemSig, Memory, MemoryKind, Seq, Space,
+    Table, TableKind, Tag, TagType, TypeUse,
+};
+
+/// Walks over a part of a field in which nothing stands in a body.
+pub(crate) fn walk_outside<'a, T: Walk<'a>>(
+    names: &Resolver<'a>,
+    part: &mut T,
+) -> Result<(), Error<'a>>
+    ensures { Walks ⊥ ⊥ (use_demands (scope_of names.now) (outside (T.asks part.old))) (T.numbered (known_of names.now) part.old) part.new result }
+{
+    part.walk(names)
+}
+
+/// Walks over an index of a field.
+pub(crate) fn walk_outside_index<'a>(
+    names: &Resolver<'a>,
+    space: Space,
+    index: &mut Index<'a>,
+) -> Result<(), Error<'a>>
+    ensures { Walks ⊥ ⊥ (use_demands (scope_of names.now) (outside (in_index space index.old))) (numbered_at (known_of names.now) space index.old) index.new result }
+{
+    walk_index(names, space, index)
+}
+
+/// Walks over an index of a field, if there is one.
+fn walk_outside_optional<'a>(
+    names: &Resolver<'a>,
+    space: Space,
+    index: &mut Option<Index<'a>>,
+) -> Result<(), Error<'a>>
+    ensures { Walks ⊥ ⊥ (use_demands (scope_of names.now) (outside (if_there (in_index space) index.old))) (option_map (numbered_at (known_of names.now) space) index.old) index.new result }
+{
+    walk_optional(names, space, index)
+}
+
+/// Walks over indices of a field, in order.
+fn walk_outside_indices<'a>(
+    names: &Resolver<'a>,
+    space: Space,
+    indices: &mut Seq<Index<'a>>,
+) -> Result<(), Error<'a>>
+    ensures { Walks ⊥ ⊥ (use_demands (scope_of names.now) (outside (flat_map (in_index space) indices.old))) (map (numbered_at (known_of names.now) space) indices.old) indices.new result }
+{
+    walk_indices(names, space, indices)
+}
+
+/// A part of a field whose parts stand apart: none reads what another declares.
+pub(crate) trait WalkApart<'a> {
+    /// What stands in it.
+    ghost stands: { Self → List Occurrence };
+
+    /// It, with each index numbered.
+    ghost numbered: { Known → Self → Self };
+
+    /// Walks over it. The error is the first demand that is not met.
+    fn walk_apart(&mut self, names: &Resolver<'a>) -> Result<(), Error<'a>>
+        ensures { Walks ⊥ ⊥ (use_demands (scope_of names.now) (stands self.old)) (numbered (known_of names.now) self.old) self.new result };
+}
+
+/// Walks over each part of a list, in order.
+fn walk_each_apart<'a, T: WalkApart<'a>>(
+    names: &Resolver<'a>,
+    parts: &mut Seq<T>,
+) -> Result<(), Error<'a>>
+    ensures { Walks ⊥ ⊥ (use_demands (scope_of names.now) (flat_map T.stands parts.old)) (map (T.numbered (known_of names.now)) parts.old) parts.new result }
+{
+    for i in 0..parts.len() {
+        parts.at_mut(i).walk_apart(names)?;
+    }
+    Ok(())
+}
+
+impl<'a> WalkApart<'a> for TypeUse<'a, FunctionType<'a>> {
+    ghost stands = { in_use };
+
+    ghost numbered = { resolved_type_use };
+
+    fn walk_apart(&mut self, names: &Resolver<'a>) -> Result<(), Error<'a>> {
+        walk_type_use(names, self)?;
+        Ok(())
+    }
+}
+
+/// A constant expression.
+impl<'a> WalkApart<'a> for Expression<'a> {
+    ghost stands = { in_constant };
+
+    ghost numbered = { resolved_constant };
+
+    fn walk_apart(&mut self, names: &Resolver<'a>) -> Result<(), Error<'a>> {
+        walk_expression(names, self)?;
+        Ok(())
+    }
+}
+
+impl<'a> WalkApart<'a> for Option<Expression<'a>> {
+    ghost stands = { in_constant_if };
+
+    ghost numbered = { λ k o. option_map (resolved_constant k) o };
+
+    fn walk_apart(&mut self, names: &Resolver<'a>) -> Result<(), Error<'a>> {
+        match self {
+            None => Ok(()),
+            Some(expression) => expression.walk_apart(names),
+        }
+    }
+}
+
+impl<'a> WalkApart<'a> for TagType<'a> {
+    ghost stands = { in_tag_type };
+
+    ghost numbered = { resolved_tag_type };
+
+    fn walk_apart(&mut self, names: &Resolver<'a>) -> Result<(), Error<'a>> {
+        match self {
+            TagType::Exception(ty) => ty.walk_apart(names),
+        }
+    }
+}
+
+impl<'a> WalkApart<'a> for ItemKind<'a> {
+    ghost stands = { in_item_kind };
+
+    ghost numbered = { resolved_item_kind };
+
+    fn walk_apart(&mut self, names: &Resolver<'a>) -> Result<(), Error<'a>> {
+        match self {
+            ItemKind::Func(ty) => ty.walk_apart(names),
+            ItemKind::Table(ty) => walk_outside(names, ty),
+            ItemKind::Memory(_) => Ok(()),
+            ItemKind::Global(ty) => walk_outside(names, ty),
+            ItemKind::Tag(ty) => ty.walk_apart(names),
+        }
+    }
+}
+
+impl<'a> WalkApart<'a> for ItemSig<'a> {
+    ghost stands = { λ s. in_item_kind s.kind };
+
+    ghost numbered = { resolved_sig };
+
+    fn walk_apart(&mut self, names: &Resolver<'a>) -> Result<(), Error<'a>> {
+        self.kind.walk_apart(names)?;
+        Ok(())
+    }
+}
+
+impl<'a> WalkApart<'a> for ImportItems<'a> {
+    ghost stands = { in_import };
+
+    ghost numbered = { resolved_import_items };
+
+    fn walk_apart(&mut self, names: &Resolver<'a>) -> Result<(), Error<'a>> {
+        match self {
+            ImportItems::Single { sig, .. } => sig.walk_apart(names),
+        }
+    }
+}
+
+impl<'a> WalkApart<'a> for Imports<'a> {
+    ghost stands = { λ i. in_import i.items };
+
+    ghost numbered = { resolved_import };
+
+    fn walk_apart(&mut self, names: &Resolver<'a>) -> Result<(), Error<'a>> {
+        self.items.walk_apart(names)?;
+        Ok(())
+    }
+}
+
+/// Walks over the type of a table.
+fn walk_table_type<'a>(names: &Resolver<'a>, kind: &mut TableKind<'a>) -> Result<(), Error<'a>>
+    ensures { Walks ⊥ ⊥ (use_demands (scope_of names.now) (in_type_of_table kind.old)) (with_table_type (known_of names.now) kind.old) kind.new result }
+{
+    match kind {
+        TableKind::Normal { ty, .. } => walk_outside(names, ty),
+    }
+}
+
+/// Walks over what the elements of a table are at first.
+fn walk_init<'a>(names: &Resolver<'a>, kind: &mut TableKind<'a>) -> Result<(), Error<'a>>
+    ensures { Walks ⊥ ⊥ (use_demands (scope_of names.now) (in_init kind.old)) (with_init (known_of names.now) kind.old) kind.new result }
+{
+    match kind {
+        TableKind::Normal { init_expr, .. } => init_expr.walk_apart(names),
+    }
+}
+
+impl<'a> WalkApart<'a> for TableKind<'a> {
+    ghost stands = { in_table_kind };
+
+    ghost numbered = { resolved_table_kind };
+
+    fn walk_apart(&mut self, names: &Resolver<'a>) -> Result<(), Error<'a>> {
+        walk_table_type(names, self)?;
+        walk_init(names, self)?;
+        Ok(())
+    }
+}
+
+/// Walks over the table of an element segment.
+fn walk_elem_table<'a>(names: &Resolver<'a>, kind: &mut ElemKind<'a>) -> Result<(), Error<'a>>
+    ensures { Walks ⊥ ⊥ (use_demands (scope_of names.now) (in_elem_table kind.old)) (with_elem_table (known_of names.now) kind.old) kind.new result }
+{
+    match kind {
+        ElemKind::Passive => Ok(()),
+        ElemKind::Declared => Ok(()),
+        ElemKind::Active { table, .. } => walk_outside_optional(names, Space::Table, table),
+    }
+}
+
+/// Walks over the offset of an element segment.
+fn walk_elem_offset<'a>(names: &Resolver<'a>, kind: &mut ElemKind<'a>) -> Result<(), Error<'a>>
+    ensures { Walks ⊥ ⊥ (use_demands (scope_of names.now) (in_elem_offset kind.old)) (with_elem_offset (known_of names.now) kind.old) kind.new result }
+{
+    match kind {
+        ElemKind::Passive => Ok(()),
+        ElemKind::Declared => Ok(()),
+        ElemKind::Active { offset, .. } => offset.walk_apart(names),
+    }
+}
+
+impl<'a> WalkApart<'a> for ElemKind<'a> {
+    ghost stands = { in_elem_kind };
+
+    ghost numbered = { resolved_elem_kind };
+
+    fn walk_apart(&mut self, names: &Resolver<'a>) -> Result<(), Error<'a>> {
+        walk_elem_table(names, self)?;
+        walk_elem_offset(names, self)?;
+        Ok(())
+    }
+}
+
+/// Walks over the elements of a segment.
+fn walk_elements<'a>(names: &Resolver<'a>, payload: &mut ElemPayload<'a>) -> Result<(), Error<'a>>
+    ensures { Walks ⊥ ⊥ (use_demands (scope_of names.now) (in_elements payload.old)) (with_elements (known_of names.now) payload.old) payload.new result }
+{
+    match payload {
+        ElemPayload::Indices(indices) => walk_outside_indices(names, Space::Func, indices),
+        ElemPayload::Exprs { exprs, .. } => walk_each_apart(names, exprs),
+    }
+}
+
+/// Walks over the type of the expressions of a segment.
+fn walk_element_type<'a>(
+    names: &Resolver<'a>,
+    payload: &mut ElemPayload<'a>,
+) -> Result<(), Error<'a>>
+    ensures { Walks ⊥ ⊥ (use_demands (scope_of names.now) (in_element_type payload.old)) (with_element_type (known_of names.now) payload.old) payload.new result }
+{
+    match payload {
+        ElemPayload::Indices(_) => Ok(()),
+        ElemPayload::Exprs { ty, .. } => walk_outside(names, ty),
+    }
+}
+
+impl<'a> WalkApart<'a> for ElemPayload<'a> {
+    ghost stands = { in_payload };
+
+    ghost numbered = { resolved_payload };
+
+    fn walk_apart(&mut self, names: &Resolver<'a>) -> Result<(), Error<'a>> {
+        walk_elements(names, self)?;
+        walk_element_type(names, self)?;
+        Ok(())
+    }
+}
+
+/// Walks over the memory of a data segment.
+fn walk_data_memory<'a>(names: &Resolver<'a>, kind: &mut DataKind<'a>) -> Result<(), Error<'a>>
+    ensures { Walks ⊥ ⊥ (use_demands (scope_of names.now) (in_data_memory kind.old)) (with_data_memory (known_of names.now) kind.old) kind.new result }
+{
+    match kind {
+        DataKind::Passive => Ok(()),
+        DataKind::Active { memory, .. } => walk_outside_index(names, Space::Memory, memory),
+    }
+}
+
+/// Walks over the offset of a data segment.
+fn walk_data_offset<'a>(names: &Resolver<'a>, kind: &mut DataKind<'a>) -> Result<(), Error<'a>>
+    ensures { Walks ⊥ ⊥ (use_demands (scope_of names.now) (in_data_offset kind.old)) (with_data_offset (known_of names.now) kind.old) kind.new result }
+{
+    match kind {
+        DataKind::Passive => Ok(()),
+        DataKind::Active { offset, .. } => offset.walk_apart(names),
+    }
+}
+
+impl<'a> WalkApart<'a> for DataKind<'a> {
+    ghost stands = { in_data_kind };
+
+    ghost numbered = { resolved_data_kind };
+
+    fn walk_apart(&mut self, names: &Resolver<'a>) -> Result<(), Error<'a>> {
+        walk_data_memory(names, self)?;
+        walk_data_offset(names, self)?;
+        Ok(())
+    }
+}
+
+impl<'a> WalkApart<'a> for Table<'a> {
+    ghost stands = { λ t. in_table_kind t.kind };
+
+    ghost numbered = { resolved_table };
+
+    fn walk_apart(&mut self, names: &Resolver<'a>) -> Result<(), Error<'a>> {
+        self.kind.walk_apart(names)?;
+        Ok(())
+    }
+}
+
+impl<'a> WalkApart<'a> for Memory<'a> {
+    ghost stands = { λ m. in_memory_kind m.kind };
+
+    ghost numbered = { λ k m. m };
+
+    fn walk_apart(&mut self, _names: &Resolver<'a>) -> Result<(), Error<'a>> {
+        match self.kind {
+            MemoryKind::Normal(_) => Ok(()),
+        }
+    }
+}
+
+impl<'a> WalkApart<'a> for GlobalKind<'a> {
+    ghost stands = { in_global_kind };
+
+    ghost numbered = { resolved_global_kind };
+
+    fn walk_apart(&mut self, names: &Resolver<'a>) -> Result<(), Error<'a>> {
+        match self {
+            GlobalKind::Inline(value) => value.walk_apart(names),
+        }
+    }
+}
+
+impl<'a> WalkApart<'a> for Global<'a> {
+    ghost stands = { in_global };
+
+    ghost numbered = { resolved_global };
+
+    fn walk_apart(&mut self, names: &Resolver<'a>) -> Result<(), Error<'a>> {
+        walk_outside(names, &mut self.ty)?;
+        self.kind.walk_apart(names)?;
+        Ok(())
+    }
+}
+
+impl<'a> WalkApart<'a> for Elem<'a> {
+    ghost stands = { in_elem };
+
+    ghost numbered = { resolved_elem };
+
+    fn walk_apart(&mut self, names: &Resolver<'a>) -> Result<(), Error<'a>> {
+        self.kind.walk_apart(names)?;
+        self.payload.walk_apart(names)?;
+        Ok(())
+    }
+}
+
+impl<'a> WalkApart<'a> for Data<'a> {
+    ghost stands = { λ d. in_data_kind d.kind };
+
+    ghost numbered = { resolved_data };
+
+    fn walk_apart(&mut self, names: &Resolver<'a>) -> Result<(), Error<'a>> {
+        self.kind.walk_apart(names)?;
+        Ok(())
+    }
+}
+
+impl<'a> WalkApart<'a> for Tag<'a> {
+    ghost stands = { λ t. in_tag_type t.ty };
+
+    ghost numbered = { resolved_tag };
+
+    fn walk_apart(&mut self, names: &Resolver<'a>) -> Result<(), Error<'a>> {
+        self.ty.walk_apart(names)?;
+        Ok(())
+    }
+}

@@ -1,0 +1,109 @@
+//! The order of imports: each stands before what the module defines.
+
+ghost use Rattle.std.specs.Prelude.{◌≡◌, None, IfOk, IfErr, OnOk};
+ghost use Rattle.wast_tree.specs.Faults.{told};
+ghost use Rattle.wast_tree.specs.Imports.{defined_space};
+ghost use Rattle.wast_namespace.specs.FirstUnmet.{first_unmet, Answers};
+ghost use Rattle.wast_namespace.specs.Outcomes.{Outcome};
+ghost use Rattle.wast_resolve.specs.ImportOrder.{import_place, defined_word, nothing_defined};
+ghost use Rattle.wast_resolve.specs.Demands.{order_demands};
+
+use wast_tree::{Error, Fault, ModuleField, Seq, Space, Span, discard_fields};
+
+/// The place of a field that is an import.
+fn import_place(field: &ModuleField<'_>) -> Option<Span>
+    ensures { result ≡ import_place field.now }
+{
+    match field {
+        ModuleField::Ty(_) => None,
+        ModuleField::Rec(_) => None,
+        ModuleField::Import(import) => Some(import.span),
+        ModuleField::Func(_) => None,
+        ModuleField::Table(_) => None,
+        ModuleField::Memory(_) => None,
+        ModuleField::Global(_) => None,
+        ModuleField::Export(_) => None,
+        ModuleField::Start(_) => None,
+        ModuleField::Elem(_) => None,
+        ModuleField::Data(_) => None,
+        ModuleField::Tag(_) => None,
+    }
+}
+
+/// The space of the item that a field defines: a function, table, memory, global or tag.
+fn defined_space(field: &ModuleField<'_>) -> Option<Space>
+    ensures { result ≡ defined_space field.now }
+{
+    match field {
+        ModuleField::Ty(_) => None,
+        ModuleField::Rec(_) => None,
+        ModuleField::Import(_) => None,
+        ModuleField::Func(_) => Some(Space::Func),
+        ModuleField::Table(_) => Some(Space::Table),
+        ModuleField::Memory(_) => Some(Space::Memory),
+        ModuleField::Global(_) => Some(Space::Global),
+        ModuleField::Export(_) => None,
+        ModuleField::Start(_) => None,
+        ModuleField::Elem(_) => None,
+        ModuleField::Data(_) => None,
+        ModuleField::Tag(_) => Some(Space::Tag),
+    }
+}
+
+/// What stands in a space, in a word.
+fn defined_word(space: Space) -> &'static str
+    ensures { result.now ≡ defined_word space }
+{
+    match space {
+        Space::Func => "function",
+        Space::Table => space.word(),
+        Space::Memory => space.word(),
+        Space::Global => space.word(),
+        Space::Tag => space.word(),
+        Space::Elem => space.word(),
+        Space::Data => space.word(),
+        Space::Ty => space.word(),
+    }
+}
+
+/// Nothing, where a field is no import or nothing is defined before it; else E1 at its place.
+fn check_import<'a>(field: &ModuleField<'a>, last: Option<Space>) -> Result<(), Error<'a>>
+    ensures { Outcome ⊥ ⊥ (first_unmet (nothing_defined last (import_place field.now))) result }
+{
+    match (import_place(field), last) {
+        (Some(place), Some(space)) => {
+            Err(Error::new(place, Fault::ImportAfter(defined_word(space))))
+        }
+        (Some(_), None) => Ok(()),
+        (None, Some(_)) => Ok(()),
+        (None, None) => Ok(()),
+    }
+}
+
+/// Whether each import stands before what is defined: E1 at the first that does not.
+fn check_order<'a>(fields: &[ModuleField<'a>]) -> Result<(), Error<'a>>
+    ensures { Outcome ⊥ ⊥ (first_unmet (order_demands fields.now)) result }
+{
+    let mut last = None;
+    for field in fields {
+        check_import(field, last)?;
+        last = defined_space(field).or(last);
+    }
+    Ok(())
+}
+
+/// The fields, where each import stands before what is defined; else E1 at the first that does not, and the fields are
+/// dropped. It takes no memory.
+pub(crate) fn in_order<'a>(fields: Seq<ModuleField<'a>>) -> Result<Seq<ModuleField<'a>>, Error<'a>>
+    ensures met { OnOk result (first_unmet (order_demands fields.entry) ≡ None) }
+    ensures list { IfOk result (λ r. r ≡ fields.entry) }
+    ensures refusal { IfErr result (λ e. Answers ⊥ ⊥ (told e) (first_unmet (order_demands fields.entry))) }
+{
+    match check_order(fields.as_slice()) {
+        Ok(()) => Ok(fields),
+        Err(e) => {
+            discard_fields(fields);
+            Err(e)
+        }
+    }
+}

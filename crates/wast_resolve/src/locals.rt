@@ -1,0 +1,116 @@
+//! The names of the parameters and locals of a function.
+
+ghost use Rattle.std.specs.Prelude.{◌≡◌, ⊤, ◌≤◌, ◌^◌, ◌++◌, [], map, length, slice_index_or, Option as Maybe, None, IfOk, IfErr};
+ghost use Rattle.wast_tree.specs.Ids.{Mark, marked};
+ghost use Rattle.wast_tree.specs.Spaces.{name_if};
+ghost use Rattle.wast_tree.specs.Faults.{told};
+ghost use Rattle.wast_tree.specs.Occurrences.{Declares, declared};
+ghost use Rattle.wast_resolve.specs.Scopes.{Scope};
+ghost use Rattle.wast_resolve.specs.Demands.{first_unmet, start, step_demands};
+ghost use Rattle.wast_namespace.specs.Filling.{HasFirstClash};
+ghost use Rattle.wast_resolve.specs.Gathers.{Stops, Gathers, with_gathered};
+ghost use Rattle.wast_resolve.specs.Locals.{locals_in, marks, names, said_of};
+ghost use Rattle.wast_namespace.specs.Outcomes.{Outcome};
+
+use crate::gathers::{count_ids, gather_each};
+use std::alloc::Global;
+use wast_namespace::Gathering;
+use wast_tree::{Error, Fault, FuncKind, FunctionType, Id, Local, NameAnnotation, ValType};
+
+/// A parameter: its id, its name annotation and its type.
+type Param<'a> = (Option<Id<'a>>, Option<NameAnnotation<'a>>, ValType<'a>);
+
+/// The names of parameters and of locals. It asks for memory once: E12 where it is refused, E10 where there are 2^32.
+fn gather_locals<'a>(
+    alloc: Global,
+    params: &[Param<'a>],
+    locals: &[Local<'a>],
+) -> Result<Gathering<'a>, Error<'a>>
+    ensures { Gathers (Ok []) (names (marks (λ p. marked p.0) (λ l. marked l.id) params.now locals.now)) result }
+{
+    let ids = count_ids(params).saturating_add(count_ids(locals));
+    let mut gathering = Gathering::new(alloc, ids)?;
+    gather_each(&mut gathering, params)?;
+    gather_each(&mut gathering, locals)?;
+    Ok(gathering)
+}
+
+/// The id at a position among parameters and locals.
+fn id_at<'a>(params: &[Param<'a>], locals: &[Local<'a>], at: usize) -> Option<Id<'a>>
+    ensures { marked result ≡ slice_index_or (marks (λ p. marked p.0) (λ l. marked l.id) params.now locals.now) at None }
+{
+    if at < params.len() {
+        return params[at].0;
+    }
+    let at = at - params.len();
+    if at < locals.len() {
+        locals[at].id
+    } else {
+        None
+    }
+}
+
+/// The position among parameters and locals of the first that has the name of an earlier one.
+fn first_clash<'a>(
+    alloc: Global,
+    params: &[Param<'a>],
+    locals: &[Local<'a>],
+) -> Result<Option<u32>, Error<'a>>
+    ensures found { IfOk result (HasFirstClash (names (marks (λ p. marked p.0) (λ l. marked l.id) params.now locals.now))) }
+    ensures stops { IfErr result (λ e. Stops (told e) (length (marks (λ p. marked p.0) (λ l. marked l.id) params.now locals.now))) }
+{
+    let gathering = gather_locals(alloc, params, locals)?;
+    Ok(gathering.first_clash())
+}
+
+/// E2 at the id at a position among parameters and locals, if there is one.
+fn clash_at<'a>(params: &[Param<'a>], locals: &[Local<'a>], at: usize) -> Result<(), Error<'a>>
+    ensures { Outcome ⊥ ⊥ (said_of (slice_index_or (marks (λ p. marked p.0) (λ l. marked l.id) params.now locals.now) at None)) result }
+{
+    match id_at(params, locals, at) {
+        None => Ok(()),
+        Some(id) => Err(Error::new(id.span(), Fault::Duplicate("local"))),
+    }
+}
+
+/// Whether the names of parameters and locals differ: E2 at the first that has the name of an earlier one.
+fn check_names<'a>(
+    alloc: Global,
+    params: &[Param<'a>],
+    locals: &[Local<'a>],
+) -> Result<(), Error<'a>>
+    ensures { (c : Scope) → let ms = marks (λ p. marked p.0) (λ l. marked l.id) params.now locals.now in Outcome ⊤ (2 ^ 32 ≤ length ms) (first_unmet (step_demands c start (map Declares ms))) result }
+{
+    match first_clash(alloc, params, locals)? {
+        None => Ok(()),
+        Some(at) => {
+            clash_at(params, locals, at as usize)?;
+            Ok(())
+        }
+    }
+}
+
+/// The locals of a function.
+fn locals_in<'k, 'a>(kind: &'k FuncKind<'a>) -> &'k [Local<'a>]
+    ensures { result.now ≡ locals_in kind.now }
+{
+    match kind {
+        FuncKind::Inline { locals, .. } => locals.as_slice(),
+    }
+}
+
+/// Whether the names of the parameters and locals of a function differ: E2 at the first that has the name of an earlier one.
+///
+/// It takes memory for the ids. Where it is refused, that is E12; where there are 2^32 parameters and locals or more, E10.
+pub(crate) fn check_locals<'a>(
+    alloc: Global,
+    inline: &Option<FunctionType<'a>>,
+    kind: &FuncKind<'a>,
+) -> Result<(), Error<'a>>
+    ensures { (c : Scope) → let steps = declared inline.now kind.now in Outcome ⊤ (2 ^ 32 ≤ length steps) (first_unmet (step_demands c start steps)) result }
+{
+    match inline {
+        None => check_names(alloc, &[], locals_in(kind)),
+        Some(ty) => check_names(alloc, ty.params.as_slice(), locals_in(kind)),
+    }
+}

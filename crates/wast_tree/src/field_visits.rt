@@ -1,0 +1,165 @@
+//! What stands in fields other than types and functions, as reading walks tell it.
+#![tactic(auto, using(crate::proofs::Visiting::visits_both, crate::proofs::Visiting::visits_one, crate::proofs::Visiting::visits_none, crate::proofs::Visiting::asked_outside, crate::proofs::Visiting::asked_both, crate::proofs::Visiting::asked_use, crate::proofs::Visiting::asked_constant, crate::proofs::Visiting::asked_constant_if, crate::proofs::Visiting::asked_constants))]
+
+ghost use Rattle.wast_tree.specs.Occurrences.{in_table_type, in_global_type, in_tag_type, in_item_kind, in_import, in_table_kind, in_memory_kind, in_global_kind, in_global, in_export, in_elem_kind, in_payload, in_elem, in_data_kind, asked};
+
+use crate::entities::{GlobalType, TableType, TagType};
+use crate::fields::{Export, Global, GlobalKind, MemoryKind, TableKind};
+use crate::imports::{ImportItems, ItemKind};
+use crate::segments::{DataKind, Elem, ElemKind, ElemPayload};
+use crate::spaces::Space;
+use crate::visits::{Visit, Visitor, visit_index, visit_indices};
+
+impl Visit for TableType<'_> {
+    ghost asks = { in_table_type };
+
+    fn visit<V: Visitor>(&self, visitor: &mut V) {
+        self.elem.visit(visitor);
+    }
+}
+
+impl Visit for GlobalType<'_> {
+    ghost asks = { in_global_type };
+
+    fn visit<V: Visitor>(&self, visitor: &mut V) {
+        self.ty.visit(visitor);
+    }
+}
+
+impl Visit for TagType<'_> {
+    ghost asks = { λ t. asked (in_tag_type t) };
+
+    fn visit<V: Visitor>(&self, visitor: &mut V) {
+        match self {
+            TagType::Exception(ty) => ty.visit(visitor),
+        }
+    }
+}
+
+impl Visit for ItemKind<'_> {
+    ghost asks = { λ k. asked (in_item_kind k) };
+
+    fn visit<V: Visitor>(&self, visitor: &mut V) {
+        match self {
+            ItemKind::Func(ty) => ty.visit(visitor),
+            ItemKind::Table(ty) => ty.visit(visitor),
+            ItemKind::Memory(_) => {}
+            ItemKind::Global(ty) => ty.visit(visitor),
+            ItemKind::Tag(ty) => ty.visit(visitor),
+        }
+    }
+}
+
+impl Visit for ImportItems<'_> {
+    ghost asks = { λ i. asked (in_import i) };
+
+    fn visit<V: Visitor>(&self, visitor: &mut V) {
+        match self {
+            ImportItems::Single { sig, .. } => sig.kind.visit(visitor),
+        }
+    }
+}
+
+impl Visit for TableKind<'_> {
+    ghost asks = { λ k. asked (in_table_kind k) };
+
+    fn visit<V: Visitor>(&self, visitor: &mut V) {
+        match self {
+            TableKind::Normal { ty, init_expr } => {
+                ty.visit(visitor);
+                init_expr.visit(visitor);
+            }
+        }
+    }
+}
+
+impl Visit for MemoryKind {
+    ghost asks = { λ k. asked (in_memory_kind k) };
+
+    fn visit<V: Visitor>(&self, _visitor: &mut V) {
+        match self {
+            MemoryKind::Normal(_) => {}
+        }
+    }
+}
+
+impl Visit for GlobalKind<'_> {
+    ghost asks = { λ k. asked (in_global_kind k) };
+
+    fn visit<V: Visitor>(&self, visitor: &mut V) {
+        match self {
+            GlobalKind::Inline(value) => value.visit(visitor),
+        }
+    }
+}
+
+impl Visit for Global<'_> {
+    ghost asks = { λ g. asked (in_global g) };
+
+    fn visit<V: Visitor>(&self, visitor: &mut V) {
+        self.ty.visit(visitor);
+        self.kind.visit(visitor);
+    }
+}
+
+impl Visit for Export<'_> {
+    ghost asks = { in_export };
+
+    fn visit<V: Visitor>(&self, visitor: &mut V) {
+        visitor.index(self.kind.space(), &self.item);
+    }
+}
+
+impl Visit for ElemKind<'_> {
+    ghost asks = { λ k. asked (in_elem_kind k) };
+
+    fn visit<V: Visitor>(&self, visitor: &mut V) {
+        match self {
+            ElemKind::Passive => {}
+            ElemKind::Declared => {}
+            ElemKind::Active { table, offset } => {
+                visit_index(Space::Table, table, visitor);
+                offset.visit(visitor);
+            }
+        }
+    }
+}
+
+impl Visit for ElemPayload<'_> {
+    ghost asks = { λ p. asked (in_payload p) };
+
+    fn visit<V: Visitor>(&self, visitor: &mut V) {
+        match self {
+            ElemPayload::Indices(indices) => {
+                visit_indices(Space::Func, indices.as_slice(), visitor)
+            }
+            ElemPayload::Exprs { ty, exprs } => {
+                exprs.visit(visitor);
+                ty.visit(visitor);
+            }
+        }
+    }
+}
+
+impl Visit for Elem<'_> {
+    ghost asks = { λ e. asked (in_elem e) };
+
+    fn visit<V: Visitor>(&self, visitor: &mut V) {
+        self.kind.visit(visitor);
+        self.payload.visit(visitor);
+    }
+}
+
+impl Visit for DataKind<'_> {
+    ghost asks = { λ k. asked (in_data_kind k) };
+
+    fn visit<V: Visitor>(&self, visitor: &mut V) {
+        match self {
+            DataKind::Passive => {}
+            DataKind::Active { memory, offset } => {
+                visitor.index(Space::Memory, memory);
+                offset.visit(visitor);
+            }
+        }
+    }
+}

@@ -1,0 +1,126 @@
+//! Imports.
+
+ghost use Rattle.std.specs.Prelude.{◌≡◌, ◌<◌, length, map, slice_index_or, IfOk, IfErr};
+ghost use Rattle.wast_tree.specs.Faults.{out_of_memory};
+ghost use Rattle.wast_tree.specs.Imports.{item_sigs, unique_sigs};
+ghost use Rattle.wast_tree.specs.Items.{space_of_kind};
+ghost use Rattle.wast_tree.specs.Tree.import_items;
+
+use crate::entities::{GlobalType, MemoryType, TableType, TagType};
+use crate::faults::Error;
+use crate::ids::{Id, NameAnnotation, Span};
+use crate::spaces::Space;
+use crate::types::{FunctionType, TypeUse};
+use std::alloc::Global;
+
+/// Imports of one field: `(import "m" "n" (func $f))` (text format, imports).
+#[derive(Debug, Drop)]
+pub struct Imports<'a> {
+    /// The place of its keyword.
+    pub span: Span,
+    /// What is imported.
+    pub items: ImportItems<'a>,
+}
+
+/// What a field imports (text format, imports).
+#[derive(Debug, Drop)]
+pub enum ImportItems<'a> {
+    /// One item.
+    Single {
+        /// The name of the module that it comes from.
+        module: &'a str,
+        /// Its name there.
+        name: &'a str,
+        /// What it is.
+        sig: ItemSig<'a>,
+    },
+}
+
+/// What an imported item is: `(func $f (type $t))` (text format, imports).
+#[derive(Debug, Drop)]
+pub struct ItemSig<'a> {
+    /// The place of its keyword.
+    pub span: Span,
+    /// Its id.
+    pub id: Option<Id<'a>>,
+    /// Its name annotation.
+    pub name: Option<NameAnnotation<'a>>,
+    /// Its kind, and its type.
+    pub kind: ItemKind<'a>,
+}
+
+/// The kind of an imported item, and its type (text format, imports).
+#[derive(Debug, Drop)]
+pub enum ItemKind<'a> {
+    /// A function.
+    Func(TypeUse<'a, FunctionType<'a>>),
+    /// A table.
+    Table(TableType<'a>),
+    /// A memory.
+    Memory(MemoryType),
+    /// A global.
+    Global(GlobalType<'a>),
+    /// A tag.
+    Tag(TagType<'a>),
+}
+
+impl ItemKind<'_> {
+    /// The space of the imported item (text format, imports). It takes no memory.
+    pub fn space(&self) -> Space
+        ensures { result ≡ space_of_kind self.now }
+    {
+        match self {
+            ItemKind::Func(_) => Space::Func,
+            ItemKind::Table(_) => Space::Table,
+            ItemKind::Memory(_) => Space::Memory,
+            ItemKind::Global(_) => Space::Global,
+            ItemKind::Tag(_) => Space::Tag,
+        }
+    }
+}
+
+impl<'a> Imports<'a> {
+    /// The import of one item, at a place: the names of its module and of the item there, and what it is (text format,
+    /// imports). It takes no memory.
+    pub fn single(span: Span, module: &'a str, name: &'a str, sig: ItemSig<'a>) -> Imports<'a>
+        ensures { result ≡ record { span = span; items = import_items.Single «module».entry name.entry sig.entry } }
+    {
+        Imports {
+            span,
+            items: ImportItems::Single { module, name, sig },
+        }
+    }
+
+    /// The signatures of the items, one for each item, in order (text format, imports). It takes memory for a reference to
+    /// each. The only error is E12, where that is refused.
+    pub fn item_sigs<'s, 'e>(&'s self, alloc: Global) -> Result<Vec<&'s ItemSig<'a>>, Error<'e>>
+        ensures sigs { IfOk result (λ v. map (λ s. s.now) v.items ≡ item_sigs self.now.items) }
+        ensures refusal { IfErr result (λ e. e ≡ out_of_memory) }
+    {
+        let mut sigs = Vec::new(alloc);
+        match &self.items {
+            ImportItems::Single { sig, .. } => sigs.push(sig)?,
+        }
+        Ok(sigs)
+    }
+
+    /// How many signatures are written: one, which is that of the one item (text format, imports). It takes no memory.
+    pub fn unique_sigs(&self) -> usize
+        ensures { result ≡ length (unique_sigs self.now.items) }
+    {
+        match &self.items {
+            ImportItems::Single { .. } => 1,
+        }
+    }
+
+    /// The signature at an index, to change; they are counted as they are written, from 0 (text format, imports). It needs
+    /// an index below [`Imports::unique_sigs`]. It takes no memory.
+    pub fn unique_sig_mut(&mut self, i: usize) -> &mut ItemSig<'a>
+        requires { i < length (unique_sigs self.old.items) }
+        ensures value { result.now ≡ slice_index_or (unique_sigs self.old.items) i result.now }
+    {
+        match &mut self.items {
+            ImportItems::Single { sig, .. } => sig,
+        }
+    }
+}

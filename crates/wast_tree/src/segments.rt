@@ -1,0 +1,124 @@
+//! Segments of elements and of data.
+
+ghost use Rattle.std.specs.Prelude.{◌≡◌, ◌++◌, length, OnOk, OnErr, IfErr};
+ghost use Rattle.wast_tree.specs.DataBytes.{data_bytes};
+ghost use Rattle.wast_tree.specs.Faults.{out_of_memory};
+
+use crate::faults::Error;
+use crate::ids::{Id, Index, NameAnnotation, Span};
+use crate::instrs::Expression;
+use crate::seq::Seq;
+use crate::types::RefType;
+
+/// An element segment: `(elem $e (table $t) (offset ..) func $f)` (text format, element segments).
+#[derive(Debug, Drop)]
+pub struct Elem<'a> {
+    /// The place of its keyword.
+    pub span: Span,
+    /// Its id.
+    pub id: Option<Id<'a>>,
+    /// Its name annotation.
+    pub name: Option<NameAnnotation<'a>>,
+    /// What becomes of it.
+    pub kind: ElemKind<'a>,
+    /// Its elements.
+    pub payload: ElemPayload<'a>,
+}
+
+/// What becomes of an element segment (text format, element segments).
+#[derive(Debug, Drop)]
+pub enum ElemKind<'a> {
+    /// Instructions take from it.
+    Passive,
+    /// Its functions may be referred to, and nothing else.
+    Declared,
+    /// A table is filled with it at first.
+    Active {
+        /// The table, where one is written; else the first one.
+        table: Option<Index<'a>>,
+        /// Where in the table it begins.
+        offset: Expression<'a>,
+    },
+}
+
+/// The elements of a segment (text format, element segments).
+#[derive(Debug, Drop)]
+pub enum ElemPayload<'a> {
+    /// Functions.
+    Indices(Seq<Index<'a>>),
+    /// Constant expressions.
+    Exprs {
+        /// The type of their values.
+        ty: RefType<'a>,
+        /// The expressions, in the order of the text.
+        exprs: Seq<Expression<'a>>,
+    },
+}
+
+/// A data segment: `(data $d (memory $m) (offset ..) "x")` (text format, data segments).
+#[derive(Debug, Drop)]
+pub struct Data<'a> {
+    /// The place of its keyword.
+    pub span: Span,
+    /// Its id.
+    pub id: Option<Id<'a>>,
+    /// Its name annotation.
+    pub name: Option<NameAnnotation<'a>>,
+    /// What becomes of it.
+    pub kind: DataKind<'a>,
+    /// Its bytes, in pieces one after another.
+    pub bytes: Seq<DataVal<'a>>,
+}
+
+/// What becomes of a data segment (text format, data segments).
+#[derive(Debug, Drop)]
+pub enum DataKind<'a> {
+    /// Instructions take from it.
+    Passive,
+    /// A memory is filled with it at first.
+    Active {
+        /// The memory.
+        memory: Index<'a>,
+        /// Where in the memory it begins.
+        offset: Expression<'a>,
+    },
+}
+
+/// Bytes of a data segment (text format, data segments).
+#[derive(Debug, Drop)]
+pub enum DataVal<'a> {
+    /// A string: `"x"`
+    String(&'a [u8]),
+    /// The bytes of numbers: `(i16 1 2)`
+    Integral(Seq<u8>),
+}
+
+impl DataVal<'_> {
+    /// The bytes, to read.
+    fn as_slice(&self) -> &[u8]
+        ensures { result.now ≡ data_bytes self.now }
+    {
+        match self {
+            DataVal::String(bytes) => bytes,
+            DataVal::Integral(bytes) => bytes.as_slice(),
+        }
+    }
+
+    /// How many bytes there are (text format, data segments). It takes no memory.
+    pub fn len(&self) -> usize
+        ensures { result ≡ length (data_bytes self.now) }
+    {
+        self.as_slice().len()
+    }
+
+    /// Appends the bytes (text format, data segments). It may take memory for them. The only error is E12, where that is
+    /// refused; then nothing was appended.
+    pub fn push_onto<'e>(&self, out: &mut Vec<u8>) -> Result<(), Error<'e>>
+        ensures appended { OnOk result (out.new.items ≡ out.old.items ++ data_bytes self.now) }
+        ensures refusal { IfErr result (λ e. e ≡ out_of_memory) }
+        ensures unchanged { OnErr result (out.new.items ≡ out.old.items) }
+    {
+        out.extend_from_slice(self.as_slice())?;
+        Ok(())
+    }
+}
