@@ -1,7 +1,7 @@
 -- The worked modules, computed.
 use Rattle.std.proofs.Common.{refl}
 use Rattle.wast_resolve.specs.WorkedAnswers.{Row27, Row31, Row32, Row2, Row7, Row8, Row24, TwoFunctions, ClashOfTypes, FieldsOfOneStruct, FieldsOfTwoStructs, ClashesInOrder, Row14, Row22, Row23, UnknownNames, MatchedByNumber, Row17}
-use Rattle.wast_resolve.specs.WorkedImports.{Row12, Row21, BehindAMemory, ImportsInOrder, ImportedTwice, UnknownStart}
+use Rattle.wast_resolve.specs.WorkedImports.{Row12, Row13, Row21, BehindAMemory, ImportsInOrder, ImportedTwice, UnknownStart}
 
 pub row27 : Row27
 row27 a b c d e f = (refl, refl, refl)
@@ -74,3 +74,6 @@ imported_twice a b c d e f = (refl, refl)
 
 pub unknown_start : UnknownStart
 unknown_start a = refl
+
+pub row13 : Row13
+row13 a b c = refl

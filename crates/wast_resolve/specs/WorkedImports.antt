@@ -5,6 +5,7 @@ use Rattle.wast_tree.specs.WorkedModules.{Address, text, place, id_at, by_id}
 use Rattle.wast_expand.specs.Completed.{completed}
 use Rattle.wast_expand.specs.WorkedExpansions.{func_at}
 use Rattle.wast_resolve.specs.Tree.{Id, FunctionType, TypeUse, MemoryType, ModuleField}
+use Rattle.wast_resolve.specs.Tree.func
 use Rattle.wast_resolve.specs.Tree.tag
 use Rattle.wast_resolve.specs.Tree.tag_kind
 use Rattle.wast_resolve.specs.Tree.memory
@@ -64,3 +65,18 @@ ImportedTwice = (a b c d e f : Address) →
 -- `(module (start $f))`: E4 at the id.
 abbrev pub UnknownStart : Type 0
 UnknownStart = (a : Address) → first_unmet (demands (completed (field.Start (by_id a (codes "f") 15) ∷ []))) ≡ Some (Unknown (codes "func") (codes "f"), place 15)
+
+-- `(func $a)`, which begins at n
+abbrev pub named_func : Address → ℕ → ModuleField
+named_func a n = field.Func (record {
+  span = place (n + 1);
+  id = Some (id_at a (codes "a") (n + 6));
+  name = None;
+  exports = record { names = [] };
+  kind = func.Inline [] (record { instrs = []; branch_hints = [] });
+  ty = no_use;
+})
+
+-- `(module (start $x) (func $a) (func $a))`: E2 at the second function, before what the start function denotes.
+abbrev pub Row13 : Type 0
+Row13 = (a b c : Address) → first_unmet (demands (completed (field.Start (by_id a (codes "x") 15) ∷ named_func b 19 ∷ named_func c 29 ∷ []))) ≡ Some (Duplicate (codes "func"), place 35)

@@ -1,7 +1,7 @@
 //! Worked modules, whose answers the definitions compute.
 
 ghost use Rattle.wast_resolve.specs.WorkedAnswers.{Row27, Row31, Row32, Row2, Row7, Row8, Row24, TwoFunctions, ClashOfTypes, FieldsOfOneStruct, FieldsOfTwoStructs, ClashesInOrder, Row14, Row22, Row23, UnknownNames, MatchedByNumber, Row17};
-ghost use Rattle.wast_resolve.specs.WorkedImports.{Row12, Row21, BehindAMemory, ImportsInOrder, ImportedTwice, UnknownStart};
+ghost use Rattle.wast_resolve.specs.WorkedImports.{Row12, Row13, Row21, BehindAMemory, ImportsInOrder, ImportedTwice, UnknownStart};
 
 /// A type, a function that calls itself and its export: each index becomes 0, at the place of its id.
 #[tactic(auto, using(crate::proofs::Worked::row27))]
@@ -81,8 +81,9 @@ pub(crate) fn imports_in_order()
     ensures twice { ImportedTwice }
 {}
 
-/// A start of a function that is not there: E4 at the index.
-#[tactic(auto, using(crate::proofs::Worked::unknown_start))]
+/// A start of a function that is not there: E4 at the index, but a clash of functions comes before it.
+#[tactic(auto, using(crate::proofs::Worked::unknown_start, crate::proofs::Worked::row13))]
 pub(crate) fn unknown_start()
-    ensures { UnknownStart }
+    ensures unknown { UnknownStart }
+    ensures clash { Row13 }
 {}
