@@ -1,21 +1,20 @@
 -- The parts of a module tell nothing of generated ids, and of the places of type uses: so the list with the ids that a
 -- counter gives has the parts of the list by positions.
 use Rattle.std.proofs.Common.{◌≡◌, ℕ, ◌<◌, ◌^◌, List, [], ◌∷◌, ◌++◌, map, length, Option, Some, None, option_map, refl, sym, ap, ◌∙◌, subst}
-use Rattle.std.specs.Prelude.{All, cond, unwrap_or}
+use Rattle.std.specs.Prelude.{All, unwrap_or}
 use Rattle.std.specs.List.{flat_map}
 use mathlib.Core.Path.{fun_ext}
 use Rattle.wasm_ops.proofs.Everywhere.{all_both}
 use Rattle.wasm_out.specs.NameSubsections.{InRangeNameSubsection}
 use Rattle.wasm_out.specs.Parts.{SectionKind, ImportEntry, Part, part, InRangePart}
 use Rattle.wasm_out.specs.Reads.{header}
-use Rattle.wast_tree.specs.Ids.{Name, Written, Generated, name_of, is_generated}
 use Rattle.wast_tree.specs.Generations.{greatest_generation}
 use Rattle.wast_expand.specs.Positioned.{positioned}
 use Rattle.wast_resolve.specs.Resolved.{resolved}
 use Rattle.wast_resolve.specs.Finished.{finished}
-use Rattle.wast_resolve.proofs.Stripped.{written_id, at_start, stripped_use, stripped_tag_type, stripped_item_kind, stripped_import, stripped}
+use Rattle.wast_resolve.proofs.Stripped.{at_start, stripped_use, stripped_tag_type, stripped_item_kind, stripped_import, stripped}
 use Rattle.wast_resolve.proofs.ByPosition.{finished_by_position}
-use Rattle.wast_core.specs.Tree.{Id, Index, NameAnnotation, Space, TypeUse, FunctionType, TagType, ItemKind, ImportItems, ModuleField}
+use Rattle.wast_core.specs.Tree.{Index, TypeUse, FunctionType, TagType, ItemKind, ImportItems, ModuleField}
 use Rattle.wast_core.specs.Tree.tag
 use Rattle.wast_core.specs.Tree.kind
 use Rattle.wast_core.specs.Tree.import_items
@@ -23,18 +22,20 @@ use Rattle.wasm_ops.specs.declared.entities.TagType as out
 use Rattle.wasm_ops.specs.declared.entities.EntityType.{EntityType}
 use Rattle.wasm_ops.specs.declared.entities.EntityType.TheVariants as entity
 use Rattle.wast_core.specs.Tree.index
-use Rattle.wast_core.specs.Tree.space
 use Rattle.wast_core.specs.Tree.field
 use Rattle.wast_core.specs.declared.slots.Slot.{Slot}
 use Rattle.wast_core.specs.declared.slots.Slot.TheVariants as slot
 use Rattle.wast_core.specs.Slots.{kind_of, order}
-use Rattle.wast_core.specs.NamesPayload.{module_name, name_maps, name_subsections}
-use Rattle.wast_core.specs.FieldEntries.{imported}
-use Rattle.wast_core.specs.Meaning.{number, type_index, tag_type, entity_type, body, Contribution, nothing, start_part, starts_in, contributed, of_kind, entries_in, entries, listed, names_part, in_slot, parts}
+use Rattle.wast_names.specs.NamesPayload.{name_subsections}
+use Rattle.wast_names.specs.NameSection.{names_part}
+use Rattle.wast_conv.specs.FieldEntries.{imported}
+use Rattle.wast_core.specs.Meaning.{number, type_index, tag_type, entity_type, body, Contribution, nothing, start_part, starts_in, contributed, of_kind, entries_in, entries, listed, in_slot, parts}
 use Rattle.wast_core.specs.Bounded.{InRangeHeld, InRangeSlot, InRangeModule, IsWritable}
 use Rattle.wast_core.specs.Headline.{IsMet}
 use Rattle.wast_core.specs.Laws.{MeansWhatIsWritten}
-use Rattle.wast_core.proofs.SameNames.{each_same, same_map}
+use Rattle.wast_core.proofs.StrippedNames.{keeps_names}
+use Rattle.wast_names.proofs.Each.{each_like}
+use Rattle.wast_names.proofs.SameNames.{same_subsections}
 
 -- What is read of a field: numbers.
 same_number : (i : Option Index) → unwrap_or (option_map number (option_map at_start i)) 0 ≡ unwrap_or (option_map number i) 0
@@ -64,16 +65,13 @@ same_contributed x = refl
 
 -- What is read of all of them.
 same_entries : (kind : SectionKind) (xs : List ModuleField) → entries kind (map stripped xs) ≡ entries kind xs
-same_entries kind xs = each_same (entries_in kind) (λ x. ap (of_kind kind) (same_contributed x)) xs
+same_entries kind xs = each_like stripped (entries_in kind) (entries_in kind) (λ x. ap (of_kind kind) (same_contributed x)) xs
 
 module _ (name : Option (List ℕ)) where
-  same_subsections : (xs : List ModuleField) → name_subsections name (map stripped xs) ≡ name_subsections name xs
-  same_subsections xs = ap (λ f. module_name name ++ flat_map f name_maps) (fun_ext (same_map xs))
-
   same_slot : (xs : List ModuleField) (s : Slot) → in_slot name (map stripped xs) s ≡ in_slot name xs s
   same_slot xs (slot.Section kind) = ap (listed (kind_of kind)) (same_entries (kind_of kind) xs)
-  same_slot xs slot.Start = each_same starts_in (λ x. ap (λ (c : Contribution). map start_part c.starts) (same_contributed x)) xs
-  same_slot xs slot.Names = ap names_part (same_subsections xs)
+  same_slot xs slot.Start = each_like stripped starts_in starts_in (λ x. ap (λ (c : Contribution). map start_part c.starts) (same_contributed x)) xs
+  same_slot xs slot.Names = ap names_part (same_subsections stripped keeps_names name xs)
   same_slot xs s = refl
 
   -- two lists that differ in nothing else
@@ -82,7 +80,7 @@ module _ (name : Option (List ℕ)) where
     slots_same = fun_ext (λ (s : Slot). sym (same_slot xs s) ∙ (ap (λ zs. in_slot name zs s) alike ∙ same_slot ys s))
 
     names_same : name_subsections name xs ≡ name_subsections name ys
-    names_same = sym (same_subsections xs) ∙ (ap (name_subsections name) alike ∙ same_subsections ys)
+    names_same = sym (same_subsections stripped keeps_names name xs) ∙ (ap (name_subsections name) alike ∙ same_subsections stripped keeps_names name ys)
 
     pub parts_same : parts name xs ≡ parts name ys
     parts_same = ap (λ (f : Slot → List Part). flat_map f order) slots_same

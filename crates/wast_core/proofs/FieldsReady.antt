@@ -10,6 +10,7 @@ use Rattle.wasm_ops.specs.Covered.{is_covered_heap_type}
 use Rattle.wasm_ops.specs.Table.{is_covered_instr}
 use Rattle.wast_expand.specs.NeedingUses.{needed_without, needed_by_use, needed_by_tag_type, needed_by_item_kind, needed_by_import}
 use Rattle.wast_resolve.specs.Resolved.{is_numbered, is_resolved}
+use Rattle.wast_tree.specs.WrittenOut.{is_written_table, is_written_global}
 use Rattle.wast_core.specs.Tree.{Index, TypeUse, FunctionType, HeapType, TableType, GlobalType, TagType, ItemKind, ImportItems, Instruction, Expression, TableKind, GlobalKind, ElemKind, ElemPayload, DataKind}
 use Rattle.wast_core.specs.Tree.space
 use Rattle.wast_core.specs.Tree.instr as instruction
@@ -21,10 +22,10 @@ use Rattle.wast_core.specs.Tree.global
 use Rattle.wast_core.specs.Tree.elem
 use Rattle.wast_core.specs.Tree.payload
 use Rattle.wast_core.specs.Tree.data_kind
-use Rattle.wast_core.specs.Encodable.{is_encodable_type_use, is_encodable_instr, is_encodable_expression, is_encodable_expression_if, is_encodable_heap, is_encodable_val, is_encodable_table_type, is_encodable_global_type, is_encodable_tag_type, is_encodable_item_kind, is_encodable_import_items, is_encodable_table_kind, is_encodable_global_kind, is_encodable_elem_kind, is_encodable_payload, is_encodable_data_kind, is_number_if}
+use Rattle.wast_conv.specs.Encodable.{is_encodable_type_use, is_encodable_instr, is_encodable_expression, is_encodable_expression_if, is_encodable_heap, is_encodable_val, is_encodable_table_type, is_encodable_global_type, is_encodable_tag_type, is_encodable_item_kind, is_encodable_import_items, is_encodable_table_kind, is_encodable_global_kind, is_encodable_elem_kind, is_encodable_payload, is_encodable_data_kind, is_number_if}
 use Rattle.wast_core.specs.Meaning as meaning
-use Rattle.wast_core.proofs.EachPasses.{both_pass, each_passes, same_each, index_is_number}
-use Rattle.wast_core.proofs.TypesReady.{both_true, each_by, resolved_both, heap_ready, val_ready, heap_covered, optional_number}
+use Rattle.wast_conv.proofs.EachPasses.{both_pass, each_passes, same_each, index_is_number}
+use Rattle.wast_conv.proofs.TypesReady.{both_true, each_by, resolved_both, heap_ready, val_ready, heap_covered, optional_number}
 
 -- what one list asks, and another
 both_asked : (xs ys : List Occurrence) → is_resolved (asked (xs ++ ys)) ≡ true → (is_resolved (asked xs) ≡ true) × (is_resolved (asked ys) ≡ true)
@@ -83,19 +84,22 @@ kind_ready (kind.Tag t) p i r = tag_ready t i r
 pub import_ready : (i : ImportItems) → is_plain_import i ≡ true → needed_by_import i ≡ [] → is_resolved (asked (in_import i)) ≡ true → is_encodable_import_items i ≡ true
 import_ready (import_items.Single source name sig) p n r = kind_ready sig.kind p n r
 
-pub table_ready : (k : TableKind) → is_plain_table_kind k ≡ true → is_resolved (asked (in_table_kind k)) ≡ true → is_encodable_table_kind k ≡ true
-table_ready (table.Normal ty init) p r =
+pub table_ready : (k : TableKind) → is_written_table k ≡ true → is_plain_table_kind k ≡ true → is_resolved (asked (in_table_kind k)) ≡ true → is_encodable_table_kind k ≡ true
+table_ready (table.Import import ty) w p r = absurd cc
+table_ready (table.Inline ty is64 shared elements) w p r = absurd cc
+table_ready (table.Normal ty init) w p r =
     let plain = both_pass (is_plain_table_type ty) (is_plain_expression_if init) p in
     let asks = both_asked (outside (in_table_type ty)) (in_constant_if init) r in
     both_true (is_encodable_table_type ty) (is_encodable_expression_if init) (table_type_ready ty plain.0 asks.0) (constant_if_ready init plain.1 asks.1)
 
-value_ready : (k : GlobalKind) → is_plain_global_kind k ≡ true → is_resolved (asked (in_global_kind k)) ≡ true → is_encodable_global_kind k ≡ true
-value_ready (global.Inline e) p r = constant_ready e p r
+value_ready : (k : GlobalKind) → is_written_global k ≡ true → is_plain_global_kind k ≡ true → is_resolved (asked (in_global_kind k)) ≡ true → is_encodable_global_kind k ≡ true
+value_ready (global.Import import) w p r = absurd cc
+value_ready (global.Inline e) w p r = constant_ready e p r
 
-pub global_ready : (t : GlobalType) (k : GlobalKind) → is_plain_global_type t ≡ true → is_plain_global_kind k ≡ true → is_resolved (asked (outside (in_global_type t) ++ in_global_kind k)) ≡ true → (is_encodable_global_type t && is_encodable_global_kind k) ≡ true
-global_ready t k p q r =
+pub global_ready : (t : GlobalType) (k : GlobalKind) → is_written_global k ≡ true → is_plain_global_type t ≡ true → is_plain_global_kind k ≡ true → is_resolved (asked (outside (in_global_type t) ++ in_global_kind k)) ≡ true → (is_encodable_global_type t && is_encodable_global_kind k) ≡ true
+global_ready t k w p q r =
     let asks = both_asked (outside (in_global_type t)) (in_global_kind k) r in
-    both_true (is_encodable_global_type t) (is_encodable_global_kind k) (global_type_ready t p asks.0) (value_ready k q asks.1)
+    both_true (is_encodable_global_type t) (is_encodable_global_kind k) (global_type_ready t p asks.0) (value_ready k w q asks.1)
 
 elem_kind_ready : (k : ElemKind) → is_plain_elem_kind k ≡ true → is_resolved (asked (in_elem_kind k)) ≡ true → is_encodable_elem_kind k ≡ true
 elem_kind_ready elem.Passive p r = refl

@@ -3,14 +3,16 @@ use Rattle.std.proofs.Common.{◌≡◌, ◌==◌, ℕ, true, List, length}
 use Rattle.std.proofs.lemmas.Bool.{eqb-true}
 use Rattle.wasm_out.specs.Parts.{SectionKind, Types, Imports, Functions, Tables, Memories, Tags, Globals, Exports, Elements, Code, Data}
 use Rattle.wast_core.specs.Tree.{ModuleField}
-use Rattle.wast_core.specs.Encodable.{are_encodable}
-use Rattle.wast_core.specs.Extents.{payload_of, names_payload_of, IsExtent, is_extent}
+use Rattle.wast_conv.specs.Encodable.{are_encodable}
+use Rattle.wast_core.specs.Extents.{payload_of, IsExtent, is_extent}
 use Rattle.wast_core.specs.Measured.{is_measured}
 use Rattle.wast_core.specs.Meaning.{entries}
-use Rattle.wast_core.specs.Names.{text_seen}
-use Rattle.wast_core.specs.NamesPayload.{name_subsections}
+use Rattle.wast_names.specs.Names.{text_seen}
+use Rattle.wast_names.specs.NamesPayload.{name_subsections}
+use Rattle.wast_names.specs.NameSection.{names_payload_of}
 use Rattle.wast_core.specs.declared.sections.BinaryModule.{BinaryModule}
-use Rattle.wast_core.proofs.EachPasses.{both_pass}
+use Rattle.wast_conv.proofs.EachPasses.{both_pass}
+use Rattle.wast_reach.specs.Reaches.{are_reaches}
 
 extent_is : (k : SectionKind) (fields : List ModuleField) (count size : ℕ) → is_extent k fields count size ≡ true → IsExtent k fields count size
 extent_is k fields count size h =
@@ -18,6 +20,7 @@ extent_is k fields count size h =
     record { counted = eqb-true count (length (entries k fields)) both.0; sized = eqb-true size (length (payload_of k (entries k fields))) both.1 }
 
 pub record Extents (m : BinaryModule) : Type 0 where
+  pub reaches : are_reaches m.fields.now m.reaches ≡ true
   pub types : IsExtent Types m.fields.now m.types.count m.types.size
   pub imports : IsExtent Imports m.fields.now m.imports.count m.imports.size
   pub functions : IsExtent Functions m.fields.now m.functions.count m.functions.size
@@ -34,7 +37,8 @@ pub record Extents (m : BinaryModule) : Type 0 where
 pub measured_extents : (m : BinaryModule) → is_measured m ≡ true → Extents m
 measured_extents m h =
     let fields = m.fields.now in
-    let of_types = both_pass (is_extent Types fields m.types.count m.types.size) _ (both_pass (are_encodable fields) _ h).1 in
+    let of_reaches = both_pass (are_reaches fields m.reaches) _ (both_pass (are_encodable fields) _ h).1 in
+    let of_types = both_pass (is_extent Types fields m.types.count m.types.size) _ of_reaches.1 in
     let of_imports = both_pass (is_extent Imports fields m.imports.count m.imports.size) _ of_types.1 in
     let of_functions = both_pass (is_extent Functions fields m.functions.count m.functions.size) _ of_imports.1 in
     let of_tables = both_pass (is_extent Tables fields m.tables.count m.tables.size) _ of_functions.1 in
@@ -46,6 +50,7 @@ measured_extents m h =
     let of_code = both_pass (is_extent Code fields m.code.count m.code.size) _ of_elements.1 in
     let of_data = both_pass (is_extent Data fields m.«data».count m.«data».size) _ of_code.1 in
     record {
+      reaches = of_reaches.0;
       types = extent_is Types fields m.types.count m.types.size of_types.0;
       imports = extent_is Imports fields m.imports.count m.imports.size of_imports.0;
       functions = extent_is Functions fields m.functions.count m.functions.size of_functions.0;

@@ -1,10 +1,11 @@
 -- The bytes of an encoded module are read as its parts.
-use native.Mathlib.Omega.{arith}
 use Rattle.std.proofs.Common.{◌≡◌, ◌<◌, ℕ, true, List, [], ◌∷◌, map, Option, Some, None, option_map, refl}
-use Rattle.std.specs.Prelude.{All, IsTrue}
+use Rattle.std.specs.Prelude.{All, IsTrue, codes}
 use Rattle.std.specs.List.{flat_map, list_all}
 use Rattle.std.specs.Str.{is_utf8}
 use Rattle.std.proofs.lemmas.List.Elements.{All-nil, All-map}
+use Rattle.std.proofs.lemmas.Str.{is_utf8-from_IsUtf8}
+use lib.Utf8.{encode}
 use Rattle.wasm_ops.specs.ConstExprs.{is_covered_expression}
 use Rattle.wasm_ops.specs.Entities.{is_covered_table_type, is_covered_global_type}
 use Rattle.wasm_ops.specs.Table.{is_covered_instr}
@@ -24,19 +25,19 @@ use Rattle.wast_core.specs.Tree.field
 use Rattle.wast_core.specs.declared.slots.Slot.{Slot}
 use Rattle.wast_core.specs.declared.slots.Slot.TheVariants as slot
 use Rattle.wast_core.specs.Bounded.{bytes_of, InRangeSlot, InRangeModule}
-use Rattle.wast_core.specs.Encodable.{is_encodable_type, is_encodable_type_use, is_encodable_local, is_encodable_expression, is_encodable_expression_if, is_encodable_kind, is_encodable_func, is_encodable_import_items, is_encodable_import, is_encodable_table_type, is_encodable_table_kind, is_encodable_table, is_encodable_global_type, is_encodable_global_kind, is_encodable_global, is_encodable_elem, is_encodable_data, is_encodable_field, are_encodable}
-use Rattle.wast_core.specs.FieldEntries.{imported, table_of, value_of}
+use Rattle.wast_conv.specs.Encodable.{is_encodable_type, is_encodable_type_use, is_encodable_local, is_encodable_expression, is_encodable_expression_if, is_encodable_kind, is_encodable_func, is_encodable_import_items, is_encodable_import, is_encodable_table_type, is_encodable_table_kind, is_encodable_table, is_encodable_global_type, is_encodable_global_kind, is_encodable_global, is_encodable_elem, is_encodable_data, is_encodable_field, are_encodable}
+use Rattle.wast_conv.specs.FieldEntries.{imported, table_of, value_of}
 use Rattle.wast_core.specs.Meaning as meaning
-use Rattle.wast_core.specs.Meaning.{Contribution, of_type, of_rec, of_import, of_func, of_table, of_memory, of_global, of_export, of_start, of_elem, of_data, of_tag, of_kind, contributed, entries_in, entries, listed, start_part, starts_in, names_part, in_slot, parts}
-use Rattle.wast_core.specs.Names.{HasUtf8Items, HasUtf8Names}
-use Rattle.wast_core.specs.NamesPayload.{name_subsections}
+use Rattle.wast_core.specs.Meaning.{Contribution, of_type, of_rec, of_import, of_func, of_table, of_memory, of_global, of_export, of_start, of_elem, of_data, of_tag, of_kind, contributed, entries_in, entries, listed, start_part, starts_in, in_slot, parts}
+use Rattle.wast_core.specs.Utf8Names.{HasUtf8Items, HasUtf8Names}
+use Rattle.wast_names.specs.NamesPayload.{name_subsections}
+use Rattle.wast_names.specs.NameSection.{names_part}
 use Rattle.wast_core.specs.Slots.{kind_of, order}
-use Rattle.wast_core.proofs.EachPasses.{both_pass}
-use Rattle.wast_core.proofs.EntitiesReady.{table_covered, global_covered, kind_covered}
-use Rattle.wast_core.proofs.Expressions.{instrs_rows, instrs_covered}
-use Rattle.wast_core.proofs.NameMaps.{name_is_text}
-use Rattle.wast_core.proofs.SegmentsReady.{elem_covered, mode_rows, items_rows, place_covered, place_rows}
-use Rattle.wast_core.proofs.TypesReady.{both_true, def_covered, locals_covered, types_covered}
+use Rattle.wast_conv.proofs.EachPasses.{both_pass}
+use Rattle.wast_conv.proofs.EntitiesReady.{table_covered, global_covered, kind_covered}
+use Rattle.wast_conv.proofs.Expressions.{instrs_rows, instrs_covered}
+use Rattle.wast_conv.proofs.SegmentsReady.{elem_covered, mode_rows, items_rows, place_covered, place_rows}
+use Rattle.wast_conv.proofs.TypesReady.{both_true, def_covered, locals_covered, types_covered}
 
 -- ---- what an entry is read as
 
@@ -58,15 +59,19 @@ init_rows None = tt
 init_rows (Some x) = instrs_rows x.instrs
 
 table_read : (k : TableKind) → is_encodable_table_kind k ≡ true → All (IsReadable Tables) (table_of k ∷ [])
+table_read (table.Import import ty) e = absurd cc
+table_read (table.Inline ty is64 shared elements) e = absurd cc
 table_read (table.Normal ty init) e =
     let both = both_pass (is_encodable_table_type ty) (is_encodable_expression_if init) e in
     plain Tables (table_of (table.Normal ty init)) (both_true (is_covered_table_type (meaning.table_type ty)) (is_covered_init (option_map meaning.expression init)) (table_covered ty both.0) (init_covered init both.1)) (init_rows init) tt
 
 global_read : (t : GlobalType) (k : GlobalKind) → is_encodable_global_type t ≡ true → is_encodable_global_kind k ≡ true → All (IsReadable Globals) (record { ty = meaning.global_type t; init = value_of k } ∷ [])
+global_read t (global.Import import) e f = absurd cc
 global_read t (global.Inline x) e f =
     plain Globals (record { ty = meaning.global_type t; init = meaning.expression x }) (both_true (is_covered_global_type (meaning.global_type t)) (is_covered_expression (meaning.expression x)) (global_covered t e) (instrs_covered x.instrs f)) (instrs_rows x.instrs) tt
 
 code_read : (k : FuncKind) → is_encodable_kind k ≡ true → All (IsReadable Code) (meaning.body k ∷ [])
+code_read (func.Import import exact) e = absurd cc
 code_read (func.Inline locals x) e =
     let both = both_pass (list_all is_encodable_local locals) (is_encodable_expression x) e in
     plain Code (meaning.body_of locals x.instrs) (both_true _ (list_all is_covered_instr (map meaning.instr x.instrs)) (locals_covered locals both.0) (instrs_covered x.instrs both.1)) (instrs_rows x.instrs) tt
@@ -157,6 +162,10 @@ listed_readable k (x ∷ xs) h = all_one IsReadablePart (record { kind = Listed 
 
 starts_readable : (fields : List ModuleField) → All IsReadablePart (flat_map starts_in fields)
 starts_readable fields = all_in_flat IsReadablePart starts_in fields (all_each (λ f. All IsReadablePart (starts_in f)) (λ f. All-map IsReadablePart start_part (contributed f).starts (all_each (λ n. IsReadablePart (start_part n)) (λ n. tt) (contributed f).starts)) fields)
+
+name_is_text : is_utf8 (codes "name") ≡ true
+unfolding encode
+name_is_text = is_utf8-from_IsUtf8 (codes "name") (codes "name", (refl, refl))
 
 names_readable : (ss : List NameSubsection) → All IsReadablePart (names_part ss)
 names_readable [] = All-nil IsReadablePart

@@ -1,8 +1,8 @@
 -- How long a module is, of how long the payloads of its sections are.
-use Rattle.std.proofs.Common.{◌≡◌, ◌==◌, true, ◌<◌, ◌≤◌, ◌+◌, ℕ, List, [], ◌∷◌, ◌++◌, length, Option, Result, sym, ap, ◌∙◌, arith, length-append, take}
+use Rattle.std.proofs.Common.{◌≡◌, ◌<◌, ◌≤◌, ◌+◌, ℕ, List, [], ◌∷◌, ◌++◌, length, Option, Result, sym, ap, ◌∙◌, arith, length-append, take}
 use Rattle.std.specs.Prelude.{All, codes}
 use Rattle.std.specs.List.{flat_map}
-use Rattle.std.proofs.lemmas.Bool.{ne_eqb, eqb-true}
+use Rattle.std.proofs.lemmas.Bool.{ne_eqb}
 use Rattle.std.proofs.lemmas.List.{take_all}
 use Rattle.wasm_ops.specs.Leb128.{unsigned}
 use Rattle.wasm_ops.specs.Spelling.{vec}
@@ -12,20 +12,15 @@ use Rattle.wasm_ops.proofs.Everywhere.{flat_one, flat_in_flat, all_in_flat, all_
 use Rattle.wasm_ops.proofs.Sinking.{written_as}
 use Rattle.wasm_ops.proofs.Numbers.{unsigned_fits, unsigned-nonempty}
 use Rattle.wasm_out.specs.NameSubsections.{NameSubsection, name_subsection, name_payload}
-use Rattle.wasm_out.specs.Parts.{SectionKind, Types, Functions, Exports, Code, Entry, entry, Custom, Listed, Part, part, InRangePart, section_id, section}
+use Rattle.wasm_out.specs.Parts.{SectionKind, Entry, entry, Custom, Listed, Part, part, InRangePart, section_id, section}
 use Rattle.wasm_out.specs.Reads.{header}
 use Rattle.wast_core.specs.Tree.{ModuleField}
 use Rattle.wast_core.specs.Bounded.{bytes_of}
-use Rattle.wast_core.specs.Encodable.{are_encodable}
-use Rattle.wast_core.specs.Extents.{payload_of, names_payload_of, IsExtent, section_size}
-use Rattle.wast_core.specs.Measured.{is_measured}
-use Rattle.wast_core.specs.Names.{counted}
-use Rattle.wast_core.specs.declared.sections.BinaryModule.{BinaryModule}
-use Rattle.wast_core.proofs.EachPasses.{both_pass}
-use Rattle.wast_core.specs.Meaning.{entries, listed, start_part, names_part, in_slot, parts}
-use Rattle.wast_core.specs.NamesPayload.{name_subsections}
+use Rattle.wast_core.specs.Extents.{payload_of, IsExtent, section_size}
+use Rattle.wast_names.specs.Names.{counted}
+use Rattle.wast_core.specs.Meaning.{entries, listed, start_part, in_slot, parts}
+use Rattle.wast_names.specs.NameSection.{names_part, names_payload_of}
 use Rattle.wast_core.specs.Slots.{order}
-use Rattle.wast_core.specs.declared.slots.Slot.{Slot}
 
 -- a length in range has at most five bytes
 pub narrow : (n : ℕ) → n < 4294967296 → length (unsigned n) ≤ 5

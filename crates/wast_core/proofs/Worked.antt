@@ -26,8 +26,8 @@ use Rattle.wast_core.specs.declared.slots.Slot.{Slot}
 use Rattle.wast_core.specs.declared.slots.Slot.TheVariants as slot
 use Rattle.wast_core.specs.Bounded.{InRangeHeld, InRangeSlot, InRangeModule, IsBounded}
 use Rattle.wast_core.specs.Meaning.{in_slot, parts, meaning}
-use Rattle.wast_core.specs.Names.{HasUtf8Names}
-use Rattle.wast_core.specs.NamesPayload.{InRangeNames, name_subsections}
+use Rattle.wast_core.specs.Utf8Names.{HasUtf8Names}
+use Rattle.wast_names.specs.NamesPayload.{InRangeNames, name_subsections}
 use Rattle.wast_core.specs.Slots.{order}
 use Rattle.wast_core.specs.WorkedMeanings.{Row1, Row2, Row8, Row24, Row27, AnnotatedFunction, SecondNamed, LongSection}
 use Rattle.wast_core.proofs.Readings.{reads_module}

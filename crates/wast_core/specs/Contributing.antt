@@ -3,9 +3,9 @@ use Rattle.std.specs.Prelude.{IsTrue, option_map}
 use Rattle.std.specs.List.{list_all}
 use Rattle.std.specs.Option.{option_to_list}
 use Rattle.wast_tree.specs.Ids.{is_number}
-use Rattle.wast_core.specs.Encodable.{is_encodable_import, is_encodable_type_use, is_encodable_table, is_encodable_tag, is_encodable_global, is_encodable_elem, is_encodable_kind, is_encodable_data}
+use Rattle.wast_conv.specs.Encodable.{is_encodable_import, is_encodable_type_use, is_encodable_table, is_encodable_memory, is_encodable_tag, is_encodable_global, is_encodable_elem, is_encodable_kind, is_encodable_data}
 use Rattle.wast_core.specs.Meaning.{Contribution, import_entry, type_index, table_entry, memory_entry, tag_entry, global_entry, export_entry, number, element_entry, body, data_entry}
-use Rattle.wast_core.specs.Entries.{entry_of, is_encodable_entry}
+use Rattle.wast_conv.specs.Entries.{entry_of, is_encodable_entry}
 use Rattle.wast_core.specs.declared.entries.Contributed.{Contributed}
 
 -- the entries themselves
@@ -31,6 +31,7 @@ pub record AreReady (c : Contributed) : Type 0 where
   pub imports : IsTrue (list_all (λ b. is_encodable_import b.0.now) (option_to_list c.imports))
   pub functions : IsTrue (list_all (λ b. is_encodable_type_use b.0.now) (option_to_list c.functions))
   pub tables : IsTrue (list_all (λ b. is_encodable_table b.0.now) (option_to_list c.tables))
+  pub memories : IsTrue (list_all (λ b. is_encodable_memory b.0.now) (option_to_list c.memories))
   pub tags : IsTrue (list_all (λ b. is_encodable_tag b.0.now) (option_to_list c.tags))
   pub globals : IsTrue (list_all (λ b. is_encodable_global b.0.now) (option_to_list c.globals))
   pub exports : IsTrue (list_all (λ b. is_number b.0.now.item) (option_to_list c.exports))

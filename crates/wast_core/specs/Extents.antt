@@ -2,21 +2,16 @@
 use Rattle.std.specs.Prelude.{◌≡◌, ◌==◌, ◌&&◌, ◌+◌, ℕ, Bool, List, [], ◌∷◌, length, Option, if◌then◌else◌}
 use Rattle.wasm_ops.specs.Leb128.{unsigned}
 use Rattle.wasm_ops.specs.Spelling.{vec}
-use Rattle.wasm_out.specs.NameSubsections.{NameSubsection, name_subsection, name_payload}
 use Rattle.wasm_out.specs.Parts.{SectionKind, Entry, entry}
-use Rattle.std.specs.List.{flat_map}
 use Rattle.wast_core.specs.Tree.{ModuleField}
 use Rattle.wast_core.specs.Meaning.{entries}
-use Rattle.wast_core.specs.NamesPayload.{name_subsections}
+use Rattle.wast_names.specs.NamesPayload.{name_subsections}
+use Rattle.wast_names.specs.NameSection.{names_payload_of}
 
 -- what stands behind the length of a section; nothing where it has no entries and is left out
 abbrev pub payload_of : (kind : SectionKind) → List (Entry kind) → List ℕ
 payload_of kind [] = []
 payload_of kind (e ∷ es) = vec (entry kind) (e ∷ es)
-
-abbrev pub names_payload_of : List NameSubsection → List ℕ
-names_payload_of [] = []
-names_payload_of (s ∷ ss) = name_payload (flat_map name_subsection (s ∷ ss))
 
 -- a section of a kind has so many entries, and so many bytes stand behind its length
 pub record IsExtent (kind : SectionKind) (fields : List ModuleField) (count size : ℕ) : Type 0 where

@@ -19,7 +19,7 @@ use Rattle.wast_core.specs.Tree.{ModuleField}
 use Rattle.wast_core.specs.declared.module.Module.{Module}
 use Rattle.wast_core.specs.declared.module.ModuleKind.{ModuleKind}
 use Rattle.wast_core.specs.declared.module.ModuleKind.TheVariants as kind
-use Rattle.wast_core.specs.NamesPayload.{given_name}
+use Rattle.wast_names.specs.GivenNames.{given_name}
 use Rattle.wast_core.specs.Meaning.{meaning}
 use Rattle.wast_core.specs.Bounded.{IsBounded}
 use Rattle.wast_core.specs.Uncovered.{first, uncovered, IsCovered}

@@ -1,5 +1,5 @@
 -- What a text module means: its parts, in the order of the sections, with the numbers of its resolved list (binary format, modules).
-use Rattle.std.specs.Prelude.{ℕ, List, [], ◌∷◌, map, Option, codes}
+use Rattle.std.specs.Prelude.{ℕ, List, [], ◌∷◌, map, Option}
 use Rattle.std.specs.List.{flat_map}
 use Rattle.wast_core.specs.Tree as tree
 use Rattle.wast_core.specs.Tree.{Rec, Func, Table, Memory, Global, Tag, Export, Index, Elem, ModuleField}
@@ -10,16 +10,16 @@ use Rattle.wasm_ops.specs.declared.entities.TagType.{TagType}
 use Rattle.wasm_out.specs.Bodies.{Body}
 use Rattle.wasm_out.specs.DataSegments.{DataEntry}
 use Rattle.wasm_out.specs.ElementSegments.{ElementEntry}
-use Rattle.wasm_out.specs.Parts.{SectionKind, Types, Imports, Functions, Tables, Memories, Tags, Globals, Exports, Elements, Code, Data, Entry, TypeEntry, Single, ImportEntry, TableEntry, GlobalEntry, ExportEntry, Custom, Start, Listed, Part}
-use Rattle.wasm_out.specs.NameSubsections.{NameSubsection, name_subsection}
+use Rattle.wasm_out.specs.Parts.{SectionKind, Types, Imports, Functions, Tables, Memories, Tags, Globals, Exports, Elements, Code, Data, Entry, TypeEntry, Single, ImportEntry, TableEntry, GlobalEntry, ExportEntry, Start, Listed, Part}
 use Rattle.wast_expand.specs.Positioned.{positioned}
 use Rattle.wast_resolve.specs.Resolved.{resolved}
-use Rattle.wast_core.specs.NamesPayload.{name_subsections}
+use Rattle.wast_names.specs.NamesPayload.{name_subsections}
+use Rattle.wast_names.specs.NameSection.{names_part}
 use Rattle.wast_core.specs.declared.slots.Slot.{Slot}
 use Rattle.wast_core.specs.declared.slots.Slot.TheVariants as slot
 use Rattle.wast_core.specs.Slots.{kind_of, order}
-pub use Rattle.wast_core.specs.Values.{number, abstract_type, heap_type, ref_type, val_type, storage_type, field_type, struct_type, array_type, func_type, inner_type, sub_type, type_index, table_type, memory_type, global_type, tag_type, entity_type, instr, expression, body_of, body, export_kind}
-pub use Rattle.wast_core.specs.FieldEntries.{group_of, import_entry, table_entry, memory_entry, global_entry, tag_entry, export_entry, element_items, element_mode, element_entry, data_mode, data_entry}
+pub use Rattle.wast_conv.specs.Values.{number, abstract_type, heap_type, ref_type, val_type, storage_type, field_type, struct_type, array_type, func_type, inner_type, sub_type, type_index, table_type, memory_type, global_type, tag_type, entity_type, instr, expression, body_of, body, export_kind}
+pub use Rattle.wast_conv.specs.FieldEntries.{group_of, import_entry, table_entry, memory_entry, global_entry, tag_entry, export_entry, element_items, element_mode, element_entry, data_mode, data_entry}
 
 -- what a field puts into the sections: the entries of those that are lists, and the functions of start sections
 pub record Contribution : Type 0 where
@@ -133,11 +133,6 @@ start_part n = record { kind = Start; items = n }
 
 abbrev pub starts_in : ModuleField → List Part
 starts_in f = map start_part (contributed f).starts
-
--- the name section, left out where it has no subsections
-abbrev pub names_part : List NameSubsection → List Part
-names_part [] = []
-names_part (s ∷ ss) = record { kind = Custom; items = record { name = codes "name"; bytes = flat_map name_subsection (s ∷ ss) } } ∷ []
 
 -- the parts in a place of a module with this name, of these fields
 abbrev pub in_slot : Option (List ℕ) → List ModuleField → Slot → List Part

@@ -1,15 +1,17 @@
 -- A module whose sections are measured, before it is written.
 use Rattle.std.specs.Prelude.{Bool, ◌&&◌}
 use Rattle.wasm_out.specs.Parts.{Types, Imports, Functions, Tables, Memories, Tags, Globals, Exports, Elements, Code, Data}
-use Rattle.wast_core.specs.Encodable.{are_encodable}
+use Rattle.wast_conv.specs.Encodable.{are_encodable}
 use Rattle.wast_core.specs.Extents.{is_extent, is_names_size}
-use Rattle.wast_core.specs.Names.{text_seen}
+use Rattle.wast_names.specs.Names.{text_seen}
+use Rattle.wast_reach.specs.Reaches.{are_reaches}
 use Rattle.wast_core.specs.declared.sections.BinaryModule.{BinaryModule}
 
--- the encoder takes its fields, and its extents are those of its sections
+-- the encoder takes its fields, those of each kind are found, and its extents are those of its sections
 abbrev pub is_measured : BinaryModule → Bool
 is_measured m =
     are_encodable m.fields.now
+    && (are_reaches m.fields.now m.reaches
     && (is_extent Types m.fields.now m.types.count m.types.size
     && (is_extent Imports m.fields.now m.imports.count m.imports.size
     && (is_extent Functions m.fields.now m.functions.count m.functions.size
@@ -21,4 +23,4 @@ is_measured m =
     && (is_extent Elements m.fields.now m.elements.count m.elements.size
     && (is_extent Code m.fields.now m.code.count m.code.size
     && (is_extent Data m.fields.now m.«data».count m.«data».size
-    && is_names_size (text_seen m.name) m.fields.now m.names)))))))))))
+    && is_names_size (text_seen m.name) m.fields.now m.names))))))))))))

@@ -1,5 +1,4 @@
 -- The types of the tree under one roof, as in wast_tree: each type by its name, the variants of an enum behind a word.
-pub use Rattle.wast_tree.specs.declared.ids.Span.{Span}
 pub use Rattle.wast_tree.specs.declared.ids.Id.{Id}
 pub use Rattle.wast_tree.specs.declared.ids.Index.{Index}
 pub use Rattle.wast_tree.specs.declared.ids.Index.TheVariants as index
@@ -11,37 +10,25 @@ pub use Rattle.wast_tree.specs.declared.types.ValType.TheVariants as value
 pub use Rattle.wast_tree.specs.declared.types.RefType.{RefType}
 pub use Rattle.wast_tree.specs.declared.types.HeapType.{HeapType}
 pub use Rattle.wast_tree.specs.declared.types.HeapType.TheVariants as heap
-pub use Rattle.wast_tree.specs.declared.types.AbstractHeapType.{AbstractHeapType}
 pub use Rattle.wast_tree.specs.declared.types.AbstractHeapType.TheVariants as abstract
-pub use Rattle.wast_tree.specs.declared.types.StorageType.{StorageType}
 pub use Rattle.wast_tree.specs.declared.types.StorageType.TheVariants as storage
 pub use Rattle.wast_tree.specs.declared.types.StructField.{StructField}
-pub use Rattle.wast_tree.specs.declared.types.StructType.{StructType}
-pub use Rattle.wast_tree.specs.declared.types.ArrayType.{ArrayType}
 pub use Rattle.wast_tree.specs.declared.types.FunctionType.{FunctionType}
 pub use Rattle.wast_tree.specs.declared.types.TypeUse.{TypeUse}
 pub use Rattle.wast_tree.specs.declared.types.InnerTypeKind.{InnerTypeKind}
 pub use Rattle.wast_tree.specs.declared.types.InnerTypeKind.TheVariants as inner
-pub use Rattle.wast_tree.specs.declared.types.TypeDef.{TypeDef}
 pub use Rattle.wast_tree.specs.declared.types.Type as ty
 pub use Rattle.wast_tree.specs.declared.types.Rec.{Rec}
-pub use Rattle.wast_tree.specs.declared.instrs.BareOp.{BareOp}
-pub use Rattle.wast_tree.specs.declared.instrs.BareOp.TheVariants as bare
-pub use Rattle.wast_tree.specs.declared.instrs.Plain.{Plain}
-pub use Rattle.wast_tree.specs.declared.instrs.Plain.TheVariants as plain
 pub use Rattle.wast_tree.specs.declared.instrs.Instruction.{Instruction}
 pub use Rattle.wast_tree.specs.declared.instrs.Instruction.TheVariants as instr
 pub use Rattle.wast_tree.specs.declared.instrs.Expression.{Expression}
-pub use Rattle.wast_tree.specs.declared.entities.Limits.{Limits}
 pub use Rattle.wast_tree.specs.declared.entities.TableType.{TableType}
-pub use Rattle.wast_tree.specs.declared.entities.MemoryType.{MemoryType}
 pub use Rattle.wast_tree.specs.declared.entities.GlobalType.{GlobalType}
 pub use Rattle.wast_tree.specs.declared.entities.TagType.{TagType}
 pub use Rattle.wast_tree.specs.declared.entities.TagType.TheVariants as tag
 pub use Rattle.wast_tree.specs.declared.imports.Imports.{Imports}
 pub use Rattle.wast_tree.specs.declared.imports.ImportItems.{ImportItems}
 pub use Rattle.wast_tree.specs.declared.imports.ImportItems.TheVariants as import_items
-pub use Rattle.wast_tree.specs.declared.imports.ItemSig.{ItemSig}
 pub use Rattle.wast_tree.specs.declared.imports.ItemKind.{ItemKind}
 pub use Rattle.wast_tree.specs.declared.imports.ItemKind.TheVariants as kind
 pub use Rattle.wast_tree.specs.declared.segments.Elem.{Elem}
@@ -52,7 +39,6 @@ pub use Rattle.wast_tree.specs.declared.segments.ElemPayload.TheVariants as payl
 pub use Rattle.wast_tree.specs.declared.segments.Data.{Data}
 pub use Rattle.wast_tree.specs.declared.segments.DataKind.{DataKind}
 pub use Rattle.wast_tree.specs.declared.segments.DataKind.TheVariants as data_kind
-pub use Rattle.wast_tree.specs.declared.segments.DataVal.{DataVal}
 pub use Rattle.wast_tree.specs.declared.segments.DataVal.TheVariants as bytes
 pub use Rattle.wast_tree.specs.declared.fields.Local.{Local}
 pub use Rattle.wast_tree.specs.declared.fields.FuncKind.{FuncKind}
@@ -62,16 +48,12 @@ pub use Rattle.wast_tree.specs.declared.fields.Table.{Table}
 pub use Rattle.wast_tree.specs.declared.fields.TableKind.{TableKind}
 pub use Rattle.wast_tree.specs.declared.fields.TableKind.TheVariants as table
 pub use Rattle.wast_tree.specs.declared.fields.Memory.{Memory}
-pub use Rattle.wast_tree.specs.declared.fields.MemoryKind.{MemoryKind}
 pub use Rattle.wast_tree.specs.declared.fields.MemoryKind.TheVariants as memory
 pub use Rattle.wast_tree.specs.declared.fields.Global.{Global}
 pub use Rattle.wast_tree.specs.declared.fields.GlobalKind.{GlobalKind}
 pub use Rattle.wast_tree.specs.declared.fields.GlobalKind.TheVariants as global
 pub use Rattle.wast_tree.specs.declared.fields.Tag.{Tag}
-pub use Rattle.wast_tree.specs.declared.fields.TagKind.{TagKind}
 pub use Rattle.wast_tree.specs.declared.fields.TagKind.TheVariants as tag_kind
-pub use Rattle.wast_tree.specs.declared.fields.ExportKind.{ExportKind}
-pub use Rattle.wast_tree.specs.declared.fields.ExportKind.TheVariants as export
 pub use Rattle.wast_tree.specs.declared.fields.Export.{Export}
 pub use Rattle.wast_tree.specs.declared.fields.ModuleField.{ModuleField}
 pub use Rattle.wast_tree.specs.declared.fields.ModuleField.TheVariants as field

@@ -11,7 +11,7 @@ use Rattle.wast_core.specs.Tree.{ModuleField}
 use Rattle.wast_core.specs.declared.module.ModuleKind.{ModuleKind}
 use Rattle.wast_core.specs.declared.module.ModuleKind.TheVariants as kind
 use Rattle.wast_core.specs.Bounded.{bytes_of, InRangeModule, IsWritable}
-use Rattle.wast_core.specs.Encodable.{are_encodable}
+use Rattle.wast_conv.specs.Encodable.{are_encodable}
 use Rattle.wast_core.specs.Headline.{IsUnwritten, joined}
 use Rattle.wast_core.specs.Meaning.{parts}
 use Rattle.wast_core.specs.Uncovered.{first, uncovered, IsCovered}

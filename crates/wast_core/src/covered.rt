@@ -4,7 +4,7 @@ ghost use Rattle.std.specs.Prelude.{◌≡◌, All, IsTrue};
 ghost use Rattle.std.specs.Str.{is_utf8};
 ghost use Rattle.wast_core.specs.Meaning.{of_kind, contributed};
 ghost use Rattle.wast_core.specs.Uncovered.{first, uncovered_in, uncovered};
-ghost use Rattle.wast_core.specs.Names.{HasUtf8Items, HasUtf8Names};
+ghost use Rattle.wast_core.specs.Utf8Names.{HasUtf8Items, HasUtf8Names};
 
 use wast_tree::{Form, ImportItems, Imports, ModuleField};
 

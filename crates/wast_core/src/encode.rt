@@ -5,19 +5,19 @@ ghost use Rattle.wast_tree.specs.Faults.{out_of_memory};
 ghost use Rattle.wasm_out.specs.Built.{IsRefused};
 ghost use Rattle.wasm_out.specs.Reads.{Reads};
 ghost use Rattle.wast_core.specs.Bounded.{IsWritable};
-ghost use Rattle.wast_core.specs.Encodable.{are_encodable};
+ghost use Rattle.wast_conv.specs.Encodable.{are_encodable};
 ghost use Rattle.wast_core.specs.Headline.{Encodes, joined, name_of_module};
 ghost use Rattle.wast_core.specs.Meaning.{parts};
 ghost use Rattle.wast_core.specs.Modules.{IsReady};
-ghost use Rattle.wast_core.specs.Names.{text_seen};
+ghost use Rattle.wast_names.specs.Names.{text_seen};
 ghost use Rattle.wast_core.specs.Writing.{IsEncodable, IsAtRest, EncodesResolved, PutsModule};
 
 use crate::covered;
 use crate::module::{Module, ModuleKind};
-use crate::names_payload::given_name;
 use crate::sections::BinaryModule;
 use std::alloc::Global;
 use wasm_ops::{Encode, Room, Sink};
+use wast_names::given_name;
 use wast_resolve::discard_names;
 use wast_tree::{Error, Fault, Gensym, ModuleField};
 

@@ -1,24 +1,26 @@
 //! What fields put into the sections that are lists.
 
-ghost use Rattle.std.specs.Prelude.{◌≡◌, ◌≤◌, length, map, take, All, IfSome, IsNone, IsTrue, IfOk, IfErr};
+ghost use Rattle.std.specs.Prelude.{◌≡◌, length, map, List, All, IfSome, IsNone, IsTrue, IfOk, IfErr};
 ghost use Rattle.std.specs.List.{flat_map};
 ghost use Rattle.std.specs.Option.{option_to_list};
 ghost use Rattle.wasm_ops.specs.Sinks.{Writes};
 ghost use Rattle.wasm_ops.specs.declared.sink.Refusal.TheVariants as refusal;
 ghost use Rattle.wasm_ops.specs.Spelling.{InRangeU32};
 ghost use Rattle.wasm_out.specs.Parts.{entry, InRangeEntry, part, InRangePart};
-ghost use Rattle.wast_core.specs.Encodable.{is_encodable_field, are_encodable};
+ghost use Rattle.wast_conv.specs.Encodable.{is_encodable_field, are_encodable};
 ghost use Rattle.wast_core.specs.Contributing.{seen, AreReady};
 ghost use Rattle.wast_core.specs.Extents.{IsExtent};
 ghost use Rattle.wast_core.specs.Meaning.{nothing, of_kind, contributed, entries_in, entries, listed, start_part, starts_in};
-ghost use Rattle.wast_core.specs.Names.{counted};
+ghost use Rattle.wast_names.specs.Names.{counted};
+ghost use Rattle.wast_core.specs.Putting.{puts};
+ghost use Rattle.wast_reach.specs.Reaches.{is_reach, are_reaches};
+ghost use Rattle.wast_tree.specs.declared.fields.ModuleField.{ModuleField};
 ghost use Rattle.wast_core.specs.Slots.{kind_of};
 
-use crate::conv;
-use crate::section_items::RecOrType;
 use crate::slots::SectionKind;
-use crate::values::Resolved;
 use wasm_ops::{By, Each, Encode, Refusal, Sink, Spell, WithLength, length_of, width};
+use wast_conv::{RecOrType, Resolved, conv};
+use wast_reach::{FieldKind, Reach, Reaches};
 use wast_tree::{
     Data, Elem, Export, FuncKind, FunctionType, Global, Imports, Index, Memory, ModuleField, Table,
     Tag, TypeUse,
@@ -225,19 +227,50 @@ fn count(kind: SectionKind, fields: &[ModuleField]) -> Option<u32>
     Some(sum)
 }
 
-/// Where the last field with an entry for the section of a kind ends.
-fn end_of(kind: SectionKind, fields: &[ModuleField]) -> usize
-    ensures within { result ≤ length fields.now }
-    ensures same { entries (kind_of kind) (take result fields.now) ≡ entries (kind_of kind) fields.now }
+/// Where the fields stand that put something into the section of a kind.
+fn reach_of(kind: SectionKind, reaches: &Reaches) -> Reach
+    ensures { (fields : List ModuleField) → IsTrue (are_reaches fields reaches.now) → IsTrue (is_reach (puts (kind_of kind)) fields result) }
 {
-    let mut end = fields.len();
-    'trim: while end > 0 {
-        if Contributed::of(&fields[end - 1]).count(kind) != 0 {
-            return end;
+    match kind {
+        SectionKind::Types => {
+            let groups = reaches.of_kind(FieldKind::Rec);
+            reaches.of_kind(FieldKind::Ty).joined(groups)
         }
-        end -= 1;
+        SectionKind::Imports => reaches.of_kind(FieldKind::Import),
+        SectionKind::Functions | SectionKind::Code => reaches.of_kind(FieldKind::Func),
+        SectionKind::Tables => reaches.of_kind(FieldKind::Table),
+        SectionKind::Memories => reaches.of_kind(FieldKind::Memory),
+        SectionKind::Tags => reaches.of_kind(FieldKind::Tag),
+        SectionKind::Globals => reaches.of_kind(FieldKind::Global),
+        SectionKind::Exports => reaches.of_kind(FieldKind::Export),
+        SectionKind::Elements => reaches.of_kind(FieldKind::Elem),
+        SectionKind::Data => reaches.of_kind(FieldKind::Data),
     }
-    end
+}
+
+/// The fields from the first to the last that put something into the section of a kind.
+fn fields_of<'b, 'a>(
+    kind: SectionKind,
+    fields: &'b [ModuleField<'a>],
+    reaches: &Reaches,
+) -> &'b [ModuleField<'a>]
+    requires { IsTrue (are_reaches fields.now reaches.now) }
+    ensures same { entries (kind_of kind) result.now ≡ entries (kind_of kind) fields.now }
+    ensures ready { IsTrue (are_encodable fields.now) → IsTrue (are_encodable result.now) }
+{
+    reach_of(kind, reaches).of(fields)
+}
+
+/// The fields from the first start field to the last.
+pub(crate) fn start_fields<'b, 'a>(
+    fields: &'b [ModuleField<'a>],
+    reaches: &Reaches,
+) -> &'b [ModuleField<'a>]
+    requires { IsTrue (are_reaches fields.now reaches.now) }
+    ensures same { flat_map starts_in result.now ≡ flat_map starts_in fields.now }
+    ensures ready { IsTrue (are_encodable fields.now) → IsTrue (are_encodable result.now) }
+{
+    reaches.of_kind(FieldKind::Start).of(fields)
 }
 
 /// How many entries the section of a kind has, and how long these are with their number. Both are 0 where there are none.
@@ -250,37 +283,45 @@ pub(crate) struct Extent {
 }
 
 /// The extent of the section of a kind. It refuses as too large, where a number, count or length in it is out of range.
-pub(crate) fn extent_of(kind: SectionKind, fields: &[ModuleField]) -> Result<Extent, Refusal>
-    requires { IsTrue (are_encodable fields.now) }
+/// It needs where in these fields those of each kind stand.
+pub(crate) fn extent_of(
+    kind: SectionKind,
+    fields: &[ModuleField],
+    reaches: &Reaches,
+) -> Result<Extent, Refusal>
+    requires ready { IsTrue (are_encodable fields.now) }
+    requires reaches { IsTrue (are_reaches fields.now reaches.now) }
     ensures ok { IfOk result (λ e. IsExtent (kind_of kind) fields.now e.count e.size) }
     ensures err { IfErr result (λ e. (e ≡ refusal.TooLarge) × (All InRangePart (listed (kind_of kind) (entries (kind_of kind) fields.now)) → ⊥)) }
 {
-    let first = &fields[..end_of(kind, fields)];
-    let Some(count) = count(kind, first) else {
+    let there = fields_of(kind, fields, reaches);
+    let Some(count) = count(kind, there) else {
         return Err(Refusal::TooLarge);
     };
     if count == 0 {
         return Ok(Extent { count: 0, size: 0 });
     }
-    let size = length_of(&(count, Each(first, EntriesOf(kind))))?;
+    let size = length_of(&(count, Each(there, EntriesOf(kind))))?;
     Ok(Extent { count, size })
 }
 
-/// The section of a kind, where it has entries. It needs its extent.
+/// The section of a kind, where it has entries. It needs its extent, and where in these fields those of each kind stand.
 pub(crate) fn put_section<S: Sink>(
     kind: SectionKind,
     fields: &[ModuleField],
+    reaches: &Reaches,
     extent: Extent,
     out: &mut S,
 ) -> Result<(), Refusal>
     requires ready { IsTrue (are_encodable fields.now) }
+    requires reaches { IsTrue (are_reaches fields.now reaches.now) }
     requires extent { IsExtent (kind_of kind) fields.now extent.count extent.size }
     ensures { Writes S.rules (All InRangePart (listed (kind_of kind) (entries (kind_of kind) fields.now))) out.old out.new (flat_map part (listed (kind_of kind) (entries (kind_of kind) fields.now))) result }
 {
     if extent.count == 0 {
         return Ok(());
     }
-    let entries = Each(&fields[..end_of(kind, fields)], EntriesOf(kind));
+    let entries = Each(fields_of(kind, fields, reaches), EntriesOf(kind));
     (kind.id(), (extent.size, (extent.count, entries))).encode(out)
 }
 

@@ -10,7 +10,7 @@ use std::mem;
 use wast_resolve::{Names, resolved_laws};
 use wast_tree::{
     Error, Fault, Gensym, Id, ModuleField, NameAnnotation, Seq, Span, discard_fields, gensym_bound,
-    well_formed,
+    is_written_out, well_formed,
 };
 
 /// What a module holds.
@@ -41,14 +41,16 @@ impl<'a> Module<'a> {
     /// Whether the module can be resolved and encoded. It takes no memory.
     ///
     /// Binary and refused modules are well formed. Fields are, where each generated id that stands for an index is
-    /// borne by an item of its space, and where they keep to what the tree covers today: no item is exported in place, and no
+    /// borne by an item of its space, where they are written out, and where they keep to what the tree covers today: no
     /// expression has hints; types, tables and globals are not shared, types are without descriptor and describes, and no
     /// shared heap type is referred to; expressions of an active element segment without a table are of type `funcref`.
     pub fn well_formed(&self) -> bool
         ensures { result ≡ is_well_formed self.now }
     {
         match &self.kind {
-            ModuleKind::Text(fields) => well_formed(fields.as_slice()),
+            ModuleKind::Text(fields) => {
+                well_formed(fields.as_slice()) && is_written_out(fields.as_slice())
+            }
             ModuleKind::Binary(_) | ModuleKind::Refused(_) => true,
         }
     }

@@ -5,25 +5,28 @@ ghost use Rattle.std.specs.List.{flat_map};
 ghost use Rattle.wasm_ops.specs.declared.sink.Refusal.TheVariants as refusal;
 ghost use Rattle.wasm_out.specs.Parts.{part, InRangePart};
 ghost use Rattle.wast_core.specs.Bounded.{bytes_of, InRangeSlot, InRangeModule};
-ghost use Rattle.wast_core.specs.Encodable.{are_encodable};
+ghost use Rattle.wast_conv.specs.Encodable.{are_encodable};
 ghost use Rattle.wast_core.specs.Extents.{IsExtent, section_size};
 ghost use Rattle.wast_core.specs.Measured.{is_measured};
 ghost use Rattle.wast_core.specs.Meaning.{in_slot};
-ghost use Rattle.wast_core.specs.Names.{counted, text_seen};
+ghost use Rattle.wast_names.specs.Names.{counted, text_seen};
 ghost use Rattle.wast_core.specs.Slots.{kind_of};
 
-use crate::entries::{Extent, extent_of, put_section, put_starts, starts_size};
-use crate::names_payload::{names_size, put_names};
+use crate::entries::{Extent, extent_of, put_section, put_starts, start_fields, starts_size};
 use crate::slots::{ORDER, SectionKind, Slot};
 use wasm_ops::{Each, Encode, Raw, Refusal, Sink, Spell, width};
 use wasm_out::HEADER;
+use wast_names::{names_size, put_names};
+use wast_reach::Reaches;
 use wast_tree::ModuleField;
 
-/// A binary module, by the name and the resolved fields of the text module, and how long its sections are.
+/// A binary module, by the name and the resolved fields of the text module, where those of each kind stand, and how long its
+/// sections are.
 #[derive(Clone, Copy)]
 pub(crate) struct BinaryModule<'b, 'a> {
     name: Option<&'b str>,
     fields: &'b [ModuleField<'a>],
+    reaches: Reaches,
     types: Extent,
     imports: Extent,
     functions: Extent,
@@ -50,8 +53,8 @@ fn section_size(payload: u32) -> u64
 }
 
 impl<'b, 'a> BinaryModule<'b, 'a> {
-    /// The binary module of this name and these resolved fields: its sections are counted and measured, once. It takes
-    /// no memory, and refuses as too large, where a number, count or length in the module is out of range.
+    /// The binary module of this name and these resolved fields: its fields of each kind are found, and its sections are
+    /// counted and measured, once. It takes no memory, and refuses as too large, where a number, count or length in the module is out of range.
     pub(crate) fn of(
         name: Option<&'b str>,
         fields: &'b [ModuleField<'a>],
@@ -60,21 +63,23 @@ impl<'b, 'a> BinaryModule<'b, 'a> {
         ensures ok { IfOk result (λ m. IsTrue (is_measured m) × (m.name ≡ name.entry) × (m.fields.now ≡ fields.now)) }
         ensures err { IfErr result (λ e. (e ≡ refusal.TooLarge) × (InRangeModule (text_seen name.entry) fields.now → ⊥)) }
     {
+        let reaches = Reaches::of(fields);
         Ok(BinaryModule {
             name,
             fields,
-            types: extent_of(SectionKind::Types, fields)?,
-            imports: extent_of(SectionKind::Imports, fields)?,
-            functions: extent_of(SectionKind::Functions, fields)?,
-            tables: extent_of(SectionKind::Tables, fields)?,
-            memories: extent_of(SectionKind::Memories, fields)?,
-            tags: extent_of(SectionKind::Tags, fields)?,
-            globals: extent_of(SectionKind::Globals, fields)?,
-            exports: extent_of(SectionKind::Exports, fields)?,
-            elements: extent_of(SectionKind::Elements, fields)?,
-            code: extent_of(SectionKind::Code, fields)?,
-            data: extent_of(SectionKind::Data, fields)?,
-            names: names_size(name, fields)?,
+            reaches,
+            types: extent_of(SectionKind::Types, fields, &reaches)?,
+            imports: extent_of(SectionKind::Imports, fields, &reaches)?,
+            functions: extent_of(SectionKind::Functions, fields, &reaches)?,
+            tables: extent_of(SectionKind::Tables, fields, &reaches)?,
+            memories: extent_of(SectionKind::Memories, fields, &reaches)?,
+            tags: extent_of(SectionKind::Tags, fields, &reaches)?,
+            globals: extent_of(SectionKind::Globals, fields, &reaches)?,
+            exports: extent_of(SectionKind::Exports, fields, &reaches)?,
+            elements: extent_of(SectionKind::Elements, fields, &reaches)?,
+            code: extent_of(SectionKind::Code, fields, &reaches)?,
+            data: extent_of(SectionKind::Data, fields, &reaches)?,
+            names: names_size(name, fields, &reaches)?,
         })
     }
 
@@ -105,7 +110,7 @@ impl<'b, 'a> BinaryModule<'b, 'a> {
     {
         match slot {
             Slot::Section(kind) => section_size(self.extent(*kind).size),
-            Slot::Start => starts_size(self.fields),
+            Slot::Start => starts_size(start_fields(self.fields, &self.reaches)),
             Slot::Names => section_size(self.names),
             Slot::BeforeFirst | Slot::Before(_) | Slot::After(_) | Slot::AfterLast => 0,
             Slot::BeforeStart | Slot::AfterStart | Slot::DataCount | Slot::Hints => 0,
@@ -144,9 +149,11 @@ impl Spell<Slot> for BinaryModule<'_, '_> {
 
     fn spell<S: Sink>(&self, slot: &Slot, out: &mut S) -> Result<(), Refusal> {
         match slot {
-            Slot::Section(kind) => put_section(*kind, self.fields, self.extent(*kind), out),
-            Slot::Start => put_starts(self.fields, out),
-            Slot::Names => put_names(self.name, self.fields, self.names, out),
+            Slot::Section(kind) => {
+                put_section(*kind, self.fields, &self.reaches, self.extent(*kind), out)
+            }
+            Slot::Start => put_starts(start_fields(self.fields, &self.reaches), out),
+            Slot::Names => put_names(self.name, self.fields, &self.reaches, self.names, out),
             Slot::BeforeFirst | Slot::Before(_) | Slot::After(_) | Slot::AfterLast => Ok(()),
             Slot::BeforeStart | Slot::AfterStart | Slot::DataCount | Slot::Hints => Ok(()),
         }

@@ -104,6 +104,7 @@ module _ (find : LookUp) where
   instr_stays x h = refl
 
   kind_stays : (k : FuncKind) → needed_by_kind k ≡ [] → bound_kind find k ≡ k
+  kind_stays (func.Import import exact) h = refl
   kind_stays (func.Inline locals e) h = ap (λ (xs : List Instruction). func.Inline locals (record e { instrs = xs })) (each_stays needed_by_instr (bound_instr find) instr_stays e.instrs h)
 
   use_stays : (u : TypeUse FunctionType) → needed_by_use u ≡ [] → bound_use find u ≡ u

@@ -117,6 +117,7 @@ module _ (find : LookUp) where
   instr_bound x h = refl
 
   kind_bound : (k : FuncKind) → found (needed_by_kind k) ≡ true → needed_by_kind (bound_kind find k) ≡ []
+  kind_bound (func.Import import exact) h = refl
   kind_bound (func.Inline locals e) h = each_bound needed_by_instr (bound_instr find) instr_bound e.instrs h
 
   tag_type_bound : (t : TagType) → found (needed_by_tag_type t) ≡ true → needed_by_tag_type (bound_tag_type find t) ≡ []

@@ -4,6 +4,7 @@ pub mod OneMore
 pub mod Halfway
 pub mod Expanding
 pub mod Covered
+pub mod InPlace
 pub mod AtRest
 pub mod AtItsIndex
 pub mod Positions

@@ -121,6 +121,7 @@ abbrev pub bound_expression : LookUp → Expression → Expression
 bound_expression find e = record e { instrs = map (bound_instr find) e.instrs }
 
 abbrev pub bound_kind : LookUp → FuncKind → FuncKind
+bound_kind find (func.Import import exact) = func.Import import exact
 bound_kind find (func.Inline locals e) = func.Inline locals (bound_expression find e)
 
 abbrev pub bound_func : LookUp → Func → Func

@@ -1,6 +1,7 @@
 -- What holds of each list that is expanded (text format, type uses: abbreviations).
 use Rattle.std.specs.Prelude.{◌≡◌, ℕ, false, List, [], flat_map}
 use Rattle.std.specs.List.{list_any}
+use Rattle.wast_tree.specs.WrittenOut.{is_written_out}
 use Rattle.wast_expand.specs.Tree.{ModuleField}
 use Rattle.wast_expand.specs.Signatures.{Signature}
 use Rattle.wast_expand.specs.NeedingUses.{needed}
@@ -31,3 +32,7 @@ StaysExpanded = (m n : ℕ) (fields : List ModuleField) → expanded m (expanded
 
 abbrev pub WantsNoMore : Type 0
 WantsNoMore = (n : ℕ) (fields : List ModuleField) → ids_wanted (expanded n fields) ≡ 0
+
+-- A list is written out where the expanded one is: expansion puts nothing in place.
+abbrev pub StaysWrittenOut : Type 0
+StaysWrittenOut = (n : ℕ) (fields : List ModuleField) → is_written_out (expanded n fields) ≡ is_written_out fields

@@ -34,7 +34,9 @@ needed_by_instr (instr.ref_func f) = []
 abbrev pub needed_by_expression : Expression → List Signature
 needed_by_expression e = flat_map needed_by_instr e.instrs
 
+-- what is imported in place has no body
 abbrev pub needed_by_kind : FuncKind → List Signature
+needed_by_kind (func.Import import exact) = []
 needed_by_kind (func.Inline locals e) = needed_by_expression e
 
 -- the type use stands before the body

@@ -250,6 +250,7 @@ impl<'a> Bind<'a> for FuncKind<'a> {
         gensym: &mut Gensym,
     ) -> Result<(), Error<'a>> {
         match self {
+            FuncKind::Import(..) => Ok(()),
             FuncKind::Inline { expression, .. } => {
                 expression.bind(alloc, cx, implied, gensym)?;
                 Ok(())

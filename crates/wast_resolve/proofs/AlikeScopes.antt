@@ -69,6 +69,7 @@ module _ (ok : Ask → Bool) where
       of_params (Some t) = each_declared (λ p. marked p.0) t.params
 
       of_locals : (k : FuncKind) → list_all step_passes (declared_locals k) ≡ true
+      of_locals (func.Import import exact) = refl
       of_locals (func.Inline locals e) = each_declared (λ (l : Local). marked l.id) locals
 
   instr_passes : (x : Instruction) → pass ok (asked_in_steps (in_instr x)) ≡ true → list_all step_passes (in_instr x) ≡ true
@@ -81,6 +82,7 @@ module _ (ok : Ask → Bool) where
       (sym (all_parts ok (λ x. asked_in_steps (in_instr x)) xs) ∙ (sym (ap (pass ok) (each_of_each in_instr asked_in_step xs)) ∙ h))
 
   kind_passes : (inline : Option FunctionType) (k : FuncKind) → pass ok (asked_in_steps (in_body k)) ≡ true → list_all passes (in_func_kind inline k) ≡ true
+  kind_passes inline (func.Import import exact) h = refl
   kind_passes inline (func.Inline locals e) h =
       both_so (list_all step_passes (declared inline (func.Inline locals e) ++ in_body (func.Inline locals e))) true
       (both_pass step_passes (declared inline (func.Inline locals e)) (in_body (func.Inline locals e)) (declared_pass inline (func.Inline locals e)) (instrs_pass e.instrs h)) refl
@@ -149,13 +151,22 @@ module _ (ok : Ask → Bool) where
   import_passes : (i : ImportItems) → pass ok (asked (in_import i)) ≡ true → list_all passes (in_import i) ≡ true
   import_passes (import_items.Single source name sig) h = item_kind_passes sig.kind h
 
+  payload_passes : (p : ElemPayload) → pass ok (asked (in_payload p)) ≡ true → list_all passes (in_payload p) ≡ true
+  payload_passes (payload.Indices is) h = outsides_pass (flat_map (in_index space.Func) is) h
+  payload_passes (payload.Exprs ty es) h = two_pass (flat_map in_constant es) (outside (in_ref ty)) (constants_pass es) (outsides_pass (in_ref ty)) h
+
   table_passes : (t : TableKind) → pass ok (asked (in_table_kind t)) ≡ true → list_all passes (in_table_kind t) ≡ true
+  table_passes (table.Import import ty) h = outsides_pass (in_table_type ty) h
+  table_passes (table.Inline ty is64 shared elements) h = two_pass (outside (in_ref ty)) (in_payload elements) (outsides_pass (in_ref ty)) (payload_passes elements) h
   table_passes (table.Normal ty init) h = two_pass (outside (in_table_type ty)) (in_constant_if init) (outsides_pass (in_table_type ty)) (constant_if_passes init) h
 
   memory_passes : (m : MemoryKind) → list_all passes (in_memory_kind m) ≡ true
+  memory_passes (memory.Import import ty) = refl
   memory_passes (memory.Normal ty) = refl
+  memory_passes (memory.Inline is64 pieces exponent) = refl
 
   global_kind_passes : (g : GlobalKind) → pass ok (asked (in_global_kind g)) ≡ true → list_all passes (in_global_kind g) ≡ true
+  global_kind_passes (global.Import import) h = refl
   global_kind_passes (global.Inline e) h = constant_passes e h
 
   elem_kind_passes : (e : ElemKind) → pass ok (asked (in_elem_kind e)) ≡ true → list_all passes (in_elem_kind e) ≡ true
@@ -163,10 +174,6 @@ module _ (ok : Ask → Bool) where
   elem_kind_passes elem.Declared h = refl
   elem_kind_passes (elem.Active table offset) h =
       two_pass (outside (if_there (in_index space.Table) table)) (in_constant offset) (outsides_pass (if_there (in_index space.Table) table)) (constant_passes offset) h
-
-  payload_passes : (p : ElemPayload) → pass ok (asked (in_payload p)) ≡ true → list_all passes (in_payload p) ≡ true
-  payload_passes (payload.Indices is) h = outsides_pass (flat_map (in_index space.Func) is) h
-  payload_passes (payload.Exprs ty es) h = two_pass (flat_map in_constant es) (outside (in_ref ty)) (constants_pass es) (outsides_pass (in_ref ty)) h
 
   data_kind_passes : (d : DataKind) → pass ok (asked (in_data_kind d)) ≡ true → list_all passes (in_data_kind d) ≡ true
   data_kind_passes data_kind.Passive h = refl

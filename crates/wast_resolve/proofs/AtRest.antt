@@ -219,10 +219,17 @@ module _ (k : Known) where
   plain_import : (i : ImportItems) → is_plain_import (resolved_import_items k i) ≡ is_plain_import i
   plain_import (import_items.Single source name sig) = plain_item_kind sig.kind
 
+  plain_payload : (p : ElemPayload) → is_plain_payload (resolved_payload k p) ≡ is_plain_payload p
+  plain_payload (payload.Indices is) = refl
+  plain_payload (payload.Exprs ty es) = rw (plain_heap ty.heap, plain_constants es) refl
+
   plain_table_kind : (t : TableKind) → is_plain_table_kind (resolved_table_kind k t) ≡ is_plain_table_kind t
+  plain_table_kind (table.Import import ty) = plain_table_type ty
   plain_table_kind (table.Normal ty init) = rw (plain_table_type ty, plain_constant_if init) refl
+  plain_table_kind (table.Inline ty is64 shared elements) = rw (plain_heap ty.heap, plain_payload elements) refl
 
   plain_global_kind : (g : GlobalKind) → is_plain_global_kind (resolved_global_kind k g) ≡ is_plain_global_kind g
+  plain_global_kind (global.Import import) = refl
   plain_global_kind (global.Inline e) = plain_expression start e
 
   funcref_still : (r : RefType) → is_funcref (resolved_ref k r) ≡ is_funcref r
@@ -250,10 +257,6 @@ module _ (k : Known) where
   plain_elem_kind elem.Declared = refl
   plain_elem_kind (elem.Active table offset) = plain_expression start offset
 
-  plain_payload : (p : ElemPayload) → is_plain_payload (resolved_payload k p) ≡ is_plain_payload p
-  plain_payload (payload.Indices is) = refl
-  plain_payload (payload.Exprs ty es) = rw (plain_heap ty.heap, plain_constants es) refl
-
   plain_elem : (e : Elem) → is_plain_elem (resolved_elem k e) ≡ is_plain_elem e
   plain_elem e = rw (suits_still e.kind e.payload, plain_elem_kind e.kind, plain_payload e.payload) refl
 
@@ -262,6 +265,7 @@ module _ (k : Known) where
   plain_data_kind (data_kind.Active memory offset) = plain_expression start offset
 
   plain_func_kind : (inline : Option FunctionType) (f : FuncKind) → is_plain_func_kind (resolved_func_kind k inline f) ≡ is_plain_func_kind f
+  plain_func_kind inline (func.Import import exact) = refl
   plain_func_kind inline (func.Inline locals e) = rw (plain_locals locals, plain_expression (body_of inline (func.Inline locals e)) e) refl
 
   plain_func : (f : Func) → is_plain_func (resolved_func k f) ≡ is_plain_func f
@@ -272,14 +276,14 @@ module _ (k : Known) where
   plain_field (field.Rec r) = plain_types r.types
   plain_field (field.Import i) = plain_import i.items
   plain_field (field.Func f) = plain_func f
-  plain_field (field.Table t) = ap (λ b. (length t.exports.names == 0) && b) (plain_table_kind t.kind)
+  plain_field (field.Table t) = plain_table_kind t.kind
   plain_field (field.Memory m) = refl
   plain_field (field.Global g) = rw (plain_global_type g.ty, plain_global_kind g.kind) refl
   plain_field (field.Export e) = refl
   plain_field (field.Start i) = refl
   plain_field (field.Elem e) = plain_elem e
   plain_field (field.Data d) = plain_data_kind d.kind
-  plain_field (field.Tag t) = ap (λ b. (length t.exports.names == 0) && b) (plain_tag_type t.ty)
+  plain_field (field.Tag t) = plain_tag_type t.ty
 
   plain_fields : (fields : List ModuleField) → are_plain (map (resolved_field k) fields) ≡ are_plain fields
   plain_fields [] = refl

@@ -67,6 +67,7 @@ module _ (ok : Ask → Bool) where
   instr_needs x h = grind (arith, common_steps)
 
   kind_needs : (k : FuncKind) → pass (asked_in_steps (in_body k)) ≡ true → all_pass_in (needed_by_kind k) ≡ true
+  kind_needs (func.Import import exact) h = refl
   kind_needs (func.Inline locals e) h =
       let steps = each_of_each in_instr asked_in_step e.instrs in
       all_parts (values_pass value_passes) needed_by_instr e.instrs

@@ -138,6 +138,7 @@ declares_are inline f =
     of_params (Some t) = refl
 
     of_locals : (f : FuncKind) → declared_locals f ≡ map (λ l. Declares (marked l.id)) (locals_in f)
+    of_locals (func.Import import exact) = refl
     of_locals (func.Inline locals e) = refl
 
 -- an answer for the names of these parameters and locals is one for the function
@@ -153,3 +154,10 @@ names_answer K c inline f ps ls r p l h =
     subst (λ ss. Outcome K (2 ^ 32 ≤ length (declared inline f)) (first_unmet (step_demands c start ss)) r) (sym steps)
     (subst (λ n. Outcome K (2 ^ 32 ≤ n) (first_unmet (step_demands c start (declares ms))) r) long
     (subst (λ ms. Outcome K (2 ^ 32 ≤ length ms) (first_unmet (step_demands c start (declares ms))) r) (ap (λ qs. are qs ls) p ∙ ap (λ ks. are (params_in inline) ks) l) h))
+
+-- the same parameters under another name
+pub params_answer : (K : Type 0) (c : Scope) (ps qs : List (Option Id × Option NameAnnotation × ValType)) (ls : List Local) (r : Result (Unit {0}) Error) → ps ≡ qs
+    → (let ms = marks (λ p. marked p.0) (λ l. marked l.id) ps ls in Outcome K (2 ^ 32 ≤ length ms) (first_unmet (step_demands c start (declares ms))) r)
+    → (let ms = marks (λ p. marked p.0) (λ l. marked l.id) qs ls in Outcome K (2 ^ 32 ≤ length ms) (first_unmet (step_demands c start (declares ms))) r)
+params_answer K c ps qs ls r same h =
+    subst (λ (xs : List (Option Id × Option NameAnnotation × ValType)). let ms = marks (λ p. marked p.0) (λ l. marked l.id) xs ls in Outcome K (2 ^ 32 ≤ length ms) (first_unmet (step_demands c start (declares ms))) r) same h

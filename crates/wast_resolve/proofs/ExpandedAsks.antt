@@ -35,15 +35,19 @@ module _ (find : LookUp) where
   bound_in_instrs (x ∷ xs) = ap (λ ss. ss ++ flat_map in_instr (map (bound_instr find) xs)) (bound_in_instr x) ∙ ap (λ ss. in_instr x ++ ss) (bound_in_instrs xs)
 
   pub bound_locals : (k : FuncKind) → in_locals (bound_kind find k) ≡ in_locals k
+  bound_locals (func.Import import exact) = refl
   bound_locals (func.Inline locals e) = refl
 
   bound_body : (k : FuncKind) → in_body (bound_kind find k) ≡ in_body k
+  bound_body (func.Import import exact) = refl
   bound_body (func.Inline locals e) = bound_in_instrs e.instrs
 
   pub bound_declared : (inline : Option FunctionType) (k : FuncKind) → declared inline (bound_kind find k) ≡ declared inline k
+  bound_declared inline (func.Import import exact) = refl
   bound_declared inline (func.Inline locals e) = refl
 
   pub bound_in_kind : (inline : Option FunctionType) (k : FuncKind) → in_func_kind inline (bound_kind find k) ≡ in_func_kind inline k
+  bound_in_kind inline (func.Import import exact) = refl
   bound_in_kind inline (func.Inline locals e) = ap (λ ss. Body (declared inline (func.Inline locals e) ++ ss) ∷ []) (bound_in_instrs e.instrs)
 
   bound_rest : (inline : Option FunctionType) (k : FuncKind) → asked_in_rest inline (bound_kind find k) ≡ asked_in_rest inline k

@@ -1,5 +1,5 @@
 -- Fields that keep to what the tree covers do so when they are expanded.
-use Rattle.std.proofs.Common.{◌≡◌, ℕ, ◌+◌, Bool, true, false, ◌&&◌, ◌==◌, List, [], ◌∷◌, map, length, Option, Some, None, refl, ap, ◌∙◌, arith}
+use Rattle.std.proofs.Common.{◌≡◌, ℕ, ◌+◌, Bool, true, false, ◌&&◌, List, [], ◌∷◌, map, Option, Some, None, refl, ap, ◌∙◌, arith}
 use Rattle.std.specs.Cmp.{first_so, second_so}
 use Rattle.std.specs.List.{list_all}
 use Rattle.std.proofs.lemmas.List.Folds.{list_all-append, list_all-map}
@@ -27,6 +27,7 @@ plain_bound_instrs find [] = refl
 plain_bound_instrs find (x ∷ xs) = ap (λ b. b && list_all is_plain_instr (map (bound_instr find) xs)) (plain_bound_instr find x) ∙ ap (λ b. is_plain_instr x && b) (plain_bound_instrs find xs)
 
 plain_kind : (find : LookUp) (k : FuncKind) → is_plain_func_kind (bound_kind find k) ≡ is_plain_func_kind k
+plain_kind find (func.Import import exact) = refl
 plain_kind find (func.Inline locals e) = rw (plain_bound_instrs find e.instrs) refl
 
 plain_tag : (find : LookUp) (t : TagType) → is_plain_tag_type (bound_tag_type find t) ≡ is_plain_tag_type t
@@ -42,7 +43,7 @@ plain_import find (import_items.Single source name sig) = plain_item_kind find s
 plain_bound : (find : LookUp) (x : ModuleField) → is_plain_field (bound_field find x) ≡ is_plain_field x
 plain_bound find (field.Func f) = rw (plain_kind find f.kind) refl
 plain_bound find (field.Import i) = plain_import find i.items
-plain_bound find (field.Tag t) = ap (λ b. (length t.exports.names == 0) && b) (plain_tag find t.ty)
+plain_bound find (field.Tag t) = plain_tag find t.ty
 plain_bound find x = refl
 
 all_bound : (find : LookUp) (xs : List ModuleField) → are_plain (map (bound_field find) xs) ≡ are_plain xs
@@ -70,6 +71,7 @@ plain_instr : (x : Instruction) → list_all (values_pass is_plain_val) (needed_
 plain_instr x = grind (arith, common_steps)
 
 plain_body : (k : FuncKind) → list_all (values_pass is_plain_val) (needed_by_kind k) ≡ true
+plain_body (func.Import import exact) = refl
 plain_body (func.Inline locals e) = all_parts (values_pass is_plain_val) needed_by_instr e.instrs ∙ all_instrs e.instrs
   where
     all_instrs : (xs : List Instruction) → list_all (λ x. list_all (values_pass is_plain_val) (needed_by_instr x)) xs ≡ true
@@ -89,10 +91,10 @@ import_needs (import_items.Single source name sig) h = item_kind_needs sig.kind 
 
 plain_needs : (x : ModuleField) → is_plain_field x ≡ true → list_all (values_pass is_plain_val) (needed_by_field x) ≡ true
 plain_needs (field.Func f) h =
-    let none = first_so (is_plain_inline f.ty.inline) (is_plain_func_kind f.kind) (second_so (length f.exports.names == 0) _ h) in
+    let none = first_so (is_plain_inline f.ty.inline) (is_plain_func_kind f.kind) h in
     list_all-append (values_pass is_plain_val) (needed_by_use f.ty) (needed_by_kind f.kind) ∙ both_so _ _ (plain_use f.ty.index f.ty.inline none) (plain_body f.kind)
 plain_needs (field.Import i) h = import_needs i.items h
-plain_needs (field.Tag t) h = tag_needs t.ty (second_so (length t.exports.names == 0) _ h)
+plain_needs (field.Tag t) h = tag_needs t.ty h
 plain_needs x h = refl
 
 plain_signatures : (fields : List ModuleField) → are_plain fields ≡ true → list_all (values_pass is_plain_val) (implied fields) ≡ true

@@ -41,6 +41,7 @@ module _ (k : Known) where
       (has_instrs (after_all h (in_instr i)) is (right_none (needed_by_instr i) (flat_map needed_by_instr is) none))
 
   has_kind : (inline : Option FunctionType) (f : FuncKind) → needed_by_kind f ≡ [] → needed_by_kind (resolved_func_kind k inline f) ≡ []
+  has_kind inline (func.Import import exact) none = refl
   has_kind inline (func.Inline locals e) none = has_instrs (body_of inline (func.Inline locals e)) e.instrs none
 
   has_tag : (t : TagType) → needed_by_tag_type t ≡ [] → needed_by_tag_type (resolved_tag_type k t) ≡ []

@@ -25,6 +25,7 @@ pub mod FreeNames
 pub mod Functions
 pub mod ImpliedSignatures
 pub mod Indexed
+pub mod InPlace
 pub mod Matching
 pub mod OrderKept
 pub mod Orders

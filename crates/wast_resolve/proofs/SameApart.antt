@@ -58,11 +58,21 @@ module _ (k l : Known) where
   pub same_global_type : (t : GlobalType) → Same k l (in_global_type t) → resolved_global_type k t ≡ resolved_global_type l t
   same_global_type t same = ap (λ (v : ValType). record t { ty = v }) (same_val k l t.ty same)
 
+  same_payload : (p : ElemPayload) → Same k l (asked (in_payload p)) → resolved_payload k p ≡ resolved_payload l p
+  same_payload (payload.Indices is) same =
+      ap payload.Indices (each_same k l (in_index space.Func) (numbered_at k space.Func) (numbered_at l space.Func) (same_index k l space.Func) is (of_outside (flat_map (in_index space.Func) is) same))
+  same_payload (payload.Exprs ty es) same =
+      λ i. payload.Exprs (same_ref k l ty (of_outside (in_ref ty) (of_second (flat_map in_constant es) (outside (in_ref ty)) same)) i) (same_constants es (of_first (flat_map in_constant es) (outside (in_ref ty)) same) i)
+
   pub same_table_kind : (t : TableKind) → Same k l (asked (in_table_kind t)) → resolved_table_kind k t ≡ resolved_table_kind l t
+  same_table_kind (table.Import import ty) same i = table.Import import (same_table_type ty (of_outside (in_table_type ty) same) i)
+  same_table_kind (table.Inline ty is64 shared elements) same i =
+      table.Inline (same_ref k l ty (of_outside (in_ref ty) (of_first (outside (in_ref ty)) (in_payload elements) same)) i) is64 shared (same_payload elements (of_second (outside (in_ref ty)) (in_payload elements) same) i)
   same_table_kind (table.Normal ty init) same i =
       table.Normal (same_table_type ty (of_outside (in_table_type ty) (of_first (outside (in_table_type ty)) (in_constant_if init) same)) i) (same_constant_if init (of_second (outside (in_table_type ty)) (in_constant_if init) same) i)
 
   same_global_kind : (g : GlobalKind) → Same k l (asked (in_global_kind g)) → resolved_global_kind k g ≡ resolved_global_kind l g
+  same_global_kind (global.Import import) same = refl
   same_global_kind (global.Inline e) same = ap global.Inline (same_constant e same)
 
   pub same_global : (g : Global) → Same k l (asked (in_global g)) → resolved_global k g ≡ resolved_global l g
@@ -78,12 +88,6 @@ module _ (k l : Known) where
       let asks = if_there (in_index space.Table) table in
       λ i. elem.Active (if_same k l (in_index space.Table) (numbered_at k space.Table) (numbered_at l space.Table) (same_index k l space.Table) table (of_outside asks (of_first (outside asks) (in_constant offset) same)) i)
       (same_constant offset (of_second (outside asks) (in_constant offset) same) i)
-
-  same_payload : (p : ElemPayload) → Same k l (asked (in_payload p)) → resolved_payload k p ≡ resolved_payload l p
-  same_payload (payload.Indices is) same =
-      ap payload.Indices (each_same k l (in_index space.Func) (numbered_at k space.Func) (numbered_at l space.Func) (same_index k l space.Func) is (of_outside (flat_map (in_index space.Func) is) same))
-  same_payload (payload.Exprs ty es) same =
-      λ i. payload.Exprs (same_ref k l ty (of_outside (in_ref ty) (of_second (flat_map in_constant es) (outside (in_ref ty)) same)) i) (same_constants es (of_first (flat_map in_constant es) (outside (in_ref ty)) same) i)
 
   pub same_elem : (e : Elem) → Same k l (asked (in_elem e)) → resolved_elem k e ≡ resolved_elem l e
   same_elem e same i = record e {

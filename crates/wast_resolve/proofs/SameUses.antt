@@ -47,6 +47,7 @@ module _ (k l : Known) (find other : LookUp) where
       ∙ ap (λ xs. resolved_instr l h (bound_instr other i) ∷ xs) (same_instrs (after_all h (in_instr (bound_instr other i))) is (behind k l first rest all)))
 
   same_kind : (inline : Option FunctionType) (f : FuncKind) → Same k l (in_locals f) → Same k l (asked_in_steps (in_body f)) → resolved_func_kind k inline (bound_kind find f) ≡ resolved_func_kind l inline (bound_kind other f)
+  same_kind inline (func.Import import exact) types body i = func.Import import exact
   same_kind inline (func.Inline locals e) types body i =
       func.Inline (same_locals k l locals types i) (record e { instrs = same_instrs (body_of inline (func.Inline locals e)) e.instrs body i })
 

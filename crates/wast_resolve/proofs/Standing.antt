@@ -114,6 +114,7 @@ module _ (k : Known) where
   stands_locals locals = each (resolved_ask k) in_local (resolved_local k) stands_local locals
 
   stands_local_types : (inline : Option FunctionType) (f : FuncKind) → in_locals (resolved_func_kind k inline f) ≡ map (resolved_ask k) (in_locals f)
+  stands_local_types inline (func.Import import exact) = refl
   stands_local_types inline (func.Inline locals e) = stands_locals locals
 
   -- What is declared stays, since the names do.
@@ -127,6 +128,7 @@ module _ (k : Known) where
   params_still (Some t) = declared_still (λ p. marked p.0) (resolved_param k) (λ p. refl) t.params
 
   locals_still : (f : FuncKind) → declared_locals (resolved_locals k f) ≡ declared_locals f
+  locals_still (func.Import import exact) = refl
   locals_still (func.Inline locals e) = declared_still (λ (l : Local). marked l.id) (resolved_local k) (λ l. refl) locals
 
   pub declares_still : (inline : Option FunctionType) (f : FuncKind) → declared (option_map (resolved_signature k) inline) (resolved_locals k f) ≡ declared inline f
@@ -147,6 +149,7 @@ module _ (k : Known) where
   steps_of_params h (Some t) = each_declared (λ p. marked p.0) h t.params
 
   steps_of_locals : (h : Here) (f : FuncKind) → resolved_steps k h (declared_locals f) ≡ declared_locals f
+  steps_of_locals h (func.Import import exact) = refl
   steps_of_locals h (func.Inline locals e) = each_declared (λ (l : Local). marked l.id) h locals
 
   steps_declared : (h : Here) (inline : Option FunctionType) (f : FuncKind) → resolved_steps k h (declared inline f) ≡ declared inline f
@@ -157,6 +160,7 @@ module _ (k : Known) where
 
   stands_func_kind : (inline : Option FunctionType) (f : FuncKind)
       → in_func_kind (option_map (resolved_signature k) inline) (resolved_func_kind k inline f) ≡ map (resolved_occurrence k) (in_func_kind inline f)
+  stands_func_kind inline (func.Import import exact) = refl
   stands_func_kind inline (func.Inline locals e) =
       let f = func.Inline locals e in
       let h = body_of inline f in
@@ -204,13 +208,22 @@ module _ (k : Known) where
   stands_import : (i : ImportItems) → in_import (resolved_import_items k i) ≡ map (resolved_occurrence k) (in_import i)
   stands_import (import_items.Single source name sig) = stands_item_kind sig.kind
 
+  stands_payload : (p : ElemPayload) → in_payload (resolved_payload k p) ≡ map (resolved_occurrence k) (in_payload p)
+  stands_payload (payload.Indices is) = stands_outside _ _ (each (resolved_ask k) (in_index space.Func) (numbered_at k space.Func) (λ i. refl) is)
+  stands_payload (payload.Exprs ty es) = both (resolved_occurrence k) _ _ _ _ (each (resolved_occurrence k) in_constant (resolved_constant k) stands_constant es) (stands_outside _ _ (stands_heap ty.heap))
+
   stands_table_kind : (t : TableKind) → in_table_kind (resolved_table_kind k t) ≡ map (resolved_occurrence k) (in_table_kind t)
+  stands_table_kind (table.Import import ty) = stands_outside _ _ (stands_heap ty.elem.heap)
+  stands_table_kind (table.Inline ty is64 shared elements) = both (resolved_occurrence k) _ _ _ _ (stands_outside _ _ (stands_heap ty.heap)) (stands_payload elements)
   stands_table_kind (table.Normal ty init) = both (resolved_occurrence k) _ _ _ _ (stands_outside _ _ (stands_heap ty.elem.heap)) (stands_constant_if init)
 
   stands_memory_kind : (m : MemoryKind) → in_memory_kind m ≡ map (resolved_occurrence k) (in_memory_kind m)
+  stands_memory_kind (memory.Import import ty) = refl
   stands_memory_kind (memory.Normal ty) = refl
+  stands_memory_kind (memory.Inline is64 pieces exponent) = refl
 
   stands_global_kind : (g : GlobalKind) → in_global_kind (resolved_global_kind k g) ≡ map (resolved_occurrence k) (in_global_kind g)
+  stands_global_kind (global.Import import) = refl
   stands_global_kind (global.Inline e) = stands_constant e
 
   stands_global : (g : Global) → in_global (resolved_global k g) ≡ map (resolved_occurrence k) (in_global g)
@@ -221,10 +234,6 @@ module _ (k : Known) where
   stands_elem_kind elem.Declared = refl
   stands_elem_kind (elem.Active table offset) =
       both (resolved_occurrence k) _ _ _ _ (stands_outside _ _ (if_any (in_index space.Table) (numbered_at k space.Table) (λ i. refl) table)) (stands_constant offset)
-
-  stands_payload : (p : ElemPayload) → in_payload (resolved_payload k p) ≡ map (resolved_occurrence k) (in_payload p)
-  stands_payload (payload.Indices is) = stands_outside _ _ (each (resolved_ask k) (in_index space.Func) (numbered_at k space.Func) (λ i. refl) is)
-  stands_payload (payload.Exprs ty es) = both (resolved_occurrence k) _ _ _ _ (each (resolved_occurrence k) in_constant (resolved_constant k) stands_constant es) (stands_outside _ _ (stands_heap ty.heap))
 
   stands_elem : (e : Elem) → in_elem (resolved_elem k e) ≡ map (resolved_occurrence k) (in_elem e)
   stands_elem e = both (resolved_occurrence k) _ _ _ _ (stands_elem_kind e.kind) (stands_payload e.payload)

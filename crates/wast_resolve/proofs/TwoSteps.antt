@@ -5,7 +5,7 @@ use Rattle.std.proofs.lemmas.Grind.{flat_map-append}
 use Rattle.wast_tree.specs.Faults.{Told}
 use Rattle.wast_tree.specs.declared.faults.Error.{Error}
 use Rattle.wast_tree.specs.Known.{Known}
-use Rattle.wast_tree.specs.Occurrences.{Occurrence, in_table_kind, in_elem_kind, in_payload, in_data_kind}
+use Rattle.wast_tree.specs.Occurrences.{Occurrence, outside, in_table_type, in_table_kind, in_elem_kind, in_payload, in_data_kind}
 use Rattle.wast_resolve.specs.Tree.{TableKind, ElemKind, ElemPayload, DataKind, ModuleField}
 use Rattle.wast_resolve.specs.Tree.table
 use Rattle.wast_resolve.specs.Tree.elem
@@ -37,7 +37,9 @@ module _ (c : Scope) (all first second : List Occurrence) (parts : all ≡ first
 
 -- the type and the initial value of a table
 pub table_parts : (t : TableKind) → in_table_kind t ≡ in_type_of_table t ++ in_init t
+table_parts (table.Import import ty) = sym (append-nil (outside (in_table_type ty)))
 table_parts (table.Normal ty init) = refl
+table_parts (table.Inline ty is64 shared elements) = refl
 
 pub elem_parts : (e : ElemKind) → in_elem_kind e ≡ in_elem_table e ++ in_elem_offset e
 elem_parts elem.Passive = refl
@@ -54,10 +56,14 @@ data_parts (data_kind.Active memory offset) = refl
 
 module _ (k : Known) where
   pub table_stays : (t : TableKind) → in_init (with_table_type k t) ≡ in_init t
+  table_stays (table.Import import ty) = refl
   table_stays (table.Normal ty init) = refl
+  table_stays (table.Inline ty is64 shared elements) = refl
 
   pub table_becomes : (t : TableKind) → with_init k (with_table_type k t) ≡ resolved_table_kind k t
+  table_becomes (table.Import import ty) = refl
   table_becomes (table.Normal ty init) = refl
+  table_becomes (table.Inline ty is64 shared elements) = refl
 
   pub elem_stays : (e : ElemKind) → in_elem_offset (with_elem_table k e) ≡ in_elem_offset e
   elem_stays elem.Passive = refl

@@ -4,6 +4,7 @@ use Rattle.std.specs.Prelude.{◌≡◌, ℕ, ◌+◌, ◌<◌, true, [], None, 
 use Rattle.std.specs.Borrow.{Bor}
 use Rattle.wast_tree.specs.Occurrences.{Ask, asked, in_module}
 use Rattle.wast_tree.specs.WellFormed.{are_settled, is_well_formed}
+use Rattle.wast_tree.specs.WrittenOut.{is_written_out}
 use Rattle.wast_tree.specs.declared.faults.Error.{Error}
 use Rattle.wast_tree.specs.Generations.{greatest_generation}
 use Rattle.wast_expand.specs.NeedingUses.{needed}
@@ -57,3 +58,7 @@ ByResolver {T} asks changed = (old new : Bor Resolution) (before after : T) (res
 -- and it has what it needs where the generated ids in the part are those of types.
 abbrev pub NeedsOfResolver : {T : Type 0} → (T → List Ask) → Type 0
 NeedsOfResolver {T} asks = (names : Bor Resolution) (x : T) → are_settled (known_of names.now) (asks x) ≡ true → HasNeeds (λ names i. IsSettledFor (known_of names.now) space.Ty i) names (asks x)
+
+-- The finished list is written out where the fields are.
+abbrev pub FinishedStaysWrittenOut : Type 0
+FinishedStaysWrittenOut = (n : ℕ) (fields : List ModuleField) → is_written_out (finished n fields) ≡ is_written_out fields

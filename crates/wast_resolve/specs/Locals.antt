@@ -3,6 +3,7 @@ use Rattle.std.specs.Prelude.{List, [], ◌++◌, map, Option, Some, None, optio
 use Rattle.wast_tree.specs.Ids.{Name, Mark}
 use Rattle.wast_tree.specs.Faults.{Refusal, Duplicate}
 use Rattle.wast_tree.specs.Spaces.{name_if}
+use Rattle.wast_tree.specs.Occurrences.{Step, declared}
 use Rattle.wast_resolve.specs.Tree.{Span, Id, NameAnnotation, ValType, FunctionType, Local, FuncKind}
 use Rattle.wast_resolve.specs.Tree.func
 
@@ -12,7 +13,13 @@ params_in None = []
 params_in (Some t) = t.params
 
 abbrev pub locals_in : FuncKind → List Local
+locals_in (func.Import import exact) = []
 locals_in (func.Inline locals e) = locals
+
+-- what is declared in front of a body; what is imported in place has none
+abbrev pub opening : Option FunctionType → FuncKind → List Step
+opening inline (func.Import import exact) = []
+opening inline (func.Inline locals e) = declared inline (func.Inline locals e)
 
 -- the ids of parameters, and of locals after them
 abbrev pub marks : {A B : Type 0} → (A → Option Mark) → (B → Option Mark) → List A → List B → List (Option Mark)

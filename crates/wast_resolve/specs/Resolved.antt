@@ -165,9 +165,11 @@ abbrev pub resolved_local : Known → Local → Local
 resolved_local k l = record l { ty = resolved_val k l.ty }
 
 abbrev pub resolved_locals : Known → FuncKind → FuncKind
+resolved_locals k (func.Import import exact) = func.Import import exact
 resolved_locals k (func.Inline locals e) = func.Inline (map (resolved_local k) locals) e
 
 abbrev pub resolved_body : Known → Here → FuncKind → FuncKind
+resolved_body k h (func.Import import exact) = func.Import import exact
 resolved_body k h (func.Inline locals e) = func.Inline locals (resolved_expression k h e)
 
 -- where a body stands: behind what is declared
@@ -209,13 +211,20 @@ resolved_import k i = record i { items = resolved_import_items k i.items }
 abbrev pub resolved_constant : Known → Expression → Expression
 resolved_constant k e = resolved_expression k start e
 
+abbrev pub resolved_payload : Known → ElemPayload → ElemPayload
+resolved_payload k (payload.Indices is) = payload.Indices (map (numbered_at k space.Func) is)
+resolved_payload k (payload.Exprs ty es) = payload.Exprs (resolved_ref k ty) (map (resolved_constant k) es)
+
 abbrev pub resolved_table_kind : Known → TableKind → TableKind
+resolved_table_kind k (table.Import import ty) = table.Import import (resolved_table_type k ty)
 resolved_table_kind k (table.Normal ty init) = table.Normal (resolved_table_type k ty) (option_map (resolved_constant k) init)
+resolved_table_kind k (table.Inline ty is64 shared elements) = table.Inline (resolved_ref k ty) is64 shared (resolved_payload k elements)
 
 abbrev pub resolved_table : Known → Table → Table
 resolved_table k t = record t { kind = resolved_table_kind k t.kind }
 
 abbrev pub resolved_global_kind : Known → GlobalKind → GlobalKind
+resolved_global_kind k (global.Import import) = global.Import import
 resolved_global_kind k (global.Inline e) = global.Inline (resolved_constant k e)
 
 abbrev pub resolved_global : Known → Global → Global
@@ -228,10 +237,6 @@ abbrev pub resolved_elem_kind : Known → ElemKind → ElemKind
 resolved_elem_kind k elem.Passive = elem.Passive
 resolved_elem_kind k elem.Declared = elem.Declared
 resolved_elem_kind k (elem.Active table offset) = elem.Active (option_map (numbered_at k space.Table) table) (resolved_constant k offset)
-
-abbrev pub resolved_payload : Known → ElemPayload → ElemPayload
-resolved_payload k (payload.Indices is) = payload.Indices (map (numbered_at k space.Func) is)
-resolved_payload k (payload.Exprs ty es) = payload.Exprs (resolved_ref k ty) (map (resolved_constant k) es)
 
 abbrev pub resolved_elem : Known → Elem → Elem
 resolved_elem k e = record e { kind = resolved_elem_kind k e.kind; payload = resolved_payload k e.payload }

@@ -6,21 +6,29 @@ use Rattle.wast_resolve.specs.Tree.table
 use Rattle.wast_resolve.specs.Tree.elem
 use Rattle.wast_resolve.specs.Tree.payload
 use Rattle.wast_resolve.specs.Tree.data_kind
-use Rattle.wast_tree.specs.Occurrences.{Occurrence, outside, if_there, in_index, in_ref, in_table_type, in_constant, in_constant_if}
+use Rattle.wast_tree.specs.Occurrences.{Occurrence, outside, if_there, in_index, in_ref, in_table_type, in_constant, in_constant_if, in_payload}
 use Rattle.wast_tree.specs.Known.{Known}
-use Rattle.wast_resolve.specs.Resolved.{numbered_at, resolved_ref, resolved_table_type, resolved_constant}
+use Rattle.wast_resolve.specs.Resolved.{numbered_at, resolved_ref, resolved_table_type, resolved_constant, resolved_payload}
 
--- a table: its type, and what its elements are at first
+-- a table: its type, or that of its elements in place; and what its elements are at first, or these
 abbrev pub in_type_of_table : TableKind → List Occurrence
+in_type_of_table (table.Import import ty) = outside (in_table_type ty)
 in_type_of_table (table.Normal ty init) = outside (in_table_type ty)
+in_type_of_table (table.Inline ty is64 shared elements) = outside (in_ref ty)
 
 abbrev pub in_init : TableKind → List Occurrence
+in_init (table.Import import ty) = []
 in_init (table.Normal ty init) = in_constant_if init
+in_init (table.Inline ty is64 shared elements) = in_payload elements
 
 abbrev pub with_table_type : Known → TableKind → TableKind
+with_table_type k (table.Import import ty) = table.Import import (resolved_table_type k ty)
 with_table_type k (table.Normal ty init) = table.Normal (resolved_table_type k ty) init
+with_table_type k (table.Inline ty is64 shared elements) = table.Inline (resolved_ref k ty) is64 shared elements
 
 abbrev pub with_init : Known → TableKind → TableKind
+with_init k (table.Import import ty) = table.Import import ty
+with_init k (table.Inline ty is64 shared elements) = table.Inline ty is64 shared (resolved_payload k elements)
 with_init k (table.Normal ty init) = table.Normal ty (option_map (resolved_constant k) init)
 
 -- an element segment: the table, and the offset

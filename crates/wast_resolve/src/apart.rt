@@ -187,21 +187,25 @@ impl<'a> WalkApart<'a> for Imports<'a> {
     }
 }
 
-/// Walks over the type of a table.
+/// Walks over the type of a table, or of its elements in place.
 fn walk_table_type<'a>(names: &Resolver<'a>, kind: &mut TableKind<'a>) -> Result<(), Error<'a>>
     ensures { Walks ⊥ ⊥ (use_demands (scope_of names.now) (in_type_of_table kind.old)) (with_table_type (known_of names.now) kind.old) kind.new result }
 {
     match kind {
+        TableKind::Import { ty, .. } => walk_outside(names, ty),
         TableKind::Normal { ty, .. } => walk_outside(names, ty),
+        TableKind::Inline { elem, .. } => walk_outside(names, elem),
     }
 }
 
-/// Walks over what the elements of a table are at first.
+/// Walks over what the elements of a table are at first, or over those in place.
 fn walk_init<'a>(names: &Resolver<'a>, kind: &mut TableKind<'a>) -> Result<(), Error<'a>>
     ensures { Walks ⊥ ⊥ (use_demands (scope_of names.now) (in_init kind.old)) (with_init (known_of names.now) kind.old) kind.new result }
 {
     match kind {
+        TableKind::Import { .. } => Ok(()),
         TableKind::Normal { init_expr, .. } => init_expr.walk_apart(names),
+        TableKind::Inline { payload, .. } => payload.walk_apart(names),
     }
 }
 
@@ -336,7 +340,9 @@ impl<'a> WalkApart<'a> for Memory<'a> {
 
     fn walk_apart(&mut self, _names: &Resolver<'a>) -> Result<(), Error<'a>> {
         match self.kind {
+            MemoryKind::Import { .. } => Ok(()),
             MemoryKind::Normal(_) => Ok(()),
+            MemoryKind::Inline { .. } => Ok(()),
         }
     }
 }
@@ -348,6 +354,7 @@ impl<'a> WalkApart<'a> for GlobalKind<'a> {
 
     fn walk_apart(&mut self, names: &Resolver<'a>) -> Result<(), Error<'a>> {
         match self {
+            GlobalKind::Import(_) => Ok(()),
             GlobalKind::Inline(value) => value.walk_apart(names),
         }
     }

@@ -9,7 +9,7 @@ ghost use Rattle.wast_resolve.specs.Scopes.{Scope};
 ghost use Rattle.wast_resolve.specs.Demands.{first_unmet, start, step_demands};
 ghost use Rattle.wast_namespace.specs.Filling.{HasFirstClash};
 ghost use Rattle.wast_resolve.specs.Gathers.{Stops, Gathers, with_gathered};
-ghost use Rattle.wast_resolve.specs.Locals.{locals_in, marks, names, said_of};
+ghost use Rattle.wast_resolve.specs.Locals.{params_in, opening, marks, names, said_of};
 ghost use Rattle.wast_namespace.specs.Outcomes.{Outcome};
 
 use crate::gathers::{count_ids, gather_each};
@@ -90,16 +90,23 @@ fn check_names<'a>(
     }
 }
 
-/// The locals of a function.
-fn locals_in<'k, 'a>(kind: &'k FuncKind<'a>) -> &'k [Local<'a>]
-    ensures { result.now ≡ locals_in kind.now }
+/// Whether the names of the parameters of an inline type and of locals differ: E2 at the first that has the name of an
+/// earlier one.
+fn check_declared<'a>(
+    alloc: Global,
+    inline: &Option<FunctionType<'a>>,
+    locals: &[Local<'a>],
+) -> Result<(), Error<'a>>
+    ensures { (c : Scope) → let ms = marks (λ p. marked p.0) (λ l. marked l.id) (params_in inline.now) locals.now in Outcome ⊤ (2 ^ 32 ≤ length ms) (first_unmet (step_demands c start (map Declares ms))) result }
 {
-    match kind {
-        FuncKind::Inline { locals, .. } => locals.as_slice(),
+    match inline {
+        None => check_names(alloc, &[], locals),
+        Some(ty) => check_names(alloc, ty.params.as_slice(), locals),
     }
 }
 
 /// Whether the names of the parameters and locals of a function differ: E2 at the first that has the name of an earlier one.
+/// One that is imported in place has no body in which they would be looked up.
 ///
 /// It takes memory for the ids. Where it is refused, that is E12; where there are 2^32 parameters and locals or more, E10.
 pub(crate) fn check_locals<'a>(
@@ -107,10 +114,10 @@ pub(crate) fn check_locals<'a>(
     inline: &Option<FunctionType<'a>>,
     kind: &FuncKind<'a>,
 ) -> Result<(), Error<'a>>
-    ensures { (c : Scope) → let steps = declared inline.now kind.now in Outcome ⊤ (2 ^ 32 ≤ length steps) (first_unmet (step_demands c start steps)) result }
+    ensures { (c : Scope) → Outcome ⊤ (2 ^ 32 ≤ length (declared inline.now kind.now)) (first_unmet (step_demands c start (opening inline.now kind.now))) result }
 {
-    match inline {
-        None => check_names(alloc, &[], locals_in(kind)),
-        Some(ty) => check_names(alloc, ty.params.as_slice(), locals_in(kind)),
+    match kind {
+        FuncKind::Import(..) => Ok(()),
+        FuncKind::Inline { locals, .. } => check_declared(alloc, inline, locals.as_slice()),
     }
 }

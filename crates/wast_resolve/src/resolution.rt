@@ -4,6 +4,7 @@ ghost use Rattle.std.specs.Prelude.{◌≡◌, ◌<◌, ◌≤◌, ◌+◌, [], 
 ghost use Rattle.wast_tree.specs.Items.{items};
 ghost use Rattle.wast_tree.specs.Known.{known};
 ghost use Rattle.wast_tree.specs.WellFormed.{is_well_formed};
+ghost use Rattle.wast_tree.specs.WrittenOut.{is_written_out};
 ghost use Rattle.wast_tree.specs.Generations.{greatest_generation};
 ghost use Rattle.wast_expand.specs.Expanded.{expanded, ids_wanted};
 ghost use Rattle.wast_expand.specs.Completed.{completed};
@@ -111,8 +112,9 @@ impl<'a> Names<'a> {
 ///
 /// It gives the fields in their order, and after them a type for each signature that a use without an index needs and no
 /// type has; and what the ids denote. A generated id is filled in where a type has none, in the order of the fields, and is
-/// given to each type at the end. It needs well formed fields, as [`wast_tree::well_formed`] tells, and a counter above
-/// [`wast_tree::gensym_bound`], and leaves it above the ids that it gives.
+/// given to each type at the end. It needs well formed fields that are written out, as [`wast_tree::well_formed`] and
+/// [`wast_tree::is_written_out`] tell, and a counter above [`wast_tree::gensym_bound`], and leaves it above the ids that it
+/// gives.
 ///
 /// The error is the first demand that is not met: E1 at an import that stands behind a function, table, memory, global or tag
 /// of the module; after that, in the order of the fields, E2 at the second bearer of an id in a space, and directly after a
@@ -128,6 +130,7 @@ pub fn resolve<'a>(
     gensym: &mut Gensym,
 ) -> Result<(Seq<ModuleField<'a>>, Names<'a>), Error<'a>>
     requires well_formed { IsTrue (is_well_formed fields) }
+    requires written_out { IsTrue (is_written_out fields) }
     requires above { greatest_generation fields < gensym.old }
     ensures met { OnOk result (first_unmet (demands (completed fields.entry)) ≡ None) }
     ensures list { IfOk result (λ r. r.0 ≡ finished gensym.old fields.entry) }

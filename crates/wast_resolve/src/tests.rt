@@ -3,6 +3,7 @@
 ghost use Rattle.std.specs.Prelude.{⊤, ◌<◌, IsTrue};
 ghost use Rattle.wast_tree.specs.Generations.{greatest_generation};
 ghost use Rattle.wast_tree.specs.WellFormed.{is_well_formed};
+ghost use Rattle.wast_tree.specs.WrittenOut.{is_written_out};
 
 use crate::spaces::name_spaces;
 use crate::{
@@ -14,7 +15,8 @@ use std::process::Abort;
 use wast_tree::{
     Error, Expression, Fault, Func, FuncKind, FunctionType, Gensym, HeapType, Id, Index,
     InlineExport, InnerTypeKind, Local, ModuleField, RefType, Seq, Span, StorageType, StructField,
-    StructType, Type, TypeDef, TypeUse, ValType, discard_fields, gensym_bound, well_formed,
+    StructType, Type, TypeDef, TypeUse, ValType, discard_fields, gensym_bound, is_written_out,
+    well_formed,
 };
 
 fn at(offset: usize) -> Span {
@@ -100,9 +102,11 @@ fn ty(alloc: Global) -> ModuleField<'static> {
 /// The fields, where they can be resolved with this counter.
 fn ready<'a>(rt: &impl Abort, fields: Seq<ModuleField<'a>>, first: u64) -> Seq<ModuleField<'a>>
     ensures well_formed { IsTrue (is_well_formed result) }
+    ensures written_out { IsTrue (is_written_out result) }
     ensures above { greatest_generation result < first }
 {
     assert!(rt; well_formed(fields.as_slice()));
+    assert!(rt; is_written_out(fields.as_slice()));
     assert!(rt; gensym_bound(fields.as_slice()) < first);
     fields
 }

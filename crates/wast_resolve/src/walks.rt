@@ -315,6 +315,7 @@ fn walk_locals<'a>(names: &Resolver<'a>, kind: &mut FuncKind<'a>) -> Result<(), 
     ensures { Walks ⊥ ⊥ (ask_demands (known_of names.now) (in_locals kind.old)) (resolved_locals (known_of names.now) kind.old) kind.new result }
 {
     match kind {
+        FuncKind::Import(..) => Ok(()),
         FuncKind::Inline { locals, .. } => walk_each(names, locals),
     }
 }
@@ -324,6 +325,7 @@ fn walk_body<'a>(names: &Resolver<'a>, kind: &mut FuncKind<'a>) -> Result<(), Er
     ensures { (h : Here) → Walks ⊥ ⊥ (step_demands (scope_of names.now) h (in_body kind.old)) (resolved_body (known_of names.now) h kind.old) kind.new result }
 {
     match kind {
+        FuncKind::Import(..) => Ok(()),
         FuncKind::Inline { expression, .. } => walk_expression(names, expression),
     }
 }

@@ -2,7 +2,7 @@
 
 ghost use Rattle.std.specs.Prelude.{◌≡◌, IsTrue};
 ghost use Rattle.std.specs.List.{list_all};
-ghost use Rattle.wast_core.specs.Encodable.{is_encodable_type};
+ghost use Rattle.wast_conv.specs.Encodable.{is_encodable_type};
 ghost use Rattle.wast_core.specs.Modules.{is_well_formed, generation_bound};
 ghost use Rattle.wast_core.specs.Writing.{IsEncodable};
 

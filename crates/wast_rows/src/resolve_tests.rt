@@ -3,6 +3,7 @@
 ghost use Rattle.std.specs.Prelude.{◌≡◌, IsTrue};
 ghost use Rattle.wast_tree.specs.Generations.{greatest_generation};
 ghost use Rattle.wast_tree.specs.WellFormed.{is_well_formed};
+ghost use Rattle.wast_tree.specs.WrittenOut.{is_written_out};
 
 use crate::core_tests::row;
 use crate::samples::{at, module, plain_type, type_at};
@@ -13,23 +14,26 @@ use wast_expand::{expanded_laws, types};
 use wast_resolve::{Names, Ns, Resolver, names, resolve, resolved_laws};
 use wast_tree::{
     Error, Fault, FuncKind, Gensym, Id, Index, Instruction, ModuleField, Seq, discard_fields,
-    gensym_bound, well_formed,
+    gensym_bound, is_written_out, well_formed,
 };
 
 fn fields_of<'a>(rt: &impl Abort, module: Module<'a>) -> Seq<ModuleField<'a>>
     ensures well_formed { IsTrue (is_well_formed result) }
+    ensures written_out { IsTrue (is_written_out result) }
     ensures bound { greatest_generation result ≡ 0 }
 {
     let ModuleKind::Text(fields) = module.kind else {
         panic!(rt; "fields")
     };
     assert!(rt; well_formed(fields.as_slice()));
+    assert!(rt; is_written_out(fields.as_slice()));
     assert!(rt; gensym_bound(fields.as_slice()) == 0);
     fields
 }
 
 fn row_fields<'a>(rt: &impl Abort, alloc: Global, n: u32) -> Seq<ModuleField<'a>>
     ensures well_formed { IsTrue (is_well_formed result) }
+    ensures written_out { IsTrue (is_written_out result) }
     ensures bound { greatest_generation result ≡ 0 }
 {
     fields_of(rt, row(rt, alloc, n))
@@ -41,7 +45,9 @@ fn is_zero_at(index: Index<'_>, offset: usize) -> bool {
 
 // what the first instruction calls
 fn callee<'a>(kind: &FuncKind<'a>) -> Option<Index<'a>> {
-    let FuncKind::Inline { expression, .. } = kind;
+    let FuncKind::Inline { expression, .. } = kind else {
+        return None;
+    };
     match expression.instrs.as_slice().first()? {
         Instruction::call(func) => Some(*func),
         _ => None,
@@ -139,6 +145,7 @@ fn a_resolver_goes_on_answering(rt: HostRuntime) {
 
 fn is_refused(rt: &impl Abort, alloc: Global, fields: Seq<ModuleField<'_>>, want: Error<'_>)
     requires well_formed { IsTrue (is_well_formed fields) }
+    requires written_out { IsTrue (is_written_out fields) }
     requires bound { greatest_generation fields ≡ 0 }
 {
     match resolve(alloc, fields, &mut Gensym::new(1)) {

@@ -4,7 +4,7 @@ ghost use Rattle.std.specs.Prelude.{◌≡◌, IsTrue, is_some, IfSome, IfErr};
 ghost use Rattle.wast_tree.specs.Faults.{out_of_memory};
 ghost use Rattle.wast_tree.specs.Occurrences.{in_def};
 ghost use Rattle.wast_resolve.specs.Resolved.{is_resolved};
-ghost use Rattle.wast_core.specs.Encodable.{is_encodable_def};
+ghost use Rattle.wast_conv.specs.Encodable.{is_encodable_def};
 ghost use Rattle.wast_rows.specs.RowNumbers.{is_row};
 
 use crate::{field_samples, type_samples};

@@ -64,6 +64,7 @@ asked_params None = refl
 asked_params (Some t) = asked_each (λ p. marked p.0) t.params
 
 asked_locals : (k : FuncKind) → asked_in_steps (declared_locals k) ≡ []
+asked_locals (func.Import import exact) = refl
 asked_locals (func.Inline locals e) = asked_each (λ (l : Local). marked l.id) locals
 
 asked_steps_both : (xs ys : List Step) → asked_in_steps (xs ++ ys) ≡ asked_in_steps xs ++ asked_in_steps ys
@@ -73,6 +74,7 @@ pub asked_declared : (inline : Option FunctionType) (k : FuncKind) → asked_in_
 asked_declared inline k = asked_steps_both (declared_params inline) (declared_locals k) ∙ (ap (λ asks. asks ++ asked_in_steps (declared_locals k)) (asked_params inline) ∙ asked_locals k)
 
 pub asked_func_kind : (inline : Option FunctionType) (k : FuncKind) → asked (in_func_kind inline k) ≡ asked_in_steps (in_body k)
+asked_func_kind inline (func.Import import exact) = refl
 asked_func_kind inline (func.Inline locals e) =
     append-nil (asked_in_steps (declared inline (func.Inline locals e) ++ in_body (func.Inline locals e)))
     ∙ (asked_steps_both (declared inline (func.Inline locals e)) (in_body (func.Inline locals e)) ∙ ap (λ asks. asks ++ asked_in_steps (in_body (func.Inline locals e))) (asked_declared inline (func.Inline locals e)))

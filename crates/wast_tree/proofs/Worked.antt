@@ -1,6 +1,6 @@
 -- What the definitions say of worked modules, computed.
 use Rattle.std.proofs.Common.{refl}
-use Rattle.wast_tree.specs.Private.Examples.{SameIds, StandsInRow27, StandsInFilledMemory, StandsEverywhere, KnownInRows, WellFormedRows, SettledIndices, UnsettledIndices, WellFormedFuncs, WellFormedTypes, WellFormedSegments, WellFormedEntities, GenerationsOfRows}
+use Rattle.wast_tree.specs.Private.Examples.{SameIds, StandsInRow27, StandsInFilledMemory, StandsEverywhere, StandsInPlace, KnownInRows, WellFormedRows, SettledIndices, UnsettledIndices, WellFormedFuncs, WellFormedTypes, WellFormedSegments, WellFormedEntities, WellFormedInPlace, WrittenOutFields, GenerationsOfRows}
 
 pub same_ids : SameIds
 same_ids a b = (refl, refl, refl, refl, refl, refl, refl, refl)
@@ -13,6 +13,9 @@ stands_in_filled_memory a b c d e = (refl, refl, refl)
 
 pub stands_everywhere : StandsEverywhere
 stands_everywhere a = (refl, refl)
+
+pub stands_in_place : StandsInPlace
+stands_in_place a = (refl, refl, refl, refl)
 
 pub known_in_rows : KnownInRows
 known_in_rows a b c d e f = (refl, refl, refl, refl, refl, refl, refl, refl)
@@ -27,7 +30,7 @@ pub unsettled_indices : UnsettledIndices
 unsettled_indices = (refl, refl, refl, refl, refl, refl, refl)
 
 pub well_formed_funcs : WellFormedFuncs
-well_formed_funcs a = (refl, refl, refl, refl, refl, refl, refl, refl, refl, refl)
+well_formed_funcs a = (refl, refl, refl, refl, refl, refl, refl, refl, refl, refl, refl, refl)
 
 pub well_formed_types : WellFormedTypes
 well_formed_types a = (refl, refl, refl, refl, refl, refl, refl, refl, refl, refl, refl, refl)
@@ -37,6 +40,12 @@ well_formed_segments = (refl, refl, refl, refl, refl)
 
 pub well_formed_entities : WellFormedEntities
 well_formed_entities = (refl, refl, refl, refl, refl)
+
+pub well_formed_in_place : WellFormedInPlace
+well_formed_in_place a = (refl, refl, refl, refl, refl, refl, refl)
+
+pub written_out_fields : WrittenOutFields
+written_out_fields a b c d e f = (refl, refl, refl, refl, refl, refl, refl)
 
 pub generations_of_rows : GenerationsOfRows
 generations_of_rows a b c d e f = (refl, refl, refl, refl, refl, refl, refl)

@@ -1,5 +1,5 @@
 -- What the contracts cite. The tree, its ids and its spaces come first; then what a list of fields gives: its items, what
--- it asks, what it makes known, whether it is well formed, and the greatest generation of its ids.
+-- it asks, what it makes known, whether it is well formed and written out, and the greatest generation of its ids.
 pub mod DataBytes
 pub mod Faults
 pub mod Generations
@@ -16,3 +16,4 @@ pub mod Spaces
 pub mod Tree
 pub mod Visits
 pub mod WellFormed
+pub mod WrittenOut

@@ -129,9 +129,11 @@ abbrev pub in_local : Local → List Ask
 in_local l = in_val l.ty ++ if_there in_id l.id
 
 abbrev pub in_locals : FuncKind → List Ask
+in_locals (func.Import import exact) = []
 in_locals (func.Inline locals e) = flat_map in_local locals
 
 abbrev pub in_body : FuncKind → List Step
+in_body (func.Import import exact) = []
 in_body (func.Inline locals e) = in_expression e
 
 -- An inline type matches the type that the index beside it denotes.
@@ -156,13 +158,15 @@ abbrev pub declared_local : Local → Step
 declared_local l = Declares (marked l.id)
 
 abbrev pub declared_locals : FuncKind → List Step
+declared_locals (func.Import import exact) = []
 declared_locals (func.Inline locals e) = map declared_local locals
 
 abbrev pub declared : Option FunctionType → FuncKind → List Step
 declared inline k = declared_params inline ++ declared_locals k
 
--- what is declared, and then what the body asks
+-- what is declared, and then what the body asks; what is imported has no body
 abbrev pub in_func_kind : Option FunctionType → FuncKind → List Occurrence
+in_func_kind inline (func.Import import exact) = []
 in_func_kind inline (func.Inline locals e) = Body (declared inline (func.Inline locals e) ++ in_expression e) ∷ []
 
 -- the index and the inline type, whether they match, the types of the locals, and then the body
@@ -200,14 +204,24 @@ abbrev pub in_constant_if : Option Expression → List Occurrence
 in_constant_if None = []
 in_constant_if (Some e) = in_constant e
 
--- the type, and then what the elements are at first
+-- functions; or expressions, and then their type
+abbrev pub in_payload : ElemPayload → List Occurrence
+in_payload (payload.Indices is) = outside (flat_map (in_index space.Func) is)
+in_payload (payload.Exprs ty es) = flat_map in_constant es ++ outside (in_ref ty)
+
+-- the type, and then what the elements are at first; or the type of the elements in place, and then these
 abbrev pub in_table_kind : TableKind → List Occurrence
+in_table_kind (table.Import import ty) = outside (in_table_type ty)
 in_table_kind (table.Normal ty init) = outside (in_table_type ty) ++ in_constant_if init
+in_table_kind (table.Inline ty is64 shared elements) = outside (in_ref ty) ++ in_payload elements
 
 abbrev pub in_memory_kind : MemoryKind → List Occurrence
+in_memory_kind (memory.Import import ty) = []
 in_memory_kind (memory.Normal ty) = []
+in_memory_kind (memory.Inline is64 pieces exponent) = []
 
 abbrev pub in_global_kind : GlobalKind → List Occurrence
+in_global_kind (global.Import import) = []
 in_global_kind (global.Inline e) = in_constant e
 
 -- the type, and then the value at first
@@ -219,11 +233,6 @@ abbrev pub in_elem_kind : ElemKind → List Occurrence
 in_elem_kind elem.Passive = []
 in_elem_kind elem.Declared = []
 in_elem_kind (elem.Active table offset) = outside (if_there (in_index space.Table) table) ++ in_constant offset
-
--- functions; or expressions, and then their type
-abbrev pub in_payload : ElemPayload → List Occurrence
-in_payload (payload.Indices is) = outside (flat_map (in_index space.Func) is)
-in_payload (payload.Exprs ty es) = flat_map in_constant es ++ outside (in_ref ty)
 
 abbrev pub in_elem : Elem → List Occurrence
 in_elem e = in_elem_kind e.kind ++ in_payload e.payload

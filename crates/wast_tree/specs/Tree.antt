@@ -54,6 +54,8 @@ pub use Rattle.wast_tree.specs.declared.segments.DataKind.{DataKind}
 pub use Rattle.wast_tree.specs.declared.segments.DataKind.TheVariants as data_kind
 pub use Rattle.wast_tree.specs.declared.segments.DataVal.{DataVal}
 pub use Rattle.wast_tree.specs.declared.segments.DataVal.TheVariants as bytes
+pub use Rattle.wast_tree.specs.declared.fields.InlineExport.{InlineExport}
+pub use Rattle.wast_tree.specs.declared.fields.InlineImport.{InlineImport}
 pub use Rattle.wast_tree.specs.declared.fields.Local.{Local}
 pub use Rattle.wast_tree.specs.declared.fields.FuncKind.{FuncKind}
 pub use Rattle.wast_tree.specs.declared.fields.FuncKind.TheVariants as func

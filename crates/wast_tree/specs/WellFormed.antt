@@ -1,7 +1,7 @@
 -- Which lists of fields are well formed, as a test.
-use Rattle.std.specs.Prelude.{ℕ, Bool, true, false, not, ◌&&◌, ◌||◌, ◌==◌, is_none, is_some, length, List, Option, Some, None}
+use Rattle.std.specs.Prelude.{ℕ, nat_lt, Bool, true, false, not, ◌&&◌, ◌||◌, ◌==◌, is_none, is_some, length, List, Option, Some, None}
 use Rattle.std.specs.List.{list_all}
-use Rattle.wast_tree.specs.Tree.{Id, Index, NameAnnotation, HeapType, ValType, StorageType, StructField, FunctionType, TypeUse, InnerTypeKind, TypeDef, AbstractHeapType, RefType, Local, Instruction, Expression, FuncKind, Func, TableType, GlobalType, TagType, ItemKind, ImportItems, TableKind, Table, Memory, GlobalKind, Global, Tag, ElemKind, ElemPayload, Elem, DataKind, ModuleField}
+use Rattle.wast_tree.specs.Tree.{Id, Index, NameAnnotation, HeapType, ValType, StorageType, StructField, FunctionType, TypeUse, InnerTypeKind, TypeDef, AbstractHeapType, RefType, Local, Instruction, Expression, FuncKind, Func, TableType, GlobalType, TagType, ItemKind, ImportItems, TableKind, MemoryKind, GlobalKind, Global, ElemKind, ElemPayload, Elem, DataKind, ModuleField}
 use Rattle.wast_tree.specs.Tree.index
 use Rattle.wast_tree.specs.Tree.heap
 use Rattle.wast_tree.specs.Tree.value
@@ -15,6 +15,7 @@ use Rattle.wast_tree.specs.Tree.tag
 use Rattle.wast_tree.specs.Tree.import_items
 use Rattle.wast_tree.specs.Tree.kind
 use Rattle.wast_tree.specs.Tree.table
+use Rattle.wast_tree.specs.Tree.memory
 use Rattle.wast_tree.specs.Tree.global
 use Rattle.wast_tree.specs.Tree.elem
 use Rattle.wast_tree.specs.Tree.payload
@@ -40,7 +41,7 @@ are_settled k asks = list_all (is_settled k) asks
 abbrev pub has_settled_indices : List ModuleField → Bool
 has_settled_indices fields = are_settled (known (items fields)) (asked (in_module fields))
 
--- What follows is what the tree covers today.
+-- What follows is what the tree covers today. Imports, elements and data may stand in place, and so may exports.
 
 -- what is referred to is not shared
 abbrev pub is_plain_heap : HeapType → Bool
@@ -113,12 +114,13 @@ is_plain_expression_if (Some e) = is_plain_expression e
 abbrev pub is_plain_local : Local → Bool
 is_plain_local l = is_plain_val l.ty
 
+-- what is imported in place is not exact
 abbrev pub is_plain_func_kind : FuncKind → Bool
+is_plain_func_kind (func.Import import exact) = not exact
 is_plain_func_kind (func.Inline locals e) = list_all is_plain_local locals && is_plain_expression e
 
--- nothing is exported in place
 abbrev pub is_plain_func : Func → Bool
-is_plain_func f = (length f.exports.names == 0) && (is_plain_type_use f.ty && is_plain_func_kind f.kind)
+is_plain_func f = is_plain_type_use f.ty && is_plain_func_kind f.kind
 
 -- a table or a global that is not shared
 abbrev pub is_plain_table_type : TableType → Bool
@@ -140,23 +142,32 @@ is_plain_item_kind (kind.Tag t) = is_plain_tag_type t
 abbrev pub is_plain_import : ImportItems → Bool
 is_plain_import (import_items.Single source name sig) = is_plain_item_kind sig.kind
 
+abbrev pub is_plain_payload : ElemPayload → Bool
+is_plain_payload (payload.Indices is) = true
+is_plain_payload (payload.Exprs ty es) = is_plain_heap ty.heap && list_all is_plain_expression es
+
 abbrev pub is_plain_table_kind : TableKind → Bool
+is_plain_table_kind (table.Import import ty) = is_plain_table_type ty
 is_plain_table_kind (table.Normal ty init) = is_plain_table_type ty && is_plain_expression_if init
+is_plain_table_kind (table.Inline ty is64 shared elements) = not shared && (is_plain_heap ty.heap && is_plain_payload elements)
 
-abbrev pub is_plain_table : Table → Bool
-is_plain_table t = (length t.exports.names == 0) && is_plain_table_kind t.kind
+-- The size of a page of 2 to this many bytes is a number of 64 bits; where none is written, a page has 65,536 bytes.
+abbrev pub is_page_exponent : Option ℕ → Bool
+is_page_exponent None = true
+is_page_exponent (Some n) = nat_lt n 64
 
-abbrev pub is_plain_memory : Memory → Bool
-is_plain_memory m = length m.exports.names == 0
+-- of bytes in place, the pages have a size
+abbrev pub is_plain_memory_kind : MemoryKind → Bool
+is_plain_memory_kind (memory.Import import ty) = true
+is_plain_memory_kind (memory.Normal ty) = true
+is_plain_memory_kind (memory.Inline is64 pieces exponent) = is_page_exponent exponent
 
 abbrev pub is_plain_global_kind : GlobalKind → Bool
+is_plain_global_kind (global.Import import) = true
 is_plain_global_kind (global.Inline e) = is_plain_expression e
 
 abbrev pub is_plain_global : Global → Bool
-is_plain_global g = (length g.exports.names == 0) && (is_plain_global_type g.ty && is_plain_global_kind g.kind)
-
-abbrev pub is_plain_tag : Tag → Bool
-is_plain_tag t = (length t.exports.names == 0) && is_plain_tag_type t.ty
+is_plain_global g = is_plain_global_type g.ty && is_plain_global_kind g.kind
 
 -- `funcref`
 abbrev pub is_func : AbstractHeapType → Bool
@@ -200,10 +211,6 @@ is_plain_elem_kind elem.Passive = true
 is_plain_elem_kind elem.Declared = true
 is_plain_elem_kind (elem.Active table offset) = is_plain_expression offset
 
-abbrev pub is_plain_payload : ElemPayload → Bool
-is_plain_payload (payload.Indices is) = true
-is_plain_payload (payload.Exprs ty es) = is_plain_heap ty.heap && list_all is_plain_expression es
-
 abbrev pub is_plain_elem : Elem → Bool
 is_plain_elem e = suits e.kind e.payload && (is_plain_elem_kind e.kind && is_plain_payload e.payload)
 
@@ -216,14 +223,14 @@ is_plain_field (field.Ty t) = is_plain_type t
 is_plain_field (field.Rec r) = list_all is_plain_type r.types
 is_plain_field (field.Import i) = is_plain_import i.items
 is_plain_field (field.Func f) = is_plain_func f
-is_plain_field (field.Table t) = is_plain_table t
-is_plain_field (field.Memory m) = is_plain_memory m
+is_plain_field (field.Table t) = is_plain_table_kind t.kind
+is_plain_field (field.Memory m) = is_plain_memory_kind m.kind
 is_plain_field (field.Global g) = is_plain_global g
 is_plain_field (field.Export e) = true
 is_plain_field (field.Start i) = true
 is_plain_field (field.Elem e) = is_plain_elem e
 is_plain_field (field.Data d) = is_plain_data_kind d.kind
-is_plain_field (field.Tag t) = is_plain_tag t
+is_plain_field (field.Tag t) = is_plain_tag_type t.ty
 
 abbrev pub are_plain : List ModuleField → Bool
 are_plain fields = list_all is_plain_field fields

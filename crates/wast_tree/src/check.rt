@@ -225,6 +225,7 @@ impl IsPlain for FuncKind<'_> {
 
     fn is_plain(&self) -> bool {
         match self {
+            FuncKind::Import(_, exact) => !*exact,
             FuncKind::Inline { locals, expression } => {
                 are_plain(locals.as_slice()) && expression.is_plain()
             }
@@ -236,7 +237,7 @@ impl IsPlain for Func<'_> {
     ghost plain = { is_plain_func };
 
     fn is_plain(&self) -> bool {
-        self.exports.names.is_empty() && self.ty.is_plain() && self.kind.is_plain()
+        self.ty.is_plain() && self.kind.is_plain()
     }
 }
 
@@ -249,14 +250,14 @@ impl IsPlain for ModuleField<'_> {
             ModuleField::Rec(rec) => are_plain(rec.types.as_slice()),
             ModuleField::Import(import) => import.items.is_plain(),
             ModuleField::Func(func) => func.is_plain(),
-            ModuleField::Table(table) => table.is_plain(),
-            ModuleField::Memory(memory) => memory.is_plain(),
+            ModuleField::Table(table) => table.kind.is_plain(),
+            ModuleField::Memory(memory) => memory.kind.is_plain(),
             ModuleField::Global(global) => global.is_plain(),
             ModuleField::Export(_) => true,
             ModuleField::Start(_) => true,
             ModuleField::Elem(elem) => elem.is_plain(),
             ModuleField::Data(data) => data.kind.is_plain(),
-            ModuleField::Tag(tag) => tag.is_plain(),
+            ModuleField::Tag(tag) => tag.ty.is_plain(),
         }
     }
 }
@@ -264,8 +265,9 @@ impl IsPlain for ModuleField<'_> {
 /// Whether the fields are well formed (text format: indices, modules). It takes no memory.
 ///
 /// They are, where each generated id that stands for an index is that of an item of its space, and where they keep to what
-/// the tree covers today: no item is exported in place, and no expression has hints; types, tables and globals are not
-/// shared, types are without descriptor and describes, and no shared heap type is referred to. Of an active element segment
+/// the tree covers today: no expression has hints; types, tables and globals are not
+/// shared, types are without descriptor and describes, and no shared heap type is referred to. What is imported in place is
+/// not exact, and where a memory holds its bytes in place, its page size is 2 to less than 64. Of an active element segment
 /// without a table, which stands for the first one, expressions are of type `funcref`: for another type the binary format
 /// wants the table written. A type use may have no index, and an inline type may be another than
 /// that of the index beside it: this is E5, E6 or E7, which resolving answers. A written id may be that of no item (E4), and

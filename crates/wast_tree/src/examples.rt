@@ -1,6 +1,6 @@
 //! Worked modules, of which the definitions compute what they say.
 
-ghost use Rattle.wast_tree.specs.Private.Examples.{SameIds, StandsInRow27, StandsInFilledMemory, StandsEverywhere, KnownInRows, WellFormedRows, SettledIndices, UnsettledIndices, WellFormedFuncs, WellFormedTypes, WellFormedSegments, WellFormedEntities, GenerationsOfRows};
+ghost use Rattle.wast_tree.specs.Private.Examples.{SameIds, StandsInRow27, StandsInFilledMemory, StandsEverywhere, StandsInPlace, KnownInRows, WellFormedRows, SettledIndices, UnsettledIndices, WellFormedFuncs, WellFormedTypes, WellFormedSegments, WellFormedEntities, WellFormedInPlace, WrittenOutFields, GenerationsOfRows};
 
 /// Which ids and indices are the same.
 #[tactic(auto, using(crate::proofs::Worked::same_ids))]
@@ -9,16 +9,17 @@ pub(crate) fn same_ids()
 {}
 
 /// What stands in small modules, in which order, and what they make known.
-#[tactic(auto, using(crate::proofs::Worked::stands_in_row27, crate::proofs::Worked::stands_in_filled_memory, crate::proofs::Worked::stands_everywhere, crate::proofs::Worked::known_in_rows))]
+#[tactic(auto, using(crate::proofs::Worked::stands_in_row27, crate::proofs::Worked::stands_in_filled_memory, crate::proofs::Worked::stands_everywhere, crate::proofs::Worked::stands_in_place, crate::proofs::Worked::known_in_rows))]
 pub(crate) fn occurrences()
     ensures row27 { StandsInRow27 }
     ensures filled_memory { StandsInFilledMemory }
     ensures everywhere { StandsEverywhere }
+    ensures in_place { StandsInPlace }
     ensures known { KnownInRows }
 {}
 
 /// Which modules are well formed, and which are not.
-#[tactic(auto, using(crate::proofs::Worked::well_formed_rows, crate::proofs::Worked::settled_indices, crate::proofs::Worked::unsettled_indices, crate::proofs::Worked::well_formed_funcs, crate::proofs::Worked::well_formed_types, crate::proofs::Worked::well_formed_segments, crate::proofs::Worked::well_formed_entities))]
+#[tactic(auto, using(crate::proofs::Worked::well_formed_rows, crate::proofs::Worked::settled_indices, crate::proofs::Worked::unsettled_indices, crate::proofs::Worked::well_formed_funcs, crate::proofs::Worked::well_formed_types, crate::proofs::Worked::well_formed_segments, crate::proofs::Worked::well_formed_entities, crate::proofs::Worked::well_formed_in_place))]
 pub(crate) fn well_formed()
     ensures rows { WellFormedRows }
     ensures settled { SettledIndices }
@@ -27,6 +28,13 @@ pub(crate) fn well_formed()
     ensures types { WellFormedTypes }
     ensures segments { WellFormedSegments }
     ensures entities { WellFormedEntities }
+    ensures in_place { WellFormedInPlace }
+{}
+
+/// Which modules are written out, and which are not.
+#[tactic(auto, using(crate::proofs::Worked::written_out_fields))]
+pub(crate) fn written_out()
+    ensures { WrittenOutFields }
 {}
 
 /// The generations of the ids of small modules.

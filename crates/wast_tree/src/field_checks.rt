@@ -1,11 +1,11 @@
 //! Which fields other than types, functions and exports keep to what the tree covers today.
 
-ghost use Rattle.wast_tree.specs.WellFormed.{is_plain_expression_if, is_plain_table_type, is_plain_global_type, is_plain_tag_type, is_plain_item_kind, is_plain_import, is_plain_table_kind, is_plain_table, is_plain_memory, is_plain_global_kind, is_plain_global, is_plain_tag, is_func, is_funcref, holds_functions, suits, is_plain_elem_kind, is_plain_payload, is_plain_elem, is_plain_data_kind};
+ghost use Rattle.wast_tree.specs.WellFormed.{is_plain_expression_if, is_plain_table_type, is_plain_global_type, is_plain_tag_type, is_plain_item_kind, is_plain_import, is_plain_table_kind, is_page_exponent, is_plain_memory_kind, is_plain_global_kind, is_plain_global, is_func, is_funcref, holds_functions, suits, is_plain_elem_kind, is_plain_payload, is_plain_elem, is_plain_data_kind};
 ghost use Rattle.std.specs.Prelude.{◌≡◌};
 
 use crate::check::{IsPlain, are_plain};
 use crate::entities::{GlobalType, TableType, TagType};
-use crate::fields::{Global, GlobalKind, Memory, Table, TableKind, Tag};
+use crate::fields::{Global, GlobalKind, MemoryKind, TableKind};
 use crate::imports::{ImportItems, ItemKind};
 use crate::instrs::Expression;
 use crate::segments::{DataKind, Elem, ElemKind, ElemPayload};
@@ -77,24 +77,37 @@ impl IsPlain for TableKind<'_> {
 
     fn is_plain(&self) -> bool {
         match self {
+            TableKind::Import { ty, .. } => ty.is_plain(),
             TableKind::Normal { ty, init_expr } => ty.is_plain() && init_expr.is_plain(),
+            TableKind::Inline {
+                elem,
+                shared,
+                payload,
+                ..
+            } => !*shared && elem.heap.is_plain() && payload.is_plain(),
         }
     }
 }
 
-impl IsPlain for Table<'_> {
-    ghost plain = { is_plain_table };
-
-    fn is_plain(&self) -> bool {
-        self.exports.names.is_empty() && self.kind.is_plain()
+/// Whether 2 to this is a number of 64 bits; it is, where nothing is written.
+fn is_page_exponent(exponent: Option<u32>) -> bool
+    ensures { result ≡ is_page_exponent exponent }
+{
+    match exponent {
+        None => true,
+        Some(exponent) => exponent < 64,
     }
 }
 
-impl IsPlain for Memory<'_> {
-    ghost plain = { is_plain_memory };
+impl IsPlain for MemoryKind<'_> {
+    ghost plain = { is_plain_memory_kind };
 
     fn is_plain(&self) -> bool {
-        self.exports.names.is_empty()
+        match self {
+            MemoryKind::Import { .. } => true,
+            MemoryKind::Normal(_) => true,
+            MemoryKind::Inline { page_size_log2, .. } => is_page_exponent(*page_size_log2),
+        }
     }
 }
 
@@ -103,6 +116,7 @@ impl IsPlain for GlobalKind<'_> {
 
     fn is_plain(&self) -> bool {
         match self {
+            GlobalKind::Import(_) => true,
             GlobalKind::Inline(value) => value.is_plain(),
         }
     }
@@ -112,15 +126,7 @@ impl IsPlain for Global<'_> {
     ghost plain = { is_plain_global };
 
     fn is_plain(&self) -> bool {
-        self.exports.names.is_empty() && self.ty.is_plain() && self.kind.is_plain()
-    }
-}
-
-impl IsPlain for Tag<'_> {
-    ghost plain = { is_plain_tag };
-
-    fn is_plain(&self) -> bool {
-        self.exports.names.is_empty() && self.ty.is_plain()
+        self.ty.is_plain() && self.kind.is_plain()
     }
 }
 

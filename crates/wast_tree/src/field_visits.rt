@@ -65,20 +65,27 @@ impl Visit for TableKind<'_> {
 
     fn visit<V: Visitor>(&self, visitor: &mut V) {
         match self {
+            TableKind::Import { ty, .. } => ty.visit(visitor),
             TableKind::Normal { ty, init_expr } => {
                 ty.visit(visitor);
                 init_expr.visit(visitor);
+            }
+            TableKind::Inline { elem, payload, .. } => {
+                elem.visit(visitor);
+                payload.visit(visitor);
             }
         }
     }
 }
 
-impl Visit for MemoryKind {
+impl Visit for MemoryKind<'_> {
     ghost asks = { λ k. asked (in_memory_kind k) };
 
     fn visit<V: Visitor>(&self, _visitor: &mut V) {
         match self {
+            MemoryKind::Import { .. } => {}
             MemoryKind::Normal(_) => {}
+            MemoryKind::Inline { .. } => {}
         }
     }
 }
@@ -88,6 +95,7 @@ impl Visit for GlobalKind<'_> {
 
     fn visit<V: Visitor>(&self, visitor: &mut V) {
         match self {
+            GlobalKind::Import(_) => {}
             GlobalKind::Inline(value) => value.visit(visitor),
         }
     }

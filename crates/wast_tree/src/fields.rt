@@ -7,10 +7,10 @@ use crate::entities::{GlobalType, MemoryType, TableType, TagType};
 use crate::ids::{Id, Index, NameAnnotation, Span};
 use crate::imports::Imports;
 use crate::instrs::Expression;
-use crate::segments::{Data, Elem};
+use crate::segments::{Data, DataVal, Elem, ElemPayload};
 use crate::seq::Seq;
 use crate::spaces::Space;
-use crate::types::{FunctionType, Rec, Type, TypeUse, ValType};
+use crate::types::{FunctionType, Rec, RefType, Type, TypeUse, ValType};
 
 /// A field of a module (text format, modules).
 #[derive(Debug, Drop)]
@@ -48,6 +48,15 @@ pub struct InlineExport<'a> {
     pub names: Seq<&'a str>,
 }
 
+/// Where a field imports its item from: `(import "a" "b")` within the field (text format, imports: abbreviations).
+#[derive(Clone, Copy, Debug, PartialEq, Eq)]
+pub struct InlineImport<'a> {
+    /// The name of the module.
+    pub module: &'a str,
+    /// The name of the item in it.
+    pub field: &'a str,
+}
+
 /// A function: `(func $f (type $t) ..)` (text format, functions).
 #[derive(Debug, Drop)]
 pub struct Func<'a> {
@@ -68,6 +77,8 @@ pub struct Func<'a> {
 /// What a function is made of (text format, functions).
 #[derive(Debug, Drop)]
 pub enum FuncKind<'a> {
+    /// Imported in place, and whether its type is `exact`.
+    Import(InlineImport<'a>, bool),
     /// Locals and a body.
     Inline {
         /// The locals, in the order of the text.
@@ -106,12 +117,30 @@ pub struct Table<'a> {
 /// What a table is made of (text format, tables).
 #[derive(Debug, Drop)]
 pub enum TableKind<'a> {
+    /// Imported in place.
+    Import {
+        /// Where it is from.
+        import: InlineImport<'a>,
+        /// Its type.
+        ty: TableType<'a>,
+    },
     /// A type, and what each element is at first.
     Normal {
         /// Its type.
         ty: TableType<'a>,
         /// What each element is at first, where that is written.
         init_expr: Option<Expression<'a>>,
+    },
+    /// Elements in place, as many as the table has.
+    Inline {
+        /// The type of its elements.
+        elem: RefType<'a>,
+        /// Whether indices have 64 bits.
+        is64: bool,
+        /// Whether it is `shared`.
+        shared: bool,
+        /// The elements.
+        payload: ElemPayload<'a>,
     },
 }
 
@@ -127,14 +156,30 @@ pub struct Memory<'a> {
     /// The names under which it is exported in place.
     pub exports: InlineExport<'a>,
     /// What it is made of.
-    pub kind: MemoryKind,
+    pub kind: MemoryKind<'a>,
 }
 
 /// What a memory is made of (text format, memories).
-#[derive(Clone, Copy, Debug, PartialEq, Eq)]
-pub enum MemoryKind {
+#[derive(Debug, Drop)]
+pub enum MemoryKind<'a> {
+    /// Imported in place.
+    Import {
+        /// Where it is from.
+        import: InlineImport<'a>,
+        /// Its type.
+        ty: MemoryType,
+    },
     /// A type.
     Normal(MemoryType),
+    /// Bytes in place, as many as fill the memory up to its last page.
+    Inline {
+        /// Whether indices have 64 bits.
+        is64: bool,
+        /// The bytes.
+        bytes: Seq<DataVal<'a>>,
+        /// The page size is 2 to this; where none is written, a page has 65,536 bytes (custom page sizes).
+        page_size_log2: Option<u32>,
+    },
 }
 
 /// A global: `(global $g (mut i32) (i32.const 0))` (text format, globals).
@@ -157,6 +202,8 @@ pub struct Global<'a> {
 /// What a global is made of (text format, globals).
 #[derive(Debug, Drop)]
 pub enum GlobalKind<'a> {
+    /// Imported in place.
+    Import(InlineImport<'a>),
     /// Its value at first.
     Inline(Expression<'a>),
 }
@@ -175,12 +222,14 @@ pub struct Tag<'a> {
     /// Its type.
     pub ty: TagType<'a>,
     /// What it is made of.
-    pub kind: TagKind,
+    pub kind: TagKind<'a>,
 }
 
 /// What a tag is made of (text format, tags).
 #[derive(Clone, Copy, Debug, PartialEq, Eq)]
-pub enum TagKind {
+pub enum TagKind<'a> {
+    /// Imported in place.
+    Import(InlineImport<'a>),
     /// Its type alone.
     Inline,
 }

@@ -23,14 +23,15 @@ mod seq;
 mod spaces;
 mod types;
 mod visits;
+mod written_out;
 
 pub use boxed::Boxed;
 pub use check::well_formed;
 pub use entities::{GlobalType, Limits, MemoryType, TableType, TagType};
 pub use faults::{Error, Fault, Form};
 pub use fields::{
-    Export, ExportKind, Func, FuncKind, Global, GlobalKind, InlineExport, Local, Memory,
-    MemoryKind, ModuleField, Table, TableKind, Tag, TagKind, discard_fields,
+    Export, ExportKind, Func, FuncKind, Global, GlobalKind, InlineExport, InlineImport, Local,
+    Memory, MemoryKind, ModuleField, Table, TableKind, Tag, TagKind, discard_fields,
 };
 pub use generations::gensym_bound;
 pub use gensym::Gensym;
@@ -47,6 +48,7 @@ pub use types::{
     StructField, StructType, Type, TypeDef, TypeUse, ValType,
 };
 pub use visits::{ItemVisitor, visit_items};
+pub use written_out::is_written_out;
 
 #[cfg(test)]
 mod tests;

@@ -6,8 +6,8 @@ ghost use Rattle.wast_tree.specs.Faults.{is_placed};
 use crate::{
     Boxed, BranchHint, Error, Export, ExportKind, Expression, Fault, Form, Func, FuncKind, Gensym,
     Id, Index, InlineExport, Instruction, ItemVisitor, ModuleField, Seq, Space, Span, StructField,
-    TypeUse, discard_expression, discard_fields, discard_instruction, gensym_bound, visit_items,
-    well_formed,
+    TypeUse, discard_expression, discard_fields, discard_instruction, gensym_bound, is_written_out,
+    visit_items, well_formed,
 };
 use std::alloc::Global;
 use std::hash::{DefaultHasher, Hash, Hasher};
@@ -322,6 +322,7 @@ fn fields_are_read(rt: HostRuntime) {
         .push(func_field(rt.alloc(), Some(id)))
         .expect(&rt, "memory");
     assert!(rt; well_formed(fields.as_slice()) && gensym_bound(fields.as_slice()) == 5);
+    assert!(rt; is_written_out(fields.as_slice()));
     let mut counts = Counts {
         items: [0; 8],
         named: 0,

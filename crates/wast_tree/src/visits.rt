@@ -347,6 +347,7 @@ impl Visit for FuncKind<'_> {
 
     fn visit<V: Visitor>(&self, visitor: &mut V) {
         match self {
+            FuncKind::Import(..) => {}
             FuncKind::Inline { locals, expression } => {
                 locals.visit(visitor);
                 expression.visit(visitor);

@@ -1,6 +1,6 @@
 -- What the definitions say of worked modules.
 use Rattle.std.specs.Prelude.{◌≡◌, ℕ, Bool, true, false, List, [], ◌∷◌, map, Option, Some, None, codes}
-use Rattle.wast_tree.specs.Tree.{Id, Index, Space, RefType, ValType, StructField, TypeDef, Instruction, Expression, TableType, GlobalType, Func, ModuleField}
+use Rattle.wast_tree.specs.Tree.{Id, Index, Space, RefType, ValType, StructField, TypeDef, Instruction, Expression, TableType, GlobalType, InlineImport, Func, ElemPayload, ModuleField}
 use Rattle.wast_tree.specs.Tree.index
 use Rattle.wast_tree.specs.Tree.space
 use Rattle.wast_tree.specs.Tree.heap
@@ -17,12 +17,14 @@ use Rattle.wast_tree.specs.Tree.memory
 use Rattle.wast_tree.specs.Tree.global
 use Rattle.wast_tree.specs.Tree.elem
 use Rattle.wast_tree.specs.Tree.payload
+use Rattle.wast_tree.specs.Tree.bytes
 use Rattle.wast_tree.specs.Tree.field
 use Rattle.wast_tree.specs.Ids.{Name, Written, Generated, Mark, mark_of, generated, same_id, same_index}
 use Rattle.wast_tree.specs.Items.{items}
 use Rattle.wast_tree.specs.Occurrences.{Wants, Bare, Named, Matches, Declares, Outside, Body, in_module, asked}
 use Rattle.wast_tree.specs.Known.{known}
 use Rattle.wast_tree.specs.WellFormed.{has_settled_indices, is_well_formed}
+use Rattle.wast_tree.specs.WrittenOut.{is_written_out}
 use Rattle.wast_tree.specs.Generations.{generation_if, generation_in, greatest_generation}
 use Rattle.wast_tree.specs.WorkedModules.{Address, text, place, id_at, by_id, by_number, plain_def, plain_type, plain_func, export_field, row27_with, row27, row31, row32, plain_global_type, plain_memory_type, plain_memory, filled_memory}
 
@@ -209,6 +211,10 @@ UnsettledIndices =
     × (has_settled_indices (def_alone (record plain_def { kind = inner.Func (record { params = (Some (made 1), None, value.I32) ∷ []; results = [] }) })) ≡ true)
     × (has_settled_indices (func_alone (record bare_func { kind = func.Inline (record { id = Some (made 1); name = None; ty = value.I32 } ∷ []) (body_of []) })) ≡ true)
 
+-- `(import "m" "m")` in place
+abbrev pub from_m : Address → InlineImport
+from_m a = record { «module» = text a (codes "m"); field = text a (codes "m") }
+
 -- whether a function, or a type that is defined so, is well formed alone in a module
 abbrev pub is_well_formed_func : Func → Bool
 is_well_formed_func f = is_well_formed (func_alone f)
@@ -217,12 +223,15 @@ abbrev pub is_well_formed_def : TypeDef → Bool
 is_well_formed_def def = is_well_formed (def_alone def)
 
 -- `(func (type 0))` is well formed, and so are `(func)`, one with a local, also with an id, and one with an inline type
--- beside its index or alone; not so one with an inline export, a local or a result of a shared type, or a branch hint.
+-- beside its index or alone, and one with an inline export, or imported in place; not so where that is exact, nor one with a
+-- local or a result of a shared type, or a branch hint.
 abbrev pub WellFormedFuncs : Type 0
 WellFormedFuncs = (a : Address) →
     (is_well_formed_func bare_func ≡ true)
     × (is_well_formed_func (record bare_func { ty = record { index = None; inline = None } }) ≡ true)
-    × (is_well_formed_func (record bare_func { exports = record { names = text a (codes "a") ∷ [] } }) ≡ false)
+    × (is_well_formed_func (record bare_func { exports = record { names = text a (codes "a") ∷ [] } }) ≡ true)
+    × (is_well_formed_func (record bare_func { kind = func.Import (from_m a) false }) ≡ true)
+    × (is_well_formed_func (record bare_func { kind = func.Import (from_m a) true }) ≡ false)
     × (is_well_formed_func (record bare_func { kind = func.Inline (record { id = None; name = None; ty = value.I32 } ∷ []) (body_of (instr.Plain (plain.Bare bare.drop) ∷ [])) }) ≡ true)
     × (is_well_formed_func (record bare_func { kind = func.Inline (record { id = Some (id_at a (codes "x") 20); name = Some (record { name = text a (codes "x") }); ty = value.I32 } ∷ []) (body_of []) }) ≡ true)
     × (is_well_formed_func (record bare_func { kind = func.Inline (record { id = None; name = None; ty = ref_func true } ∷ []) (body_of []) }) ≡ false)
@@ -278,6 +287,58 @@ WellFormedEntities =
     × (is_well_formed (table_of plain_table_type ∷ []) ≡ true)
     × (is_well_formed (table_of (record plain_table_type { shared = true }) ∷ []) ≡ false)
     × (is_well_formed (field.Memory (record (plain_memory None 0) { kind = memory.Normal (record plain_memory_type { shared = true }) }) ∷ []) ≡ true)
+
+-- `(table funcref (elem ..))`, and `(memory (data "a"))` with pages of 2 to the exponent
+abbrev pub table_in_place : RefType → Bool → ElemPayload → ModuleField
+table_in_place ty shared elements = field.Table (record { span = place 1; id = None; name = None; exports = record { names = [] }; kind = table.Inline ty false shared elements })
+
+abbrev pub memory_in_place : Address → Option ℕ → ModuleField
+memory_in_place a exponent = field.Memory (record (plain_memory None 0) { kind = memory.Inline false (bytes.«String» (text a (codes "a")) ∷ []) exponent })
+
+abbrev pub funcref : RefType
+funcref = record { nullable = true; heap = heap.Abstract false abstract.Func }
+
+-- Elements in place stand behind their type, and what they ask stands in the module; a function that is imported in place
+-- asks its type and has no body.
+abbrev pub StandsInPlace : Type 0
+StandsInPlace = (a : Address) →
+    (in_module (table_in_place (record { nullable = true; heap = heap.Concrete (made_index 1) }) false (payload.Indices (made_index 2 ∷ made_index 3 ∷ [])) ∷ [])
+    ≡ Outside (Wants space.Ty (made_index 1))
+    ∷ Outside (Wants space.Func (made_index 2))
+    ∷ Outside (Wants space.Func (made_index 3))
+    ∷ [])
+    × (in_module (table_in_place funcref false (payload.Exprs (record { nullable = true; heap = heap.Concrete (made_index 2) }) (body_of (instr.ref_func (made_index 1) ∷ []) ∷ [])) ∷ [])
+    ≡ Body (Named (Wants space.Func (made_index 1)) ∷ [])
+    ∷ Outside (Wants space.Ty (made_index 2))
+    ∷ [])
+    × (in_module (func_alone (record bare_func { kind = func.Import (from_m a) false; ty = record { index = Some (made_index 1); inline = Some (record { params = (Some (made 2), None, value.I32) ∷ []; results = [] }) } }))
+    ≡ Outside (Wants space.Ty (made_index 1))
+    ∷ Outside (Bare (made_mark 2))
+    ∷ Body (Matches (made_index 1) (record { params = (Some (made 2), None, value.I32) ∷ []; results = [] }) ∷ [])
+    ∷ [])
+    × (in_module (memory_in_place a None ∷ []) ≡ [])
+
+-- Elements in place may be of any type that is not shared; the page of bytes in place has a size below 2 to the 64.
+abbrev pub WellFormedInPlace : Type 0
+WellFormedInPlace = (a : Address) →
+    (is_well_formed (table_in_place (record { nullable = true; heap = heap.Abstract false abstract.Extern }) false (payload.Exprs (record { nullable = true; heap = heap.Abstract false abstract.Extern }) []) ∷ []) ≡ true)
+    × (is_well_formed (table_in_place funcref true (payload.Indices []) ∷ []) ≡ false)
+    × (is_well_formed (table_in_place (record { nullable = true; heap = heap.Abstract true abstract.Func }) false (payload.Indices []) ∷ []) ≡ false)
+    × (is_well_formed (table_in_place funcref false (payload.Indices (made_index 1 ∷ [])) ∷ []) ≡ false)
+    × (is_well_formed (memory_in_place a None ∷ []) ≡ true)
+    × (is_well_formed (memory_in_place a (Some 63) ∷ []) ≡ true)
+    × (is_well_formed (memory_in_place a (Some 64) ∷ []) ≡ false)
+
+-- Row 27 is written out; what stands in place is not.
+abbrev pub WrittenOutFields : Type 0
+WrittenOutFields = (a b c d e f : Address) →
+    (is_written_out (row27 a b c d e f) ≡ true)
+    × (is_written_out (filled_memory a b c d e) ≡ true)
+    × (is_written_out (global_of plain_global_type ∷ table_of plain_table_type ∷ []) ≡ true)
+    × (is_written_out (func_alone (record bare_func { exports = record { names = text a (codes "a") ∷ [] } })) ≡ false)
+    × (is_written_out (func_alone (record bare_func { kind = func.Import (from_m a) false })) ≡ false)
+    × (is_written_out (table_in_place funcref false (payload.Indices []) ∷ []) ≡ false)
+    × (is_written_out (memory_in_place a None ∷ []) ≡ false)
 
 -- The greatest generation is that of an item or of an id beside the items; a written id has 0. No id of a module is left
 -- out.

@@ -2,7 +2,7 @@ use Rattle.std.proofs.Common.{subst}
 use Rattle.std.specs.Prelude.{All}
 use Rattle.std.proofs.lemmas.List.{take_all}
 use Rattle.std.proofs.lemmas.List.Elements.{All-more}
-use Rattle.wast_core.specs.Names.{HasUtf8Names}
+use Rattle.wast_core.specs.Utf8Names.{HasUtf8Names}
 use Rattle.wast_core.proofs.covered.names.Goals as goal
 
 pub loop-field-preserved : goal.loop-field-preserved

@@ -1,6 +1,6 @@
 use Rattle.std.proofs.Common.{take}
 use Rattle.std.specs.Prelude.{All}
-use Rattle.wast_core.specs.Names.{HasUtf8Names}
+use Rattle.wast_core.specs.Utf8Names.{HasUtf8Names}
 use Rattle.wast_core.proofs.covered.names.Given as goal
 
 abbrev pub invariant-loop-field : goal.invariant-loop-field

@@ -3,11 +3,11 @@ use Rattle.std.specs.List.{flat_map}
 use Rattle.wasm_ops.proofs.Everywhere.{flat_in_flat}
 use Rattle.wasm_out.specs.Parts.{part}
 use Rattle.wast_core.specs.Tree.{ModuleField}
-use Rattle.wast_core.specs.Encodable.{is_encodable_field}
+use Rattle.wast_conv.specs.Encodable.{is_encodable_field}
 use Rattle.wast_core.specs.Meaning.{Contribution, start_part, starts_in}
-use Rattle.wast_core.specs.Names.{counted}
-use Rattle.wast_core.proofs.Each.{each_more}
-use Rattle.wast_core.proofs.EachPasses.{item_passes}
+use Rattle.wast_names.specs.Names.{counted}
+use Rattle.wast_names.proofs.Each.{each_more}
+use Rattle.wast_conv.proofs.EachPasses.{item_passes}
 use Rattle.wast_core.proofs.Sizes.{starts_more, all_summed}
 use Rattle.wast_core.proofs.entries.starts_size.Goals as goal
 

@@ -1,12 +1,8 @@
 use Rattle.std.specs.Prelude.{⊤}
-use Rattle.std.proofs.Common.{◌∙◌, ap, sym}
-use Rattle.wast_resolve.specs.Locals.{params_in}
+use Rattle.std.proofs.Common.{refl}
+use Rattle.wast_resolve.specs.Tree.func
 use Rattle.wast_resolve.proofs.Declaring.{names_answer}
 use Rattle.wast_resolve.proofs.locals.check_locals.Goals as goal
 
-pub returns-in-None : goal.returns-in-None
-returns-in-None c s = names_answer ⊤ s c.args.inline.now c.args.kind.now _ _ c.check_names.result (sym (ap params_in c.in-None.is)) c.locals_in.ensures (c.check_names.ensures s)
-
-pub returns-in-Some : goal.returns-in-Some
-returns-in-Some c s =
-    names_answer ⊤ s c.args.inline.now c.args.kind.now _ _ c.check_names-in-Some.result (c.as_slice.ensures ∙ sym (ap params_in c.in-Some.is)) c.locals_in-in-Some.ensures (c.check_names-in-Some.ensures s)
+pub returns-in-Inline : goal.returns-in-Inline
+returns-in-Inline c s = rw c.in-Inline.is (names_answer ⊤ s c.args.inline.now (func.Inline c.in-Inline.locals c.in-Inline.expression) _ _ c.check_declared.result refl c.as_slice.ensures (c.check_declared.ensures s))

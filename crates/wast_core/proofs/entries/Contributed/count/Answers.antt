@@ -1,5 +1,5 @@
 use Rattle.std.proofs.Common.{◌∙◌}
-use Rattle.wast_core.specs.Entries.{entry_of}
+use Rattle.wast_conv.specs.Entries.{entry_of}
 use Rattle.wast_core.specs.Meaning as meaning
 use Rattle.wast_core.proofs.Listed.{counted_as}
 use Rattle.wast_core.proofs.entries.Contributed.count.Goals as goal

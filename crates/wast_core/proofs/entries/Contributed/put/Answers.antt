@@ -1,7 +1,7 @@
 use Rattle.std.proofs.Common.{true}
 use Rattle.wasm_out.specs.Parts.{Types, Imports, Functions, Tables, Memories, Tags, Globals, Exports, Elements, Code, Data, entry, InRangeEntry}
 use Rattle.wasm_ops.proofs.Sinking.{option_written, all_covered}
-use Rattle.wast_core.specs.Entries.{entry_of}
+use Rattle.wast_conv.specs.Entries.{entry_of}
 use Rattle.wast_core.specs.Meaning as meaning
 use Rattle.wast_core.proofs.entries.Contributed.put.Goals as goal
 
@@ -16,6 +16,9 @@ encode-requires-in-Functions g c = c.requires.functions
 
 pub encode-requires-in-Tables : goal.encode-requires-in-Tables
 encode-requires-in-Tables g c = c.requires.tables
+
+pub encode-requires-in-Memories : goal.encode-requires-in-Memories
+encode-requires-in-Memories g c = c.requires.memories
 
 pub encode-requires-in-Tags : goal.encode-requires-in-Tags
 encode-requires-in-Tags g c = c.requires.tags

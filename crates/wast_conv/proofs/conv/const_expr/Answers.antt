@@ -1,0 +1,26 @@
+use Rattle.std.proofs.Common.{◌≡◌, ◌∙◌, ap, sym, subst}
+use Rattle.std.specs.List.{All, flat_map, list_all}
+use Rattle.std.proofs.lemmas.Result.{err_from_is_err_and}
+use Rattle.wasm_ops.specs.Table.{instr, InRangeInstr, SpellsInstrs}
+use Rattle.wasm_out.specs.Built.{IsRefused}
+use Rattle.wast_conv.specs.Encodable.{is_encodable_instr}
+use Rattle.wast_conv.specs.Meaning as meaning
+use Rattle.wast_conv.proofs.Expressions.{spells_expression, expression_made, expression_refused}
+use Rattle.wast_conv.proofs.conv.const_expr.Goals as goal
+
+pub returns-in_err-bytes-clause-refusal : goal.returns-in_err-bytes-clause-refusal
+returns-in_err-bytes-clause-refusal c =
+    let p = err_from_is_err_and c.from_residual.result c.from_residual.ensures.1 in
+    rw (p.1, p.2) (expression_refused c.args.expression.now.instrs c.in_err-bytes.field-0.0 (subst (λ is. IsRefused (All (λ i. InRangeInstr (meaning.instr i)) is) c.in_err-bytes.field-0.0) c.as_slice.ensures c.in_err-bytes.ensures.refusal))
+
+pub raw-requires : goal.raw-requires
+raw-requires c = spells_expression c.as_slice.result.now c.in_ok-bytes.bytes.items (ap (list_all is_encodable_instr) c.as_slice.ensures ∙ c.requires) c.in_ok-bytes.ensures.value
+
+pub returns-clause-value : goal.returns-clause-value
+returns-clause-value c =
+    let bytes = c.in_ok-bytes.bytes.items in
+    let made = expression_made c.args.expression.now.instrs bytes (subst (λ is. (bytes ≡ flat_map (λ i. instr (meaning.instr i)) is) × All (λ i. InRangeInstr (meaning.instr i)) is) c.as_slice.ensures c.in_ok-bytes.ensures.value) in
+    (c.raw.ensures ∙ made.0, made.1)
+
+pub returns-clause-spelled : goal.returns-clause-spelled
+returns-clause-spelled c = subst SpellsInstrs (sym c.raw.ensures) (spells_expression c.as_slice.result.now c.in_ok-bytes.bytes.items (ap (list_all is_encodable_instr) c.as_slice.ensures ∙ c.requires) c.in_ok-bytes.ensures.value)

@@ -1,0 +1,27 @@
+use Rattle.std.proofs.Common.{◌≡◌, ◌∙◌, true, map, ap, subst}
+use Rattle.std.specs.List.{list_all}
+use Rattle.wast_tree.specs.Occurrences.{in_type}
+use Rattle.wasm_ops.specs.Covered.{is_covered_sub_type}
+use Rattle.wast_resolve.specs.Resolved.{is_resolved}
+use Rattle.wast_conv.specs.Entries.{is_encodable_entry}
+use Rattle.wast_conv.specs.Meaning as meaning
+use Rattle.wast_conv.proofs.TypesReady.{def_resolved, def_covered, types_resolved, types_covered}
+use Rattle.wast_conv.proofs.section_items.RecOrTypeSectionItem.encode.Goals as goal
+
+pub sub_type-requires : goal.sub_type-requires
+sub_type-requires c = def_resolved c.in-Ty.ty.now.def (subst (λ e. is_encodable_entry e ≡ true) c.in-Ty.is c.requires)
+
+pub subtype-requires : goal.subtype-requires
+subtype-requires c =
+    ap is_covered_sub_type c.in_ok-sub_type-in-Ty.ensures.value ∙ def_covered c.in-Ty.ty.now.def (subst (λ e. is_encodable_entry e ≡ true) c.in-Ty.is c.requires)
+
+pub group-requires : goal.group-requires
+group-requires c =
+    ap (list_all (λ t. is_resolved (in_type t))) c.as_slice.ensures ∙ types_resolved c.in-Rec.rec.now.types (subst (λ e. is_encodable_entry e ≡ true) c.in-Rec.is c.requires)
+
+pub rec-requires : goal.rec-requires
+rec-requires c =
+    ap (list_all is_covered_sub_type) c.as_slice-in-Rec.ensures
+    ∙ (ap (list_all is_covered_sub_type) c.in_ok-types-in-Rec.ensures.value
+    ∙ (ap (λ ts. list_all is_covered_sub_type (map (λ t. meaning.sub_type t.def) ts)) c.as_slice.ensures
+    ∙ types_covered c.in-Rec.rec.now.types (subst (λ e. is_encodable_entry e ≡ true) c.in-Rec.is c.requires)))

@@ -1,0 +1,48 @@
+use Rattle.std.proofs.Common.{◌≡◌, true, ◌&&◌, refl, sym, ap, ◌∙◌, subst}
+use Rattle.std.specs.List.{list_all}
+use Rattle.wasm_ops.specs.ConstExprs.{expression, InRangeExpression}
+use Rattle.wasm_ops.specs.Covered.{is_covered_ref_type}
+use Rattle.wasm_ops.specs.Leb128.{unsigned}
+use Rattle.wasm_ops.specs.Spelling.{InRangeU32, vec, InRangeVec}
+use Rattle.wasm_out.specs.declared.elements.ElementKind.TheVariants as kinds
+use Rattle.wast_tree.specs.WellFormed.{suits}
+use Rattle.wast_conv.specs.Tree.payload
+use Rattle.wast_conv.specs.Encodable.{is_encodable_expression, is_encodable_elem_kind, is_encodable_payload}
+use Rattle.wast_conv.specs.Meaning as meaning
+use Rattle.wast_conv.proofs.EachPasses.{both_pass}
+use Rattle.wast_conv.proofs.Segmented.{segment_written, has_its_form}
+use Rattle.wast_conv.proofs.Spelled.{vec_mapped, in_range_mapped, in_range_unmapped}
+use Rattle.wast_conv.proofs.TypesReady.{both_true, heap_covered}
+use Rattle.wast_conv.proofs.segment_values.ResolvedSpellElem.spell.Goals as goal
+
+pub encode-requires-in-Exprs : goal.encode-requires-in-Exprs
+encode-requires-in-Exprs g c =
+    let e = c.args.elem.now in
+    let ty = c.in-Exprs.ty in
+    let es = c.in-Exprs.exprs in
+    let parts = both_pass (suits e.kind e.payload) (is_encodable_elem_kind e.kind && is_encodable_payload e.payload) c.requires in
+    let held = both_pass (is_encodable_elem_kind e.kind) (is_encodable_payload e.payload) parts.1 in
+    let payload_held = both_pass _ (list_all is_encodable_expression es) (subst (λ p. is_encodable_payload p ≡ true) c.in-Exprs.is held.1) in
+    both_true _ _ (has_its_form (λ b. meaning.expression b.0.now) c.mode_of-mode.result e.kind (payload.Exprs ty es) (kinds.Expressions c.ref_type.result) c.mode_of-mode.ensures.same (ap kinds.Expressions c.ref_type.ensures) (subst (λ p. suits e.kind p ≡ true) c.in-Exprs.is parts.0))
+    (both_true _ _ (ap is_covered_ref_type c.ref_type.ensures ∙ heap_covered ty.heap payload_held.0)
+    (both_true _ _ c.mode_of-mode.ensures.ready (ap (list_all is_encodable_expression) c.as_slice-in-Exprs.ensures ∙ payload_held.1)))
+
+pub returns-in-Indices : goal.returns-in-Indices
+returns-in-Indices g c =
+    let xs = c.as_slice.result.now in
+    let fs = c.in-Indices.functions in
+    rw c.in-Indices.is
+    (segment_written g.S.Sink.rules c.args.out.now c.encode.new.out (λ b. meaning.expression b.0.now) c.mode_of-mode.result c.args.elem.now.kind (payload.Indices fs) kinds.Functions (InRangeVec (λ i. InRangeU32 (meaning.number i)) xs) (vec (λ i. unsigned (meaning.number i)) xs) c.encode.result c.mode_of-mode.ensures.same refl
+    (ap (vec (λ i. unsigned (meaning.number i))) c.as_slice.ensures ∙ vec_mapped unsigned meaning.number fs)
+    (λ h. in_range_mapped InRangeU32 meaning.number fs (subst (InRangeVec (λ i. InRangeU32 (meaning.number i))) c.as_slice.ensures h))
+    (λ h. subst (InRangeVec (λ i. InRangeU32 (meaning.number i))) (sym c.as_slice.ensures) (in_range_unmapped InRangeU32 meaning.number fs h)) c.encode.ensures)
+
+pub returns-in-Exprs : goal.returns-in-Exprs
+returns-in-Exprs g c =
+    let xs = c.as_slice-in-Exprs.result.now in
+    let es = c.in-Exprs.exprs in
+    rw c.in-Exprs.is
+    (segment_written g.S.Sink.rules c.args.out.now c.encode-in-Exprs.new.out (λ b. meaning.expression b.0.now) c.mode_of-mode.result c.args.elem.now.kind (payload.Exprs c.in-Exprs.ty es) (kinds.Expressions c.ref_type.result) (InRangeVec (λ e. InRangeExpression (meaning.expression e)) xs) (vec (λ e. expression (meaning.expression e)) xs) c.encode-in-Exprs.result c.mode_of-mode.ensures.same (ap kinds.Expressions c.ref_type.ensures)
+    (ap (vec (λ e. expression (meaning.expression e))) c.as_slice-in-Exprs.ensures ∙ vec_mapped expression meaning.expression es)
+    (λ h. in_range_mapped InRangeExpression meaning.expression es (subst (InRangeVec (λ e. InRangeExpression (meaning.expression e))) c.as_slice-in-Exprs.ensures h))
+    (λ h. subst (InRangeVec (λ e. InRangeExpression (meaning.expression e))) (sym c.as_slice-in-Exprs.ensures) (in_range_unmapped InRangeExpression meaning.expression es h)) c.encode-in-Exprs.ensures)

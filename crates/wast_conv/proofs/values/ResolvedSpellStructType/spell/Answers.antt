@@ -1,0 +1,10 @@
+use Rattle.wasm_ops.specs.Spelling.{field_type, InRangeFieldType}
+use Rattle.wast_conv.specs.Meaning as meaning
+use Rattle.wast_conv.proofs.Spelled.{list_written}
+use Rattle.wast_conv.proofs.values.ResolvedSpellStructType.spell.Goals as goal
+
+pub encode-requires : goal.encode-requires
+encode-requires g c = rw (c.as_slice.ensures) c.requires
+
+pub returns : goal.returns
+returns g c = list_written g.S.Sink.rules c.args.out.now c.encode.new.out 0x5f field_type InRangeFieldType meaning.field_type c.as_slice.result.now c.args.ty.now.fields c.encode.result c.as_slice.ensures c.encode.ensures

@@ -1,0 +1,16 @@
+-- What an entry of a section holds.
+use Rattle.std.specs.Prelude.{Bool}
+use Rattle.std.specs.List.{list_all}
+use Rattle.wasm_out.specs.Parts.{TypeEntry, Single}
+use Rattle.wast_conv.specs.Encodable.{is_encodable_type}
+use Rattle.wast_conv.specs.Meaning as meaning
+use Rattle.wast_conv.specs.declared.section_items.RecOrType.{RecOrType}
+use Rattle.wast_conv.specs.declared.section_items.RecOrType.TheVariants as entry
+
+abbrev pub entry_of : RecOrType → TypeEntry
+entry_of (entry.Ty t) = Single (meaning.sub_type t.now.def)
+entry_of (entry.Rec r) = meaning.group_of r.now
+
+abbrev pub is_encodable_entry : RecOrType → Bool
+is_encodable_entry (entry.Ty t) = is_encodable_type t.now
+is_encodable_entry (entry.Rec r) = list_all is_encodable_type r.now.types

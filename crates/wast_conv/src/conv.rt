@@ -1,0 +1,328 @@
+//! Parts of a resolved tree as values of the binary format.
+
+ghost use Rattle.std.specs.Prelude.{◌≡◌, Bool, true, map, option_map, IfOk, IfErr, IsTrue};
+ghost use Rattle.std.specs.List.{All, flat_map, list_all};
+ghost use Rattle.wast_tree.specs.Ids.{is_number};
+ghost use Rattle.wast_tree.specs.Faults.{out_of_memory};
+ghost use Rattle.wast_tree.specs.Occurrences.{in_heap, in_ref, in_val, in_storage, in_array, in_struct, in_signature, in_inner, in_def, in_type};
+ghost use Rattle.wasm_ops.specs.ConstExprs.{InRangeExpression};
+ghost use Rattle.wasm_ops.specs.Table.{instr, instrs, InRangeInstr, SpellsInstrs};
+ghost use Rattle.wasm_out.specs.Built.{IsRefused};
+ghost use Rattle.wast_resolve.specs.Resolved.{is_resolved};
+ghost use Rattle.wast_conv.specs.Encodable.{is_number_if, is_encodable_instr, is_encodable_expression};
+ghost use Rattle.wast_conv.specs.Meaning as meaning;
+
+pub use crate::conv_entities::{entity_type, global_type, memory_type, table_type, tag_type};
+use crate::values::Resolved;
+use std::alloc::Global;
+use wasm_ops::{
+    CompositeInnerType, CompositeType, ConstExpr, Each, Encode, FuncType, StructType, SubType,
+};
+use wast_tree::{
+    Error, Expression, FunctionType, Id, Index, InnerTypeKind, Instruction, NameAnnotation, Seq,
+    Type, TypeDef,
+};
+
+/// A part of the tree that stands for a value of the binary format, and takes no memory for it.
+pub(crate) trait Convert {
+    /// The value.
+    type Out: Drop;
+
+    ghost becomes: { Self → Self.Out };
+
+    /// Its indices are numbers.
+    ghost is_ready: { Self → Bool };
+
+    fn convert(&self) -> Self::Out
+        requires { IsTrue (is_ready self.now) }
+        ensures { result ≡ becomes self.now };
+}
+
+/// Each item of a list as its value. The only error is out of memory.
+pub(crate) fn converted<'e, T: Convert>(
+    alloc: Global,
+    items: &[T],
+) -> Result<Seq<T::Out>, Error<'e>>
+    requires { IsTrue (list_all T.is_ready items.now) }
+    ensures list { IfOk result (λ made. made ≡ map T.becomes items.now) }
+    ensures refusal { IfErr result (λ e. e ≡ out_of_memory) }
+{
+    let mut made = Seq::new(alloc);
+    for item in items {
+        made.push(item.convert())?;
+    }
+    Ok(made)
+}
+
+/// The number of an index. It needs a resolved one (text format, indices).
+pub fn index(index: &Index) -> u32
+    requires { IsTrue (is_number index.now) }
+    ensures { result ≡ meaning.number index.now }
+{
+    match index {
+        Index::Num(number, _) => *number,
+        Index::Id(_) => unreachable!(),
+    }
+}
+
+impl Convert for Index<'_> {
+    type Out = u32;
+
+    ghost becomes = { meaning.number };
+
+    ghost is_ready = { is_number };
+
+    fn convert(&self) -> u32 {
+        index(self)
+    }
+}
+
+fn abstract_type(ty: wast_tree::AbstractHeapType) -> wasm_ops::AbstractHeapType
+    ensures { result ≡ meaning.abstract_type ty }
+{
+    match ty {
+        wast_tree::AbstractHeapType::Func => wasm_ops::AbstractHeapType::Func,
+        wast_tree::AbstractHeapType::Extern => wasm_ops::AbstractHeapType::Extern,
+        wast_tree::AbstractHeapType::Exn => wasm_ops::AbstractHeapType::Exn,
+        wast_tree::AbstractHeapType::NoExn => wasm_ops::AbstractHeapType::NoExn,
+        wast_tree::AbstractHeapType::Any => wasm_ops::AbstractHeapType::Any,
+        wast_tree::AbstractHeapType::Eq => wasm_ops::AbstractHeapType::Eq,
+        wast_tree::AbstractHeapType::Struct => wasm_ops::AbstractHeapType::Struct,
+        wast_tree::AbstractHeapType::Array => wasm_ops::AbstractHeapType::Array,
+        wast_tree::AbstractHeapType::NoFunc => wasm_ops::AbstractHeapType::NoFunc,
+        wast_tree::AbstractHeapType::NoExtern => wasm_ops::AbstractHeapType::NoExtern,
+        wast_tree::AbstractHeapType::None => wasm_ops::AbstractHeapType::None,
+        wast_tree::AbstractHeapType::I31 => wasm_ops::AbstractHeapType::I31,
+    }
+}
+
+/// What a reference refers to (binary format, heap types). It needs a resolved index.
+pub fn heap_type(ty: &wast_tree::HeapType) -> wasm_ops::HeapType
+    requires { IsTrue (is_resolved (in_heap ty.now)) }
+    ensures { result ≡ meaning.heap_type ty.now }
+{
+    match ty {
+        wast_tree::HeapType::Abstract { shared, ty } => wasm_ops::HeapType::Abstract {
+            shared: *shared,
+            ty: abstract_type(*ty),
+        },
+        wast_tree::HeapType::Concrete(of) => wasm_ops::HeapType::Concrete(index(of)),
+    }
+}
+
+/// A reference type (binary format, reference types). It needs a resolved index.
+pub fn ref_type(ty: &wast_tree::RefType) -> wasm_ops::RefType
+    requires { IsTrue (is_resolved (in_ref ty.now)) }
+    ensures { result ≡ meaning.ref_type ty.now }
+{
+    wasm_ops::RefType {
+        nullable: ty.nullable,
+        heap_type: heap_type(&ty.heap),
+    }
+}
+
+/// A value type (binary format, value types). It needs a resolved index.
+pub fn val_type(ty: &wast_tree::ValType) -> wasm_ops::ValType
+    requires { IsTrue (is_resolved (in_val ty.now)) }
+    ensures { result ≡ meaning.val_type ty.now }
+{
+    match ty {
+        wast_tree::ValType::I32 => wasm_ops::ValType::I32,
+        wast_tree::ValType::I64 => wasm_ops::ValType::I64,
+        wast_tree::ValType::F32 => wasm_ops::ValType::F32,
+        wast_tree::ValType::F64 => wasm_ops::ValType::F64,
+        wast_tree::ValType::V128 => wasm_ops::ValType::V128,
+        wast_tree::ValType::Ref(ty) => wasm_ops::ValType::Ref(ref_type(ty)),
+    }
+}
+
+/// What a field of a struct or an element of an array holds (binary format, composite types). It needs a resolved index.
+pub fn storage_type(ty: &wast_tree::StorageType) -> wasm_ops::StorageType
+    requires { IsTrue (is_resolved (in_storage ty.now)) }
+    ensures { result ≡ meaning.storage_type ty.now }
+{
+    match ty {
+        wast_tree::StorageType::I8 => wasm_ops::StorageType::I8,
+        wast_tree::StorageType::I16 => wasm_ops::StorageType::I16,
+        wast_tree::StorageType::Val(ty) => wasm_ops::StorageType::Val(val_type(ty)),
+    }
+}
+
+/// A field of a struct (binary format, composite types). It needs a resolved index.
+pub fn field_type(field: &wast_tree::StructField) -> wasm_ops::FieldType
+    requires { IsTrue (is_resolved (in_storage field.now.ty)) }
+    ensures { result ≡ meaning.field_type field.now }
+{
+    wasm_ops::FieldType {
+        element_type: storage_type(&field.ty),
+        mutable: field.mutable,
+    }
+}
+
+/// An array type (binary format, composite types). It needs a resolved index.
+pub fn array_type(ty: &wast_tree::ArrayType) -> wasm_ops::ArrayType
+    requires { IsTrue (is_resolved (in_array ty.now)) }
+    ensures { result ≡ meaning.array_type ty.now }
+{
+    wasm_ops::ArrayType(wasm_ops::FieldType {
+        element_type: storage_type(&ty.ty),
+        mutable: ty.mutable,
+    })
+}
+
+impl Convert for wast_tree::ValType<'_> {
+    type Out = wasm_ops::ValType;
+
+    ghost becomes = { meaning.val_type };
+
+    ghost is_ready = { λ t. is_resolved (in_val t) };
+
+    fn convert(&self) -> wasm_ops::ValType {
+        val_type(self)
+    }
+}
+
+impl<'a> Convert
+    for (
+        Option<Id<'a>>,
+        Option<NameAnnotation<'a>>,
+        wast_tree::ValType<'a>,
+    ) {
+    type Out = wasm_ops::ValType;
+
+    ghost becomes = { λ p. meaning.val_type p.2 };
+
+    ghost is_ready = { λ p. is_resolved (in_val p.2) };
+
+    fn convert(&self) -> wasm_ops::ValType {
+        val_type(&self.2)
+    }
+}
+
+impl Convert for wast_tree::StructField<'_> {
+    type Out = wasm_ops::FieldType;
+
+    ghost becomes = { meaning.field_type };
+
+    ghost is_ready = { λ f. is_resolved (in_storage f.ty) };
+
+    fn convert(&self) -> wasm_ops::FieldType {
+        field_type(self)
+    }
+}
+
+/// A function type: the types of its parameters and results (binary format, composite types). It needs resolved indices.
+/// The only error is out of memory.
+pub fn func_type<'e>(alloc: Global, ty: &FunctionType) -> Result<FuncType, Error<'e>>
+    requires { IsTrue (is_resolved (in_signature ty.now)) }
+    ensures value { IfOk result (λ made. made ≡ meaning.func_type ty.now) }
+    ensures refusal { IfErr result (λ e. e ≡ out_of_memory) }
+{
+    let params = converted(alloc, ty.params.as_slice())?;
+    let results = converted(alloc, ty.results.as_slice())?;
+    Ok(FuncType { params, results })
+}
+
+/// A struct type: its fields (binary format, composite types). It needs resolved indices. The only error is out of memory.
+pub fn struct_type<'e>(alloc: Global, ty: &wast_tree::StructType) -> Result<StructType, Error<'e>>
+    requires { IsTrue (is_resolved (in_struct ty.now)) }
+    ensures value { IfOk result (λ made. made ≡ meaning.struct_type ty.now) }
+    ensures refusal { IfErr result (λ e. e ≡ out_of_memory) }
+{
+    let fields = converted(alloc, ty.fields.as_slice())?;
+    Ok(StructType { fields })
+}
+
+fn inner_type<'e>(alloc: Global, kind: &InnerTypeKind) -> Result<CompositeInnerType, Error<'e>>
+    requires { IsTrue (is_resolved (in_inner kind.now)) }
+    ensures value { IfOk result (λ made. made ≡ meaning.inner_type kind.now) }
+    ensures refusal { IfErr result (λ e. e ≡ out_of_memory) }
+{
+    match kind {
+        InnerTypeKind::Func(ty) => Ok(CompositeInnerType::Func(func_type(alloc, ty)?)),
+        InnerTypeKind::Struct(ty) => Ok(CompositeInnerType::Struct(struct_type(alloc, ty)?)),
+        InnerTypeKind::Array(ty) => Ok(CompositeInnerType::Array(array_type(ty))),
+    }
+}
+
+pub(crate) fn optional_index(optional: &Option<Index>) -> Option<u32>
+    requires { IsTrue (is_number_if optional.now) }
+    ensures { result ≡ option_map meaning.number optional.now }
+{
+    match optional {
+        None => None,
+        Some(some) => Some(index(some)),
+    }
+}
+
+/// What a type is defined as: a composite type, and how it stands to other types (binary format, recursive types). It
+/// needs resolved indices. The only error is out of memory.
+pub fn sub_type<'e>(alloc: Global, ty: &TypeDef) -> Result<SubType, Error<'e>>
+    requires { IsTrue (is_resolved (in_def ty.now)) }
+    ensures value { IfOk result (λ made. made ≡ meaning.sub_type ty.now) }
+    ensures refusal { IfErr result (λ e. e ≡ out_of_memory) }
+{
+    let inner = inner_type(alloc, &ty.kind)?;
+    let supertype_idxs = converted(alloc, ty.parents.as_slice())?;
+    Ok(SubType {
+        composite_type: CompositeType {
+            inner,
+            shared: ty.shared,
+            descriptor: optional_index(&ty.descriptor),
+            describes: optional_index(&ty.describes),
+        },
+        is_final: ty.final_type.unwrap_or(true),
+        supertype_idxs,
+    })
+}
+
+/// Each type of a group. The only error is out of memory.
+pub(crate) fn group<'e>(alloc: Global, types: &[Type]) -> Result<Seq<SubType>, Error<'e>>
+    requires { IsTrue (list_all (λ t. is_resolved (in_type t)) types.now) }
+    ensures value { IfOk result (λ made. made ≡ map (λ t. meaning.sub_type t.def) types.now) }
+    ensures refusal { IfErr result (λ e. e ≡ out_of_memory) }
+{
+    let mut made = Seq::new(alloc);
+    for ty in types {
+        made.push(sub_type(alloc, &ty.def)?)?;
+    }
+    Ok(made)
+}
+
+/// The kind of what is exported (binary format, export section).
+pub fn export_kind(kind: wast_tree::ExportKind) -> wasm_ops::ExportKind
+    ensures { result ≡ meaning.export_kind kind }
+{
+    match kind {
+        wast_tree::ExportKind::Func => wasm_ops::ExportKind::Func,
+        wast_tree::ExportKind::Table => wasm_ops::ExportKind::Table,
+        wast_tree::ExportKind::Memory => wasm_ops::ExportKind::Memory,
+        wast_tree::ExportKind::Global => wasm_ops::ExportKind::Global,
+        wast_tree::ExportKind::Tag => wasm_ops::ExportKind::Tag,
+    }
+}
+
+/// The bytes of instructions.
+fn instrs_bytes<'e>(alloc: Global, instructions: &[Instruction]) -> Result<Vec<u8>, Error<'e>>
+    requires { IsTrue (list_all is_encodable_instr instructions.now) }
+    ensures value { IfOk result (λ made. (made.items ≡ flat_map (λ i. instr (meaning.instr i)) instructions.now) × All (λ i. InRangeInstr (meaning.instr i)) instructions.now) }
+    ensures refusal { IfErr result (IsRefused (All (λ i. InRangeInstr (meaning.instr i)) instructions.now)) }
+{
+    let mut bytes = Vec::new(alloc);
+    Each(instructions, Resolved).encode(&mut bytes)?;
+    Ok(bytes)
+}
+
+/// A constant expression: its instructions as bytes (binary format, expressions). It needs instructions that the encoder
+/// covers, with resolved indices. Sections take the expression that it gives.
+///
+/// E12 comes where memory is refused. E10 comes only where a number of an instruction is out of range.
+pub fn const_expr<'e>(alloc: Global, expression: &Expression) -> Result<ConstExpr, Error<'e>>
+    requires { IsTrue (is_encodable_expression expression.now) }
+    ensures value { IfOk result (λ made. (made ≡ instrs (meaning.expression expression.now)) × InRangeExpression (meaning.expression expression.now)) }
+    ensures spelled { IfOk result (λ made. SpellsInstrs made) }
+    ensures refusal { IfErr result (IsRefused (InRangeExpression (meaning.expression expression.now))) }
+{
+    let bytes = instrs_bytes(alloc, expression.instrs.as_slice())?;
+    Ok(ConstExpr::raw(bytes))
+}

@@ -1,0 +1,15 @@
+//! Parts of a resolved tree as values of the binary format, as items of sections, and as they are spelled.
+#![tactic(auto)]
+
+pub mod conv;
+mod conv_entities;
+mod conv_segments;
+mod field_items;
+mod field_values;
+mod section_items;
+mod segment_items;
+mod segment_values;
+mod values;
+
+pub use section_items::{FuncSectionTy, RecOrType, SectionItem};
+pub use values::Resolved;

@@ -1,0 +1,38 @@
+-- Fields of other kinds put nothing into a section.
+use Rattle.std.proofs.Common.{◌≡◌, false, List, [], refl}
+use Rattle.wasm_out.specs.Parts.{SectionKind, Types, Imports, Functions, Tables, Memories, Tags, Globals, Exports, Elements, Code, Data}
+use Rattle.wast_reach.specs.Kinds.{is_of}
+use Rattle.wast_reach.specs.declared.kinds.FieldKind.TheVariants as kind
+use Rattle.wast_core.specs.Meaning.{entries_in, starts_in}
+use Rattle.wast_core.specs.Putting.{puts}
+use Rattle.wast_core.specs.Tree.{ModuleField}
+use Rattle.wast_core.specs.Tree.field
+
+pub nothing_elsewhere : (k : SectionKind) (f : ModuleField) → puts k f ≡ false → entries_in k f ≡ []
+nothing_elsewhere Types (field.Ty t) h = cc
+nothing_elsewhere Types (field.Rec r) h = cc
+nothing_elsewhere Types f h = refl
+nothing_elsewhere Imports (field.Import i) h = cc
+nothing_elsewhere Imports f h = refl
+nothing_elsewhere Functions (field.Func x) h = cc
+nothing_elsewhere Functions f h = refl
+nothing_elsewhere Tables (field.Table t) h = cc
+nothing_elsewhere Tables f h = refl
+nothing_elsewhere Memories (field.Memory m) h = cc
+nothing_elsewhere Memories f h = refl
+nothing_elsewhere Tags (field.Tag t) h = cc
+nothing_elsewhere Tags f h = refl
+nothing_elsewhere Globals (field.Global g) h = cc
+nothing_elsewhere Globals f h = refl
+nothing_elsewhere Exports (field.Export e) h = cc
+nothing_elsewhere Exports f h = refl
+nothing_elsewhere Elements (field.Elem e) h = cc
+nothing_elsewhere Elements f h = refl
+nothing_elsewhere Code (field.Func x) h = cc
+nothing_elsewhere Code f h = refl
+nothing_elsewhere Data (field.Data d) h = cc
+nothing_elsewhere Data f h = refl
+
+pub no_start_elsewhere : (f : ModuleField) → is_of kind.Start f ≡ false → starts_in f ≡ []
+no_start_elsewhere (field.Start i) h = cc
+no_start_elsewhere f h = refl

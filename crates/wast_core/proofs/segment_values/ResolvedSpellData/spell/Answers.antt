@@ -1,7 +1,0 @@
-use Rattle.std.proofs.Common.{true, refl}
-use Rattle.wast_core.proofs.EachPasses.{all_pass}
-use Rattle.wast_core.proofs.TypesReady.{both_true}
-use Rattle.wast_core.proofs.segment_values.ResolvedSpellData.spell.Goals as goal
-
-pub encode-requires : goal.encode-requires
-encode-requires g c = both_true _ _ c.data_mode_of.ensures.ready (all_pass (λ v. true) c.as_slice.result.now (λ v. refl))

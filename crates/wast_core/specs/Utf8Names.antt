@@ -1,0 +1,24 @@
+-- Which names in fields are UTF-8: those that they put into the import and export sections (binary format, values: names).
+use Rattle.std.specs.Prelude.{IsTrue}
+use Rattle.std.specs.Str.{is_utf8}
+use Rattle.wast_core.specs.Tree.{ImportItems, ModuleField}
+use Rattle.wast_core.specs.Tree.import_items
+use Rattle.wast_core.specs.Tree.field
+
+-- the names that a field puts into the sections are UTF-8
+abbrev pub HasUtf8Items : ImportItems → Type 0
+HasUtf8Items (import_items.Single source name sig) = IsTrue (is_utf8 source.now) × IsTrue (is_utf8 name.now)
+
+abbrev pub HasUtf8Names : ModuleField → Type 0
+HasUtf8Names (field.Ty t) = Unit {0}
+HasUtf8Names (field.Rec r) = Unit {0}
+HasUtf8Names (field.Import i) = HasUtf8Items i.items
+HasUtf8Names (field.Func f) = Unit {0}
+HasUtf8Names (field.Table t) = Unit {0}
+HasUtf8Names (field.Memory m) = Unit {0}
+HasUtf8Names (field.Global g) = Unit {0}
+HasUtf8Names (field.Export e) = IsTrue (is_utf8 e.name.now)
+HasUtf8Names (field.Start i) = Unit {0}
+HasUtf8Names (field.Elem e) = Unit {0}
+HasUtf8Names (field.Data d) = Unit {0}
+HasUtf8Names (field.Tag t) = Unit {0}

@@ -1,0 +1,26 @@
+-- Ids that are given change nothing but ids.
+use Rattle.std.proofs.Common.{◌≡◌, ℕ, ◌+◌, Bool, true, false, ◌||◌, List, [], ◌∷◌, Result, Ok, Err, IfErr, refl, ap, ◌∙◌, inr, subst}
+use Rattle.std.specs.List.{list_any}
+use Rattle.wast_tree.specs.declared.faults.Error.{Error}
+use Rattle.wast_expand.specs.Filling.{one_if, given_if}
+use Rattle.wast_deinline.specs.Tree.{ModuleField}
+use Rattle.wast_deinline.specs.Tree.field
+use Rattle.wast_deinline.specs.Segments.{overflows}
+use Rattle.wast_deinline.specs.Referring.{wants_id, with_id}
+use Rattle.wast_deinline.specs.Written.{referable, IsRefused, CannotBeWritten}
+
+overflows_given : (b : Bool) (n : ℕ) (x : ModuleField) → overflows (given_if b with_id n x) ≡ overflows x
+overflows_given false n x = refl
+overflows_given true n (field.Memory m) = refl
+overflows_given true n x = refl
+
+overflows_referable : (n : ℕ) (xs : List ModuleField) → list_any overflows (referable n xs) ≡ list_any overflows xs
+overflows_referable n [] = refl
+overflows_referable n (x ∷ xs) =
+    ap (λ b. b || list_any overflows (referable (n + one_if (wants_id x)) xs)) (overflows_given (wants_id x) n x)
+    ∙ ap (λ b. overflows x || b) (overflows_referable (n + one_if (wants_id x)) xs)
+
+-- what is refused once ids are given
+pub refused : (n : ℕ) (xs ys : List ModuleField) (r : Result (List ModuleField) Error) → ys ≡ referable n xs → IfErr r (IsRefused (list_any overflows ys)) → IfErr r (CannotBeWritten n xs)
+refused n xs ys (Ok out) is h = h
+refused n xs ys (Err e) is h = inr (subst (λ b. IsRefused b e) (ap (list_any overflows) is ∙ overflows_referable n xs) h)

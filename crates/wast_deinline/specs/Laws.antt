@@ -1,0 +1,30 @@
+-- What holds of each list that is written out (text format: abbreviations).
+use Rattle.std.specs.Prelude.{◌≡◌, ℕ, List, IsTrue}
+use Rattle.wast_tree.specs.WellFormed.{are_plain}
+use Rattle.wast_tree.specs.WrittenOut.{is_written_out}
+use Rattle.wast_deinline.specs.Tree.{ModuleField}
+use Rattle.wast_deinline.specs.Written.{written, references_wanted, written_out}
+
+-- No abbreviation is left.
+abbrev pub NothingIsLeft : Type 0
+NothingIsLeft = (n : ℕ) (fields : List ModuleField) → IsTrue (is_written_out (written n fields))
+
+abbrev pub NothingIsLeftByPosition : Type 0
+NothingIsLeftByPosition = (fields : List ModuleField) → IsTrue (is_written_out (written_out fields))
+
+-- A list without abbreviations stays, and takes no id.
+abbrev pub StaysWritten : Type 0
+StaysWritten = (n : ℕ) (fields : List ModuleField) → IsTrue (is_written_out fields) → written n fields ≡ fields
+
+abbrev pub StaysByPosition : Type 0
+StaysByPosition = (fields : List ModuleField) → IsTrue (is_written_out fields) → written_out fields ≡ fields
+
+abbrev pub WantsNoReference : Type 0
+WantsNoReference = (fields : List ModuleField) → IsTrue (is_written_out fields) → references_wanted fields ≡ 0
+
+-- What is covered today stays so.
+abbrev pub StaysPlain : Type 0
+StaysPlain = (n : ℕ) (fields : List ModuleField) → IsTrue (are_plain fields) → IsTrue (are_plain (written n fields))
+
+abbrev pub StaysPlainByPosition : Type 0
+StaysPlainByPosition = (fields : List ModuleField) → IsTrue (are_plain fields) → IsTrue (are_plain (written_out fields))

@@ -1,0 +1,83 @@
+-- What stands in place in a memory or a table, and how large that makes it (text format: memories, tables; abbreviations).
+use Rattle.std.specs.Prelude.{ℕ, pos, ◌^◌, nat_lt, not, length, Bool, true, false, List, [], ◌∷◌, Option, Some, None}
+use Rattle.std.specs.Int.{div_ceil}
+use Rattle.wast_tree.specs.DataBytes.{all_bytes}
+use Rattle.wast_deinline.specs.Tree.{Span, Index, RefType, Instruction, Expression, Limits, TableType, MemoryType, ElemPayload, DataVal, TableKind, MemoryKind, ModuleField}
+use Rattle.wast_deinline.specs.Tree.instr
+use Rattle.wast_deinline.specs.Tree.elem
+use Rattle.wast_deinline.specs.Tree.payload
+use Rattle.wast_deinline.specs.Tree.data_kind
+use Rattle.wast_deinline.specs.Tree.table
+use Rattle.wast_deinline.specs.Tree.memory
+use Rattle.wast_deinline.specs.Tree.field
+
+-- a segment begins at 0, which is as wide as an index
+abbrev pub zero : Bool → Instruction
+zero false = instr.i32_const (pos 0)
+zero true = instr.i64_const (pos 0)
+
+abbrev pub at_zero : Bool → Expression
+at_zero is64 = record { instrs = zero is64 ∷ []; branch_hints = [] }
+
+-- as large as this, and no larger
+abbrev pub exactly : Bool → ℕ → Limits
+exactly is64 n = record { is64 = is64; min = n; max = Some n }
+
+abbrev pub page_size : Option ℕ → ℕ
+page_size None = 65536
+page_size (Some exponent) = 2 ^ exponent
+
+-- as many pages as hold the bytes
+abbrev pub page_count : List DataVal → Option ℕ → ℕ
+page_count pieces exponent = div_ceil (length (all_bytes pieces)) (page_size exponent)
+
+abbrev pub filled_memory_type : Bool → List DataVal → Option ℕ → MemoryType
+filled_memory_type is64 pieces exponent = record { limits = exactly is64 (page_count pieces exponent); shared = false; page_size_log2 = exponent }
+
+abbrev pub element_count : ElemPayload → ℕ
+element_count (payload.Indices is) = length is
+element_count (payload.Exprs ty es) = length es
+
+abbrev pub filled_table_type : RefType → Bool → Bool → ElemPayload → TableType
+filled_table_type ty is64 shared p = record { limits = exactly is64 (element_count p); elem = ty; shared = shared }
+
+-- the segment of the bytes, and of the elements: at the place of the field, without id and name, into its item
+abbrev pub data_into : Span → Index → Bool → List DataVal → ModuleField
+data_into span item is64 pieces = field.Data (record { span = span; id = None; name = None; kind = data_kind.Active item (at_zero is64); bytes = pieces })
+
+abbrev pub elem_into : Span → Index → Bool → ElemPayload → ModuleField
+elem_into span item is64 p = field.Elem (record { span = span; id = None; name = None; kind = elem.Active (Some item) (at_zero is64); payload = p })
+
+-- whether bytes or elements stand in place
+abbrev pub has_bytes : MemoryKind → Bool
+has_bytes (memory.Import source ty) = false
+has_bytes (memory.Normal ty) = false
+has_bytes (memory.Inline is64 pieces exponent) = true
+
+abbrev pub has_elements : TableKind → Bool
+has_elements (table.Import source ty) = false
+has_elements (table.Normal ty init) = false
+has_elements (table.Inline ty is64 shared p) = true
+
+-- whether the bytes that stand in place are 2^32 or more
+abbrev pub are_too_many : List DataVal → Bool
+are_too_many pieces = not (nat_lt (length (all_bytes pieces)) (2 ^ 32))
+
+abbrev pub overflows_kind : MemoryKind → Bool
+overflows_kind (memory.Import source ty) = false
+overflows_kind (memory.Normal ty) = false
+overflows_kind (memory.Inline is64 pieces exponent) = are_too_many pieces
+
+abbrev pub overflows : ModuleField → Bool
+overflows (field.Ty t) = false
+overflows (field.Rec r) = false
+overflows (field.Import i) = false
+overflows (field.Func f) = false
+overflows (field.Table t) = false
+overflows (field.Memory m) = overflows_kind m.kind
+overflows (field.Global g) = false
+overflows (field.Export e) = false
+overflows (field.Start i) = false
+overflows (field.Elem e) = false
+overflows (field.Data d) = false
+overflows (field.Tag t) = false

@@ -1,0 +1,89 @@
+-- The fields that stand for a field once its abbreviations are written out (text format: functions, tables, memories,
+-- globals, tags; abbreviations).
+use Rattle.std.specs.Prelude.{ℕ, List, [], ◌∷◌, ◌++◌, map, Option, None}
+use Rattle.std.specs.Borrow.{Bor}
+use Rattle.wast_deinline.specs.Tree.{Span, Id, Index, NameAnnotation, Space, ItemKind, InlineExport, InlineImport, FuncKind, Func, Table, TableKind, Memory, MemoryKind, Global, GlobalKind, Tag, TagKind, ExportKind, ModuleField}
+use Rattle.wast_deinline.specs.Tree.space
+use Rattle.wast_deinline.specs.Tree.import_items
+use Rattle.wast_deinline.specs.Tree.kind
+use Rattle.wast_deinline.specs.Tree.func
+use Rattle.wast_deinline.specs.Tree.table
+use Rattle.wast_deinline.specs.Tree.memory
+use Rattle.wast_deinline.specs.Tree.global
+use Rattle.wast_deinline.specs.Tree.tag_kind
+use Rattle.wast_deinline.specs.Tree.export
+use Rattle.wast_deinline.specs.Tree.field
+use Rattle.wast_deinline.specs.Segments.{filled_memory_type, filled_table_type, data_into, elem_into}
+
+-- How the item of a field is referred to: by its space, the place of the field, and its id.
+abbrev pub Reference : Type 0
+Reference = Space → Span → Option Id → Index
+
+abbrev pub no_exports : InlineExport
+no_exports = record { names = [] }
+
+-- an export at the place of the field
+abbrev pub export_of : Span → ExportKind → Index → Bor (List ℕ) → ModuleField
+export_of span kind item name = field.Export (record { span = span; name = name; kind = kind; item = item })
+
+-- one for each name, in order
+abbrev pub exports_of : Span → ExportKind → Index → InlineExport → List ModuleField
+exports_of span kind item exports = map (export_of span kind item) exports.names
+
+-- an import of one item, at the place of the field and with its id
+abbrev pub import_of : Span → Option Id → Option NameAnnotation → InlineImport → ItemKind → ModuleField
+import_of span id name source k = field.Import (record {
+  span = span;
+  items = import_items.Single source.«module» source.field (record { span = span; id = id; name = name; kind = k });
+})
+
+-- The segment of what stands in place.
+abbrev pub data_in : MemoryKind → Span → Index → List ModuleField
+data_in (memory.Import source ty) span item = []
+data_in (memory.Normal ty) span item = []
+data_in (memory.Inline is64 pieces exponent) span item = data_into span item is64 pieces ∷ []
+
+abbrev pub elem_in : TableKind → Span → Index → List ModuleField
+elem_in (table.Import source ty) span item = []
+elem_in (table.Normal ty init) span item = []
+elem_in (table.Inline ty is64 shared p) span item = elem_into span item is64 p ∷ []
+
+-- The field without what stands in place. Of the imported ones a function alone keeps its name annotation.
+abbrev pub func_alone : Func → FuncKind → ModuleField
+func_alone f (func.Import source exact) = import_of f.span f.id f.name source (kind.Func f.ty)
+func_alone f (func.Inline locals e) = field.Func (record f { exports = no_exports; kind = func.Inline locals e })
+
+abbrev pub table_alone : Table → TableKind → ModuleField
+table_alone t (table.Import source ty) = import_of t.span t.id None source (kind.Table ty)
+table_alone t (table.Normal ty init) = field.Table (record t { exports = no_exports; kind = table.Normal ty init })
+table_alone t (table.Inline ty is64 shared p) = field.Table (record t { exports = no_exports; kind = table.Normal (filled_table_type ty is64 shared p) None })
+
+abbrev pub memory_alone : Memory → MemoryKind → ModuleField
+memory_alone m (memory.Import source ty) = import_of m.span m.id None source (kind.Memory ty)
+memory_alone m (memory.Normal ty) = field.Memory (record m { exports = no_exports; kind = memory.Normal ty })
+memory_alone m (memory.Inline is64 pieces exponent) = field.Memory (record m { exports = no_exports; kind = memory.Normal (filled_memory_type is64 pieces exponent) })
+
+abbrev pub global_alone : Global → GlobalKind → ModuleField
+global_alone g (global.Import source) = import_of g.span g.id None source (kind.Global g.ty)
+global_alone g (global.Inline e) = field.Global (record g { exports = no_exports; kind = global.Inline e })
+
+abbrev pub tag_alone : Tag → TagKind → ModuleField
+tag_alone t (tag_kind.Import source) = import_of t.span t.id None source (kind.Tag t.ty)
+tag_alone t tag_kind.Inline = field.Tag (record t { exports = no_exports; kind = tag_kind.Inline })
+
+-- Its exports, its segment, and the field alone.
+abbrev pub write_out : Reference → ModuleField → List ModuleField
+write_out r (field.Ty t) = field.Ty t ∷ []
+write_out r (field.Rec g) = field.Rec g ∷ []
+write_out r (field.Import i) = field.Import i ∷ []
+write_out r (field.Func f) = exports_of f.span export.Func (r space.Func f.span f.id) f.exports ++ func_alone f f.kind ∷ []
+write_out r (field.Table t) =
+    exports_of t.span export.Table (r space.Table t.span t.id) t.exports ++ (elem_in t.kind t.span (r space.Table t.span t.id) ++ table_alone t t.kind ∷ [])
+write_out r (field.Memory m) =
+    exports_of m.span export.Memory (r space.Memory m.span m.id) m.exports ++ (data_in m.kind m.span (r space.Memory m.span m.id) ++ memory_alone m m.kind ∷ [])
+write_out r (field.Global g) = exports_of g.span export.Global (r space.Global g.span g.id) g.exports ++ global_alone g g.kind ∷ []
+write_out r (field.Export e) = field.Export e ∷ []
+write_out r (field.Start i) = field.Start i ∷ []
+write_out r (field.Elem e) = field.Elem e ∷ []
+write_out r (field.Data d) = field.Data d ∷ []
+write_out r (field.Tag t) = exports_of t.span export.Tag (r space.Tag t.span t.id) t.exports ++ tag_alone t t.kind ∷ []

@@ -1,0 +1,41 @@
+-- The list of fields with its abbreviations written out: from a counter, by ids; and by positions, where no id is made
+-- (text format: abbreviations).
+use Rattle.std.specs.Prelude.{◌≡◌, ◌⊎◌, ℕ, ◌+◌, Bool, List, [], ◌∷◌, ◌++◌, flat_map, IsTrue}
+use Rattle.std.specs.List.{list_any}
+use Rattle.wast_tree.specs.Items.{Item, items_in}
+use Rattle.wast_tree.specs.Faults.{too_large, out_of_memory}
+use Rattle.wast_tree.specs.declared.faults.Error.{Error}
+use Rattle.wast_expand.specs.Filling.{filled, wanted, RunsOut}
+use Rattle.wast_deinline.specs.Tree.{ModuleField}
+use Rattle.wast_deinline.specs.Segments.{overflows}
+use Rattle.wast_deinline.specs.WriteOut.{write_out}
+use Rattle.wast_deinline.specs.Referring.{by_id, by_position, wants_id, with_id}
+
+-- each item that is referred to has an id
+abbrev pub referable : ℕ → List ModuleField → List ModuleField
+referable n fields = filled wants_id with_id n fields
+
+-- The list that writing out gives, from a counter: each item is referred to by its id.
+abbrev pub written : ℕ → List ModuleField → List ModuleField
+written n fields = flat_map (write_out by_id) (referable n fields)
+
+-- how many ids it takes
+abbrev pub references_wanted : List ModuleField → ℕ
+references_wanted fields = wanted wants_id fields
+
+-- The same where each item is referred to by its position. Segments and exports are no items that are referred to, so the
+-- items of the fields before tell it.
+abbrev pub written_after : List Item → List ModuleField → List ModuleField
+written_after before [] = []
+written_after before (f ∷ fs) = write_out (by_position before) f ++ written_after (before ++ items_in f) fs
+
+abbrev pub written_out : List ModuleField → List ModuleField
+written_out fields = written_after [] fields
+
+-- Memory is refused; or too much is asked for, where that is so.
+abbrev pub IsRefused : Bool → Error → Type 0
+IsRefused too_much e = (e ≡ out_of_memory) ⊎ ((e ≡ too_large) × IsTrue too_much)
+
+-- Memory is refused, the counter would pass 64 bits, or the bytes in place of a memory are 2^32 or more.
+abbrev pub CannotBeWritten : ℕ → List ModuleField → Error → Type 0
+CannotBeWritten n fields e = RunsOut (n + references_wanted fields) e ⊎ IsRefused (list_any overflows fields) e

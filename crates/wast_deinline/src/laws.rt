@@ -1,0 +1,18 @@
+//! What holds of each list that is written out.
+
+ghost use Rattle.wast_deinline.specs.Laws.{NothingIsLeft, NothingIsLeftByPosition, StaysWritten, StaysByPosition, WantsNoReference, StaysPlain, StaysPlainByPosition};
+
+/// Laws of the list that is written out (text format: abbreviations), by ids and by positions: no abbreviation is left in
+/// it; a list without abbreviations stays as it is, and takes no id; and forms that are covered stay so.
+///
+/// It does nothing: what it ensures holds for each list of fields and each counter.
+#[tactic(auto, using(crate::proofs::Left::nothing_is_left, crate::proofs::Left::nothing_is_left_by_position, crate::proofs::Staying::stays_written, crate::proofs::Staying::stays_by_position, crate::proofs::Staying::wants_no_reference, crate::proofs::Plain::stays_plain, crate::proofs::Plain::stays_plain_by_position))]
+pub fn written_laws()
+    ensures left { NothingIsLeft }
+    ensures left_by_position { NothingIsLeftByPosition }
+    ensures stays { StaysWritten }
+    ensures stays_by_position { StaysByPosition }
+    ensures wants_none { WantsNoReference }
+    ensures plain { StaysPlain }
+    ensures plain_by_position { StaysPlainByPosition }
+{}

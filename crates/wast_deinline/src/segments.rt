@@ -1,0 +1,163 @@
+//! Segments of what stands in place in a memory or a table, and how large that makes it.
+
+ghost use Rattle.std.specs.Prelude.{◌≡◌, ◌≤◌, ◌<◌, ◌+◌, ◌^◌, length, IsTrue, IfOk, IfErr};
+ghost use Rattle.std.specs.Int.{div_ceil};
+ghost use Rattle.wast_tree.specs.DataBytes.{all_bytes};
+ghost use Rattle.wast_tree.specs.Faults.{too_large, out_of_memory};
+ghost use Rattle.wast_deinline.specs.Segments.{at_zero, element_count, page_count, filled_memory_type, filled_table_type, data_into, elem_into, are_too_many};
+
+use std::alloc::Global;
+use wast_tree::{
+    Data, DataKind, DataVal, Elem, ElemKind, ElemPayload, Error, Expression, Fault, Index,
+    Instruction, Limits, MemoryType, ModuleField, RefType, Seq, Span, TableType,
+};
+
+/// How many bytes there are in all; too many where they are 2^32 or more.
+fn byte_count<'e>(pieces: &[DataVal<'_>]) -> Result<u64, Error<'e>>
+    ensures ok { IfOk result (λ n. n ≡ length (all_bytes pieces.now)) }
+    ensures few { IfOk result (λ n. n < 2 ^ 32) }
+    ensures refusal { IfErr result (λ e. (e ≡ too_large) × IsTrue (are_too_many pieces.now)) }
+{
+    let mut count: u64 = 0;
+    for piece in pieces {
+        let more = piece.len() as u64;
+        if more > 0xffff_ffff - count {
+            return Err(Error::refusal(Fault::TooLarge));
+        }
+        count = count + more;
+    }
+    Ok(count)
+}
+
+/// As many pages of a size as hold so many bytes. It needs less than 2^32 bytes.
+fn pages_of(count: u64, exponent: u32) -> u64
+    requires { count < 2 ^ 32 }
+    ensures { result ≡ div_ceil count (2 ^ exponent) }
+{
+    if exponent < 64 {
+        count.div_ceil(1 << exponent)
+    } else {
+        count.min(1)
+    }
+}
+
+/// As many pages as hold the bytes.
+fn page_count<'e>(pieces: &[DataVal<'_>], exponent: Option<u32>) -> Result<u64, Error<'e>>
+    ensures ok { IfOk result (λ n. n ≡ page_count pieces.now exponent) }
+    ensures refusal { IfErr result (λ e. (e ≡ too_large) × IsTrue (are_too_many pieces.now)) }
+{
+    let count = byte_count(pieces)?;
+    match exponent {
+        Some(exponent) => Ok(pages_of(count, exponent)),
+        None => Ok(count.div_ceil(65_536)),
+    }
+}
+
+/// The type of a memory that holds these bytes at first, and has no page more.
+pub(crate) fn filled_memory_type<'e>(
+    is64: bool,
+    pieces: &[DataVal<'_>],
+    page_size_log2: Option<u32>,
+) -> Result<MemoryType, Error<'e>>
+    ensures ok { IfOk result (λ t. t ≡ filled_memory_type is64 pieces.now page_size_log2) }
+    ensures refusal { IfErr result (λ e. (e ≡ too_large) × IsTrue (are_too_many pieces.now)) }
+{
+    let count = page_count(pieces, page_size_log2)?;
+    Ok(MemoryType {
+        limits: Limits {
+            is64,
+            min: count,
+            max: Some(count),
+        },
+        shared: false,
+        page_size_log2,
+    })
+}
+
+/// How many elements there are.
+fn element_count(payload: &ElemPayload<'_>) -> u64
+    ensures { result ≡ element_count payload.now }
+{
+    match payload {
+        ElemPayload::Indices(indices) => indices.len() as u64,
+        ElemPayload::Exprs { exprs, .. } => exprs.len() as u64,
+    }
+}
+
+/// The type of a table that holds these elements at first, and no more.
+pub(crate) fn filled_table_type<'a>(
+    elem: RefType<'a>,
+    is64: bool,
+    shared: bool,
+    payload: &ElemPayload<'_>,
+) -> TableType<'a>
+    ensures { result ≡ filled_table_type elem.entry is64 shared payload.now }
+{
+    let count = element_count(payload);
+    TableType {
+        limits: Limits {
+            is64,
+            min: count,
+            max: Some(count),
+        },
+        elem,
+        shared,
+    }
+}
+
+/// The offset 0, which is as wide as an index.
+fn at_zero<'a>(alloc: Global, is64: bool) -> Result<Expression<'a>, Error<'a>>
+    ensures ok { IfOk result (λ e. e ≡ at_zero is64) }
+    ensures refusal { IfErr result (λ e. e ≡ out_of_memory) }
+{
+    if is64 {
+        Expression::one(alloc, Instruction::i64_const(0))
+    } else {
+        Expression::one(alloc, Instruction::i32_const(0))
+    }
+}
+
+/// The segment of the bytes of a memory.
+pub(crate) fn data_into<'a>(
+    alloc: Global,
+    span: Span,
+    memory: Index<'a>,
+    is64: bool,
+    bytes: Seq<DataVal<'a>>,
+) -> Result<ModuleField<'a>, Error<'a>>
+    ensures ok { IfOk result (λ f. f ≡ data_into span memory.entry is64 bytes.entry) }
+    ensures refusal { IfErr result (λ e. e ≡ out_of_memory) }
+{
+    let offset = at_zero(alloc, is64)?;
+    Ok(ModuleField::Data(Data {
+        span,
+        id: None,
+        name: None,
+        kind: DataKind::Active { memory, offset },
+        bytes,
+    }))
+}
+
+/// The segment of the elements of a table.
+pub(crate) fn elem_into<'a>(
+    alloc: Global,
+    span: Span,
+    table: Index<'a>,
+    is64: bool,
+    payload: ElemPayload<'a>,
+) -> Result<ModuleField<'a>, Error<'a>>
+    ensures ok { IfOk result (λ f. f ≡ elem_into span table.entry is64 payload.entry) }
+    ensures refusal { IfErr result (λ e. e ≡ out_of_memory) }
+{
+    let offset = at_zero(alloc, is64)?;
+    Ok(ModuleField::Elem(Elem {
+        span,
+        id: None,
+        name: None,
+        kind: ElemKind::Active {
+            table: Some(table),
+            offset,
+        },
+        payload,
+    }))
+}

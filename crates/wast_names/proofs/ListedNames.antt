@@ -1,0 +1,77 @@
+-- Lists of names within items, as they are found, counted and written.
+use Rattle.std.proofs.Common.{◌≡◌, ◌<◌, ◌+◌, ℕ, zero, suc, List, [], ◌∷◌, ◌++◌, length, Option, Some, None, Result, refl, sym, ap, ◌∙◌, subst, arith, length-append, map, take, get_or}
+use Rattle.std.specs.Prelude.{All, slice_get, option_map}
+use Rattle.std.proofs.lemmas.List.{length-map}
+use Rattle.std.specs.List.{flat_map}
+use Rattle.std.proofs.lemmas.Grind.{flat_map-append}
+use Rattle.std.proofs.lemmas.List.Concat.{flat_map_single, get_or-flat_map}
+use Rattle.std.proofs.lemmas.List.Folds.{length-flat_map-take}
+use Rattle.std.proofs.lemmas.List.Elements.{All-append}
+use Rattle.std.proofs.lemmas.Option.{slice_get-get_or}
+use Rattle.wasm_ops.specs.declared.sink.Refusal.{Refusal}
+use Rattle.wasm_ops.specs.Sinks.{SinkRules, Writes}
+use Rattle.wasm_ops.proofs.Everywhere.{all_left, all_right}
+use Rattle.wasm_ops.proofs.Sinking.{written_as}
+use Rattle.wast_names.specs.GivenNames.{named_from}
+use Rattle.wast_names.specs.Names.{counted}
+use Rattle.wast_names.specs.WithinItems.{where_named, nameless, behind, param_name, local_name}
+use Rattle.wast_names.specs.Tree.{Id, NameAnnotation, ValType, Local}
+use Rattle.wast_names.proofs.NameEntries.{named_append, as_many}
+
+-- names each on its own
+pub each_named : {A : Type 0} (n : ℕ) (f : A → Option (List ℕ)) (xs : List A) → named_from n (flat_map (λ x. f x ∷ []) xs) ≡ named_from n (map f xs)
+each_named n f xs = ap (named_from n) (flat_map_single f xs)
+
+-- one list after another, as they are counted and written
+pub both_counted : {A : Type 0} (xs ys : List (Option A)) (first m n : ℕ) → m ≡ counted (length (named_from 0 xs)) → n ≡ counted (length (named_from 0 ys)) → counted (m + n) ≡ counted (length (named_from 0 xs ++ named_from first ys))
+both_counted xs ys first m n is also = omega (arith, length-append (named_from 0 xs) (named_from first ys), as_many 0 first ys)
+
+pub both_written : {S R A : Type 0} (rules : SinkRules S) (entry : A → List ℕ) (InRange : A → Type 0) (a b : S) (xs ys : List A) (r : Result R Refusal)
+    → Writes rules (All InRange xs × All InRange ys) a b (flat_map entry xs ++ flat_map entry ys) r → Writes rules (All InRange (xs ++ ys)) a b (flat_map entry (xs ++ ys)) r
+both_written rules entry InRange a b xs ys r p =
+    written_as rules (All InRange xs × All InRange ys) (All InRange (xs ++ ys)) a b (flat_map entry xs ++ flat_map entry ys) (flat_map entry (xs ++ ys)) r
+    (λ h. All-append InRange xs ys h.0 h.1) (λ h. (all_left InRange xs ys h, all_right InRange xs ys h)) (sym (flat_map-append entry xs ys)) p
+
+-- a list that has names
+pub is_named : (es : List (ℕ × List ℕ)) (count : ℕ) → count ≡ counted (length es) → (count ≡ 0 → ⊥) → where_named es ≡ Some es
+is_named [] count is some = absurd (some is)
+is_named (e ∷ es) count is some = refl
+
+-- nameless ones have no entry, and none is there where no other has
+pub behind_nameless : (n k : ℕ) (names : List (Option (List ℕ))) → named_from k (nameless n ++ names) ≡ named_from (k + n) names
+behind_nameless zero k names = ap (λ m. named_from m names) (omega arith)
+behind_nameless (suc n) k names = behind_nameless n (k + 1) names ∙ ap (λ m. named_from m names) (omega arith)
+
+pub none_named : (m n : ℕ) (names : List (Option (List ℕ))) (count : ℕ) → count ≡ counted (length (named_from m names)) → count ≡ 0 → named_from n names ≡ []
+none_named m n names count is never = empty (named_from n names) (omega (arith, as_many m n names))
+  where
+    empty : (es : List (ℕ × List ℕ)) → length es ≡ 0 → es ≡ []
+    empty [] h = refl
+    empty (e ∷ es) h = absurd (omega arith)
+
+-- parameters and then locals
+pub params_then : (params : List (Option Id × Option NameAnnotation × ValType)) (locals : List Local)
+    → named_from 0 (flat_map (λ p. param_name p ∷ []) params) ++ named_from (length params) (flat_map (λ l. local_name l ∷ []) locals) ≡ named_from 0 (map param_name params ++ map local_name locals)
+params_then params locals =
+    ap (λ z. z ++ named_from (length params) (flat_map (λ l. local_name l ∷ []) locals)) (each_named 0 param_name params)
+    ∙ ap (λ z. named_from 0 (map param_name params) ++ z) (each_named (length params) local_name locals)
+    ∙ ap (λ n. named_from 0 (map param_name params) ++ named_from n (map local_name locals)) (sym (length-map params param_name))
+    ∙ ap (λ n. named_from 0 (map param_name params) ++ named_from n (map local_name locals)) (omega arith)
+    ∙ sym (named_append 0 (map param_name params) (map local_name locals))
+
+-- locals behind as many nameless parameters as a type has, where there is one
+pub nameless_then : (n : ℕ) (locals : List Local) → named_from n (flat_map (λ l. local_name l ∷ []) locals) ≡ named_from 0 (behind (Some (nameless n)) (map local_name locals))
+nameless_then n locals = each_named n local_name locals ∙ sym (behind_nameless n 0 (map local_name locals) ∙ ap (λ k. named_from k (map local_name locals)) (omega arith))
+
+pub nothing_named : (arity : Option ℕ) (locals : List Local) (count : ℕ) → count ≡ counted (length (named_from 0 (flat_map (λ l. local_name l ∷ []) locals))) → count ≡ 0 → [] ≡ named_from 0 (behind (option_map nameless arity) (map local_name locals))
+nothing_named None locals count is never = refl
+nothing_named (Some n) locals count is never = sym (none_named 0 n (flat_map (λ l. local_name l ∷ []) locals) count is never) ∙ nameless_then n locals
+
+-- what stands in the part of a list that is gone to, behind the parts before it
+pub found_in : {A B : Type 0} (f : A → List B) (xs : List A) (i j : ℕ) (x : A) (part : List B) (d : B) → i < length xs → x ≡ get_or xs i x → part ≡ f x → j < length part
+    → slice_get (flat_map f xs) (length (flat_map f (take i xs)) + j) ≡ Some (get_or part j d)
+found_in f xs i j x part d lt item is within =
+    let here : f (get_or xs i x) ≡ part = ap f (sym item) ∙ sym is in
+    let inside : j < length (f (get_or xs i x)) = subst (λ p. j < length p) (sym here) within in
+    slice_get-get_or (flat_map f xs) (length (flat_map f (take i xs)) + j) d (omega (arith, length-flat_map-take f xs i x lt))
+    ∙ ap Some (get_or-flat_map f xs i j x d lt inside ∙ ap (λ p. get_or p j d) here)

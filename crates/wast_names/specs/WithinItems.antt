@@ -1,0 +1,167 @@
+-- What stands within items and has names of its own: locals of functions, fields of structs, parameters of function types and of tags (custom sections, name section: indirect name maps).
+use Rattle.std.specs.Prelude.{ℕ, List, [], ◌∷◌, ◌++◌, length, map, replicate, Option, Some, None, option_map, slice_get}
+use Rattle.std.specs.List.{flat_map}
+use Rattle.wast_names.specs.Tree.{Id, Index, NameAnnotation, ValType, StructField, FunctionType, TypeUse, InnerTypeKind, Local, FuncKind, Func, TagType, ItemKind, ImportItems, ModuleField}
+use Rattle.wast_names.specs.Tree.index
+use Rattle.wast_names.specs.Tree.inner
+use Rattle.wast_names.specs.Tree.ty
+use Rattle.wast_names.specs.Tree.func
+use Rattle.wast_names.specs.Tree.tag
+use Rattle.wast_names.specs.Tree.import_items
+use Rattle.wast_names.specs.Tree.kind
+use Rattle.wast_names.specs.Tree.field
+use Rattle.wast_names.specs.declared.within.Within.{Within}
+use Rattle.wast_names.specs.declared.within.Within.TheVariants as within
+use Rattle.wast_names.specs.GivenNames.{given_name, named_from}
+
+abbrev pub param_name : Option Id × Option NameAnnotation × ValType → Option (List ℕ)
+param_name p = given_name p.1 p.0
+
+abbrev pub field_name : StructField → Option (List ℕ)
+field_name f = given_name f.name f.id
+
+abbrev pub local_name : Local → Option (List ℕ)
+local_name l = given_name l.name l.id
+
+-- the fields of a struct type, and the parameters of a function type
+abbrev pub fields_of : InnerTypeKind → List (Option (List ℕ))
+fields_of (inner.Func t) = []
+fields_of (inner.Struct t) = map field_name t.fields
+fields_of (inner.Array t) = []
+
+abbrev pub params_of : InnerTypeKind → List (Option (List ℕ))
+params_of (inner.Func t) = map param_name t.params
+params_of (inner.Struct t) = []
+params_of (inner.Array t) = []
+
+-- how many parameters a function type has
+abbrev pub arity : InnerTypeKind → Option ℕ
+arity (inner.Func t) = Some (length t.params)
+arity (inner.Struct t) = None
+arity (inner.Array t) = None
+
+abbrev pub arity_of : Option ty.«Type» → Option ℕ
+arity_of None = None
+arity_of (Some t) = arity t.def.kind
+
+-- the types of a field, one by one, as they stand in the type space
+abbrev pub types_in : ModuleField → List ty.«Type»
+types_in (field.Ty t) = t ∷ []
+types_in (field.Rec r) = r.types
+types_in (field.Import i) = []
+types_in (field.Func f) = []
+types_in (field.Table t) = []
+types_in (field.Memory m) = []
+types_in (field.Global g) = []
+types_in (field.Export e) = []
+types_in (field.Start i) = []
+types_in (field.Elem e) = []
+types_in (field.Data d) = []
+types_in (field.Tag t) = []
+
+-- how many parameters the function type at an index has, where one stands there
+abbrev pub arity_at : List ModuleField → Option Index → Option ℕ
+arity_at fields None = None
+arity_at fields (Some (index.Id id)) = None
+arity_at fields (Some (index.Num n span)) = arity_of (slice_get (flat_map types_in fields) n)
+
+abbrev pub nameless : ℕ → List (Option (List ℕ))
+nameless n = replicate n None
+
+-- those of an inline type, else as many nameless ones as the function type at the index has, where one stands there
+abbrev pub params_or : Option ℕ → Option FunctionType → Option (List (Option (List ℕ)))
+params_or arity (Some t) = Some (map param_name t.params)
+params_or arity None = option_map nameless arity
+
+-- the parameters of a type use
+abbrev pub params_used : List ModuleField → TypeUse FunctionType → Option (List (Option (List ℕ)))
+params_used fields u = params_or (arity_at fields u.index) u.inline
+
+abbrev pub locals_in : FuncKind → List (Option (List ℕ))
+locals_in (func.Import import exact) = []
+locals_in (func.Inline locals e) = map local_name locals
+
+-- parameters and then written locals; none where there is no function type
+abbrev pub behind : Option (List (Option (List ℕ))) → List (Option (List ℕ)) → List (Option (List ℕ))
+behind None locals = []
+behind (Some params) locals = params ++ locals
+
+-- the parameters of a function, and then its locals
+abbrev pub locals_of : List ModuleField → Func → List (Option (List ℕ))
+locals_of fields f = behind (params_used fields f.ty) (locals_in f.kind)
+
+-- the parameters of the inline type of a type use, where it has one
+abbrev pub params_if : Option FunctionType → List (Option (List ℕ))
+params_if None = []
+params_if (Some t) = map param_name t.params
+
+abbrev pub inline_params : TypeUse FunctionType → List (Option (List ℕ))
+inline_params u = params_if u.inline
+
+abbrev pub tag_params : TagType → List (Option (List ℕ))
+tag_params (tag.Exception u) = inline_params u
+
+-- a list of names stands only where it has an entry
+abbrev pub where_named : List (ℕ × List ℕ) → Option (List (ℕ × List ℕ))
+where_named [] = None
+where_named (e ∷ es) = Some (e ∷ es)
+
+abbrev pub list_of : List (Option (List ℕ)) → Option (List (ℕ × List ℕ))
+list_of names = where_named (named_from 0 names)
+
+-- the list of names within a type, within a function and within a tag
+abbrev pub lists_in_type : Within → ty.«Type» → List (Option (List (ℕ × List ℕ)))
+lists_in_type within.Locals t = []
+lists_in_type within.Fields t = list_of (fields_of t.def.kind) ∷ []
+lists_in_type within.Parameters t = list_of (params_of t.def.kind) ∷ []
+lists_in_type within.TagParameters t = []
+
+abbrev pub lists_in_func : List ModuleField → Within → Func → List (Option (List (ℕ × List ℕ)))
+lists_in_func fields within.Locals f = list_of (locals_of fields f) ∷ []
+lists_in_func fields within.Fields f = []
+lists_in_func fields within.Parameters f = []
+lists_in_func fields within.TagParameters f = []
+
+abbrev pub lists_in_tag : Within → TagType → List (Option (List (ℕ × List ℕ)))
+lists_in_tag within.Locals t = []
+lists_in_tag within.Fields t = []
+lists_in_tag within.Parameters t = []
+lists_in_tag within.TagParameters t = list_of (tag_params t) ∷ []
+
+-- within an imported function those of its inline type; an imported tag has a position, and no list
+abbrev pub lists_in_imported_func : Within → TypeUse FunctionType → List (Option (List (ℕ × List ℕ)))
+lists_in_imported_func within.Locals u = list_of (inline_params u) ∷ []
+lists_in_imported_func within.Fields u = []
+lists_in_imported_func within.Parameters u = []
+lists_in_imported_func within.TagParameters u = []
+
+abbrev pub lists_in_imported_tag : Within → List (Option (List (ℕ × List ℕ)))
+lists_in_imported_tag within.Locals = []
+lists_in_imported_tag within.Fields = []
+lists_in_imported_tag within.Parameters = []
+lists_in_imported_tag within.TagParameters = None ∷ []
+
+abbrev pub lists_in_kind : Within → ItemKind → List (Option (List (ℕ × List ℕ)))
+lists_in_kind w (kind.Func u) = lists_in_imported_func w u
+lists_in_kind w (kind.Table t) = []
+lists_in_kind w (kind.Memory t) = []
+lists_in_kind w (kind.Global t) = []
+lists_in_kind w (kind.Tag t) = lists_in_imported_tag w
+
+abbrev pub lists_in_import : Within → ImportItems → List (Option (List (ℕ × List ℕ)))
+lists_in_import w (import_items.Single source name sig) = lists_in_kind w sig.kind
+
+-- in a field, of the list of all fields
+abbrev pub lists_within : List ModuleField → Within → ModuleField → List (Option (List (ℕ × List ℕ)))
+lists_within fields w (field.Ty t) = lists_in_type w t
+lists_within fields w (field.Rec r) = flat_map (lists_in_type w) r.types
+lists_within fields w (field.Import i) = lists_in_import w i.items
+lists_within fields w (field.Func f) = lists_in_func fields w f
+lists_within fields w (field.Table t) = []
+lists_within fields w (field.Memory m) = []
+lists_within fields w (field.Global g) = []
+lists_within fields w (field.Export e) = []
+lists_within fields w (field.Start i) = []
+lists_within fields w (field.Elem e) = []
+lists_within fields w (field.Data d) = []
+lists_within fields w (field.Tag t) = lists_in_tag w t.ty

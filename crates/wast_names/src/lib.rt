@@ -1,0 +1,12 @@
+//! The name section of modules of the text format: the name that the text gives to each item, how long the section is, and
+//! how it is written into a sink.
+#![tactic(auto)]
+
+mod examples;
+mod name_lists;
+mod name_maps;
+mod named_fields;
+mod names_payload;
+mod within;
+
+pub use names_payload::{given_name, names_size, put_names};

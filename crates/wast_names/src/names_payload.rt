@@ -1,0 +1,333 @@
+//! The name section of a module.
+
+ghost use Rattle.std.specs.Prelude.{◌≡◌, length, true, All, IfOk, IfErr, IsTrue, ◌+◌, ℕ, List, Option};
+ghost use Rattle.std.specs.List.{flat_map};
+ghost use Rattle.wasm_ops.specs.Sinks.{Writes};
+ghost use Rattle.wasm_ops.specs.declared.sink.Refusal.TheVariants as refusal;
+ghost use Rattle.wasm_out.specs.NameSubsections.{name_entry, name_subsection, subsection_id, InRangeNameEntry, InRangeNameSubsection};
+ghost use Rattle.wasm_out.specs.Parts.{part, InRangePart};
+ghost use Rattle.wast_reach.specs.Reaches.{are_reaches};
+ghost use Rattle.wast_names.specs.NameSection.{names_part, names_payload_of};
+ghost use Rattle.wast_names.specs.GivenNames.{id_text, given_name, named_from};
+ghost use Rattle.wast_names.specs.Names.{text_seen, items_seen, counted, WritesItems};
+ghost use Rattle.wast_names.specs.NamesPayload.{type_name, import_names, item_names_in, name_in, names_given, named_of, named_within, map_names, module_name, name_subsections, InRangeNames};
+
+use crate::name_maps::{NameItems, count_each, put_each, put_map, put_name};
+use crate::named_fields::{with_items, with_lists};
+use crate::within::{Within, WithinItems};
+use wasm_ops::{Each, Encode, Name, Refusal, Sink, Spell, WithLength, length_of};
+use wast_reach::Reaches;
+use wast_tree::{Id, ImportItems, ModuleField, NameAnnotation, Space, Type};
+
+fn id_text<'a>(id: &Option<Id<'a>>) -> Option<&'a str>
+    ensures { text_seen result ≡ id_text id.now }
+{
+    match id {
+        Some(id) if !id.is_gensym() => Some(id.name()),
+        _ => None,
+    }
+}
+
+/// The name of what the text numbers: its annotation, else its id where that is written (custom sections, name section). A
+/// generated id is no name.
+pub fn given_name<'a>(
+    annotation: &Option<NameAnnotation<'a>>,
+    id: &Option<Id<'a>>,
+) -> Option<&'a str>
+    ensures { text_seen result ≡ given_name annotation.now id.now }
+{
+    match annotation {
+        Some(annotation) => Some(annotation.name),
+        None => id_text(id),
+    }
+}
+
+/// The items of a field, with their names.
+#[derive(Clone, Copy)]
+enum Items<'b, 'a> {
+    /// No item.
+    Nothing,
+    /// An item of a space, with its name.
+    One(Space, Option<&'a str>),
+    /// The types of a group.
+    Types(&'b [Type<'a>]),
+}
+
+/// Finds the items of an import.
+fn imported<'b, 'a>(items: &'b ImportItems<'a>) -> Items<'b, 'a>
+    ensures { items_seen result ≡ import_names items.now }
+{
+    match items {
+        ImportItems::Single { sig, .. } => {
+            Items::One(sig.kind.space(), given_name(&sig.name, &sig.id))
+        }
+    }
+}
+
+/// Finds the items of a field.
+fn items_of<'b, 'a>(field: &'b ModuleField<'a>) -> Items<'b, 'a>
+    ensures { items_seen result ≡ item_names_in field.now }
+{
+    match field {
+        ModuleField::Ty(ty) => Items::One(Space::Ty, given_name(&ty.name, &ty.id)),
+        ModuleField::Rec(rec) => Items::Types(rec.types.as_slice()),
+        ModuleField::Import(imports) => imported(&imports.items),
+        ModuleField::Func(func) => Items::One(Space::Func, given_name(&func.name, &func.id)),
+        ModuleField::Table(table) => Items::One(Space::Table, given_name(&table.name, &table.id)),
+        ModuleField::Memory(memory) => {
+            Items::One(Space::Memory, given_name(&memory.name, &memory.id))
+        }
+        ModuleField::Global(global) => {
+            Items::One(Space::Global, given_name(&global.name, &global.id))
+        }
+        ModuleField::Elem(elem) => Items::One(Space::Elem, given_name(&elem.name, &elem.id)),
+        ModuleField::Data(data) => Items::One(Space::Data, given_name(&data.name, &data.id)),
+        ModuleField::Tag(tag) => Items::One(Space::Tag, given_name(&tag.name, &tag.id)),
+        ModuleField::Export(_) | ModuleField::Start(_) => Items::Nothing,
+    }
+}
+
+/// One, where an item is of the space and has a name.
+fn count_item(space: Space, own: Space, name: Option<&str>) -> u64
+    ensures { result ≡ length (named_from 0 (name_in space (own, text_seen name.entry))) }
+{
+    u64::from(space.is(own) && name.is_some())
+}
+
+/// Appends the name of an item where it is one of the space, and answers the position behind it.
+fn put_item<S: Sink>(
+    space: Space,
+    own: Space,
+    name: Option<&str>,
+    position: u64,
+    out: &mut S,
+) -> Result<u64, Refusal>
+    ensures written { WritesItems S.rules name_entry InRangeNameEntry (name_in space (own, text_seen name.entry)) position out.old out.new result }
+    ensures next { IfOk result (λ p. p ≡ counted (position + length (name_in space (own, text_seen name.entry)))) }
+{
+    if !space.is(own) {
+        return Ok(position);
+    }
+    put_name(position, name, out)
+}
+
+impl<'a> NameItems<Type<'a>> for Space {
+    ghost Entry = { List ℕ };
+
+    ghost items = { λ s t. name_in s (type_name t) };
+
+    ghost entry = { name_entry };
+
+    ghost in_range = { InRangeNameEntry };
+
+    fn count(&self, part: &Type<'a>) -> u64 {
+        count_item(*self, Space::Ty, given_name(&part.name, &part.id))
+    }
+
+    fn put<S: Sink>(&self, part: &Type<'a>, position: u64, out: &mut S) -> Result<u64, Refusal> {
+        let name = given_name(&part.name, &part.id);
+        put_item(*self, Space::Ty, name, position, out)
+    }
+}
+
+impl<'a> NameItems<ModuleField<'a>> for Space {
+    ghost Entry = { List ℕ };
+
+    ghost items = { names_given };
+
+    ghost entry = { name_entry };
+
+    ghost in_range = { InRangeNameEntry };
+
+    fn count(&self, part: &ModuleField<'a>) -> u64 {
+        match items_of(part) {
+            Items::Nothing => 0,
+            Items::One(own, name) => count_item(*self, own, name),
+            Items::Types(types) => count_each(self, types),
+        }
+    }
+
+    fn put<S: Sink>(
+        &self,
+        part: &ModuleField<'a>,
+        position: u64,
+        out: &mut S,
+    ) -> Result<u64, Refusal> {
+        match items_of(part) {
+            Items::Nothing => Ok(position),
+            Items::One(own, name) => put_item(*self, own, name, position, out),
+            Items::Types(types) => put_each(self, types, position, out),
+        }
+    }
+}
+
+/// The id of the subsection of a space (custom sections, name section).
+fn id_of(space: Space) -> u8
+    ensures { result ≡ subsection_id (named_of space) }
+{
+    match space {
+        Space::Func => 1,
+        Space::Table => 5,
+        Space::Memory => 6,
+        Space::Global => 7,
+        Space::Tag => 11,
+        Space::Elem => 8,
+        Space::Data => 9,
+        Space::Ty => 4,
+    }
+}
+
+/// The id of the subsection of what stands within items (custom sections, name section).
+fn id_within(within: Within) -> u8
+    ensures { result ≡ subsection_id (named_within within) }
+{
+    match within {
+        Within::Locals => 2,
+        Within::Fields => 10,
+        Within::Parameters => 12,
+        Within::TagParameters => 13,
+    }
+}
+
+/// A map of names by position.
+#[derive(Clone, Copy)]
+pub(crate) enum NameMap {
+    /// The names of the items of a space.
+    Items(Space),
+    /// The names of what stands within items, in a list for each.
+    Within(Within),
+}
+
+/// The names in these fields, of which those of each kind are found.
+#[derive(Clone, Copy)]
+struct NamesOf<'b, 'a> {
+    fields: &'b [ModuleField<'a>],
+    reaches: &'b Reaches,
+}
+
+impl Spell<NameMap> for NamesOf<'_, '_> {
+    ghost spelling = { λ w m. flat_map name_subsection (map_names w.fields.now m) };
+
+    ghost in_range = { λ w m. All InRangeNameSubsection (map_names w.fields.now m) };
+
+    ghost is_ready = { λ w _. are_reaches w.fields.now w.reaches.now };
+
+    fn spell<S: Sink>(&self, map: &NameMap, out: &mut S) -> Result<(), Refusal> {
+        match map {
+            NameMap::Items(space) => {
+                let there = with_items(*space, self.fields, self.reaches);
+                put_map(id_of(*space), *space, there, out)
+            }
+            NameMap::Within(within) => {
+                let way = WithinItems {
+                    within: *within,
+                    fields: self.fields,
+                };
+                let there = with_lists(*within, self.fields, self.reaches);
+                put_map(id_within(*within), way, there, out)
+            }
+        }
+    }
+}
+
+/// The maps of names, in the order of their subsections.
+const NAME_MAPS: [NameMap; 12] = [
+    NameMap::Items(Space::Func),
+    NameMap::Within(Within::Locals),
+    NameMap::Items(Space::Ty),
+    NameMap::Items(Space::Table),
+    NameMap::Items(Space::Memory),
+    NameMap::Items(Space::Global),
+    NameMap::Items(Space::Elem),
+    NameMap::Items(Space::Data),
+    NameMap::Within(Within::Fields),
+    NameMap::Items(Space::Tag),
+    NameMap::Within(Within::Parameters),
+    NameMap::Within(Within::TagParameters),
+];
+
+/// The subsection of the name of the module, where it has one.
+#[derive(Clone, Copy)]
+struct ModuleName<'b>(Option<&'b str>);
+
+impl Encode for ModuleName<'_> {
+    ghost spelling = { λ n. flat_map name_subsection (module_name (text_seen n.0)) };
+
+    ghost in_range = { λ n. All InRangeNameSubsection (module_name (text_seen n.0)) };
+
+    ghost is_ready = { λ _. true };
+
+    fn encode<S: Sink>(&self, out: &mut S) -> Result<(), Refusal> {
+        match self.0 {
+            None => Ok(()),
+            Some(text) => (0u8, WithLength(Name(text))).encode(out),
+        }
+    }
+}
+
+/// The subsections of a module with this name, of these fields.
+#[derive(Clone, Copy)]
+struct Subsections<'b, 'a> {
+    name: Option<&'b str>,
+    names: NamesOf<'b, 'a>,
+}
+
+impl Encode for Subsections<'_, '_> {
+    ghost spelling = { λ s. flat_map name_subsection (name_subsections (text_seen s.name) s.names.fields.now) };
+
+    ghost in_range = { λ s. InRangeNames (text_seen s.name) s.names.fields.now };
+
+    ghost is_ready = { λ s. are_reaches s.names.fields.now s.names.reaches.now };
+
+    fn encode<S: Sink>(&self, out: &mut S) -> Result<(), Refusal> {
+        let maps = NAME_MAPS;
+        (ModuleName(self.name), Each(&maps, self.names)).encode(out)
+    }
+}
+
+/// How long the payload of the name section is, of a module with this name and these resolved fields; 0 where there are
+/// no names, and the section is left out (custom sections, name section). It needs where in these fields those of each kind
+/// stand, as [`Reaches::of`] tells it, and goes through those alone that can have names. It takes no memory, and refuses
+/// only as too large, where a number, count or length in the section is out of range.
+pub fn names_size(
+    name: Option<&str>,
+    fields: &[ModuleField],
+    reaches: &Reaches,
+) -> Result<u32, Refusal>
+    requires { IsTrue (are_reaches fields.now reaches.now) }
+    ensures ok { IfOk result (λ n. n ≡ length (names_payload_of (name_subsections (text_seen name.entry) fields.now))) }
+    ensures err { IfErr result (λ e. (e ≡ refusal.TooLarge) × (All InRangePart (names_part (name_subsections (text_seen name.entry) fields.now)) × InRangeNames (text_seen name.entry) fields.now → ⊥)) }
+{
+    let names = NamesOf { fields, reaches };
+    let subsections = length_of(&Subsections { name, names })?;
+    if subsections == 0 {
+        return Ok(0);
+    }
+    // `name` as a name: its length, and four bytes
+    match u32::try_from(5 + u64::from(subsections)) {
+        Ok(size) => Ok(size),
+        Err(_) => Err(Refusal::TooLarge),
+    }
+}
+
+/// Appends the name section of a module with this name and these resolved fields, where there are names (custom sections,
+/// name section). It needs where in these fields those of each kind stand, as [`Reaches::of`] tells it, and goes through
+/// those alone that can have names; and it needs the length of its payload, as [`names_size`] gives it. It refuses as
+/// [`Encode::encode`] does, as too large where a number, count or length is out of range; then nothing was appended.
+pub fn put_names<S: Sink>(
+    name: Option<&str>,
+    fields: &[ModuleField],
+    reaches: &Reaches,
+    size: u32,
+    out: &mut S,
+) -> Result<(), Refusal>
+    requires reaches { IsTrue (are_reaches fields.now reaches.now) }
+    requires size { size ≡ length (names_payload_of (name_subsections (text_seen name) fields.now)) }
+    ensures { Writes S.rules (All InRangePart (names_part (name_subsections (text_seen name.entry) fields.now)) × InRangeNames (text_seen name.entry) fields.now) out.old out.new (flat_map part (names_part (name_subsections (text_seen name.entry) fields.now))) result }
+{
+    if size == 0 {
+        return Ok(());
+    }
+    let names = NamesOf { fields, reaches };
+    (0u8, (size, (Name("name"), Subsections { name, names }))).encode(out)
+}

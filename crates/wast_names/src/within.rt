@@ -1,0 +1,336 @@
+//! What stands within items and has names of its own: locals of functions, fields of structs, parameters of types and of
+//! tags.
+
+ghost use Rattle.std.specs.Prelude.{◌≡◌, ◌+◌, ℕ, List, length, map, slice_get, IfOk};
+ghost use Rattle.std.specs.List.{flat_map};
+ghost use Rattle.wasm_out.specs.NameSubsections.{map_entry, InRangeMapEntry};
+ghost use Rattle.wast_names.specs.GivenNames.{named_from};
+ghost use Rattle.wast_names.specs.Names.{counted, names_listed, lists_found, lists_seen, WritesItems};
+ghost use Rattle.wast_names.specs.WithinItems.{param_name, local_name, lists_in_type, lists_in_func, lists_in_tag, lists_in_imported_func, lists_in_imported_tag, lists_in_kind, lists_in_import, lists_within, types_in, arity, arity_of, arity_at, behind, params_used, locals_of, locals_in, fields_of, params_of, inline_params, tag_params};
+
+use crate::name_lists::{Listed, count_found, no_names, none, put_found};
+use crate::name_maps::{NameItems, Own, count_each, put_each};
+use std::slice;
+use wasm_ops::{Refusal, Sink};
+use wast_tree::{
+    Func, FuncKind, FunctionType, ImportItems, Index, InnerTypeKind, ItemKind, Local, ModuleField,
+    TagType, Type, TypeUse,
+};
+
+/// What stands within items and has names.
+#[derive(Clone, Copy)]
+pub(crate) enum Within {
+    /// The parameters and locals of functions.
+    Locals,
+    /// The fields of struct types.
+    Fields,
+    /// The parameters of function types.
+    Parameters,
+    /// The parameters of tags.
+    TagParameters,
+}
+
+/// The list that stands within a type.
+fn listed_in_type<'b, 'a>(within: Within, ty: &'b Type<'a>) -> Option<Listed<'b, 'a>>
+    ensures { lists_found result ≡ lists_in_type within ty.now }
+{
+    match within {
+        Within::Fields => Some(fields_of(&ty.def.kind)),
+        Within::Parameters => Some(params_of(&ty.def.kind)),
+        Within::Locals | Within::TagParameters => None,
+    }
+}
+
+/// The fields of a struct type.
+fn fields_of<'b, 'a>(kind: &'b InnerTypeKind<'a>) -> Listed<'b, 'a>
+    ensures { names_listed result ≡ named_from 0 (fields_of kind.now) }
+{
+    match kind {
+        InnerTypeKind::Struct(ty) => Listed::Fields(ty.fields.as_slice()),
+        InnerTypeKind::Func(_) | InnerTypeKind::Array(_) => Listed::Fields(none()),
+    }
+}
+
+/// The parameters of a signature.
+fn params_in<'b, 'a>(ty: &'b FunctionType<'a>) -> Listed<'b, 'a>
+    ensures { names_listed result ≡ named_from 0 (map param_name ty.now.params) }
+{
+    Listed::Locals(ty.params.as_slice(), 0, none())
+}
+
+/// The parameters of a function type.
+fn params_of<'b, 'a>(kind: &'b InnerTypeKind<'a>) -> Listed<'b, 'a>
+    ensures { names_listed result ≡ named_from 0 (params_of kind.now) }
+{
+    match kind {
+        InnerTypeKind::Func(ty) => params_in(ty),
+        InnerTypeKind::Struct(_) | InnerTypeKind::Array(_) => Listed::Fields(none()),
+    }
+}
+
+/// How many parameters a function type has.
+fn arity(kind: &InnerTypeKind) -> Option<u64>
+    ensures { result ≡ arity kind.now }
+{
+    match kind {
+        InnerTypeKind::Func(ty) => Some(ty.params.len() as u64),
+        InnerTypeKind::Struct(_) | InnerTypeKind::Array(_) => None,
+    }
+}
+
+/// The types of a field, one by one.
+fn types_in<'b, 'a>(field: &'b ModuleField<'a>) -> &'b [Type<'a>]
+    ensures { result.now ≡ types_in field.now }
+{
+    match field {
+        ModuleField::Ty(ty) => slice::from_ref(ty),
+        ModuleField::Rec(rec) => rec.types.as_slice(),
+        ModuleField::Import(_)
+        | ModuleField::Func(_)
+        | ModuleField::Table(_)
+        | ModuleField::Memory(_)
+        | ModuleField::Global(_)
+        | ModuleField::Export(_)
+        | ModuleField::Start(_)
+        | ModuleField::Elem(_)
+        | ModuleField::Data(_)
+        | ModuleField::Tag(_) => &[],
+    }
+}
+
+/// How many parameters the function type at an index has, where one stands there. It walks the fields up to that type.
+fn arity_of(fields: &[ModuleField], index: usize) -> Option<u64>
+    ensures { result ≡ arity_of (slice_get (flat_map types_in fields.now) index) }
+{
+    let mut left = index;
+    for field in fields {
+        let types = types_in(field);
+        if left < types.len() {
+            return arity(&types[left].def.kind);
+        }
+        left -= types.len();
+    }
+    None
+}
+
+/// The same of the index of a type use.
+fn arity_at(fields: &[ModuleField], index: &Option<Index>) -> Option<u64>
+    ensures { result ≡ arity_at fields.now index.now }
+{
+    match index {
+        Some(Index::Num(number, _)) => arity_of(fields, *number as usize),
+        Some(Index::Id(_)) | None => None,
+    }
+}
+
+/// The locals behind the parameters of a type use. A walk over the fields goes for each function that has a named local
+/// and no inline type.
+fn locals_behind<'b, 'a>(
+    fields: &[ModuleField],
+    ty: &'b TypeUse<'a, FunctionType<'a>>,
+    locals: &'b [Local<'a>],
+) -> Listed<'b, 'a>
+    ensures { names_listed result ≡ named_from 0 (behind (params_used fields.now ty.now) (map local_name locals.now)) }
+{
+    if let Some(inline) = &ty.inline {
+        let params = inline.params.as_slice();
+        return Listed::Locals(params, params.len() as u64, locals);
+    }
+    if count_each(&Own, locals) == 0 {
+        return Listed::Fields(none());
+    }
+    match arity_at(fields, &ty.index) {
+        Some(arity) => Listed::Locals(none(), arity, locals),
+        None => Listed::Fields(none()),
+    }
+}
+
+/// The locals of a function.
+fn locals_in<'b, 'a>(kind: &'b FuncKind<'a>) -> &'b [Local<'a>]
+    ensures { map local_name result.now ≡ locals_in kind.now }
+{
+    match kind {
+        FuncKind::Import(..) => &[],
+        FuncKind::Inline { locals, .. } => locals.as_slice(),
+    }
+}
+
+/// The parameters and locals of a function.
+fn locals_of<'b, 'a>(fields: &[ModuleField], func: &'b Func<'a>) -> Listed<'b, 'a>
+    ensures { names_listed result ≡ named_from 0 (locals_of fields.now func.now) }
+{
+    locals_behind(fields, &func.ty, locals_in(&func.kind))
+}
+
+/// The list that stands within a function.
+fn listed_in_func<'b, 'a>(
+    within: Within,
+    fields: &[ModuleField],
+    func: &'b Func<'a>,
+) -> Option<Listed<'b, 'a>>
+    ensures { lists_found result ≡ lists_in_func fields.now within func.now }
+{
+    match within {
+        Within::Locals => Some(locals_of(fields, func)),
+        Within::Fields | Within::Parameters | Within::TagParameters => None,
+    }
+}
+
+/// The parameters of the inline type of a type use.
+fn inline_params<'b, 'a>(ty: &'b TypeUse<'a, FunctionType<'a>>) -> Listed<'b, 'a>
+    ensures { names_listed result ≡ named_from 0 (inline_params ty.now) }
+{
+    match &ty.inline {
+        Some(inline) => params_in(inline),
+        None => no_names(),
+    }
+}
+
+/// The parameters of a tag.
+fn tag_params<'b, 'a>(ty: &'b TagType<'a>) -> Listed<'b, 'a>
+    ensures { names_listed result ≡ named_from 0 (tag_params ty.now) }
+{
+    match ty {
+        TagType::Exception(ty) => inline_params(ty),
+    }
+}
+
+/// The list that stands within a tag.
+fn listed_in_tag<'b, 'a>(within: Within, ty: &'b TagType<'a>) -> Option<Listed<'b, 'a>>
+    ensures { lists_found result ≡ lists_in_tag within ty.now }
+{
+    match within {
+        Within::TagParameters => Some(tag_params(ty)),
+        Within::Locals | Within::Fields | Within::Parameters => None,
+    }
+}
+
+/// The list that stands within an imported function.
+fn listed_in_imported_func<'b, 'a>(
+    within: Within,
+    ty: &'b TypeUse<'a, FunctionType<'a>>,
+) -> Option<Listed<'b, 'a>>
+    ensures { lists_found result ≡ lists_in_imported_func within ty.now }
+{
+    match within {
+        Within::Locals => Some(inline_params(ty)),
+        Within::Fields | Within::Parameters | Within::TagParameters => None,
+    }
+}
+
+/// An imported tag has a position, and a list without names.
+fn listed_in_imported_tag<'b, 'a>(within: Within) -> Option<Listed<'b, 'a>>
+    ensures { lists_found result ≡ lists_in_imported_tag within }
+{
+    match within {
+        Within::TagParameters => Some(no_names()),
+        Within::Locals | Within::Fields | Within::Parameters => None,
+    }
+}
+
+/// The list that stands within an imported item of a kind.
+fn listed_in_kind<'b, 'a>(within: Within, kind: &'b ItemKind<'a>) -> Option<Listed<'b, 'a>>
+    ensures { lists_found result ≡ lists_in_kind within kind.now }
+{
+    match kind {
+        ItemKind::Func(ty) => listed_in_imported_func(within, ty),
+        ItemKind::Tag(_) => listed_in_imported_tag(within),
+        ItemKind::Table(_) | ItemKind::Memory(_) | ItemKind::Global(_) => None,
+    }
+}
+
+/// The list that stands within an imported item.
+fn listed_in_import<'b, 'a>(within: Within, items: &'b ImportItems<'a>) -> Option<Listed<'b, 'a>>
+    ensures { lists_found result ≡ lists_in_import within items.now }
+{
+    match items {
+        ImportItems::Single { sig, .. } => listed_in_kind(within, &sig.kind),
+    }
+}
+
+/// The lists that stand within a field.
+#[derive(Clone, Copy)]
+enum Lists<'b, 'a> {
+    /// That of its item, where it has one there.
+    One(Option<Listed<'b, 'a>>),
+    /// Those of the types of a group.
+    Types(&'b [Type<'a>]),
+}
+
+/// Finds the lists that stand within a field, which is one of these fields.
+fn lists_in<'b, 'a>(
+    within: Within,
+    fields: &[ModuleField],
+    field: &'b ModuleField<'a>,
+) -> Lists<'b, 'a>
+    ensures { lists_seen within result ≡ lists_within fields.now within field.now }
+{
+    match field {
+        ModuleField::Ty(ty) => Lists::One(listed_in_type(within, ty)),
+        ModuleField::Rec(rec) => Lists::Types(rec.types.as_slice()),
+        ModuleField::Import(imports) => Lists::One(listed_in_import(within, &imports.items)),
+        ModuleField::Func(func) => Lists::One(listed_in_func(within, fields, func)),
+        ModuleField::Tag(tag) => Lists::One(listed_in_tag(within, &tag.ty)),
+        ModuleField::Table(_)
+        | ModuleField::Memory(_)
+        | ModuleField::Global(_)
+        | ModuleField::Export(_)
+        | ModuleField::Start(_)
+        | ModuleField::Elem(_)
+        | ModuleField::Data(_) => Lists::One(None),
+    }
+}
+
+/// The way to see what stands within the items of these fields.
+#[derive(Clone, Copy)]
+pub(crate) struct WithinItems<'b, 'a> {
+    pub(crate) within: Within,
+    pub(crate) fields: &'b [ModuleField<'a>],
+}
+
+impl<'a> NameItems<Type<'a>> for WithinItems<'_, '_> {
+    ghost Entry = { List (ℕ × List ℕ) };
+
+    ghost items = { λ w t. lists_in_type w.within t };
+
+    ghost entry = { map_entry };
+
+    ghost in_range = { InRangeMapEntry };
+
+    fn count(&self, part: &Type<'a>) -> u64 {
+        count_found(listed_in_type(self.within, part))
+    }
+
+    fn put<S: Sink>(&self, part: &Type<'a>, position: u64, out: &mut S) -> Result<u64, Refusal> {
+        put_found(position, listed_in_type(self.within, part), out)
+    }
+}
+
+impl<'a> NameItems<ModuleField<'a>> for WithinItems<'_, '_> {
+    ghost Entry = { List (ℕ × List ℕ) };
+
+    ghost items = { λ w f. lists_within w.fields.now w.within f };
+
+    ghost entry = { map_entry };
+
+    ghost in_range = { InRangeMapEntry };
+
+    fn count(&self, part: &ModuleField<'a>) -> u64 {
+        match lists_in(self.within, self.fields, part) {
+            Lists::One(found) => count_found(found),
+            Lists::Types(types) => count_each(self, types),
+        }
+    }
+
+    fn put<S: Sink>(
+        &self,
+        part: &ModuleField<'a>,
+        position: u64,
+        out: &mut S,
+    ) -> Result<u64, Refusal> {
+        match lists_in(self.within, self.fields, part) {
+            Lists::One(found) => put_found(position, found, out),
+            Lists::Types(types) => put_each(self, types, position, out),
+        }
+    }
+}

@@ -1,0 +1,13 @@
+use Rattle.std.proofs.Common.{◌∙◌, sym, ap, arith}
+use Rattle.std.proofs.lemmas.List.{take_all}
+use Rattle.wast_reach.specs.Kinds.{is_of}
+use Rattle.wast_reach.specs.Reaches.{is_reach, reach_of}
+use Rattle.wast_reach.proofs.Found.{all_found}
+use Rattle.wast_reach.proofs.finding.Reaches.of.Goals as goal
+
+pub returns : goal.returns
+returns c =
+    let fields = c.args.fields.now in
+    let rs = c.loop-i.reaches in
+    let all = take_all c.loop-i.i fields (omega (arith, c.loop-i-test.false)) in
+    all_found fields rs (λ k. ap (λ xs. is_reach (is_of k) xs (reach_of rs k)) (sym all) ∙ c.loop-i.invariant k)

@@ -1,0 +1,8 @@
+use Rattle.std.proofs.Common.{◌∙◌, ap, sym}
+use Rattle.wast_reach.specs.Kinds.{is_of}
+use Rattle.wast_reach.specs.Reaches.{is_reach}
+use Rattle.wast_reach.proofs.Found.{found_for}
+use Rattle.wast_reach.proofs.finding.Reaches.of_kind.Goals as goal
+
+pub returns : goal.returns
+returns c fields h = rw c.rank.ensures.same (found_for fields c.args.self.now c.args.kind h)

@@ -1,0 +1,47 @@
+-- The kinds of fields (text format, modules).
+use Rattle.std.specs.Prelude.{ℕ, ◌==◌, Bool, List, [], ◌∷◌}
+use Rattle.wast_tree.specs.declared.fields.ModuleField.{ModuleField}
+use Rattle.wast_tree.specs.declared.fields.ModuleField.TheVariants as field
+use Rattle.wast_reach.specs.declared.kinds.FieldKind.{FieldKind}
+use Rattle.wast_reach.specs.declared.kinds.FieldKind.TheVariants as kind
+
+-- the kind of a field
+abbrev pub kind_in : ModuleField → FieldKind
+kind_in (field.Ty t) = kind.Ty
+kind_in (field.Rec r) = kind.Rec
+kind_in (field.Import i) = kind.Import
+kind_in (field.Func f) = kind.Func
+kind_in (field.Table t) = kind.Table
+kind_in (field.Memory m) = kind.Memory
+kind_in (field.Global g) = kind.Global
+kind_in (field.Export e) = kind.Export
+kind_in (field.Start i) = kind.Start
+kind_in (field.Elem e) = kind.Elem
+kind_in (field.Data d) = kind.Data
+kind_in (field.Tag t) = kind.Tag
+
+-- the place of a kind among the twelve
+abbrev pub rank_of : FieldKind → ℕ
+rank_of kind.Ty = 0
+rank_of kind.Rec = 1
+rank_of kind.Import = 2
+rank_of kind.Func = 3
+rank_of kind.Table = 4
+rank_of kind.Memory = 5
+rank_of kind.Global = 6
+rank_of kind.Export = 7
+rank_of kind.Start = 8
+rank_of kind.Elem = 9
+rank_of kind.Data = 10
+rank_of kind.Tag = 11
+
+-- all of them, by their ranks
+abbrev pub kinds : List FieldKind
+kinds = kind.Ty ∷ kind.Rec ∷ kind.Import ∷ kind.Func ∷ kind.Table ∷ kind.Memory ∷ kind.Global ∷ kind.Export ∷ kind.Start ∷ kind.Elem ∷ kind.Data ∷ kind.Tag ∷ []
+
+abbrev pub same_kind : FieldKind → FieldKind → Bool
+same_kind k l = rank_of k == rank_of l
+
+-- whether a field is of a kind
+abbrev pub is_of : FieldKind → ModuleField → Bool
+is_of k f = same_kind k (kind_in f)

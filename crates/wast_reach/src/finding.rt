@@ -1,0 +1,48 @@
+//! The stretches of all kinds of fields, found in one walk.
+
+ghost use Rattle.std.specs.Prelude.{◌≡◌, ◌<◌, [], ◌∷◌, ◌++◌, length, List, IsTrue};
+ghost use Rattle.wast_tree.specs.declared.fields.ModuleField.{ModuleField};
+ghost use Rattle.wast_reach.specs.Kinds.{is_of};
+ghost use Rattle.wast_reach.specs.Reaches.{is_reach, reach_of, are_reaches};
+
+use crate::kinds::FieldKind;
+use crate::stretches::Reach;
+use wast_tree::ModuleField;
+
+/// Where in a list the fields of each kind stand.
+#[derive(Clone, Copy)]
+pub struct Reaches {
+    /// By the ranks of the kinds.
+    by_rank: [Reach; 12],
+}
+
+impl Reaches {
+    /// Where in these fields those of each kind stand: one walk over them, which takes no memory.
+    pub fn of(fields: &[ModuleField]) -> Reaches
+        ensures { IsTrue (are_reaches fields.now result) }
+    {
+        let mut reaches = Reaches {
+            by_rank: [Reach { first: 0, end: 0 }; 12],
+        };
+        for i in 0..fields.len() {
+            reaches.add(i, &fields[i]);
+        }
+        reaches
+    }
+
+    /// One field more, at this place.
+    fn add(&mut self, place: usize, field: &ModuleField)
+        requires { place < 18446744073709551615 }
+        ensures { (k : FieldKind) (before : List ModuleField) → length before ≡ place → IsTrue (is_reach (is_of k) before (reach_of self.old k)) → IsTrue (is_reach (is_of k) (before ++ field.now ∷ []) (reach_of self.new k)) }
+    {
+        let rank = FieldKind::of(field).rank();
+        self.by_rank[rank] = self.by_rank[rank].with(place);
+    }
+
+    /// Where the fields of a kind stand, in the list in which they were found. It takes no memory.
+    pub fn of_kind(&self, kind: FieldKind) -> Reach
+        ensures { (fields : List ModuleField) → IsTrue (are_reaches fields self.now) → IsTrue (is_reach (is_of kind) fields result) }
+    {
+        self.by_rank[kind.rank()]
+    }
+}
