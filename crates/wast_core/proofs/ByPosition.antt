@@ -9,11 +9,11 @@ use Rattle.wasm_out.specs.NameSubsections.{InRangeNameSubsection}
 use Rattle.wasm_out.specs.Parts.{SectionKind, ImportEntry, Part, part, InRangePart}
 use Rattle.wasm_out.specs.Reads.{header}
 use Rattle.wast_tree.specs.Generations.{greatest_generation}
-use Rattle.wast_expand.specs.Positioned.{positioned}
+use Rattle.wast_resolve.specs.Explicit.{by_positions}
 use Rattle.wast_resolve.specs.Resolved.{resolved}
 use Rattle.wast_resolve.specs.Finished.{finished}
-use Rattle.wast_resolve.proofs.Stripped.{at_start, stripped_use, stripped_tag_type, stripped_item_kind, stripped_import, stripped}
-use Rattle.wast_resolve.proofs.ByPosition.{finished_by_position}
+use Rattle.wast_resolve.specs.Stripped.{at_start, stripped_use, stripped_tag_type, stripped_item_kind, stripped_import, stripped}
+use Rattle.wast_resolve.specs.Laws.{SamePositions}
 use Rattle.wast_core.specs.Tree.{Index, TypeUse, FunctionType, TagType, ItemKind, ImportItems, ModuleField}
 use Rattle.wast_core.specs.Tree.tag
 use Rattle.wast_core.specs.Tree.kind
@@ -97,8 +97,8 @@ module _ (name : Option (List ℕ)) where
     writable_same w = record { in_range = range_same w.in_range; length = subst (λ (ps : List Part). length (header ++ flat_map part ps) < 2 ^ 64) parts_same w.length }
 
 -- Where each demand is met, the ids that a counter gives tell nothing.
-pub means_what_is_written : MeansWhatIsWritten
-means_what_is_written n name fields above met = parts_same name (finished n fields) (resolved (positioned fields)) (finished_by_position n fields above met)
+pub means_what_is_written : SamePositions → MeansWhatIsWritten
+means_what_is_written positions n name fields above met = parts_same name (finished n fields) (resolved (by_positions fields)) (positions n fields above met)
 
-pub written_where_meant : (n : ℕ) (name : Option (List ℕ)) (fields : List ModuleField) → greatest_generation fields < n → IsMet fields → IsWritable name (resolved (positioned fields)) → IsWritable name (finished n fields)
-written_where_meant n name fields above met w = writable_same name (resolved (positioned fields)) (finished n fields) (sym (finished_by_position n fields above met)) w
+pub written_where_meant : SamePositions → (n : ℕ) (name : Option (List ℕ)) (fields : List ModuleField) → greatest_generation fields < n → IsMet fields → IsWritable name (resolved (by_positions fields)) → IsWritable name (finished n fields)
+written_where_meant positions n name fields above met w = writable_same name (resolved (by_positions fields)) (finished n fields) (sym (positions n fields above met)) w

@@ -16,7 +16,7 @@ use Rattle.wast_expand.specs.NeedingUses.{needed_without, needed_by_use, needed_
 use Rattle.wast_resolve.specs.Finished.{finished}
 use Rattle.wast_resolve.specs.Resolved.{is_numbered, is_resolved}
 use Rattle.wast_resolve.specs.Resolvers.{Bindings}
-use Rattle.wast_resolve.specs.Laws.{NoIdIsLeft, FinishedStaysWellFormed, UsesHaveIndices, FinishedStaysWrittenOut}
+use Rattle.wast_resolve.specs.Laws.{NoIdIsLeft, FinishedStaysWellFormed, SamePositions, UsesHaveIndices, FinishedIsWrittenOut}
 use Rattle.wast_core.specs.Tree.{Index, TypeUse, FunctionType, FuncKind, Func, ModuleField}
 use Rattle.wast_core.specs.Tree.space
 use Rattle.wast_core.specs.Tree.func
@@ -86,30 +86,31 @@ all_encodable (f ∷ fs) w p i r =
     let uses = both_empty (needed_by_field f) (needed fs) i in
     both_true (is_encodable_field f) (are_encodable fs) (field_encodable f all.0 a.0 uses.0 b.0) (all_encodable fs all.1 a.1 uses.1 b.1)
 
--- well formed fields that are written out and whose demands are met may be handed to the encoder once they are resolved
-pub encodable : NoIdIsLeft → FinishedStaysWellFormed → UsesHaveIndices → FinishedStaysWrittenOut → (n : ℕ) (fields : List ModuleField) → greatest_generation fields < n → is_well_formed fields ≡ true → is_written_out fields ≡ true → IsMet fields → are_encodable (finished n fields) ≡ true
-encodable numbers stays indices written n fields above h w met =
+-- well formed fields whose demands are met may be handed to the encoder once they are resolved
+pub encodable : NoIdIsLeft → FinishedStaysWellFormed → UsesHaveIndices → FinishedIsWrittenOut → (n : ℕ) (fields : List ModuleField) → greatest_generation fields < n → is_well_formed fields ≡ true → IsMet fields → (is_written_out (finished n fields) && are_encodable (finished n fields)) ≡ true
+encodable numbers stays indices written n fields above h met =
     let new = finished n fields in
     let plain = (both_pass (has_settled_indices new) (are_plain new) (stays n fields above h met)).1 in
-    all_encodable new (written n fields ∙ w) plain (indices n fields) (sym (each_passes is_numbered (λ f. asked (in_field f)) new) ∙ (ap is_resolved (sym (each_of_each in_field asked_in new)) ∙ numbers n fields above met))
+    both_true (is_written_out new) (are_encodable new) (written n fields)
+    (all_encodable new (written n fields) plain (indices n fields) (sym (each_passes is_numbered (λ f. asked (in_field f)) new) ∙ (ap is_resolved (sym (each_of_each in_field asked_in new)) ∙ numbers n fields above met)))
 
 -- encoding a resolved module answers as encoding the module that it was
-unwritten : (form : Option Form) (n : ℕ) (name : Option (List ℕ)) (fields : List ModuleField) (e : Error) → greatest_generation fields < n → IsMet fields → IsUnwritten form (IsWritable name (finished n fields)) e → IsUnwritten form (IsBounded n name fields) e
-unwritten (Some form) n name fields e above met h = h
-unwritten None n name fields e above met h = elim h [ inl memory ↦ inl memory | inr large ↦ inr (large.0, λ b. large.1 (written_where_meant n name fields above met b.written)) ]
+unwritten : SamePositions → (form : Option Form) (n : ℕ) (name : Option (List ℕ)) (fields : List ModuleField) (e : Error) → greatest_generation fields < n → IsMet fields → IsUnwritten form (IsWritable name (finished n fields)) e → IsUnwritten form (IsBounded n name fields) e
+unwritten positions (Some form) n name fields e above met h = h
+unwritten positions None n name fields e above met h = elim h [ inl memory ↦ inl memory | inr large ↦ inr (large.0, λ b. large.1 (written_where_meant positions n name fields above met b.written)) ]
 
-pub encodes : (n : ℕ) (name : Option (List ℕ)) (old new : ModuleKind) (names : Bindings) (result : Result (Vec ℕ) Error) → bound_of_kind old < n → ResolvesKind n old (Ok names) new → EncodesResolved name new result → EncodesKind n name old result new
-encodes n name (kind.Text fs) new names result above r h = text fs new result above r (subst (λ k. EncodesResolved name k result) r.1 h)
+pub encodes : SamePositions → (n : ℕ) (name : Option (List ℕ)) (old new : ModuleKind) (names : Bindings) (result : Result (Vec ℕ) Error) → bound_of_kind old < n → ResolvesKind n old (Ok names) new → EncodesResolved name new result → EncodesKind n name old result new
+encodes positions n name (kind.Text fs) new names result above r h = text fs new result above r (subst (λ k. EncodesResolved name k result) r.1 h)
   where
     text : (fs : List ModuleField) (new : ModuleKind) (result : Result (Vec ℕ) Error) → greatest_generation fs < n → ResolvesKind n (kind.Text fs) (Ok names) new → EncodesResolved name (kind.Text (finished n fs)) result → EncodesKind n name (kind.Text fs) result new
-    text fs new (Ok bytes) above r h = (r.0, h.0, subst (Reads bytes.items) (means_what_is_written n name fs above r.0) h.1, r.1)
-    text fs new (Err e) above r h = inr (r.0, unwritten (first (uncovered (finished n fs))) n name fs e above r.0 h, r.1)
-encodes n name (kind.Binary pieces) new names result above r h = binary pieces new result r.1 (subst (λ k. EncodesResolved name k result) r.1 h)
+    text fs new (Ok bytes) above r h = (r.0, h.0, subst (Reads bytes.items) (means_what_is_written positions n name fs above r.0) h.1, r.1)
+    text fs new (Err e) above r h = inr (r.0, unwritten positions (first (uncovered (finished n fs))) n name fs e above r.0 h, r.1)
+encodes positions n name (kind.Binary pieces) new names result above r h = binary pieces new result r.1 (subst (λ k. EncodesResolved name k result) r.1 h)
   where
     binary : (pieces : List (Bor (List ℕ))) (new : ModuleKind) (result : Result (Vec ℕ) Error) → new ≡ kind.Binary pieces → EncodesResolved name (kind.Binary pieces) result → EncodesKind n name (kind.Binary pieces) result new
     binary pieces new (Ok bytes) r h = (h, r)
     binary pieces new (Err e) r h = (h, r)
-encodes n name (kind.Refused d) new names result above r h = absurd r
+encodes positions n name (kind.Refused d) new names result above r h = absurd r
 
 -- a covered module that is too large is not put
 pub not_put : {S : Type 0} (rules : SinkRules S) (a : S) (form : Option Form) (name : Option (List ℕ)) (fields : List ModuleField) (e : Error) → AppendLaws rules → form ≡ None → e ≡ too_large → (InRangeModule name fields → ⊥)

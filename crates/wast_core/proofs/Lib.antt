@@ -4,9 +4,11 @@ pub mod EncodedFields
 pub mod Readings
 pub mod FieldsReady
 pub mod StrippedNames
+pub mod Overlong
 pub mod Putting
 pub mod Listed
 pub mod Worked
 pub mod EntriesComputed
+pub mod AbbreviationsComputed
 pub mod Sizes
 pub mod Measuring

@@ -1,9 +1,9 @@
 -- The name section tells nothing of generated ids, and of the places of type uses.
-use Rattle.std.proofs.Common.{◌≡◌, ℕ, List, [], ◌∷◌, map, Option, Some, None, option_map, refl, ap}
+use Rattle.std.proofs.Common.{◌≡◌, ℕ, List, [], ◌∷◌, map, Option, Some, None, option_map, refl, ap, ◌∙◌}
 use Rattle.std.specs.Prelude.{cond}
 use Rattle.wast_tree.specs.Ids.{Name, Written, Generated, name_of, is_generated}
 use Rattle.wast_tree.specs.Items.{space_of_kind}
-use Rattle.wast_resolve.proofs.Stripped.{written_id, at_start, stripped_use, stripped_tag_type, stripped_item_kind, stripped_import, stripped}
+use Rattle.wast_resolve.specs.Stripped.{written_id, at_start, stripped_use, stripped_tag_type, stripped_item_kind, stripped_import, stripped}
 use Rattle.wast_core.specs.Tree.{Id, Index, NameAnnotation, Space, TagType, ItemKind, ImportItems, Func, ModuleField}
 use Rattle.wast_core.specs.Tree.index
 use Rattle.wast_core.specs.Tree.space
@@ -31,10 +31,16 @@ same_space_of (kind.Func u) = refl
 same_space_of k = refl
 
 same_imported : (i : ImportItems) → import_names (stripped_import i) ≡ import_names i
-same_imported (import_items.Single source name sig) = ap (λ (s : Space). (s, given_name sig.name sig.id) ∷ []) (same_space_of sig.kind)
+same_imported (import_items.Single source name sig) =
+    ap (λ (s : Space). (s, given_name sig.name (written_id sig.id)) ∷ []) (same_space_of sig.kind) ∙ ap (λ (n : Option (List ℕ)). (space_of_kind sig.kind, n) ∷ []) (same_given sig.name sig.id)
 
 same_names : (x : ModuleField) → item_names_in (stripped x) ≡ item_names_in x
 same_names (field.Ty t) = ap (λ (n : Option (List ℕ)). (space.Ty, n) ∷ []) (same_given t.name t.id)
+same_names (field.Func f) = ap (λ (n : Option (List ℕ)). (space.Func, n) ∷ []) (same_given f.name f.id)
+same_names (field.Table t) = ap (λ (n : Option (List ℕ)). (space.Table, n) ∷ []) (same_given t.name t.id)
+same_names (field.Memory m) = ap (λ (n : Option (List ℕ)). (space.Memory, n) ∷ []) (same_given m.name m.id)
+same_names (field.Global g) = ap (λ (n : Option (List ℕ)). (space.Global, n) ∷ []) (same_given g.name g.id)
+same_names (field.Tag t) = ap (λ (n : Option (List ℕ)). (space.Tag, n) ∷ []) (same_given t.name t.id)
 same_names (field.Import i) = same_imported i.items
 same_names x = refl
 
@@ -49,7 +55,7 @@ arity_stays xs (Some (index.Num n span)) = same_arity stripped arities_in xs n
 arity_stays xs (Some (index.Id id)) = refl
 
 -- The names of what stands within items.
-same_locals : (xs : List ModuleField) (f : Func) → locals_of (map stripped xs) (record f { ty = stripped_use f.ty }) ≡ locals_of xs f
+same_locals : (xs : List ModuleField) (f : Func) → locals_of (map stripped xs) (record f { id = written_id f.id; ty = stripped_use f.ty }) ≡ locals_of xs f
 same_locals xs f = ap (λ (n : Option ℕ). behind (params_or n f.ty.inline) (locals_in f.kind)) (arity_stays xs f.ty.index)
 
 same_params : (t : TagType) → tag_params (stripped_tag_type t) ≡ tag_params t
@@ -65,7 +71,7 @@ same_import (import_items.Single source name sig) = same_kind sig.kind
 same_lists : (xs : List ModuleField) (x : ModuleField) → SameLists (map stripped xs) xs (stripped x) x
 same_lists xs (field.Ty t) = λ w. in_type w (record t { id = written_id t.id }) t refl
 same_lists xs (field.Import i) = same_import i.items
-same_lists xs (field.Func f) = λ w. in_func w (map stripped xs) xs (record f { ty = stripped_use f.ty }) f (same_locals xs f)
+same_lists xs (field.Func f) = λ w. in_func w (map stripped xs) xs (record f { id = written_id f.id; ty = stripped_use f.ty }) f (same_locals xs f)
 same_lists xs (field.Tag t) = λ w. in_tag w (stripped_tag_type t.ty) t.ty (same_params t.ty)
 same_lists xs x = λ w. refl
 

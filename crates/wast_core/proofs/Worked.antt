@@ -17,8 +17,7 @@ use Rattle.wasm_out.specs.Reads.{Reads}
 use Rattle.wasm_out.specs.WorkedBytes as out
 use Rattle.wast_tree.specs.WorkedModules as worked
 use Rattle.wast_tree.specs.WorkedModules.{Address}
-use Rattle.wast_expand.specs.Completed.{completed}
-use Rattle.wast_expand.specs.Positioned.{positioned}
+use Rattle.wast_resolve.specs.Explicit.{explicit, by_positions}
 use Rattle.wast_resolve.specs.Demands.{counts, IsCrowded}
 use Rattle.wast_resolve.specs.Resolved.{resolved}
 use Rattle.wast_core.specs.Tree.{ModuleField}
@@ -82,9 +81,9 @@ parts27 = All-from_recursion InRangePart out.worked_parts (
   ),
 )
 
-names27 : (a b c d e f : Address) → InRangeNames None (resolved (positioned (worked.row27 a b c d e f)))
+names27 : (a b c d e f : Address) → InRangeNames None (resolved (by_positions (worked.row27 a b c d e f)))
 unfolding unsigned unsigned_in
-names27 a b c d e f = All-from_recursion InRangeNameSubsection (name_subsections None (resolved (positioned (worked.row27 a b c d e f)))) (
+names27 a b c d e f = All-from_recursion InRangeNameSubsection (name_subsections None (resolved (by_positions (worked.row27 a b c d e f)))) (
   (omega arith, one InRangeNameEntry _ (omega arith, omega arith)),
   ((omega arith, one InRangeNameEntry _ (omega arith, omega arith)), tt),
 )
@@ -93,20 +92,20 @@ a_is_text : is_utf8 (codes "a") ≡ true
 unfolding encode
 a_is_text = is_utf8-from_IsUtf8 (codes "a") (codes "a", (refl, refl))
 
-texts27 : (a b c d e f : Address) → All HasUtf8Names (resolved (positioned (worked.row27 a b c d e f)))
-texts27 a b c d e f = All-from_recursion HasUtf8Names (resolved (positioned (worked.row27 a b c d e f))) (tt, (tt, (a_is_text, tt)))
+texts27 : (a b c d e f : Address) → All HasUtf8Names (resolved (by_positions (worked.row27 a b c d e f)))
+texts27 a b c d e f = All-from_recursion HasUtf8Names (resolved (by_positions (worked.row27 a b c d e f))) (tt, (tt, (a_is_text, tt)))
 
 bounded27 : (a b c d e f : Address) → IsBounded 1 None (worked.row27 a b c d e f)
 unfolding unsigned unsigned_in
 bounded27 a b c d e f =
     let fields = worked.row27 a b c d e f in
-    record { spaces = not_crowded (completed fields) refl; counter = omega arith; written = record { in_range = each_place None (resolved (positioned fields)) parts27 (names27 a b c d e f); length = omega arith } }
+    record { spaces = not_crowded (explicit fields) refl; counter = omega arith; written = record { in_range = each_place None (resolved (by_positions fields)) parts27 (names27 a b c d e f); length = omega arith } }
 
 reads27 : (a b c d e f : Address) → Reads out.worked_bytes (meaning None (worked.row27 a b c d e f))
 unfolding unsigned unsigned_in
 reads27 a b c d e f =
     let bounded = bounded27 a b c d e f in
-    reads_module None (resolved (positioned (worked.row27 a b c d e f))) out.worked_bytes refl (texts27 a b c d e f) bounded.written.in_range refl (below 256 out.worked_bytes refl)
+    reads_module None (resolved (by_positions (worked.row27 a b c d e f))) out.worked_bytes refl (texts27 a b c d e f) bounded.written.in_range refl (below 256 out.worked_bytes refl)
 
 pub row27 : Row27
 unfolding unsigned unsigned_in

@@ -3,9 +3,7 @@ use Rattle.std.specs.Prelude.{ℕ, ◌+◌, ◌<◌, ◌^◌, ◌++◌, List, le
 use Rattle.std.specs.List.{flat_map}
 use Rattle.wasm_out.specs.Parts.{part, InRangePart}
 use Rattle.wasm_out.specs.Reads.{header}
-use Rattle.wast_expand.specs.Completed.{completed}
-use Rattle.wast_expand.specs.Expanded.{ids_wanted}
-use Rattle.wast_expand.specs.Positioned.{positioned}
+use Rattle.wast_resolve.specs.Explicit.{explicit, by_positions, ids_filled}
 use Rattle.wast_resolve.specs.Demands.{IsCrowded}
 use Rattle.wast_resolve.specs.Resolved.{resolved}
 use Rattle.wast_core.specs.Tree.{ModuleField}
@@ -47,6 +45,6 @@ pub record IsWritable (name : Option (List ℕ)) (fields : List ModuleField) : T
 
 -- what the module means is writable, and the counter that gives ids does not run out
 pub record IsBounded (n : ℕ) (name : Option (List ℕ)) (fields : List ModuleField) : Type 0 where
-  pub spaces : IsCrowded (completed fields) → ⊥
-  pub counter : n + ids_wanted fields < 2 ^ 64
-  pub written : IsWritable name (resolved (positioned fields))
+  pub spaces : IsCrowded (explicit fields) → ⊥
+  pub counter : n + ids_filled fields < 2 ^ 64
+  pub written : IsWritable name (resolved (by_positions fields))

@@ -10,8 +10,7 @@ use Rattle.wast_tree.specs.Faults.{refused, too_large, out_of_memory}
 use Rattle.wast_tree.specs.Known.{known}
 use Rattle.wast_tree.specs.Items.{items}
 use Rattle.wasm_out.specs.Reads.{Reads}
-use Rattle.wast_expand.specs.Completed.{completed}
-use Rattle.wast_expand.specs.Expanded.{expanded, ids_wanted}
+use Rattle.wast_resolve.specs.Explicit.{explicit, explicit_from, ids_filled}
 use Rattle.wast_resolve.specs.Demands.{demands, first_unmet, IsUnresolved}
 use Rattle.wast_resolve.specs.Finished.{finished}
 use Rattle.wast_resolve.specs.Resolvers.{Bindings, known_to}
@@ -24,13 +23,13 @@ use Rattle.wast_core.specs.Meaning.{meaning}
 use Rattle.wast_core.specs.Bounded.{IsBounded}
 use Rattle.wast_core.specs.Uncovered.{first, uncovered, IsCovered}
 
--- each demand of the fields is met, and of the types that they imply
+-- each demand is met of the fields with all that stands in place, and of the types that they imply
 abbrev pub IsMet : List ModuleField → Type 0
-IsMet fields = first_unmet (demands (completed fields)) ≡ None
+IsMet fields = first_unmet (demands (explicit fields)) ≡ None
 
 -- A text module is resolved exactly where each demand is met, with the ids that a counter gives; a refusal is kept, and answered from then on.
 abbrev pub ResolvesKind : ℕ → ModuleKind → Result Bindings Error → ModuleKind → Type 0
-ResolvesKind n (kind.Text fields) (Ok names) new = IsMet fields × (new ≡ kind.Text (finished n fields)) × (known_to names ≡ known (items (expanded n fields)))
+ResolvesKind n (kind.Text fields) (Ok names) new = IsMet fields × (new ≡ kind.Text (finished n fields)) × (known_to names ≡ known (items (explicit_from n fields)))
 ResolvesKind n (kind.Text fields) (Err e) new = IsUnresolved n fields e × (new ≡ kind.Refused e)
 ResolvesKind n (kind.Binary pieces) (Ok names) new = (known_to names ≡ known []) × (new ≡ kind.Binary pieces)
 ResolvesKind n (kind.Binary pieces) (Err e) new = ⊥
@@ -39,7 +38,7 @@ ResolvesKind n (kind.Refused e) (Err d) new = (d ≡ e) × (new ≡ kind.Refused
 
 -- How far the counter rises: where fields are resolved by as many ids as are filled in, where they are refused by no one knows how many; else it stays.
 abbrev pub Counts : ModuleKind → ModuleKind → ℕ → ℕ → Type 0
-Counts (kind.Text fields) (kind.Text resolved) before after = after ≡ before + ids_wanted fields
+Counts (kind.Text fields) (kind.Text resolved) before after = after ≡ before + ids_filled fields
 Counts (kind.Text fields) (kind.Binary pieces) before after = ⊥
 Counts (kind.Text fields) (kind.Refused e) before after = before ≤ after
 Counts (kind.Binary pieces) new before after = after ≡ before

@@ -1,11 +1,17 @@
--- What resolving leaves of a text module is what the module means.
+-- What resolving leaves of a text module is what the module means; and what is too large to be resolved.
 use Rattle.std.specs.Prelude.{◌≡◌, ℕ, ◌<◌, List, Option}
 use Rattle.wast_tree.specs.Generations.{greatest_generation}
 use Rattle.wast_resolve.specs.Finished.{finished}
 use Rattle.wast_core.specs.Tree.{ModuleField}
+use Rattle.wast_resolve.specs.Demands.{IsTooLarge}
+use Rattle.wast_core.specs.Bounded.{IsBounded}
 use Rattle.wast_core.specs.Headline.{IsMet}
 use Rattle.wast_core.specs.Meaning.{parts, meaning}
 
 -- Where each demand is met, the ids that a counter gives tell nothing: the parts are those by positions.
 abbrev pub MeansWhatIsWritten : Type 0
 MeansWhatIsWritten = (n : ℕ) (name : Option (List ℕ)) (fields : List ModuleField) → greatest_generation fields < n → IsMet fields → parts name (finished n fields) ≡ meaning name fields
+
+-- Fields that are too large to be resolved are too large to be encoded.
+abbrev pub TooLargeIsUnbounded : Type 0
+TooLargeIsUnbounded = (n : ℕ) (name : Option (List ℕ)) (fields : List ModuleField) → IsTooLarge n fields → IsBounded n name fields → ⊥

@@ -9,6 +9,7 @@ pub mod Modules
 pub mod Utf8Names
 pub mod WorkedMeanings
 pub mod WorkedEntries
+pub mod WorkedAbbreviations
 pub mod Tree
 pub mod Wats
 pub mod Writing

@@ -11,7 +11,7 @@ use Rattle.wasm_out.specs.Bodies.{Body}
 use Rattle.wasm_out.specs.DataSegments.{DataEntry}
 use Rattle.wasm_out.specs.ElementSegments.{ElementEntry}
 use Rattle.wasm_out.specs.Parts.{SectionKind, Types, Imports, Functions, Tables, Memories, Tags, Globals, Exports, Elements, Code, Data, Entry, TypeEntry, Single, ImportEntry, TableEntry, GlobalEntry, ExportEntry, Start, Listed, Part}
-use Rattle.wast_expand.specs.Positioned.{positioned}
+use Rattle.wast_resolve.specs.Explicit.{by_positions}
 use Rattle.wast_resolve.specs.Resolved.{resolved}
 use Rattle.wast_names.specs.NamesPayload.{name_subsections}
 use Rattle.wast_names.specs.NameSection.{names_part}
@@ -152,7 +152,7 @@ in_slot name fields slot.Names = names_part (name_subsections name fields)
 abbrev pub parts : Option (List ℕ) → List ModuleField → List Part
 parts name fields = flat_map (in_slot name fields) order
 
--- What a text module means: the parts of its fields and of the types that they imply, each type use by the position of its
--- type, and each id by the position of what it denotes.
+-- What a text module means: the parts of its fields, with what stands in place as fields of their own, and of the types that
+-- they imply; each type use by the position of its type, and each id by the position of what it denotes.
 abbrev pub meaning : Option (List ℕ) → List ModuleField → List Part
-meaning name fields = parts name (resolved (positioned fields))
+meaning name fields = parts name (resolved (by_positions fields))

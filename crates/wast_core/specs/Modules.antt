@@ -1,16 +1,15 @@
 -- Which modules are well formed, the greatest generation of their ids, and when they are ready to be resolved.
-use Rattle.std.specs.Prelude.{ℕ, max, ◌<◌, Bool, true, ◌&&◌, IsTrue}
+use Rattle.std.specs.Prelude.{ℕ, max, ◌<◌, Bool, true, IsTrue}
 use Rattle.wast_tree.specs.Ids.{marked}
 use Rattle.wast_tree.specs.WellFormed as fields
-use Rattle.wast_tree.specs.WrittenOut.{is_written_out}
 use Rattle.wast_tree.specs.Generations.{generation_if, greatest_generation}
 use Rattle.wast_core.specs.declared.module.Module.{Module}
 use Rattle.wast_core.specs.declared.module.ModuleKind.{ModuleKind}
 use Rattle.wast_core.specs.declared.module.ModuleKind.TheVariants as kind
 
--- what holds no fields is well formed; fields are also written out
+-- what holds no fields is well formed
 abbrev pub is_well_formed_kind : ModuleKind → Bool
-is_well_formed_kind (kind.Text fs) = fields.is_well_formed fs && is_written_out fs
+is_well_formed_kind (kind.Text fs) = fields.is_well_formed fs
 is_well_formed_kind (kind.Binary pieces) = true
 is_well_formed_kind (kind.Refused e) = true
 

@@ -48,6 +48,7 @@ pub use Rattle.wast_tree.specs.declared.fields.Table.{Table}
 pub use Rattle.wast_tree.specs.declared.fields.TableKind.{TableKind}
 pub use Rattle.wast_tree.specs.declared.fields.TableKind.TheVariants as table
 pub use Rattle.wast_tree.specs.declared.fields.Memory.{Memory}
+pub use Rattle.wast_tree.specs.declared.fields.MemoryKind.{MemoryKind}
 pub use Rattle.wast_tree.specs.declared.fields.MemoryKind.TheVariants as memory
 pub use Rattle.wast_tree.specs.declared.fields.Global.{Global}
 pub use Rattle.wast_tree.specs.declared.fields.GlobalKind.{GlobalKind}
@@ -55,5 +56,6 @@ pub use Rattle.wast_tree.specs.declared.fields.GlobalKind.TheVariants as global
 pub use Rattle.wast_tree.specs.declared.fields.Tag.{Tag}
 pub use Rattle.wast_tree.specs.declared.fields.TagKind.TheVariants as tag_kind
 pub use Rattle.wast_tree.specs.declared.fields.Export.{Export}
+pub use Rattle.wast_tree.specs.declared.fields.ExportKind.TheVariants as export
 pub use Rattle.wast_tree.specs.declared.fields.ModuleField.{ModuleField}
 pub use Rattle.wast_tree.specs.declared.fields.ModuleField.TheVariants as field

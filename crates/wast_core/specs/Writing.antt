@@ -1,10 +1,11 @@
 -- What encoding a module that is resolved gives, and what it appends to a sink.
-use Rattle.std.specs.Prelude.{◌≡◌, ◌⊎◌, ℕ, List, [], length, Option, Some, None, Result, Ok, Err, IsTrue}
+use Rattle.std.specs.Prelude.{◌≡◌, ◌⊎◌, ℕ, List, [], length, Option, Some, None, Result, Ok, Err, ◌&&◌, IsTrue}
 use Rattle.std.specs.Global.{Vec}
 use Rattle.wast_tree.specs.declared.faults.Error.{Error}
 use Rattle.wast_tree.specs.declared.faults.Fault.TheVariants as fault
 use Rattle.wast_tree.specs.declared.faults.Form.{Form}
 use Rattle.wast_tree.specs.Faults.{refused, too_large, out_of_memory}
+use Rattle.wast_tree.specs.WrittenOut.{is_written_out}
 use Rattle.wasm_ops.specs.Sinks.{SinkRules, refused_as}
 use Rattle.wasm_out.specs.Reads.{Reads}
 use Rattle.wast_core.specs.Tree.{ModuleField}
@@ -18,13 +19,13 @@ use Rattle.wast_core.specs.Uncovered.{first, uncovered, IsCovered}
 
 -- a text module as a successful resolving leaves it
 abbrev pub IsEncodable : ModuleKind → Type 0
-IsEncodable (kind.Text fields) = IsTrue (are_encodable fields)
+IsEncodable (kind.Text fields) = IsTrue (is_written_out fields && are_encodable fields)
 IsEncodable (kind.Binary pieces) = ⊥
 IsEncodable (kind.Refused e) = ⊥
 
 -- a text module has to be so; of the others nothing is asked
 abbrev pub IsAtRest : ModuleKind → Type 0
-IsAtRest (kind.Text fields) = IsTrue (are_encodable fields)
+IsAtRest (kind.Text fields) = IsTrue (is_written_out fields && are_encodable fields)
 IsAtRest (kind.Binary pieces) = Unit {0}
 IsAtRest (kind.Refused e) = Unit {0}
 

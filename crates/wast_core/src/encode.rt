@@ -18,7 +18,7 @@ use crate::sections::BinaryModule;
 use std::alloc::Global;
 use wasm_ops::{Encode, Room, Sink};
 use wast_names::given_name;
-use wast_resolve::discard_names;
+use wast_resolve::{discard_names, resolved_laws};
 use wast_tree::{Error, Fault, Gensym, ModuleField};
 
 /// The bytes of a module with this name, of these resolved fields.
@@ -96,15 +96,16 @@ impl EncodeOptions {
         ensures stays { «module».new ≡ record «module».old { kind = «module».new.kind } }
         ensures ready { IsReady «module».new gensym.new }
     {
+        resolved_laws();
         discard_names(module.resolve(alloc, gensym)?);
         encode_resolved(alloc, module)
     }
 
     /// Appends the bytes of a resolved text module to a sink (binary format, modules). It takes no memory of its own.
     ///
-    /// It needs a text module as [`Module::resolve`] leaves it: its indices are numbers, and each type use has one. E11
-    /// comes exactly where a form is not covered. Else the errors are the sink's refusal, where all the bytes do not
-    /// fit, and E10, where a count, length or position is 2^32 or more. Then the sink stays as it was.
+    /// It needs a text module as [`Module::resolve`] leaves it: nothing stands in place in it, its indices are numbers, and
+    /// each type use has one. E11 comes exactly where a form is not covered. Else the errors are the sink's refusal, where
+    /// all the bytes do not fit, and E10, where a count, length or position is 2^32 or more. Then the sink stays as it was.
     pub fn put_module<'e, S: Sink>(&self, module: &Module, out: &mut S) -> Result<(), Error<'e>>
         requires { IsEncodable «module».now.kind }
         ensures { PutsModule S.rules (name_of_module «module».now) «module».now.kind out.old out.new result }

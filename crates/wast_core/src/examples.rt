@@ -1,6 +1,7 @@
 //! Worked modules, whose meaning the definitions compute.
 
 ghost use Rattle.wast_core.specs.WorkedMeanings.{Row1, Row2, Row8, Row24, Row27, AnnotatedFunction, SecondNamed, LongSection};
+ghost use Rattle.wast_core.specs.WorkedAbbreviations.{Row4, Row5, Row6, Row44};
 ghost use Rattle.wast_core.specs.WorkedEntries.{ImportedEntities, MemoryAndData, TableAndElements, TwoStarts};
 
 /// The modules of the rows 1 and 27 are small enough and read from their bytes; an implied type is written without a
@@ -24,4 +25,13 @@ pub(crate) fn worked_entries()
     ensures data { MemoryAndData }
     ensures elements { TableAndElements }
     ensures starts { TwoStarts }
+{}
+
+/// Exports, elements and data in place stand in their sections, and refer to the position of their item; a memory has as
+/// many pages as hold its bytes, and a table as many elements.
+pub(crate) fn worked_abbreviations()
+    ensures row4 { Row4 }
+    ensures row5 { Row5 }
+    ensures row6 { Row6 }
+    ensures row44 { Row44 }
 {}

@@ -1,10 +1,22 @@
-//! The law of meanings, for callers to cite.
+//! Laws of text modules, for callers to cite.
 
-ghost use Rattle.wast_core.specs.Laws.{MeansWhatIsWritten};
+ghost use Rattle.wast_core.specs.Laws.{MeansWhatIsWritten, TooLargeIsUnbounded};
+
+use wast_resolve::resolved_laws;
 
 /// What resolving leaves of a text module is what the module means (binary format, modules): where the counter begins above
 /// the ids of the fields and each demand is met, the parts of the list with the ids that the counter gives are those of the
 /// list by positions, in which no id is made. It does nothing.
 pub fn meaning_law()
     ensures { MeansWhatIsWritten }
+{
+    resolved_laws();
+}
+
+/// Fields that are too large to be resolved are too large to be encoded: where a space has 2^32 items or more, a struct as
+/// many fields, a function as many parameters and locals, or a memory as many bytes in place, or where the counter would
+/// run out, a number, count or length of the bytes would be out of range. So resolving and encoding answer E10 only where
+/// the module is not bounded. It does nothing.
+pub fn bounded_law()
+    ensures { TooLargeIsUnbounded }
 {}

@@ -12,7 +12,7 @@ mod slots;
 mod wat;
 
 pub use encode::EncodeOptions;
-pub use laws::meaning_law;
+pub use laws::{bounded_law, meaning_law};
 pub use module::{Module, ModuleKind, discard_module};
 pub use wast_conv::{FuncSectionTy, RecOrType, SectionItem, conv};
 pub use wat::Wat;

@@ -10,7 +10,7 @@ use std::mem;
 use wast_resolve::{Names, resolved_laws};
 use wast_tree::{
     Error, Fault, Gensym, Id, ModuleField, NameAnnotation, Seq, Span, discard_fields, gensym_bound,
-    is_written_out, well_formed,
+    well_formed,
 };
 
 /// What a module holds.
@@ -41,16 +41,15 @@ impl<'a> Module<'a> {
     /// Whether the module can be resolved and encoded. It takes no memory.
     ///
     /// Binary and refused modules are well formed. Fields are, where each generated id that stands for an index is
-    /// borne by an item of its space, where they are written out, and where they keep to what the tree covers today: no
-    /// expression has hints; types, tables and globals are not shared, types are without descriptor and describes, and no
-    /// shared heap type is referred to; expressions of an active element segment without a table are of type `funcref`.
+    /// borne by an item of its space, and where they keep to what the tree covers today: no expression has hints; types,
+    /// tables and globals are not shared, types are without descriptor and describes, and no shared heap type is referred
+    /// to; expressions of an active element segment without a table are of type `funcref`; a function that is imported in
+    /// place is not exact, and the page exponent of a memory with bytes in place is below 64.
     pub fn well_formed(&self) -> bool
         ensures { result ≡ is_well_formed self.now }
     {
         match &self.kind {
-            ModuleKind::Text(fields) => {
-                well_formed(fields.as_slice()) && is_written_out(fields.as_slice())
-            }
+            ModuleKind::Text(fields) => well_formed(fields.as_slice()),
             ModuleKind::Binary(_) | ModuleKind::Refused(_) => true,
         }
     }
@@ -70,24 +69,25 @@ impl<'a> Module<'a> {
         own.max(held)
     }
 
-    /// Gives each type use an index and each index the number of what it names, and answers what the names of the
-    /// module denote (text format, identifiers, indices and type uses).
+    /// Writes abbreviations out, gives each type use an index and each index the number of what it names, and answers what
+    /// the names of the module denote (text format, abbreviations, identifiers, indices and type uses).
     ///
     /// It needs a well formed module and a counter above its generated ids, and leaves both so. A text module is
-    /// resolved where no import stands behind a function, table, memory, global or tag of the module, the id of each item is
-    /// new in its space, that of each field of a struct new in the struct, each id that stands for an index denotes an
-    /// item, each inline type is that of the index beside it, and the parameters and locals of a function differ in their
-    /// ids. A type for each signature that a type use needs and no type has is then put after its fields, and each type
-    /// without an id is given a generated one: the counter rises by as many.
+    /// resolved where no import, also none in place, stands behind a function, table, memory, global or tag of the module,
+    /// the id of each item is new in its space, that of each field of a struct new in the struct, each id that stands for an
+    /// index denotes an item, each inline type is that of the index beside it, and the parameters and locals of a function
+    /// differ in their ids. Exports, imports, elements and data in place are then fields of their own, and a type for each
+    /// signature that a type use needs and no type has is put after all fields. Each item without an id that is exported or
+    /// filled in place, and each type without an id, is given a generated one: the counter rises by as many.
     ///
     /// Else the answer is the first that is not so, with its place: E1 at an import behind what is defined; after that E2
     /// where two items of a space have one id, and directly after a type E3 where two of its fields have one; after all of
     /// these, field by field, E4 where an id denotes nothing, E6, E5 or E7 where an inline type is not that of the index,
     /// and E2 where two parameters or locals of a function have one id; E10 only where a space has 2^32 items or more, a
-    /// struct as many fields, a function as many parameters and locals, or the counter would pass the greatest u64, E12
-    /// where memory is refused. The module keeps a refusal, and answers it from then on; the counter then stands where it
-    /// stood or higher. A binary module stays as it is, and binds no names; for it, and for a refused module, the counter
-    /// stays. Span, id and name stay.
+    /// struct as many fields, a function as many parameters and locals, a memory as many bytes in place, or the counter
+    /// would pass the greatest u64, E12 where memory is refused. The module keeps a refusal, and answers it from then on;
+    /// the counter then stands where it stood or higher. A binary module stays as it is, and binds no names; for it, and for
+    /// a refused module, the counter stays. Span, id and name stay.
     pub fn resolve(&mut self, alloc: Global, gensym: &mut Gensym) -> Result<Names<'a>, Error<'a>>
         requires { IsReady self.old gensym.old }
         ensures answer { Resolves self.old.kind gensym.old result self.new.kind gensym.new }

@@ -5,3 +5,7 @@ pub mod Left
 pub mod Staying
 pub mod Plain
 pub mod Worked
+pub mod WrittenItems
+pub mod WrittenAsks
+pub mod Below
+pub mod Settled

@@ -1,6 +1,7 @@
 -- What holds of each list that is written out (text format: abbreviations).
-use Rattle.std.specs.Prelude.{◌≡◌, ℕ, List, IsTrue}
-use Rattle.wast_tree.specs.WellFormed.{are_plain}
+use Rattle.std.specs.Prelude.{◌≡◌, ℕ, ◌+◌, ◌<◌, true, List, IsTrue}
+use Rattle.wast_tree.specs.Generations.{greatest_generation}
+use Rattle.wast_tree.specs.WellFormed.{are_plain, is_well_formed}
 use Rattle.wast_tree.specs.WrittenOut.{is_written_out}
 use Rattle.wast_deinline.specs.Tree.{ModuleField}
 use Rattle.wast_deinline.specs.Written.{written, references_wanted, written_out}
@@ -28,3 +29,11 @@ StaysPlain = (n : ℕ) (fields : List ModuleField) → IsTrue (are_plain fields)
 
 abbrev pub StaysPlainByPosition : Type 0
 StaysPlainByPosition = (fields : List ModuleField) → IsTrue (are_plain fields) → IsTrue (are_plain (written_out fields))
+
+-- Where the counter begins above the generations of the fields, each generation is below that of the next id.
+abbrev pub StaysBelow : Type 0
+StaysBelow = (n : ℕ) (fields : List ModuleField) → greatest_generation fields < n → greatest_generation (written n fields) < n + references_wanted fields
+
+-- Well formed fields stay so.
+abbrev pub StaysWellFormed : Type 0
+StaysWellFormed = (n : ℕ) (fields : List ModuleField) → is_well_formed fields ≡ true → is_well_formed (written n fields) ≡ true

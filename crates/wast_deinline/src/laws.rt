@@ -1,12 +1,13 @@
 //! What holds of each list that is written out.
 
-ghost use Rattle.wast_deinline.specs.Laws.{NothingIsLeft, NothingIsLeftByPosition, StaysWritten, StaysByPosition, WantsNoReference, StaysPlain, StaysPlainByPosition};
+ghost use Rattle.wast_deinline.specs.Laws.{NothingIsLeft, NothingIsLeftByPosition, StaysWritten, StaysByPosition, WantsNoReference, StaysPlain, StaysPlainByPosition, StaysBelow, StaysWellFormed};
 
 /// Laws of the list that is written out (text format: abbreviations), by ids and by positions: no abbreviation is left in
-/// it; a list without abbreviations stays as it is, and takes no id; and forms that are covered stay so.
+/// it; a list without abbreviations stays as it is, and takes no id; forms that are covered stay so, and well formed fields
+/// well formed. Where the counter begins above the ids of the fields, each id is below the next one.
 ///
 /// It does nothing: what it ensures holds for each list of fields and each counter.
-#[tactic(auto, using(crate::proofs::Left::nothing_is_left, crate::proofs::Left::nothing_is_left_by_position, crate::proofs::Staying::stays_written, crate::proofs::Staying::stays_by_position, crate::proofs::Staying::wants_no_reference, crate::proofs::Plain::stays_plain, crate::proofs::Plain::stays_plain_by_position))]
+#[tactic(auto, using(crate::proofs::Left::nothing_is_left, crate::proofs::Left::nothing_is_left_by_position, crate::proofs::Staying::stays_written, crate::proofs::Staying::stays_by_position, crate::proofs::Staying::wants_no_reference, crate::proofs::Plain::stays_plain, crate::proofs::Plain::stays_plain_by_position, crate::proofs::Below::written_below, crate::proofs::Settled::written_well_formed))]
 pub fn written_laws()
     ensures left { NothingIsLeft }
     ensures left_by_position { NothingIsLeftByPosition }
@@ -15,4 +16,6 @@ pub fn written_laws()
     ensures wants_none { WantsNoReference }
     ensures plain { StaysPlain }
     ensures plain_by_position { StaysPlainByPosition }
+    ensures below { StaysBelow }
+    ensures well_formed { StaysWellFormed }
 {}

@@ -2,7 +2,7 @@
 
 ghost use Rattle.std.specs.Prelude.{◌≡◌, ◌≤◌, ◌+◌, not, ◌||◌, IfErr, OnOk};
 ghost use Rattle.wast_tree.specs.Gensym.{Fills};
-ghost use Rattle.wast_expand.specs.Filling.{one_if, given_if, RunsOut};
+ghost use Rattle.wast_tree.specs.Filling.{one_if, given_if, RunsOut};
 ghost use Rattle.wast_deinline.specs.Tree.space;
 ghost use Rattle.wast_deinline.specs.Segments.{has_bytes, has_elements};
 ghost use Rattle.wast_deinline.specs.Referring.{by_id, exports_some, wants_id, with_id};

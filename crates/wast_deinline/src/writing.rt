@@ -16,7 +16,7 @@ use std::alloc::Global;
 use wast_tree::{
     Error, Export, ExportKind, Func, FuncKind, Gensym, GlobalKind, Id, ImportItems, Imports, Index,
     InlineExport, InlineImport, ItemKind, ItemSig, Memory, MemoryKind, ModuleField, NameAnnotation,
-    Seq, Span, Table, TableKind, Tag, TagKind, discard_fields,
+    Seq, Span, Table, TableKind, Tag, TagKind, discard_fields, is_written_out,
 };
 
 /// Writes the abbreviations of fields out (text format: functions, tables, memories, globals, tags; abbreviations).
@@ -28,9 +28,10 @@ use wast_tree::{
 /// the place of its field where it has none. All other fields stay. It takes any fields; the ids that it makes are new
 /// where the counter stands above [`wast_tree::gensym_bound`].
 ///
-/// It takes memory for the new list and for the offsets of segments. The error is E12 where memory was refused, and E10
-/// only where the counter would pass the greatest `u64` or the bytes in place of a memory are 2^32 or more. On an error the
-/// fields are dropped, and the counter stands where it stood or higher.
+/// Where nothing stands in place, it gives the fields back as they are, without memory. Else it takes memory for the new
+/// list and for the offsets of segments. The error is E12 where memory was refused, and E10 only where the counter would
+/// pass the greatest `u64` or the bytes in place of a memory are 2^32 or more. On an error the fields are dropped, and the
+/// counter stands where it stood or higher.
 pub fn run<'a>(
     alloc: Global,
     fields: Seq<ModuleField<'a>>,
@@ -41,6 +42,9 @@ pub fn run<'a>(
     ensures refusal { IfErr result (CannotBeWritten gensym.old fields.entry) }
     ensures rising { gensym.old ≤ gensym.new }
 {
+    if is_written_out(fields.as_slice()) {
+        return Ok(fields);
+    }
     let mut fields = fields;
     match name_items(&mut fields, gensym) {
         Ok(()) => write_fields(alloc, fields),

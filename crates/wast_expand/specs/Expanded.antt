@@ -13,7 +13,7 @@ use Rattle.wast_tree.specs.Ids.{generated}
 use Rattle.wast_expand.specs.Signatures.{Signature, signature_of}
 use Rattle.wast_expand.specs.NeedingUses.{inline_signature}
 use Rattle.wast_expand.specs.ImpliedTypes.{implied}
-use Rattle.wast_expand.specs.Filling.{filled, wanted}
+use Rattle.wast_tree.specs.Filling.{filled, wanted}
 use Rattle.wast_expand.specs.Expanders.{Bindings, LookUp, index_of}
 
 -- A type that has no id wants one, but no member of a group.

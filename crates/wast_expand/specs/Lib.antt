@@ -5,7 +5,6 @@ pub mod SignatureLaws
 pub mod NeedingUses
 pub mod ImpliedTypes
 pub mod TypeSpace
-pub mod Filling
 pub mod Expanders
 pub mod Expanded
 pub mod Completed

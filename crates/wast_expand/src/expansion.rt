@@ -2,7 +2,7 @@
 
 ghost use Rattle.std.specs.Prelude.{◌≡◌, ◌≤◌, ◌+◌, ◌++◌, [], IfOk, IfErr, OnOk};
 ghost use Rattle.wast_tree.specs.Faults.{out_of_memory};
-ghost use Rattle.wast_expand.specs.Filling.{one_if, given_if, filled, wanted, RunsOut};
+ghost use Rattle.wast_tree.specs.Filling.{one_if, given_if, filled, wanted, RunsOut};
 ghost use Rattle.wast_expand.specs.Expanders.{Extends};
 ghost use Rattle.wast_expand.specs.Expanded.{lacks_id, with_id, binding_of, bindings_in, bindings, expanded, ids_wanted};
 

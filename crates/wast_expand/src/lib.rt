@@ -14,6 +14,7 @@ mod laws;
 pub use expanders::Expander;
 pub use keys::{FuncKey, TypeKey, TypeReference};
 pub use laws::expanded_laws;
+pub use wast_deinline::deinline;
 
 /// The pass over the fields of a module.
 pub mod types {

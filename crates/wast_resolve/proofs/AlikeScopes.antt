@@ -1,12 +1,15 @@
 -- Where two scopes have the same types, and what passes a test denotes the same, uses that pass it demand the same.
-use Rattle.std.proofs.Common.{◌≡◌, ℕ, zero, suc, Bool, true, ◌&&◌, List, [], ◌∷◌, ◌++◌, map, Option, Some, None, is_some, refl, sym, ap, ◌∙◌}
+use Rattle.std.proofs.Common.{◌≡◌, ℕ, zero, suc, ◌<◌, Bool, true, ◌&&◌, List, [], ◌∷◌, ◌++◌, map, Option, Some, None, is_some, refl, sym, ap, ◌∙◌}
 use Rattle.std.specs.Cmp.{first_so, second_so}
 use Rattle.std.specs.List.{flat_map, list_all, slice_get}
+use Rattle.std.proofs.lemmas.Bool.{ltb-true}
 use Rattle.std.proofs.lemmas.List.Folds.{list_all-append}
 use Rattle.std.proofs.lemmas.Grind.{common_steps}
 use native.Mathlib.Omega.{arith}
-use Rattle.wast_tree.specs.Ids.{Mark, marked, mark_of, span_of_index}
+use Rattle.wast_tree.specs.Ids.{Name, name_of, generation_of, Mark, marked, mark_of, span_of_index}
 use Rattle.wast_tree.specs.Spaces.{word_of}
+use Rattle.wast_tree.specs.Items.{items}
+use Rattle.wast_tree.specs.Known.{known}
 use Rattle.wast_tree.specs.Occurrences.{Ask, Wants, Bare, Step, Named, Matches, Declares, Occurrence, Outside, Body, outside, if_there, in_index, in_signature, in_inner, in_type, in_rec, in_type_use, matched_by, matched, in_instr, in_body, declared_params, declared_locals, declared, in_locals, in_func_kind, in_func, in_expression, in_ref, in_use, in_constant, in_constant_if, in_table_type, in_global_type, in_tag_type, in_item_kind, in_import, in_table_kind, in_memory_kind, in_global_kind, in_elem_kind, in_payload, in_data_kind, in_export, in_field, in_module, asked_in_step, asked_in_steps, asked}
 use Rattle.wast_tree.proofs.Visiting.{each_of_each, asked_both, asked_outside, asked_use, asked_constant}
 use Rattle.wast_expand.specs.Signatures.{Signature, signature_of}
@@ -27,10 +30,10 @@ use Rattle.wast_resolve.specs.Tree.inner
 use Rattle.wast_resolve.specs.Tree.ty
 use Rattle.wast_resolve.specs.Tree.func
 use Rattle.wast_resolve.specs.Tree.field
-use Rattle.wast_resolve.specs.Scopes.{Scope, signatures_in, signatures, denoted, type_at}
+use Rattle.wast_resolve.specs.Scopes.{Scope, scope, signatures_in, signatures, denoted, type_at}
 use Rattle.wast_resolve.specs.Matches.{same_number, same_type, matches}
 use Rattle.wast_resolve.specs.Demands.{unknown, ask_demand, match_with, match_demands, Here, start, after, step_demand, step_demands, use_demand, use_demands}
-use Rattle.wast_resolve.proofs.CompletedAsks.{pass, value_passes, first_part, second_part, signature_needs}
+use Rattle.wast_resolve.proofs.CompletedAsks.{pass, value_passes, first_part, second_part, signature_needs, is_below}
 use Rattle.wast_resolve.proofs.ExpandedAsks.{asked_parts}
 use Rattle.wast_resolve.proofs.ImpliedSignatures.{both_so, all_parts, all_pass, values_pass}
 use Rattle.wast_resolve.proofs.SameTypes.{signatures_alike}
@@ -224,10 +227,10 @@ module _ (ok : Ask → Bool) where
       let both = sym (ap (pass ok) (asked_both (in_field x) (in_module xs))) ∙ h in
       both_pass p (f x) (flat_map f xs) (one x (first_part ok (asked (in_field x)) (asked (in_module xs)) both)) (each_field p f one xs (second_part ok (asked (in_field x)) (asked (in_module xs)) both))
 
-  pub all_occurrences : (xs : List ModuleField) → pass ok (asked (in_module xs)) ≡ true → list_all passes (in_module xs) ≡ true
+  all_occurrences : (xs : List ModuleField) → pass ok (asked (in_module xs)) ≡ true → list_all passes (in_module xs) ≡ true
   all_occurrences xs h = each_field passes in_field field_passes xs h
 
-  pub all_types : (xs : List ModuleField) → pass ok (asked (in_module xs)) ≡ true → list_all type_passes (signatures xs) ≡ true
+  all_types : (xs : List ModuleField) → pass ok (asked (in_module xs)) ≡ true → list_all type_passes (signatures xs) ≡ true
   all_types xs h = each_field type_passes signatures_in types_pass xs h
 
   module _ (c d : Scope) (types : c.types ≡ d.types) (they_pass : list_all type_passes d.types ≡ true)
@@ -283,7 +286,17 @@ module _ (ok : Ask → Bool) where
     one_alike (Outside a) p = ask_alike a p
     one_alike (Body ss) p = steps_alike start ss p
 
-    pub uses_alike : (os : List Occurrence) → list_all passes os ≡ true → use_demands c os ≡ use_demands d os
+    uses_alike : (os : List Occurrence) → list_all passes os ≡ true → use_demands c os ≡ use_demands d os
     uses_alike [] p = refl
     uses_alike (o ∷ os) p =
         ap (λ ds. ds ++ use_demands c os) (one_alike o (first_so (passes o) (list_all passes os) p)) ∙ ap (λ ds. use_demand d o ++ ds) (uses_alike os (second_so (passes o) (list_all passes os) p))
+
+-- Where both lists have the same types, and old names denote the same in both, uses that ask for old names alone demand the
+-- same.
+module _ (n : ℕ) (xs ys : List ModuleField) (types : signatures xs ≡ signatures ys) (old : (s : Space) (q : Name) → generation_of q < n → (known (items xs)).number s q ≡ (known (items ys)).number s q) where
+  denoted_alike : (s : Space) (i : Index) → is_below n (Wants s i) ≡ true → denoted ((known (items xs)).number s) i ≡ denoted ((known (items ys)).number s) i
+  denoted_alike s (index.Num m p) h = refl
+  denoted_alike s (index.Id id) h = old s (name_of id) (ltb-true (generation_of (name_of id)) n h)
+
+  pub old_uses : pass (is_below n) (asked (in_module ys)) ≡ true → use_demands (scope xs) (in_module ys) ≡ use_demands (scope ys) (in_module ys)
+  old_uses below = uses_alike (is_below n) (scope xs) (scope ys) types (all_types (is_below n) ys below) denoted_alike (in_module ys) (all_occurrences (is_below n) ys below)

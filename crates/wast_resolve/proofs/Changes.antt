@@ -1,20 +1,20 @@
 -- Items of which some are given generated ids: what older names denote among them, and which of them clash.
 use Rattle.std.proofs.Common.{◌≡◌, ℕ, suc, ◌+◌, ◌<◌, ◌≤◌, ◌==◌, Bool, true, false, cond, not, ◌&&◌, ◌||◌, List, [], ◌∷◌, ◌++◌, map, length, Option, Some, None, is_some, option_map, refl, sym, ap, ◌∙◌, arith}
 use Rattle.std.specs.List.{position}
-use Rattle.std.specs.Option.{option_or}
 use Rattle.std.proofs.lemmas.Bool.{eqb-true}
 use Rattle.std.proofs.lemmas.List.{map-append, length-map}
+use mathlib.Core.Path.{fun_ext}
 use Rattle.wast_tree.specs.Ids.{Name, Written, Generated, same_name, generation_of, Mark}
 use Rattle.wast_tree.specs.Faults.{Refusal, Duplicate}
-use Rattle.wast_tree.specs.Spaces.{word_of, name_if, same_space, is_called, position_of, is_borne}
+use Rattle.wast_tree.specs.Spaces.{spaces, word_of, name_if, same_space, is_called, position_of, is_borne}
 use Rattle.wast_tree.specs.Items.{Item}
 use Rattle.wast_tree.specs.Known.{name_in, names_in}
 use Rattle.wast_tree.specs.Generations.{generation_if, greatest_item}
 use Rattle.wast_tree.proofs.Bearing.{borne_among, borne_by_both}
 use Rattle.wast_resolve.specs.Tree.{Span, Space}
-use Rattle.wast_resolve.specs.Demands.{Demand, first_unmet, each_after, new_name_by, own_demand, field_demands, item_demand, item_demands, field_counts}
+use Rattle.wast_resolve.specs.Demands.{first_unmet, each_after, new_name_by, own_demand, field_demands, item_demand, item_demands, space_counts, field_counts, item_counts}
 use Rattle.wast_namespace.proofs.Called.{position_head}
-use Rattle.wast_resolve.proofs.Unmet.{first_unmet-or}
+use Rattle.wast_resolve.proofs.Unmet.{alike_behind}
 
 pub data Change : Type 0 where
   -- an item that stays
@@ -42,6 +42,15 @@ abbrev pub news : ℕ → List Change → List Item
 news n [] = []
 news n (c ∷ cs) = new_of n c ∷ news (next_of n c) cs
 
+-- items that stay, before others
+pub old_kept : (xs : List Item) → xs ≡ olds (map Kept xs)
+old_kept [] = refl
+old_kept (x ∷ xs) = ap (λ ys. x ∷ ys) (old_kept xs)
+
+pub new_kept : (n : ℕ) (xs ys : List Item) (cs : List Change) → ys ≡ news n cs → xs ++ ys ≡ news n (map Kept xs ++ cs)
+new_kept n [] ys cs h = h
+new_kept n (x ∷ xs) ys cs h = ap (λ zs. x ∷ zs) (new_kept n xs ys cs h)
+
 not_equal : (b : Bool) (m n : ℕ) → (m == n) ≡ b → (m ≡ n → ⊥) → b ≡ false
 not_equal true m n e f = absurd (f (eqb-true m n e))
 not_equal false m n e f = refl
@@ -63,7 +72,7 @@ called_one q s n (Given t p fields) lt = by_space (same_space s t)
     by_space true = ap (λ z. z ∷ []) (other_name q n lt)
     by_space false = refl
 
-called_news : (q : Name) (s : Space) (n : ℕ) (cs : List Change) → generation_of q < n → map (is_called q) (names_in s (news n cs)) ≡ map (is_called q) (names_in s (olds cs))
+pub called_news : (q : Name) (s : Space) (n : ℕ) (cs : List Change) → generation_of q < n → map (is_called q) (names_in s (news n cs)) ≡ map (is_called q) (names_in s (olds cs))
 called_news q s n [] lt = refl
 called_news q s n (c ∷ cs) lt =
     map-append (is_called q) (name_in s (new_of n c)) (names_in s (news (next_of n c) cs))
@@ -72,17 +81,17 @@ called_news q s n (c ∷ cs) lt =
     ∙ sym (map-append (is_called q) (name_in s (old_of c)) (names_in s (olds cs)))))
 
 -- a position is that of the first test that passes
-position_passes : {X : Type 0} (p : X → Bool) (xs : List X) → position p xs ≡ position (λ b. b) (map p xs)
+pub position_passes : {X : Type 0} (p : X → Bool) (xs : List X) → position p xs ≡ position (λ b. b) (map p xs)
 position_passes p [] = refl
 position_passes p (x ∷ xs) =
     position_head p (p x) x xs refl ∙ (ap (λ o. cond (p x) (Some 0) (option_map suc o)) (position_passes p xs) ∙ sym (position_head (λ b. b) (p x) (p x) (map p xs) refl))
 
 -- Older names denote what they denoted, and there are as many items.
-pub same_position : (q : Name) (s : Space) (n : ℕ) (cs : List Change) → generation_of q < n → position_of q (names_in s (news n cs)) ≡ position_of q (names_in s (olds cs))
+same_position : (q : Name) (s : Space) (n : ℕ) (cs : List Change) → generation_of q < n → position_of q (names_in s (news n cs)) ≡ position_of q (names_in s (olds cs))
 same_position q s n cs lt =
     position_passes (is_called q) (names_in s (news n cs)) ∙ (ap (position (λ b. b)) (called_news q s n cs lt) ∙ sym (position_passes (is_called q) (names_in s (olds cs))))
 
-pub same_length : (s : Space) (n : ℕ) (cs : List Change) → 0 < n → length (names_in s (news n cs)) ≡ length (names_in s (olds cs))
+same_length : (s : Space) (n : ℕ) (cs : List Change) → 0 < n → length (names_in s (news n cs)) ≡ length (names_in s (olds cs))
 same_length s n cs lt =
     let q = Written [] in
     sym (length-map (names_in s (news n cs)) (is_called q)) ∙ (ap length (called_news q s n cs lt) ∙ length-map (names_in s (olds cs)) (is_called q))
@@ -125,10 +134,6 @@ same_new : (fault : Name → Refusal) (xs ys : List (Option Name)) (o : Option M
 same_new fault xs ys None h = refl
 same_new fault xs ys (Some m) h = ap (λ b. record { fault = fault m.0; place = m.1; met = not b } ∷ []) (h m refl)
 
--- Demands that answer alike do so with others after them that do.
-both_alike : (xs ys more others : List Demand) → first_unmet xs ≡ first_unmet ys → first_unmet more ≡ first_unmet others → first_unmet (xs ++ more) ≡ first_unmet (ys ++ others)
-both_alike xs ys more others h k = first_unmet-or xs more ∙ (ap (λ o. option_or o (first_unmet more)) h ∙ (ap (option_or (first_unmet ys)) k ∙ sym (first_unmet-or ys others)))
-
 -- Ids that are new clash with none.
 clashes : (old n : ℕ) (xs ys : List Item) (cs : List Change) → greatest_item (olds cs) < old → Before old n xs ys → first_unmet (each_after item_demand ys (news n cs)) ≡ first_unmet (each_after item_demand xs (olds cs))
 clashes old n xs ys [] lt h = refl
@@ -140,14 +145,14 @@ clashes old n xs ys (c ∷ cs) lt h = one c (clashes old (next_of n c) (xs ++ ol
     one (Kept x) rest lt =
         let same : own_demand ys x ≡ own_demand xs x = same_new (λ name. Duplicate (word_of x.space)) (names_in x.space xs) (names_in x.space ys) x.id
         (λ m is. h.same x.space m.0 (let g : generation_if x.id ≡ generation_of m.0 = ap generation_if is in omega (arith, g, lt))) in
-        both_alike (item_demand ys x) (item_demand xs x) (each_after item_demand (ys ++ x ∷ []) (news n cs)) (each_after item_demand (xs ++ x ∷ []) (olds cs)) (ap (λ ds. first_unmet (ds ++ field_demands x.fields)) same) rest
+        alike_behind (item_demand ys x) (item_demand xs x) (each_after item_demand (ys ++ x ∷ []) (news n cs)) (each_after item_demand (xs ++ x ∷ []) (olds cs)) (ap (λ ds. first_unmet (ds ++ field_demands x.fields)) same) (λ met. rest)
     one (Given s p fields) rest lt =
         let x = new_of n (Given s p fields) in
         let y = old_of (Given s p fields) in
-        both_alike (item_demand ys x) (item_demand xs y) (each_after item_demand (ys ++ x ∷ []) (news (n + 1) cs)) (each_after item_demand (xs ++ y ∷ []) (olds cs))
-        (ap (λ b. cond (not b) (first_unmet (field_demands fields)) (Some (Duplicate (word_of s), p))) (h.new s n (omega arith))) rest
+        alike_behind (item_demand ys x) (item_demand xs y) (each_after item_demand (ys ++ x ∷ []) (news (n + 1) cs)) (each_after item_demand (xs ++ y ∷ []) (olds cs))
+        (ap (λ b. cond (not b) (first_unmet (field_demands fields)) (Some (Duplicate (word_of s), p))) (h.new s n (omega arith))) (λ met. rest)
 
-pub same_clashes : (n : ℕ) (cs : List Change) → greatest_item (olds cs) < n → first_unmet (item_demands (news n cs)) ≡ first_unmet (item_demands (olds cs))
+same_clashes : (n : ℕ) (cs : List Change) → greatest_item (olds cs) < n → first_unmet (item_demands (news n cs)) ≡ first_unmet (item_demands (olds cs))
 same_clashes n cs lt = clashes n n [] [] cs lt (record { above = omega arith; same = λ s q less. refl; new = λ s m le. refl })
 
 -- The fields stay.
@@ -155,6 +160,25 @@ one_count : (n : ℕ) (c : Change) → length (new_of n c).fields ≡ length (ol
 one_count n (Kept x) = refl
 one_count n (Given s p fields) = refl
 
-pub same_counts : (n : ℕ) (cs : List Change) → field_counts (news n cs) ≡ field_counts (olds cs)
+same_counts : (n : ℕ) (cs : List Change) → field_counts (news n cs) ≡ field_counts (olds cs)
 same_counts n [] = refl
 same_counts n (c ∷ cs) = ap (λ m. m ∷ field_counts (news (next_of n c) cs)) (one_count n c) ∙ ap (λ ms. length (old_of c).fields ∷ ms) (same_counts (next_of n c) cs)
+
+-- Items before and after they are changed so.
+module _ (n : ℕ) (cs : List Change) (xs ys : List Item) (old : xs ≡ olds cs) (new : ys ≡ news n cs) (above : greatest_item xs < n) where
+  pub changed_position : (q : Name) (s : Space) → generation_of q < n → position_of q (names_in s ys) ≡ position_of q (names_in s xs)
+  changed_position q s lt = ap (λ zs. position_of q (names_in s zs)) new ∙ (same_position q s n cs lt ∙ ap (λ zs. position_of q (names_in s zs)) (sym old))
+
+  pub changed_clashes : first_unmet (item_demands ys) ≡ first_unmet (item_demands xs)
+  changed_clashes =
+      let e = ap greatest_item old in
+      ap (λ zs. first_unmet (item_demands zs)) new ∙ (same_clashes n cs (omega (arith, above, e)) ∙ ap (λ zs. first_unmet (item_demands zs)) (sym old))
+
+  changed_length : (s : Space) → length (names_in s ys) ≡ length (names_in s xs)
+  changed_length s = ap (λ zs. length (names_in s zs)) new ∙ (same_length s n cs (omega (arith, above)) ∙ ap (λ zs. length (names_in s zs)) (sym old))
+
+  pub changed_counts : item_counts ys ≡ item_counts xs
+  changed_counts =
+      let spaces_alike : space_counts ys ≡ space_counts xs = ap (λ (f : Space → ℕ). map f spaces) (fun_ext changed_length) in
+      let fields_alike : field_counts ys ≡ field_counts xs = ap field_counts new ∙ (same_counts n cs ∙ ap field_counts (sym old)) in
+      ap (λ ns. ns ++ field_counts ys) spaces_alike ∙ ap (λ ns. space_counts xs ++ ns) fields_alike

@@ -3,7 +3,6 @@ use Rattle.std.proofs.Common.{◌≡◌, ℕ, ◌<◌, Bool, true, ◌&&◌, Lis
 use Rattle.std.specs.Prelude.{nat_lt}
 use Rattle.std.specs.Cmp.{first_so, second_so}
 use Rattle.std.specs.List.{flat_map, list_all}
-use Rattle.std.proofs.lemmas.Bool.{ltb-true, lt-ltb}
 use Rattle.std.proofs.lemmas.List.Folds.{list_all-append, list_all-map}
 use Rattle.std.proofs.lemmas.Grind.{flat_map-append, common_steps}
 use Rattle.wast_tree.specs.Occurrences.{Ask, if_there, in_index, in_id, in_val, in_param, in_signature, in_instr, in_locals, in_body, in_use, in_tag_type, in_item_kind, in_import, in_field, in_module, outside, asked_in_step, asked_in_steps, asked_in, asked}
@@ -14,6 +13,7 @@ use Rattle.wast_expand.specs.NeedingUses.{needed_without, needed_by_use, needed_
 use Rattle.wast_expand.specs.ImpliedTypes.{implied}
 use Rattle.wast_expand.specs.Expanded.{nameless, unnamed_type}
 use Rattle.wast_expand.specs.Completed.{completed}
+use Rattle.wast_deinline.proofs.Below.{each_below, greatest_below}
 use Rattle.wast_resolve.specs.Tree.{Id, Index, NameAnnotation, ValType, FunctionType, TypeUse, Instruction, FuncKind, TagType, ItemKind, ImportItems, ModuleField}
 use Rattle.wast_resolve.specs.Tree.tag
 use Rattle.wast_resolve.specs.Tree.kind
@@ -127,16 +127,5 @@ module _ (n : ℕ) where
   abbrev pub is_below : Ask → Bool
   is_below a = nat_lt (generation_in a) n
 
-  pub each_below : (asks : List Ask) → greatest_asked asks < n → list_all is_below asks ≡ true
-  each_below [] lt = refl
-  each_below (a ∷ asks) lt = both_so (is_below a) (list_all is_below asks) (lt-ltb (generation_in a) n (omega (arith, lt))) (each_below asks (omega (arith, lt)))
-
-  all_below : (asks : List Ask) → 0 < n → list_all is_below asks ≡ true → greatest_asked asks < n
-  all_below [] lt h = lt
-  all_below (a ∷ asks) lt h =
-      let one = ltb-true (generation_in a) n (first_so (is_below a) (list_all is_below asks) h) in
-      let rest = all_below asks lt (second_so (is_below a) (list_all is_below asks) h) in
-      omega (arith, one, rest)
-
   pub completed_below : (fields : List ModuleField) → greatest_asked (asked (in_module fields)) < n → greatest_asked (asked (in_module (completed fields))) < n
-  completed_below fields lt = all_below (asked (in_module (completed fields))) (omega (arith, lt)) (completed_pass is_below fields (each_below (asked (in_module fields)) lt))
+  completed_below fields lt = greatest_below n generation_in (asked (in_module (completed fields))) (omega (arith, lt)) (completed_pass is_below fields (each_below n generation_in (asked (in_module fields)) lt))

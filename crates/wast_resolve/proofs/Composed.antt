@@ -6,7 +6,6 @@ use Rattle.std.specs.List.{list_any}
 use Rattle.std.specs.Option.{option_or}
 use Rattle.wast_tree.specs.Ids.{Name, name_of, mark_of, generation_of, is_generated}
 use Rattle.wast_tree.specs.Faults.{Refusal}
-use Rattle.std.proofs.lemmas.Bool.{ltb-true}
 use Rattle.wast_tree.specs.Spaces.{word_of, name_if, same_space, is_called, is_borne}
 use Rattle.wast_tree.specs.Items.{Item, items}
 use Rattle.wast_tree.specs.Known.{Known, known, names_in}
@@ -22,6 +21,7 @@ use Rattle.wast_expand.specs.ImpliedTypes.{implied}
 use Rattle.wast_expand.specs.Expanders.{LookUp, index_of}
 use Rattle.wast_expand.specs.Expanded.{unnamed_type, typed, bindings, bound_index, bound_use, bound_kind, bound_func, bound_tag_type, bound_item_kind, bound_import_items, bound_field, expanded, ids_wanted}
 use Rattle.wast_expand.specs.Completed.{completed}
+use Rattle.wast_deinline.proofs.Below.{each_below}
 use Rattle.wast_resolve.specs.Tree.{Index, Span, Space, FunctionType, TypeUse, Func, TagType, ItemKind, ImportItems, ModuleField}
 use Rattle.wast_resolve.specs.Tree.tag
 use Rattle.wast_resolve.specs.Tree.kind
@@ -29,19 +29,19 @@ use Rattle.wast_resolve.specs.Tree.import_items
 use Rattle.wast_resolve.specs.Tree.index
 use Rattle.wast_resolve.specs.Tree.space
 use Rattle.wast_resolve.specs.Tree.field
-use Rattle.wast_resolve.specs.Scopes.{Scope, scope, denoted}
+use Rattle.wast_resolve.specs.Scopes.{Scope, scope}
 use Rattle.wast_resolve.specs.Demands.{Demand, first_unmet, unknown, ask_demands, item_demands, match_demands, start, step_demands, use_demand, use_demands, order_demands, name_demands, demands, item_counts, local_counts}
-use Rattle.wast_resolve.specs.Laws.{SameAnswer, SameCounts, ExpandedStaysWellFormed, NoIdIsLeft, FinishedStaysWellFormed, FinishedIsBelow}
+use Rattle.wast_resolve.proofs.OfExpanded.{SameUnmet, SameNumbers, StaysWellFormed, IsNumbered, IsWellFormedNumbered, IsBelowNext}
 use Rattle.wast_resolve.proofs.AtRest.{all_numbered, still_well_formed, still_below}
-use Rattle.wast_resolve.proofs.Unmet.{first_unmet-or, met_parts}
+use Rattle.wast_resolve.proofs.Unmet.{first_unmet-or, alike_behind, met_parts}
 use Rattle.wast_resolve.proofs.OrderKept.{expanded_orders}
 use Rattle.wast_resolve.proofs.ExpandedItems.{bound_items, expanded_position, expanded_clashes, expanded_item_counts, expanded_below}
 use Rattle.wast_resolve.proofs.ExpandedTypes.{same_signatures, same_local_counts}
 use Rattle.wast_resolve.proofs.Functions.{func_demands, type_use_demands}
 use Rattle.wast_resolve.proofs.FoundMatches.{what_is_found, it_matches}
-use Rattle.wast_resolve.proofs.AlikeScopes.{all_occurrences, all_types, uses_alike}
+use Rattle.wast_resolve.proofs.AlikeScopes.{old_uses}
 use Rattle.wast_resolve.proofs.ExpandedAsks.{bound_locals, bound_in_kind, bound_measure, typed_asks}
-use Rattle.wast_resolve.proofs.CompletedAsks.{is_below, each_below, completed_pass, completed_below}
+use Rattle.wast_resolve.proofs.CompletedAsks.{completed_pass, completed_below}
 use Rattle.wast_resolve.proofs.ExpandedPlain.{plain_expanded}
 use Rattle.wast_resolve.proofs.FoundTypes.{IsTypeOf, found}
 
@@ -215,19 +215,12 @@ module _ (n : ℕ) (fields : List ModuleField) where
     known_alike : (s : Space) (q : Name) → generation_of q < n → is_some (new.number s q) ≡ is_some ((known (items (completed fields))).number s q)
     known_alike s q lt = ap is_some (expanded_position n fields old_items_below q s lt)
 
-    -- old names and numbers denote the same
-    denoted_alike : (s : Space) (i : Index) → is_below n (Wants s i) ≡ true → denoted (new.number s) i ≡ denoted ((known (items (completed fields))).number s) i
-    denoted_alike s (index.Num m p) h = refl
-    denoted_alike s (index.Id id) h = expanded_position n fields old_items_below (name_of id) s (ltb-true (generation_of (name_of id)) n h)
-
     pub same_uses : first_unmet (item_demands (items (expanded n fields))) ≡ None
         → first_unmet (use_demands new_scope (in_module (expanded n fields))) ≡ first_unmet (use_demands (scope (completed fields)) (in_module (completed fields)))
     same_uses free =
-        let all_below = each_below n (asked (in_module (completed fields))) old_asks_below in
         uses_met free
         ∙ ap first_unmet
-        (uses_alike (is_below n) new_scope (scope (completed fields)) (same_signatures n fields) (all_types (is_below n) (completed fields) all_below) denoted_alike (in_module (completed fields))
-        (all_occurrences (is_below n) (completed fields) all_below))
+        (old_uses n (expanded n fields) (completed fields) (same_signatures n fields) (λ s q lt. expanded_position n fields old_items_below q s lt) (each_below n generation_in (asked (in_module (completed fields))) old_asks_below))
 
     pub still_settled : has_settled_indices fields ≡ true → has_settled_indices (expanded n fields) ≡ true
     still_settled h =
@@ -244,44 +237,35 @@ pub same_names : (n : ℕ) (fields : List ModuleField) → greatest_generation f
 same_names n fields above =
     let e = expanded n fields in
     let c = completed fields in
-    first_unmet-or (item_demands (items e)) (use_demands (scope e) (in_module e))
-    ∙ (by_clash (first_unmet (item_demands (items e))) (first_unmet (item_demands (items c))) (first_unmet (use_demands (scope e) (in_module e))) (first_unmet (use_demands (scope c) (in_module c)))
-    (expanded_clashes n fields (old_items_below n fields above)) (same_uses n fields above)
-    ∙ sym (first_unmet-or (item_demands (items c)) (use_demands (scope c) (in_module c))))
-  where
-    by_clash : (o p r s : Option (Refusal × Span)) → o ≡ p → (o ≡ None → r ≡ s) → option_or o r ≡ option_or p s
-    by_clash None p r s e h = h refl ∙ ap (λ q. option_or q s) e
-    by_clash (Some f) p r s e h = ap (λ q. option_or q s) e
+    alike_behind (item_demands (items e)) (item_demands (items c)) (use_demands (scope e) (in_module e)) (use_demands (scope c) (in_module c)) (expanded_clashes n fields (old_items_below n fields above)) (same_uses n fields above)
 
-pub same_answer : SameAnswer
+pub same_answer : SameUnmet
 same_answer n fields above =
     let e = expanded n fields in
     let c = completed fields in
-    first_unmet-or (order_demands e) (name_demands e)
-    ∙ (ap (λ ds. option_or (first_unmet ds) (first_unmet (name_demands e))) (expanded_orders n fields)
-    ∙ (ap (option_or (first_unmet (order_demands c))) (same_names n fields above) ∙ sym (first_unmet-or (order_demands c) (name_demands c))))
+    alike_behind (order_demands e) (order_demands c) (name_demands e) (name_demands c) (ap first_unmet (expanded_orders n fields)) (λ met. same_names n fields above)
 
 -- Where each demand of the completed list is met, so is each demand of names of the expanded one.
 pub names_met : (n : ℕ) (fields : List ModuleField) → greatest_generation fields < n → first_unmet (demands (completed fields)) ≡ None → first_unmet (name_demands (expanded n fields)) ≡ None
 names_met n fields above met = same_names n fields above ∙ (met_parts (order_demands (completed fields)) (name_demands (completed fields)) met).1
 
-pub same_counts : SameCounts
+pub same_counts : SameNumbers
 same_counts n fields above =
     ap (λ ms. ms ++ local_counts (expanded n fields)) (expanded_item_counts n fields (old_items_below n fields above)) ∙ ap (λ ms. item_counts (items (completed fields)) ++ ms) (same_local_counts n fields)
 
-pub expanded_well_formed : ExpandedStaysWellFormed
+pub expanded_well_formed : StaysWellFormed
 expanded_well_formed n fields above h =
     ap (λ b. b && are_plain (expanded n fields)) (still_settled n fields above (first_so (has_settled_indices fields) (are_plain fields) h))
     ∙ plain_expanded n fields (second_so (has_settled_indices fields) (are_plain fields) h)
 
-pub finished_numbered : NoIdIsLeft
-finished_numbered n fields above met = all_numbered (expanded n fields) (names_met n fields above met)
+pub all_are_numbers : IsNumbered
+all_are_numbers n fields above met = all_numbered (expanded n fields) (names_met n fields above met)
 
-pub finished_well_formed : FinishedStaysWellFormed
-finished_well_formed n fields above h met = still_well_formed (expanded n fields) (expanded_well_formed n fields above h) (names_met n fields above met)
+pub numbered_well_formed : IsWellFormedNumbered
+numbered_well_formed n fields above h met = still_well_formed (expanded n fields) (expanded_well_formed n fields above h) (names_met n fields above met)
 
-pub finished_below : FinishedIsBelow
-finished_below n fields above =
+pub numbered_below : IsBelowNext
+numbered_below n fields above =
     let a = still_below (expanded n fields) in
     let b = still_under n fields above in
     omega arith

@@ -4,15 +4,14 @@ use Rattle.std.specs.Prelude.{max}
 use Rattle.std.specs.List.{flat_map}
 use Rattle.std.proofs.lemmas.List.{map-append}
 use Rattle.std.proofs.lemmas.Grind.{flat_map-append}
-use mathlib.Core.Path.{fun_ext}
 use Rattle.wast_tree.specs.Ids.{Name, generation_of}
-use Rattle.wast_tree.specs.Spaces.{position_of, spaces}
+use Rattle.wast_tree.specs.Spaces.{position_of}
 use Rattle.wast_tree.specs.Items.{Item, field_ids, fields_of, item, space_of_kind, items_of_import, items_in, items}
 use Rattle.wast_tree.specs.Known.{names_in}
 use Rattle.wast_tree.specs.Generations.{greatest_item}
 use Rattle.wast_expand.specs.Signatures.{Signature}
 use Rattle.wast_expand.specs.ImpliedTypes.{implied}
-use Rattle.wast_expand.specs.Filling.{one_if, given_if, filled, wanted}
+use Rattle.wast_tree.specs.Filling.{one_if, given_if, filled, wanted}
 use Rattle.wast_expand.specs.Expanders.{LookUp, index_of}
 use Rattle.wast_expand.specs.Expanded.{lacks_id, with_id, start_of_text, unnamed_type, implied_types, typed, bindings, bound_item_kind, bound_import_items, bound_field, expanded, ids_wanted}
 use Rattle.wast_expand.specs.Completed.{completed}
@@ -22,8 +21,8 @@ use Rattle.wast_resolve.specs.Tree.import_items
 use Rattle.wast_resolve.specs.Tree.space
 use Rattle.wast_resolve.specs.Tree.ty
 use Rattle.wast_resolve.specs.Tree.field
-use Rattle.wast_resolve.specs.Demands.{first_unmet, item_demands, space_counts, field_counts, item_counts}
-use Rattle.wast_resolve.proofs.Changes.{Change, Kept, Given, old_of, new_of, olds, news, same_position, same_length, same_clashes, same_counts}
+use Rattle.wast_resolve.specs.Demands.{first_unmet, item_demands, item_counts}
+use Rattle.wast_resolve.proofs.Changes.{Change, Kept, Given, old_of, new_of, olds, news, old_kept, new_kept, changed_position, changed_clashes, changed_counts}
 
 -- what is done to the items of a field, and of types that are implied
 abbrev type_change : Bool → Option Id → Span → List StructField → Change
@@ -39,15 +38,6 @@ implied_change s = Given space.Ty start_of_text []
 
 abbrev pub changes : List ModuleField → List Change
 changes fields = flat_map change_in fields ++ map implied_change (implied fields)
-
--- items that stay, before others
-old_kept : (xs : List Item) → xs ≡ olds (map Kept xs)
-old_kept [] = refl
-old_kept (x ∷ xs) = ap (λ ys. x ∷ ys) (old_kept xs)
-
-new_kept : (n : ℕ) (xs ys : List Item) (cs : List Change) → ys ≡ news n cs → xs ++ ys ≡ news n (map Kept xs ++ cs)
-new_kept n [] ys cs h = h
-new_kept n (x ∷ xs) ys cs h = ap (λ zs. x ∷ zs) (new_kept n xs ys cs h)
 
 -- without ids
 old_type : (id : Option Id) (p : Span) (fields : List StructField) → item space.Ty id fields ≡ old_of (type_change (is_none id) id p fields)
@@ -170,26 +160,20 @@ given_fields (x ∷ xs) ss =
 
 -- The items of the two lists compared, where the counter is above the ids of the fields.
 module _ (n : ℕ) (fields : List ModuleField) (above : greatest_item (items fields) < n) where
+  pub completed_items_below : greatest_item (items (completed fields)) < n
+  completed_items_below =
+      let a = ap greatest_item (old_items fields) in
+      let b = old_greatest fields in
+      omega arith
+
   pub expanded_position : (q : Name) (s : Space) → generation_of q < n → position_of q (names_in s (items (expanded n fields))) ≡ position_of q (names_in s (items (completed fields)))
-  expanded_position q s lt =
-      ap (λ xs. position_of q (names_in s xs)) (new_items n fields) ∙ (same_position q s n (changes fields) lt ∙ ap (λ xs. position_of q (names_in s xs)) (sym (old_items fields)))
+  expanded_position = changed_position n (changes fields) (items (completed fields)) (items (expanded n fields)) (old_items fields) (new_items n fields) completed_items_below
 
   pub expanded_clashes : first_unmet (item_demands (items (expanded n fields))) ≡ first_unmet (item_demands (items (completed fields)))
-  expanded_clashes =
-      let e = old_greatest fields in
-      ap (λ xs. first_unmet (item_demands xs)) (new_items n fields) ∙ (same_clashes n (changes fields) (omega (arith, above)) ∙ ap (λ xs. first_unmet (item_demands xs)) (sym (old_items fields)))
-
-  expanded_space_counts : space_counts (items (expanded n fields)) ≡ space_counts (items (completed fields))
-  expanded_space_counts =
-      ap (λ (f : Space → ℕ). map f spaces) (fun_ext (λ (s : Space).
-      ap (λ xs. length (names_in s xs)) (new_items n fields) ∙ (same_length s n (changes fields) (omega (arith, above)) ∙ ap (λ xs. length (names_in s xs)) (sym (old_items fields)))))
-
-  expanded_field_counts : field_counts (items (expanded n fields)) ≡ field_counts (items (completed fields))
-  expanded_field_counts = ap field_counts (new_items n fields) ∙ (same_counts n (changes fields) ∙ ap field_counts (sym (old_items fields)))
+  expanded_clashes = changed_clashes n (changes fields) (items (completed fields)) (items (expanded n fields)) (old_items fields) (new_items n fields) completed_items_below
 
   pub expanded_item_counts : item_counts (items (expanded n fields)) ≡ item_counts (items (completed fields))
-  expanded_item_counts =
-      ap (λ ns. ns ++ field_counts (items (expanded n fields))) expanded_space_counts ∙ ap (λ ns. space_counts (items (completed fields)) ++ ns) expanded_field_counts
+  expanded_item_counts = changed_counts n (changes fields) (items (completed fields)) (items (expanded n fields)) (old_items fields) (new_items n fields) completed_items_below
 
   pub expanded_below : greatest_item (items (expanded n fields)) < n + ids_wanted fields
   expanded_below =

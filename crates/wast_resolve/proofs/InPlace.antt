@@ -11,7 +11,7 @@ use Rattle.wast_resolve.specs.Tree.table
 use Rattle.wast_resolve.specs.Tree.global
 use Rattle.wast_resolve.specs.Tree.field
 use Rattle.wast_resolve.specs.Resolved.{resolved_func_kind, resolved_table_kind, resolved_global_kind, resolved_field}
-use Rattle.wast_resolve.specs.Laws.{FinishedStaysWrittenOut}
+use Rattle.wast_resolve.proofs.OfExpanded.{StaysWrittenOut}
 
 module _ (k : Known) where
   written_func : (inline : Option FunctionType) (f : FuncKind) → is_written_func (resolved_func_kind k inline f) ≡ is_written_func f
@@ -37,5 +37,5 @@ module _ (k : Known) where
   written_fields [] = refl
   written_fields (x ∷ xs) = ap (λ b. b && is_written_out (map (resolved_field k) xs)) (written_field x) ∙ ap (λ b. is_written_field x && b) (written_fields xs)
 
-pub finished_written_out : FinishedStaysWrittenOut
-finished_written_out n fields = written_fields (known (items (expanded n fields))) (expanded n fields) ∙ stays_written_out n fields
+pub numbered_written_out : StaysWrittenOut
+numbered_written_out n fields = written_fields (known (items (expanded n fields))) (expanded n fields) ∙ stays_written_out n fields

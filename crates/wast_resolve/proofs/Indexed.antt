@@ -19,7 +19,7 @@ use Rattle.wast_resolve.specs.Tree.func
 use Rattle.wast_resolve.specs.Tree.field
 use Rattle.wast_resolve.specs.Demands.{Here, after_all}
 use Rattle.wast_resolve.specs.Resolved.{numbered_at, resolved_signature, resolved_instr, resolved_instrs, body_of, resolved_func_kind, resolved_tag_type, resolved_item_kind, resolved_import_items, resolved_field}
-use Rattle.wast_resolve.specs.Laws.{UsesHaveIndices}
+use Rattle.wast_resolve.proofs.OfExpanded.{HasIndices}
 
 -- where neither part needs anything, both need nothing
 none_both : (ss ts : List Signature) → ss ≡ [] → ts ≡ [] → ss ++ ts ≡ []
@@ -68,5 +68,5 @@ module _ (k : Known) where
   has_fields (x ∷ xs) none =
       none_both (needed_by_field (resolved_field k x)) (needed (map (resolved_field k) xs)) (has_field x (left_none (needed_by_field x) (needed xs) none)) (has_fields xs (right_none (needed_by_field x) (needed xs) none))
 
-pub finished_indexed : UsesHaveIndices
-finished_indexed n fields = has_fields (known (items (expanded n fields))) (expanded n fields) (uses_are_bound n fields)
+pub numbered_indexed : HasIndices
+numbered_indexed n fields = has_fields (known (items (expanded n fields))) (expanded n fields) (uses_are_bound n fields)

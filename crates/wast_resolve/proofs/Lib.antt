@@ -17,6 +17,7 @@ pub mod ExpandedAsks
 pub mod ExpandedItems
 pub mod ExpandedPlain
 pub mod ExpandedTypes
+pub mod Explicit
 pub mod FieldClashes
 pub mod FoundClashes
 pub mod FoundMatches
@@ -27,6 +28,7 @@ pub mod ImpliedSignatures
 pub mod Indexed
 pub mod InPlace
 pub mod Matching
+pub mod OfExpanded
 pub mod OrderKept
 pub mod Orders
 pub mod Parts
@@ -38,9 +40,15 @@ pub mod SameTypes
 pub mod SameUses
 pub mod Standing
 pub mod Stepping
-pub mod Stripped
 pub mod Trying
 pub mod TwoSteps
 pub mod TypeParts
 pub mod Unmet
 pub mod Worked
+pub mod WrittenAlike
+pub mod WrittenItems
+pub mod WrittenLooks
+pub mod WrittenOwn
+pub mod WrittenPositions
+pub mod WrittenSame
+pub mod WrittenUses

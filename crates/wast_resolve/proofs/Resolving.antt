@@ -1,49 +1,87 @@
 -- What numbering the expanded list answers is what resolving the fields answers.
-use Rattle.std.proofs.Common.{◌≡◌, ℕ, ◌<◌, ◌≤◌, ◌^◌, true, List, [], None, inl, sym, ap, ◌∙◌, subst}
-use Rattle.std.specs.Prelude.{Contains}
-use Rattle.wast_tree.specs.Faults.{told}
+use Rattle.std.proofs.Common.{◌≡◌, ℕ, ◌+◌, ◌<◌, ◌≤◌, ◌^◌, ◌⊎◌, true, List, [], None, inl, inr, sym, ap, ◌∙◌, subst, arith}
+use Rattle.std.specs.Prelude.{⊤, Contains}
+use Rattle.wast_tree.specs.Faults.{told, too_large, out_of_memory}
 use Rattle.wast_tree.specs.declared.faults.Error.{Error}
+use Rattle.wast_tree.specs.Filling.{RunsOut}
 use Rattle.wast_tree.specs.Generations.{greatest_generation}
 use Rattle.wast_tree.specs.WellFormed.{is_well_formed}
+use Rattle.wast_deinline.specs.Written.{written, references_wanted, CannotBeWritten}
 use Rattle.wast_expand.specs.NeedingUses.{needed}
-use Rattle.wast_expand.specs.Expanded.{expanded}
+use Rattle.wast_expand.specs.Expanded.{expanded, ids_wanted}
 use Rattle.wast_expand.specs.Completed.{completed}
 use Rattle.wast_expand.proofs.Covered.{uses_are_bound}
 use Rattle.wast_resolve.specs.Tree.{ModuleField}
+use Rattle.wast_resolve.specs.Explicit.{explicit, explicit_from}
 use Rattle.wast_resolve.specs.Demands.{first_unmet, Answers, order_demands, name_demands, demands, counts, IsCrowded, IsTooLarge, IsUnnumbered, IsUnresolved}
-use Rattle.wast_resolve.proofs.Composed.{same_names, same_counts, expanded_well_formed}
+use Rattle.wast_resolve.proofs.Composed.{same_names, same_counts}
+use Rattle.wast_resolve.proofs.Explicit.{next, wants_as_many, still_above, unmet_alike, explicit_well_formed}
 use Rattle.wast_resolve.proofs.OrderKept.{completed_orders}
 use Rattle.wast_resolve.proofs.Unmet.{first_unmet-append, answers_more, answers_first, answers_after}
+use Rattle.wast_resolve.proofs.WrittenAlike.{written_counts}
 
--- An import that stands behind what is defined is answered first.
-pub unordered_still : (n : ℕ) (fields : List ModuleField) (e : Error) → Answers ⊥ ⊥ (told e) (first_unmet (order_demands fields)) → IsUnresolved n fields e
-unordered_still n fields e h =
-    answers_first (told e) (order_demands (completed fields)) (name_demands (completed fields)) (λ l. absurd l) (λ m. absurd m)
-    (subst (λ ds. Answers ⊥ ⊥ (told e) (first_unmet ds)) (sym (completed_orders fields)) h)
+-- The counter would run out, or too much is asked for: so it is told, whatever is unmet.
+out_of : (n : ℕ) (fields : List ModuleField) (too_much : Type 0) (e : Error) → (too_much → IsTooLarge n fields) → (e ≡ out_of_memory) ⊎ ((e ≡ too_large) × too_much) → IsUnresolved n fields e
+out_of n fields too_much e large h = elim h [ inl memory ↦ subst (IsUnresolved n fields) (sym memory) tt | inr much ↦ subst (IsUnresolved n fields) (sym much.0) (large much.1) ]
 
--- xs is the expanded list
-module _ (n : ℕ) (fields xs : List ModuleField) (expands : xs ≡ expanded n fields) where
-  pub indexed_still : needed xs ≡ []
-  indexed_still = ap needed expands ∙ uses_are_bound n fields
+pub unwritten_still : (n : ℕ) (fields : List ModuleField) (e : Error) → CannotBeWritten n fields e → IsUnresolved n fields e
+unwritten_still n fields e h =
+    elim h [ inl runs_out ↦ out_of n fields (2 ^ 64 ≤ n + references_wanted fields) e (λ m. inr (inl (omega (arith, m)))) runs_out | inr many ↦ out_of n fields _ e (λ m. inr (inr m)) many ]
 
-  module _ (above : greatest_generation fields < n) where
+-- What is expanded after abbreviations are written out is the list in which nothing is left out.
+pub expands_all : (n : ℕ) (fields : List ModuleField) {m : ℕ} {xs ys zs : List ModuleField} → xs ≡ written n fields → m ≡ n + references_wanted fields → ys ≡ xs → zs ≡ expanded m ys → zs ≡ explicit_from n fields
+expands_all n fields w c o e = e ∙ (λ i. expanded (c i) ((o ∙ w) i))
+
+module _ (n : ℕ) (fields : List ModuleField) (above : greatest_generation fields < n) where
+  abbrev rest : List ModuleField
+  rest = written n fields
+
+  -- what is so large of what is written out
+  abbrev IsLarge : Type 0
+  IsLarge = IsCrowded (completed rest) ⊎ (2 ^ 64 ≤ next n fields + ids_wanted rest)
+
+  crowded_alike : IsCrowded (completed rest) → IsTooLarge n fields
+  crowded_alike h = inl (subst (λ ms. (m : ℕ) × (Contains ms m × (2 ^ 32 ≤ m))) (written_counts n fields above) h)
+
+  large_alike : IsLarge → IsTooLarge n fields
+  large_alike h = elim h [ inl crowded ↦ crowded_alike crowded | inr counter ↦ inr (inl (subst (λ m. 2 ^ 64 ≤ m) (wants_as_many n fields) counter)) ]
+
+  answered_alike : (e : Error) → Answers ⊤ IsLarge (told e) (first_unmet (demands (completed rest))) → IsUnresolved n fields e
+  answered_alike e h = answers_more (told e) (first_unmet (demands (completed rest))) (first_unmet (demands (explicit fields))) (λ l. l) large_alike (λ f g. sym (unmet_alike n fields above) ∙ g) h
+
+  -- An import that stands behind what is defined is answered first.
+  pub unordered_still : (e : Error) → Answers ⊥ ⊥ (told e) (first_unmet (order_demands rest)) → IsUnresolved n fields e
+  unordered_still e h =
+      answered_alike e
+      (answers_first (told e) (order_demands (completed rest)) (name_demands (completed rest)) (λ l. absurd l) (λ m. absurd m)
+      (subst (λ ds. Answers ⊥ ⊥ (told e) (first_unmet ds)) (sym (completed_orders rest)) h))
+
+  pub unexpanded_still : (e : Error) → RunsOut (next n fields + ids_wanted rest) e → IsUnresolved n fields e
+  unexpanded_still e h = out_of n fields (2 ^ 64 ≤ next n fields + ids_wanted rest) e (λ m. large_alike (inr m)) h
+
+  -- xs is the expanded list
+  module _ (xs : List ModuleField) (expands : xs ≡ explicit_from n fields) where
+    pub indexed_still : needed xs ≡ []
+    indexed_still = ap needed expands ∙ uses_are_bound (next n fields) rest
+
     pub well_formed_still : is_well_formed fields ≡ true → is_well_formed xs ≡ true
-    well_formed_still h = ap is_well_formed expands ∙ expanded_well_formed n fields above h
+    well_formed_still h = ap is_well_formed expands ∙ explicit_well_formed n fields above h
 
-    same_unmet : first_unmet (name_demands xs) ≡ first_unmet (name_demands (completed fields))
-    same_unmet = ap (λ (ys : List ModuleField). first_unmet (name_demands ys)) expands ∙ same_names n fields above
+    same_unmet : first_unmet (name_demands xs) ≡ first_unmet (name_demands (completed rest))
+    same_unmet = ap (λ (ys : List ModuleField). first_unmet (name_demands ys)) expands ∙ same_names (next n fields) rest (still_above n fields above)
 
-    crowded_still : IsCrowded xs → IsTooLarge n fields
-    crowded_still h = inl (subst (λ ms. (m : ℕ) × (Contains ms m × (2 ^ 32 ≤ m))) (ap counts expands ∙ same_counts n fields above) h)
+    crowded_still : IsCrowded xs → IsLarge
+    crowded_still h = inl (subst (λ ms. (m : ℕ) × (Contains ms m × (2 ^ 32 ≤ m))) (ap counts expands ∙ same_counts (next n fields) rest (still_above n fields above)) h)
 
-    module _ (ordered : first_unmet (order_demands fields) ≡ None) where
-      still_ordered : first_unmet (order_demands (completed fields)) ≡ None
-      still_ordered = ap first_unmet (completed_orders fields) ∙ ordered
+    module _ (ordered : first_unmet (order_demands rest) ≡ None) where
+      still_ordered : first_unmet (order_demands (completed rest)) ≡ None
+      still_ordered = ap first_unmet (completed_orders rest) ∙ ordered
 
-      pub met_still : first_unmet (name_demands xs) ≡ None → first_unmet (demands (completed fields)) ≡ None
-      met_still h = first_unmet-append (order_demands (completed fields)) (name_demands (completed fields)) still_ordered ∙ (sym same_unmet ∙ h)
+      pub met_still : first_unmet (name_demands xs) ≡ None → first_unmet (demands (explicit fields)) ≡ None
+      met_still h = sym (unmet_alike n fields above) ∙ (first_unmet-append (order_demands (completed rest)) (name_demands (completed rest)) still_ordered ∙ (sym same_unmet ∙ h))
 
       pub unnumbered_still : (e : Error) → IsUnnumbered xs e → IsUnresolved n fields e
       unnumbered_still e h =
-          answers_after (told e) (order_demands (completed fields)) (name_demands (completed fields)) (λ l. l) (λ m. m) still_ordered
-          (answers_more (told e) (first_unmet (name_demands xs)) (first_unmet (name_demands (completed fields))) (λ l. l) crowded_still (λ f g. sym same_unmet ∙ g) h)
+          answered_alike e
+          (answers_after (told e) (order_demands (completed rest)) (name_demands (completed rest)) (λ l. l) (λ m. m) still_ordered
+          (answers_more (told e) (first_unmet (name_demands xs)) (first_unmet (name_demands (completed rest))) (λ l. l) crowded_still (λ f g. sym same_unmet ∙ g) h))

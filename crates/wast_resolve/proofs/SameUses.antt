@@ -10,7 +10,7 @@ use Rattle.wast_expand.specs.Signatures.{Signature}
 use Rattle.wast_expand.specs.NeedingUses.{inline_signature}
 use Rattle.wast_expand.specs.Expanders.{LookUp}
 use Rattle.wast_expand.specs.Expanded.{bound_index, bound_use, bound_instr, bound_kind, bound_tag_type, bound_item_kind, bound_import_items, bound_field}
-use Rattle.wast_resolve.specs.Tree.{Index, FunctionType, TypeUse, Instruction, FuncKind, Func, TagType, ItemKind, ImportItems, TableKind, DataKind, ModuleField}
+use Rattle.wast_resolve.specs.Tree.{Index, FunctionType, TypeUse, Instruction, FuncKind, Func, TagType, ItemKind, ImportItems, TableKind, Global, DataKind, ModuleField}
 use Rattle.wast_resolve.specs.Tree.tag
 use Rattle.wast_resolve.specs.Tree.kind
 use Rattle.wast_resolve.specs.Tree.import_items
@@ -23,7 +23,15 @@ use Rattle.wast_resolve.specs.Demands.{Here, after_all}
 use Rattle.wast_resolve.specs.Resolved.{numbered_at, body_of, resolved_type_use, resolved_instr, resolved_instrs, resolved_func_kind, resolved_tag_type, resolved_item_kind, resolved_import_items, resolved_field}
 use Rattle.wast_resolve.proofs.SameAsks.{Same, before, behind, same_index, same_if_index, same_inline, same_heap, same_type, same_rec, same_locals}
 use Rattle.wast_resolve.proofs.SameApart.{of_outside, same_table_type, same_global_type, same_table_kind, same_global, same_elem, same_data_kind}
-use Rattle.wast_resolve.proofs.Stripped.{at_start, stripped_use, stripped_tag_type, stripped_item_kind, stripped_import, stripped}
+use Rattle.wast_resolve.specs.Stripped.{written_id, at_start, stripped_use, stripped_tag_type, stripped_item_kind, stripped_import, stripped}
+
+-- what is told of a field whose type uses are bound, once each index is a number
+abbrev pub told_by : Known → LookUp → ModuleField → ModuleField
+told_by k find x = stripped (resolved_field k (bound_field find x))
+
+pub one_pass : (k : Known) (find : LookUp) (xs : List ModuleField) → map stripped (map (resolved_field k) (map (bound_field find) xs)) ≡ map (told_by k find) xs
+one_pass k find [] = refl
+one_pass k find (x ∷ xs) = ap (λ ys. told_by k find x ∷ ys) (one_pass k find xs)
 
 module _ (k l : Known) (find other : LookUp) where
   -- an instruction, whose type uses are bound
@@ -65,7 +73,7 @@ module _ (k l : Known) (find other : LookUp) where
         record { index = same_bound u.index u.inline (before k l index inline same) i; inline = same_inline k l u.inline (behind k l index inline same) i }
 
     abbrev told_alike : ModuleField → Type 0
-    told_alike x = stripped (resolved_field k (bound_field find x)) ≡ stripped (resolved_field l (bound_field other x))
+    told_alike x = told_by k find x ≡ told_by l other x
 
     same_func : (f : Func) → Same k l (asked (in_field (field.Func f))) → told_alike (field.Func f)
     same_func f same i =
@@ -73,6 +81,7 @@ module _ (k l : Known) (find other : LookUp) where
         let all = subst (Same k l) (asked_func f) same in
         let kind = behind k l (in_type_use f.ty) (in_locals f.kind ++ body) all in
         field.Func (record f {
+          id = written_id f.id;
           ty = same_use f.ty (before k l (in_type_use f.ty) (in_locals f.kind ++ body) all) i;
           kind = same_kind f.ty.inline f.kind (before k l (in_locals f.kind) body kind) (behind k l (in_locals f.kind) body kind) i;
         })
@@ -91,7 +100,7 @@ module _ (k l : Known) (find other : LookUp) where
     same_item_kind (kind.Tag t) same = ap kind.Tag (same_tag t same)
 
     same_import : (i : ImportItems) → Same k l (asked (in_import i)) → stripped_import (resolved_import_items k (bound_import_items find i)) ≡ stripped_import (resolved_import_items l (bound_import_items other i))
-    same_import (import_items.Single source name sig) same = ap (λ (t : ItemKind). import_items.Single source name (record sig { kind = t })) (same_item_kind sig.kind same)
+    same_import (import_items.Single source name sig) same = ap (λ (t : ItemKind). import_items.Single source name (record sig { id = written_id sig.id; kind = t })) (same_item_kind sig.kind same)
 
     same_field : (x : ModuleField) → Same k l (asked (in_field x)) → told_alike x
     same_field (field.Ty t) same = ap (λ (t : ty.«Type»). stripped (field.Ty t)) (same_type k l t (subst (Same k l) (asked_outside (in_type t)) same))
@@ -99,15 +108,15 @@ module _ (k l : Known) (find other : LookUp) where
     same_field (field.Func f) same = same_func f same
     same_field (field.Export e) same = ap (λ (i : Index). field.Export (record e { item = i })) (same_index k l (exported_space e.kind) e.item (subst (Same k l) (asked_outside (in_export e)) same))
     same_field (field.Import m) same = ap (λ (i : ImportItems). field.Import (record m { items = i })) (same_import m.items same)
-    same_field (field.Table t) same = ap (λ (x : TableKind). field.Table (record t { kind = x })) (same_table_kind k l t.kind same)
+    same_field (field.Table t) same = ap (λ (x : TableKind). field.Table (record t { id = written_id t.id; kind = x })) (same_table_kind k l t.kind same)
     same_field (field.Memory m) same = refl
-    same_field (field.Global g) same = ap field.Global (same_global k l g same)
+    same_field (field.Global g) same = ap (λ (x : Global). stripped (field.Global x)) (same_global k l g same)
     same_field (field.Start i) same = ap field.Start (same_index k l space.Func i (of_outside k l (in_index space.Func i) same))
     same_field (field.Elem e) same = ap field.Elem (same_elem k l e same)
     same_field (field.Data d) same = ap (λ (x : DataKind). field.Data (record d { kind = x })) (same_data_kind k l d.kind same)
-    same_field (field.Tag t) same = ap (λ (x : TagType). field.Tag (record t { ty = x })) (same_tag t.ty same)
+    same_field (field.Tag t) same = ap (λ (x : TagType). field.Tag (record t { id = written_id t.id; ty = x })) (same_tag t.ty same)
 
-    pub all_same : (xs : List ModuleField) → Same k l (asked (in_module xs)) → map (λ x. stripped (resolved_field k (bound_field find x))) xs ≡ map (λ x. stripped (resolved_field l (bound_field other x))) xs
+    pub all_same : (xs : List ModuleField) → Same k l (asked (in_module xs)) → map (told_by k find) xs ≡ map (told_by l other) xs
     all_same [] same = refl
     all_same (x ∷ xs) same =
         let all = subst (Same k l) (asked_both (in_field x) (in_module xs)) same in

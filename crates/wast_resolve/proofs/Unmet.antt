@@ -1,5 +1,5 @@
 -- The first unmet demand of demands one after the other, and what an error answers of it.
-use Rattle.std.proofs.Common.{◌≡◌, refl, ◌∙◌, List, [], ◌∷◌, ◌++◌, Option, Some, None, Bool, true, false, cond}
+use Rattle.std.proofs.Common.{◌≡◌, refl, sym, ap, ◌∙◌, List, [], ◌∷◌, ◌++◌, Option, Some, None, Bool, true, false, cond}
 use native.Mathlib.Omega.{arith}
 use Rattle.std.specs.Option.{option_or}
 use Rattle.wast_resolve.specs.Tree.{Span}
@@ -23,6 +23,14 @@ first_unmet-or (d ∷ ds) es = by_met d.met (d.fault, d.place) (first_unmet ds) 
     by_met : (b : Bool) (f : Refusal × Span) (r s all : Option (Refusal × Span)) → all ≡ option_or r s → cond b all (Some f) ≡ option_or (cond b r (Some f)) s
     by_met true f r s all h = h
     by_met false f r s all h = refl
+
+-- Demands that answer alike do so with others after them that do where the first are met.
+pub alike_behind : (ds es more others : List Demand) → first_unmet ds ≡ first_unmet es → (first_unmet ds ≡ None → first_unmet more ≡ first_unmet others) → first_unmet (ds ++ more) ≡ first_unmet (es ++ others)
+alike_behind ds es more others h k = first_unmet-or ds more ∙ (by_first (first_unmet ds) (first_unmet es) (first_unmet more) (first_unmet others) h k ∙ sym (first_unmet-or es others))
+  where
+    by_first : (o p r s : Option (Refusal × Span)) → o ≡ p → (o ≡ None → r ≡ s) → option_or o r ≡ option_or p s
+    by_first None p r s e h = h refl ∙ ap (λ q. option_or q s) e
+    by_first (Some f) p r s e h = ap (λ q. option_or q s) e
 
 still_unmet : (b : Bool) (f g : Refusal × Span) (r s : Option (Refusal × Span)) → (r ≡ Some g → s ≡ Some g) → cond b r (Some f) ≡ Some g → cond b s (Some f) ≡ Some g
 still_unmet true f g r s h e = h e

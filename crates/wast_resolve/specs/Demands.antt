@@ -1,5 +1,6 @@
 -- What a module demands of its imports and names, in the order in which it is answered (text format: identifiers, indices, modules).
-use Rattle.std.specs.Prelude.{⊤, ℕ, ◌+◌, ◌≤◌, ◌^◌, ◌⊎◌, Bool, false, not, List, [], ◌∷◌, ◌++◌, length, map, flat_map, Option, Some, None, codes, Contains}
+use Rattle.std.specs.Prelude.{⊤, ℕ, ◌+◌, ◌≤◌, ◌^◌, ◌⊎◌, Bool, false, not, List, [], ◌∷◌, ◌++◌, length, map, flat_map, Option, Some, None, codes, Contains, IsTrue}
+use Rattle.std.specs.List.{list_any}
 use Rattle.wast_resolve.specs.Tree.{Span, Index, FunctionType, ModuleField}
 use Rattle.wast_resolve.specs.Tree.space
 use Rattle.wast_resolve.specs.Tree.field
@@ -11,8 +12,8 @@ use Rattle.wast_tree.specs.Items.{Item, items}
 use Rattle.wast_tree.specs.Occurrences.{Ask, Wants, Bare, Step, Named, Matches, Declares, Occurrence, Outside, Body, declared, in_module}
 use Rattle.wast_tree.specs.Known.{Known, names_in}
 use Rattle.wast_expand.specs.Signatures.{Signature}
-use Rattle.wast_expand.specs.Expanded.{ids_wanted}
-use Rattle.wast_expand.specs.Completed.{completed}
+use Rattle.wast_deinline.specs.Segments.{overflows}
+use Rattle.wast_resolve.specs.Explicit.{explicit, ids_filled}
 pub use Rattle.wast_namespace.specs.FirstUnmet.{Demand, one_demand, first_unmet, unknown, known_index, Answers}
 use Rattle.wast_resolve.specs.ImportOrder.{order_demand}
 use Rattle.wast_resolve.specs.Scopes.{Scope, scope, denoted, type_at}
@@ -159,11 +160,12 @@ IsCrowded fields = HasMany (counts fields)
 abbrev pub IsUnnumbered : List ModuleField → Error → Type 0
 IsUnnumbered fields e = Answers ⊤ (IsCrowded fields) (told e) (first_unmet (name_demands fields))
 
--- Once each type stands there, there are too many of something; or the counter that gives them ids would pass 64 bits.
+-- Once nothing is left out, there are too many of something; the counter that gives ids would pass 64 bits; or the bytes
+-- that stand in place in a memory are 2^32 or more.
 abbrev pub IsTooLarge : ℕ → List ModuleField → Type 0
-IsTooLarge n fields = IsCrowded (completed fields) ⊎ (2 ^ 64 ≤ n + ids_wanted fields)
+IsTooLarge n fields = IsCrowded (explicit fields) ⊎ ((2 ^ 64 ≤ n + ids_filled fields) ⊎ IsTrue (list_any overflows fields))
 
--- Why resolving the fields is refused, from a counter: by the first unmet demand of the list in which each type stands and
--- no id is made; or memory was refused, or something is too large.
+-- Why resolving the fields is refused, from a counter: by the first unmet demand of the list in which nothing is left out
+-- and no id is made; or memory was refused, or something is too large.
 abbrev pub IsUnresolved : ℕ → List ModuleField → Error → Type 0
-IsUnresolved n fields e = Answers ⊤ (IsTooLarge n fields) (told e) (first_unmet (demands (completed fields)))
+IsUnresolved n fields e = Answers ⊤ (IsTooLarge n fields) (told e) (first_unmet (demands (explicit fields)))

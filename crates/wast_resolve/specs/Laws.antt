@@ -1,6 +1,6 @@
 -- What is so of the resolved list of fields, where the counter begins above the generations of their ids; and of types that
 -- the resolver of a module resolves.
-use Rattle.std.specs.Prelude.{◌≡◌, ℕ, ◌+◌, ◌<◌, true, [], None, List, Result}
+use Rattle.std.specs.Prelude.{◌≡◌, ℕ, ◌+◌, ◌<◌, true, [], None, map, List, Result, IsTrue}
 use Rattle.std.specs.Borrow.{Bor}
 use Rattle.wast_tree.specs.Occurrences.{Ask, asked, in_module}
 use Rattle.wast_tree.specs.WellFormed.{are_settled, is_well_formed}
@@ -8,12 +8,12 @@ use Rattle.wast_tree.specs.WrittenOut.{is_written_out}
 use Rattle.wast_tree.specs.declared.faults.Error.{Error}
 use Rattle.wast_tree.specs.Generations.{greatest_generation}
 use Rattle.wast_expand.specs.NeedingUses.{needed}
-use Rattle.wast_expand.specs.Expanded.{expanded, ids_wanted}
-use Rattle.wast_expand.specs.Completed.{completed}
 use Rattle.wast_resolve.specs.Tree.{Index, ModuleField}
 use Rattle.wast_resolve.specs.Tree.space
 use Rattle.wast_resolve.specs.Demands.{first_unmet, ask_demands, demands, counts}
-use Rattle.wast_resolve.specs.Resolved.{numbered_at, is_resolved}
+use Rattle.wast_resolve.specs.Explicit.{explicit, explicit_from, by_positions, ids_filled}
+use Rattle.wast_resolve.specs.Resolved.{numbered_at, resolved, is_resolved}
+use Rattle.wast_resolve.specs.Stripped.{stripped}
 use Rattle.wast_resolve.specs.Resolvers.{Resolution, known_of}
 use Rattle.wast_resolve.specs.LookUps.{IsSettledFor, LooksTypesUp}
 use Rattle.wast_resolve.specs.CoreTypes.{CallsOn, HasNeeds, blank}
@@ -22,31 +22,39 @@ use Rattle.wast_resolve.specs.Finished.{finished}
 
 -- The ids that are filled in change no answer: what is unmet first with them is unmet first without them.
 abbrev pub SameAnswer : Type 0
-SameAnswer = (n : ℕ) (fields : List ModuleField) → greatest_generation fields < n → first_unmet (demands (expanded n fields)) ≡ first_unmet (demands (completed fields))
+SameAnswer = (n : ℕ) (fields : List ModuleField) → greatest_generation fields < n → first_unmet (demands (explicit_from n fields)) ≡ first_unmet (demands (explicit fields))
 
 -- and there are as many of all that is counted.
 abbrev pub SameCounts : Type 0
-SameCounts = (n : ℕ) (fields : List ModuleField) → greatest_generation fields < n → counts (expanded n fields) ≡ counts (completed fields)
+SameCounts = (n : ℕ) (fields : List ModuleField) → greatest_generation fields < n → counts (explicit_from n fields) ≡ counts (explicit fields)
 
 -- Well formed fields stay so with them.
-abbrev pub ExpandedStaysWellFormed : Type 0
-ExpandedStaysWellFormed = (n : ℕ) (fields : List ModuleField) → greatest_generation fields < n → is_well_formed fields ≡ true → is_well_formed (expanded n fields) ≡ true
+abbrev pub ExplicitStaysWellFormed : Type 0
+ExplicitStaysWellFormed = (n : ℕ) (fields : List ModuleField) → greatest_generation fields < n → is_well_formed fields ≡ true → is_well_formed (explicit_from n fields) ≡ true
 
 -- Where each demand is met, no id is left where an index is wanted.
 abbrev pub NoIdIsLeft : Type 0
-NoIdIsLeft = (n : ℕ) (fields : List ModuleField) → greatest_generation fields < n → first_unmet (demands (completed fields)) ≡ None → is_resolved (asked (in_module (finished n fields))) ≡ true
+NoIdIsLeft = (n : ℕ) (fields : List ModuleField) → greatest_generation fields < n → first_unmet (demands (explicit fields)) ≡ None → is_resolved (asked (in_module (finished n fields))) ≡ true
 
 -- and well formed fields stay so.
 abbrev pub FinishedStaysWellFormed : Type 0
-FinishedStaysWellFormed = (n : ℕ) (fields : List ModuleField) → greatest_generation fields < n → is_well_formed fields ≡ true → first_unmet (demands (completed fields)) ≡ None → is_well_formed (finished n fields) ≡ true
+FinishedStaysWellFormed = (n : ℕ) (fields : List ModuleField) → greatest_generation fields < n → is_well_formed fields ≡ true → first_unmet (demands (explicit fields)) ≡ None → is_well_formed (finished n fields) ≡ true
+
+-- and it is the list by positions, but for generated ids and for where the indices of type uses stand.
+abbrev pub SamePositions : Type 0
+SamePositions = (n : ℕ) (fields : List ModuleField) → greatest_generation fields < n → first_unmet (demands (explicit fields)) ≡ None → map stripped (finished n fields) ≡ map stripped (resolved (by_positions fields))
 
 -- Each generation is below that of the next id.
 abbrev pub FinishedIsBelow : Type 0
-FinishedIsBelow = (n : ℕ) (fields : List ModuleField) → greatest_generation fields < n → greatest_generation (finished n fields) < n + ids_wanted fields
+FinishedIsBelow = (n : ℕ) (fields : List ModuleField) → greatest_generation fields < n → greatest_generation (finished n fields) < n + ids_filled fields
 
 -- Each type use has an index.
 abbrev pub UsesHaveIndices : Type 0
 UsesHaveIndices = (n : ℕ) (fields : List ModuleField) → needed (finished n fields) ≡ []
+
+-- No abbreviation is left.
+abbrev pub FinishedIsWrittenOut : Type 0
+FinishedIsWrittenOut = (n : ℕ) (fields : List ModuleField) → IsTrue (is_written_out (finished n fields))
 
 -- By the resolver of a module, the calls on the indices of a part of a type succeed where each of its demands is met, and
 -- then it has its numbers; the error is the first unmet demand.
@@ -58,7 +66,3 @@ ByResolver {T} asks changed = (old new : Bor Resolution) (before after : T) (res
 -- and it has what it needs where the generated ids in the part are those of types.
 abbrev pub NeedsOfResolver : {T : Type 0} → (T → List Ask) → Type 0
 NeedsOfResolver {T} asks = (names : Bor Resolution) (x : T) → are_settled (known_of names.now) (asks x) ≡ true → HasNeeds (λ names i. IsSettledFor (known_of names.now) space.Ty i) names (asks x)
-
--- The finished list is written out where the fields are.
-abbrev pub FinishedStaysWrittenOut : Type 0
-FinishedStaysWrittenOut = (n : ℕ) (fields : List ModuleField) → is_written_out (finished n fields) ≡ is_written_out fields

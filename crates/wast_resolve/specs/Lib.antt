@@ -1,6 +1,7 @@
 pub mod Clashes
 pub mod CoreTypes
 pub mod Demands
+pub mod Explicit
 pub mod Finished
 pub mod Gathers
 pub mod ImportOrder
@@ -11,6 +12,7 @@ pub mod Matches
 pub mod Resolved
 pub mod Resolvers
 pub mod Scopes
+pub mod Stripped
 pub mod Tree
 pub mod TwoSteps
 pub mod Walking

@@ -2,22 +2,24 @@
 
 ghost use Rattle.wast_tree.specs.Occurrences.{in_heap, in_ref, in_val, in_storage, in_signature, in_def, in_type};
 ghost use Rattle.wast_resolve.specs.Resolved.{changed_heap, changed_ref, changed_val, changed_storage, changed_signature, changed_def, changed_type};
-ghost use Rattle.wast_resolve.specs.Laws.{ByResolver, NeedsOfResolver, SameAnswer, SameCounts, ExpandedStaysWellFormed, NoIdIsLeft, FinishedStaysWellFormed, FinishedIsBelow, UsesHaveIndices, FinishedStaysWrittenOut};
+ghost use Rattle.wast_resolve.specs.Laws.{ByResolver, NeedsOfResolver, SameAnswer, SameCounts, ExplicitStaysWellFormed, NoIdIsLeft, FinishedStaysWellFormed, SamePositions, FinishedIsBelow, UsesHaveIndices, FinishedIsWrittenOut};
 
 /// Where the counter begins above the ids of the fields, the ids that are filled in change no answer and no count, and
 /// well formed fields stay well formed. In the resolved list of fields whose demands are met no id is left where an index
 /// is wanted, each type use has an index, it is well formed if they are, and each generation in it is below that of the
-/// next id. It is written out where the fields are. It does nothing.
-#[tactic(auto, using(crate::proofs::Composed::same_answer, crate::proofs::Composed::same_counts, crate::proofs::Composed::expanded_well_formed, crate::proofs::Composed::finished_numbered, crate::proofs::Composed::finished_well_formed, crate::proofs::Composed::finished_below, crate::proofs::Indexed::finished_indexed, crate::proofs::InPlace::finished_written_out))]
+/// next id; it is written out; and it is the list by positions, generated ids and places of type uses aside. It does
+/// nothing.
+#[tactic(auto, using(crate::proofs::Explicit::explicit_answer, crate::proofs::Explicit::explicit_counts, crate::proofs::Explicit::explicit_well_formed, crate::proofs::Explicit::finished_numbered, crate::proofs::Explicit::finished_well_formed, crate::proofs::Explicit::finished_by_position, crate::proofs::Explicit::finished_below, crate::proofs::Explicit::finished_indexed, crate::proofs::Explicit::finished_written_out))]
 pub fn resolved_laws()
     ensures answer { SameAnswer }
     ensures counts { SameCounts }
-    ensures expanded { ExpandedStaysWellFormed }
+    ensures explicit { ExplicitStaysWellFormed }
     ensures numbers { NoIdIsLeft }
     ensures well_formed { FinishedStaysWellFormed }
+    ensures positions { SamePositions }
     ensures generations { FinishedIsBelow }
     ensures indices { UsesHaveIndices }
-    ensures written_out { FinishedStaysWrittenOut }
+    ensures written_out { FinishedIsWrittenOut }
 {}
 
 /// What the functions over [`ResolveCoreType`](crate::ResolveCoreType) promise of a type is, by the resolver of a module,

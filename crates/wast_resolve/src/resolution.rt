@@ -4,13 +4,11 @@ ghost use Rattle.std.specs.Prelude.{◌≡◌, ◌<◌, ◌≤◌, ◌+◌, [], 
 ghost use Rattle.wast_tree.specs.Items.{items};
 ghost use Rattle.wast_tree.specs.Known.{known};
 ghost use Rattle.wast_tree.specs.WellFormed.{is_well_formed};
-ghost use Rattle.wast_tree.specs.WrittenOut.{is_written_out};
 ghost use Rattle.wast_tree.specs.Generations.{greatest_generation};
-ghost use Rattle.wast_expand.specs.Expanded.{expanded, ids_wanted};
-ghost use Rattle.wast_expand.specs.Completed.{completed};
 ghost use Rattle.wast_resolve.specs.Tree.space;
 ghost use Rattle.wast_resolve.specs.Demands.{first_unmet, demands, IsUnresolved};
 ghost use Rattle.wast_resolve.specs.Resolved.{numbered_at};
+ghost use Rattle.wast_resolve.specs.Explicit.{explicit, explicit_from, ids_filled};
 ghost use Rattle.wast_resolve.specs.Finished.{finished};
 ghost use Rattle.wast_resolve.specs.Resolvers.{no_bindings, known_to};
 ghost use Rattle.wast_resolve.specs.LookUps.{IsSettledFor, IsMetBy, AnswersFor};
@@ -20,6 +18,7 @@ use crate::passes;
 use crate::resolver::Resolver;
 use std::alloc::Global;
 use std::marker::Model;
+use wast_expand::{deinline, types};
 use wast_tree::{Error, Gensym, Index, ModuleField, Seq, Space};
 
 /// What the ids of a module denote, for a caller that has indices of its own (text format, indices).
@@ -107,40 +106,41 @@ impl<'a> Names<'a> {
     }
 }
 
-/// Resolves the fields of a module: each type use has an index, and each id where an index is wanted becomes its number, at
-/// the id's place (text format, indices and type uses).
+/// Resolves the fields of a module: its abbreviations are written out, each type use has an index, and each id where an
+/// index is wanted becomes its number, at the id's place (text format, abbreviations, indices and type uses).
 ///
-/// It gives the fields in their order, and after them a type for each signature that a use without an index needs and no
-/// type has; and what the ids denote. A generated id is filled in where a type has none, in the order of the fields, and is
-/// given to each type at the end. It needs well formed fields that are written out, as [`wast_tree::well_formed`] and
-/// [`wast_tree::is_written_out`] tell, and a counter above [`wast_tree::gensym_bound`], and leaves it above the ids that it
-/// gives.
+/// It gives the fields in their order, each with the fields that stand for it once its exports, import, elements or data in
+/// place are written out, as [`deinline::run`] tells, and after them a type for each signature that a use without an index
+/// needs and no type has; and what the ids denote. A generated id is filled in where a field whose item is so referred to
+/// has none, then where a type has none, in the order of the fields, and is given to each type at the end. It needs well
+/// formed fields, as [`wast_tree::well_formed`] tells, and a counter above [`wast_tree::gensym_bound`], and leaves it above
+/// the ids that it gives.
 ///
-/// The error is the first demand that is not met: E1 at an import that stands behind a function, table, memory, global or tag
-/// of the module; after that, in the order of the fields, E2 at the second bearer of an id in a space, and directly after a
-/// type E3 at the second bearer of an id among the fields of its struct; after all of these, field by field,
-/// E4 at an id that denotes nothing; E6, E5 or E7 at an index whose type is not the inline type beside it; and E2 at the
-/// second of two parameters and locals of one id. It is E12 where memory was refused, and E10 only where some space has 2^32
-/// or more items, where some struct has as many fields, where a function declares as many parameters and locals, or where
-/// the counter would pass the greatest `u64`. On an error the fields are dropped, and the counter stands where it stood or
-/// higher.
+/// The error is the first demand that is not met: E1 at an import, also one in place, that stands behind a function, table,
+/// memory, global or tag of the module; after that, in the order of the fields, E2 at the second bearer of an id in a space,
+/// and directly after a type E3 at the second bearer of an id among the fields of its struct; after all of these, field by
+/// field, E4 at an id that denotes nothing; E6, E5 or E7 at an index whose type is not the inline type beside it; and E2 at
+/// the second of two parameters and locals of one id. It is E12 where memory was refused, and E10 only where some space has
+/// 2^32 or more items, where some struct has as many fields, where a function declares as many parameters and locals, where
+/// as many bytes stand in place in a memory, or where the counter would pass the greatest `u64`. On an error the fields are
+/// dropped, and the counter stands where it stood or higher.
 pub fn resolve<'a>(
     alloc: Global,
     fields: Seq<ModuleField<'a>>,
     gensym: &mut Gensym,
 ) -> Result<(Seq<ModuleField<'a>>, Names<'a>), Error<'a>>
     requires well_formed { IsTrue (is_well_formed fields) }
-    requires written_out { IsTrue (is_written_out fields) }
     requires above { greatest_generation fields < gensym.old }
-    ensures met { OnOk result (first_unmet (demands (completed fields.entry)) ≡ None) }
+    ensures met { OnOk result (first_unmet (demands (explicit fields.entry)) ≡ None) }
     ensures list { IfOk result (λ r. r.0 ≡ finished gensym.old fields.entry) }
-    ensures names { IfOk result (λ r. known_to r.1 ≡ known (items (expanded gensym.old fields.entry))) }
+    ensures names { IfOk result (λ r. known_to r.1 ≡ known (items (explicit_from gensym.old fields.entry))) }
     ensures refusal { IfErr result (IsUnresolved gensym.old fields.entry) }
-    ensures counter { OnOk result (gensym.new ≡ gensym.old + ids_wanted fields.entry) }
+    ensures counter { OnOk result (gensym.new ≡ gensym.old + ids_filled fields.entry) }
     ensures rising { gensym.old ≤ gensym.new }
 {
+    let fields = deinline::run(alloc, fields, gensym)?;
     let fields = in_order(fields)?;
-    let fields = wast_expand::types::expand(alloc, fields, gensym)?;
+    let fields = types::expand(alloc, fields, gensym)?;
     let (fields, resolver) = passes::resolve(alloc, fields)?;
     Ok((fields, Names { resolver }))
 }

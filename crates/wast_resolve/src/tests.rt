@@ -3,7 +3,6 @@
 ghost use Rattle.std.specs.Prelude.{⊤, ◌<◌, IsTrue};
 ghost use Rattle.wast_tree.specs.Generations.{greatest_generation};
 ghost use Rattle.wast_tree.specs.WellFormed.{is_well_formed};
-ghost use Rattle.wast_tree.specs.WrittenOut.{is_written_out};
 
 use crate::spaces::name_spaces;
 use crate::{
@@ -14,8 +13,8 @@ use std::alloc::Global;
 use std::process::Abort;
 use wast_tree::{
     Error, Expression, Fault, Func, FuncKind, FunctionType, Gensym, HeapType, Id, Index,
-    InlineExport, InnerTypeKind, Local, ModuleField, RefType, Seq, Span, StorageType, StructField,
-    StructType, Type, TypeDef, TypeUse, ValType, discard_fields, gensym_bound, is_written_out,
+    InlineExport, InlineImport, InnerTypeKind, Local, ModuleField, RefType, Seq, Span, StorageType,
+    StructField, StructType, Type, TypeDef, TypeUse, ValType, discard_fields, gensym_bound,
     well_formed,
 };
 
@@ -102,11 +101,9 @@ fn ty(alloc: Global) -> ModuleField<'static> {
 /// The fields, where they can be resolved with this counter.
 fn ready<'a>(rt: &impl Abort, fields: Seq<ModuleField<'a>>, first: u64) -> Seq<ModuleField<'a>>
     ensures well_formed { IsTrue (is_well_formed result) }
-    ensures written_out { IsTrue (is_written_out result) }
     ensures above { greatest_generation result < first }
 {
     assert!(rt; well_formed(fields.as_slice()));
-    assert!(rt; is_written_out(fields.as_slice()));
     assert!(rt; gensym_bound(fields.as_slice()) < first);
     fields
 }
@@ -140,6 +137,52 @@ fn a_type_is_given_an_id(rt: HostRuntime) {
         has_its_type(&rt, fields.as_slice(), 5, offset);
         discard_fields(fields);
         offset = 16;
+    }
+}
+
+/// `(func (export "a") (export "a") (import "" ""))` at 19
+fn imported_func(rt: &impl Abort, alloc: Global) -> ModuleField<'static> {
+    let ty = TypeUse {
+        index: None,
+        inline: None,
+    };
+    let import = InlineImport {
+        module: "",
+        field: "",
+    };
+    ModuleField::Func(Func {
+        span: at(19),
+        id: None,
+        name: None,
+        exports: InlineExport {
+            names: Seq::from_vec(vec![in alloc; "a", "a"].expect(rt, "memory")),
+        },
+        kind: FuncKind::Import(import, false),
+        ty,
+    })
+}
+
+// An import in place counts: it may stand before a function, exported under one name twice, and not behind one.
+#[test]
+fn an_import_in_place_stands_before_functions(rt: HostRuntime) {
+    let alloc = rt.alloc();
+    let before = vec![in alloc; imported_func(&rt, alloc), func(alloc)].expect(&rt, "memory");
+    let behind = vec![in alloc; func(alloc), imported_func(&rt, alloc)].expect(&rt, "memory");
+    let mut allowed = true;
+    for fields in vec![in alloc; before, behind].expect(&rt, "memory") {
+        let fields = ready(&rt, Seq::from_vec(fields), 5);
+        match resolve(alloc, fields, &mut Gensym::new(5)) {
+            Ok((fields, names)) => {
+                assert!(rt; allowed);
+                discard_fields(fields);
+                discard_names(names);
+            }
+            Err(e) => {
+                assert!(rt; !allowed);
+                assert!(rt; e == Error::new(at(19), Fault::ImportAfter("function")));
+            }
+        }
+        allowed = false;
     }
 }
 

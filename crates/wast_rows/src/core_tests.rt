@@ -8,7 +8,7 @@ ghost use Rattle.wast_core.specs.Writing.{IsEncodable};
 
 use crate::sample;
 use crate::samples::{at, func, module, plain_type, type_at};
-use crate::tests::{BYTES_OF_2, BYTES_OF_24, BYTES_OF_27};
+use crate::tests::{BYTES_OF_2, BYTES_OF_4, BYTES_OF_24, BYTES_OF_27};
 use std::alloc::Global;
 use std::process::Abort;
 use wasm_ops::{Length, Room};
@@ -47,11 +47,11 @@ fn in_hex(rt: &impl Abort, alloc: Global, answer: Result<Vec<u8>, Error<'_>>) ->
     hex::encode(alloc, bytes.as_slice()).expect(rt, "memory")
 }
 
-// The type that row 2 implies takes an id, and only the first time.
+// The type that rows 2 and 4 imply takes an id, and so does the function of row 4, and only the first time.
 #[test]
 fn a_module_gives_the_same_bytes_again(rt: HostRuntime) {
     let alloc = rt.alloc();
-    for (n, bytes, next) in [(27, BYTES_OF_27, 1), (2, BYTES_OF_2, 2)] {
+    for (n, bytes, next) in [(27, BYTES_OF_27, 1), (2, BYTES_OF_2, 2), (4, BYTES_OF_4, 3)] {
         let mut gensym = Gensym::new(1);
         let mut module = row(&rt, alloc, n);
         let first = module.encode(alloc, &mut gensym);
@@ -61,6 +61,33 @@ fn a_module_gives_the_same_bytes_again(rt: HostRuntime) {
         assert!(rt; in_hex(&rt, alloc, second).as_str() == bytes);
         assert!(rt; gensym.peek() == next);
         discard_module(module);
+    }
+}
+
+fn answers_again(rt: &impl Abort, alloc: Global, module: Module<'_>)
+    requires well_formed { IsTrue (is_well_formed «module») }
+    requires bound { generation_bound «module» ≡ 0 }
+{
+    let mut module = module;
+    let mut gensym = Gensym::new(1);
+    let first = module.encode(alloc, &mut gensym);
+    let next = gensym.peek();
+    let second = module.encode(alloc, &mut gensym);
+    assert!(rt; gensym.peek() == next);
+    match (first, second) {
+        (Ok(first), Ok(second)) => assert!(rt; first.as_slice() == second.as_slice()),
+        (first, second) => assert!(rt; first.err() == second.err()),
+    }
+    discard_module(module);
+}
+
+#[test]
+fn each_row_answers_the_same_again(rt: HostRuntime) {
+    for n in 0..66 {
+        if let Some(made) = sample(rt.alloc(), n) {
+            let made = made.expect(&rt, "memory");
+            answers_again(&rt, rt.alloc(), ready(&rt, made));
+        }
     }
 }
 

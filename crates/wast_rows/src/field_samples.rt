@@ -15,14 +15,14 @@ use wast_tree::{
 };
 
 /// No names of exports in place.
-fn no_exports<'a>(alloc: Global) -> InlineExport<'a> {
+pub(crate) fn no_exports<'a>(alloc: Global) -> InlineExport<'a> {
     InlineExport {
         names: Seq::new(alloc),
     }
 }
 
 /// A type use without an index.
-fn using<'a>(inline: Option<FunctionType<'a>>) -> TypeUse<'a, FunctionType<'a>> {
+pub(crate) fn using<'a>(inline: Option<FunctionType<'a>>) -> TypeUse<'a, FunctionType<'a>> {
     TypeUse {
         index: None,
         inline,
@@ -30,7 +30,7 @@ fn using<'a>(inline: Option<FunctionType<'a>>) -> TypeUse<'a, FunctionType<'a>> 
 }
 
 /// `funcref`
-fn funcref<'a>() -> RefType<'a> {
+pub(crate) fn funcref<'a>() -> RefType<'a> {
     RefType {
         nullable: true,
         heap: HeapType::Abstract {
@@ -41,7 +41,7 @@ fn funcref<'a>() -> RefType<'a> {
 }
 
 /// A minimum, and a maximum where one is written, of 32 bits.
-fn limits(min: u64, max: Option<u64>) -> Limits {
+pub(crate) fn limits(min: u64, max: Option<u64>) -> Limits {
     Limits {
         is64: false,
         min,
@@ -59,7 +59,7 @@ fn one_function_table<'a>() -> TableType<'a> {
 }
 
 /// `(memory ..)`, neither shared nor with a page exponent.
-fn memory_of(limits: Limits) -> MemoryType {
+pub(crate) fn memory_of(limits: Limits) -> MemoryType {
     MemoryType {
         limits,
         shared: false,

@@ -6,6 +6,7 @@ mod answers;
 mod core_tests;
 mod errors;
 mod field_samples;
+mod inline_samples;
 mod numbers;
 #[cfg(test)]
 mod resolve_tests;

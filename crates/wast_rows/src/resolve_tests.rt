@@ -3,37 +3,33 @@
 ghost use Rattle.std.specs.Prelude.{◌≡◌, IsTrue};
 ghost use Rattle.wast_tree.specs.Generations.{greatest_generation};
 ghost use Rattle.wast_tree.specs.WellFormed.{is_well_formed};
-ghost use Rattle.wast_tree.specs.WrittenOut.{is_written_out};
 
 use crate::core_tests::row;
 use crate::samples::{at, module, plain_type, type_at};
 use std::alloc::Global;
 use std::process::Abort;
 use wast_core::{Module, ModuleKind};
-use wast_expand::{expanded_laws, types};
+use wast_expand::{deinline, expanded_laws, types};
 use wast_resolve::{Names, Ns, Resolver, names, resolve, resolved_laws};
 use wast_tree::{
     Error, Fault, FuncKind, Gensym, Id, Index, Instruction, ModuleField, Seq, discard_fields,
-    gensym_bound, is_written_out, well_formed,
+    gensym_bound, well_formed,
 };
 
 fn fields_of<'a>(rt: &impl Abort, module: Module<'a>) -> Seq<ModuleField<'a>>
     ensures well_formed { IsTrue (is_well_formed result) }
-    ensures written_out { IsTrue (is_written_out result) }
     ensures bound { greatest_generation result ≡ 0 }
 {
     let ModuleKind::Text(fields) = module.kind else {
         panic!(rt; "fields")
     };
     assert!(rt; well_formed(fields.as_slice()));
-    assert!(rt; is_written_out(fields.as_slice()));
     assert!(rt; gensym_bound(fields.as_slice()) == 0);
     fields
 }
 
 fn row_fields<'a>(rt: &impl Abort, alloc: Global, n: u32) -> Seq<ModuleField<'a>>
     ensures well_formed { IsTrue (is_well_formed result) }
-    ensures written_out { IsTrue (is_written_out result) }
     ensures bound { greatest_generation result ≡ 0 }
 {
     fields_of(rt, row(rt, alloc, n))
@@ -120,14 +116,16 @@ fn empty_names_know_no_name(rt: HostRuntime) {
     assert!(rt; Names::empty(rt.alloc()).resolve_func(&mut idx) == unknown("func", "f", 5));
 }
 
-// Type uses are expanded first, and then come the two passes over names.
+// Abbreviations are written out and type uses are expanded, and then come the two passes over names.
 fn passes<'a>(alloc: Global, fields: Seq<ModuleField<'a>>) -> Result<Resolver<'a>, Error<'a>>
     requires well_formed { IsTrue (is_well_formed fields) }
     requires bound { greatest_generation fields ≡ 0 }
 {
     expanded_laws();
     resolved_laws();
-    let fields = types::expand(alloc, fields, &mut Gensym::new(1))?;
+    let mut gensym = Gensym::new(1);
+    let fields = deinline::run(alloc, fields, &mut gensym)?;
+    let fields = types::expand(alloc, fields, &mut gensym)?;
     let (fields, resolver) = names::resolve(alloc, fields)?;
     discard_fields(fields);
     Ok(resolver)
@@ -145,7 +143,6 @@ fn a_resolver_goes_on_answering(rt: HostRuntime) {
 
 fn is_refused(rt: &impl Abort, alloc: Global, fields: Seq<ModuleField<'_>>, want: Error<'_>)
     requires well_formed { IsTrue (is_well_formed fields) }
-    requires written_out { IsTrue (is_written_out fields) }
     requires bound { greatest_generation fields ≡ 0 }
 {
     match resolve(alloc, fields, &mut Gensym::new(1)) {

@@ -7,7 +7,7 @@ ghost use Rattle.wast_resolve.specs.Resolved.{is_resolved};
 ghost use Rattle.wast_conv.specs.Encodable.{is_encodable_def};
 ghost use Rattle.wast_rows.specs.RowNumbers.{is_row};
 
-use crate::{field_samples, type_samples};
+use crate::{field_samples, inline_samples, type_samples};
 use std::alloc::Global;
 use wast_core::{Module, ModuleKind};
 use wast_tree::{
@@ -235,8 +235,8 @@ fn function_of_an_open_type<'a>(alloc: Global) -> Result<Module<'a>, Error<'a>>
 
 /// The module of a worked row, or out of memory; `None` where there is no such row.
 ///
-/// The rows are 1, 2, 3, 7, 8, 12, 13, 14, 17, 21 to 24, 27, 30 to 41 and 65. Places are offsets in the text of the row's module: of a field
-/// that of its keyword, of an id that of its `$`.
+/// The rows are 1 to 8, 12, 13, 14, 17, 21 to 24, 27, 30 to 44 and 65. Places are offsets in the text of the row's module:
+/// of a field that of its keyword, of an id that of its `$`.
 pub fn sample<'a>(alloc: Global, n: u32) -> Option<Result<Module<'a>, Error<'a>>>
     ensures there { is_some result ≡ is_row n }
     ensures refusal { IfSome result (λ made. IfErr made (λ e. e ≡ out_of_memory)) }
@@ -245,6 +245,9 @@ pub fn sample<'a>(alloc: Global, n: u32) -> Option<Result<Module<'a>, Error<'a>>
         1 => Some(Ok(module(ModuleKind::Text(Seq::new(alloc))))),
         2 => Some(one_function(alloc, None, None)),
         3 => Some(one_function(alloc, Some(id("f", 14)), None)),
+        4 => Some(inline_samples::exported_function(alloc)),
+        5 => Some(inline_samples::memory_with_bytes(alloc)),
+        6 => Some(inline_samples::table_of_a_function(alloc)),
         7 => Some(type_samples::type_written_later(alloc)),
         8 => Some(group_and_function(alloc)),
         12 => Some(field_samples::import_after_a_function(alloc)),
@@ -268,6 +271,9 @@ pub fn sample<'a>(alloc: Global, n: u32) -> Option<Result<Module<'a>, Error<'a>>
         39 => Some(field_samples::memory_with_data(alloc)),
         40 => Some(field_samples::table_with_elements(alloc)),
         41 => Some(field_samples::wide_shared_memory(alloc)),
+        42 => Some(inline_samples::imported_memory(alloc)),
+        43 => Some(inline_samples::imported_function(alloc)),
+        44 => Some(inline_samples::exported_empty_memory(alloc)),
         65 => Some(type_samples::name_and_number_of_a_type(alloc)),
         _ => None,
     }

@@ -13,6 +13,9 @@ const FIRST_ROW: &str = "0061736d01000000\n";
 
 pub(crate) const BYTES_OF_2: &str = "0061736d01000000010401600000030201000a040102000b";
 
+pub(crate) const BYTES_OF_4: &str =
+    "0061736d0100000001040160000003020100070501016100000a040102000b";
+
 pub(crate) const BYTES_OF_24: &str = "0061736d01000000030201050a040102000b";
 
 pub(crate) const BYTES_OF_27: &str =
@@ -100,6 +103,21 @@ fn rows_of_definitions_have_their_lines(rt: HostRuntime) -> Result<(), Fail> {
 }
 
 #[test]
+fn rows_of_what_stands_in_place_have_their_lines(rt: HostRuntime) -> Result<(), Fail> {
+    let output = answers(rt.alloc(), b"4\n5\n6\n42\n43\n44\n")?;
+    let want = concat!(
+        "0061736d0100000001040160000003020100070501016100000a040102000b\n",
+        "0061736d010000000504010101010b08010041000b026162\n",
+        "0061736d010000000104016000000302010004050170010101090901020041000b0001000a040102000b000b046e616d65010401000166\n",
+        "0061736d0100000002080101610162020001\n",
+        "0061736d01000000010401600000020701016101620000000b046e616d6501040100016e\n",
+        "0061736d0100000005040101000007090201610200016202000b06010041000b00\n",
+    );
+    assert_eq!(rt; output.as_slice(), want.as_bytes());
+    Ok(())
+}
+
+#[test]
 fn each_line_has_its_answer(rt: HostRuntime) -> Result<(), Fail> {
     let none = "no row\n";
     let row_and_none = "0061736d01000000\nno row\n";
@@ -112,7 +130,7 @@ fn each_line_has_its_answer(rt: HostRuntime) -> Result<(), Fail> {
         (&b"1\r\n"[..], none),
         (&b"4294967296"[..], none),
         (&b"0"[..], none),
-        (&b"4"[..], none),
+        (&b"9"[..], none),
         (&b"20"[..], none),
         (&b"\xff\xfe"[..], none),
         (&b"1"[..], FIRST_ROW),

@@ -2,6 +2,7 @@
 -- it asks, what it makes known, whether it is well formed and written out, and the greatest generation of its ids.
 pub mod DataBytes
 pub mod Faults
+pub mod Filling
 pub mod Generations
 pub mod Gensym
 pub mod Ids

@@ -1,9 +1,7 @@
-use Rattle.std.proofs.Common.{IsTrue, ◌<◌, subst, sym}
+use Rattle.std.proofs.Common.{IsTrue, ◌<◌, ◌&&◌, subst, sym}
 use Rattle.wast_conv.specs.Encodable.{are_encodable}
 use Rattle.wast_core.specs.Modules.{is_well_formed_kind, bound_of_kind}
-use Rattle.wast_tree.specs.WellFormed.{is_well_formed}
 use Rattle.wast_tree.specs.WrittenOut.{is_written_out}
-use Rattle.wast_conv.proofs.EachPasses.{both_pass}
 use Rattle.wast_core.proofs.Encoded.{encodable}
 use Rattle.wast_core.proofs.module.resolve_kind.Goals as goal
 
@@ -12,5 +10,4 @@ returns-in-Ok-clause-at_rest c =
     let laws = c.resolved_laws.ensures in
     let well = subst (λ k. IsTrue (is_well_formed_kind k)) c.in-Text.is c.requires.well_formed in
     let above = subst (λ k. bound_of_kind k < c.args.gensym.now) c.in-Text.is c.requires.above in
-    let both = both_pass (is_well_formed c.in-Text.fields) (is_written_out c.in-Text.fields) well in
-    subst (λ fs. IsTrue (are_encodable fs)) (sym c.in-Ok.ensures.list) (encodable laws.numbers laws.well_formed laws.indices laws.written_out c.args.gensym.now c.in-Text.fields above both.0 both.1 c.in-Ok.ensures.met)
+    subst (λ fs. IsTrue (is_written_out fs && are_encodable fs)) (sym c.in-Ok.ensures.list) (encodable laws.numbers laws.well_formed laws.indices laws.written_out c.args.gensym.now c.in-Text.fields above well c.in-Ok.ensures.met)

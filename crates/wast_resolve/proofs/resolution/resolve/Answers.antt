@@ -1,38 +1,57 @@
-use Rattle.std.proofs.Common.{◌∙◌, ap, List}
+use Rattle.std.proofs.Common.{◌∙◌, ◌+◌, ap, sym, subst, List}
 use Rattle.std.proofs.lemmas.Result.{err_from_is_err_and}
+use Rattle.wast_tree.specs.Filling.{RunsOut}
 use Rattle.wast_tree.specs.Items.{items}
 use Rattle.wast_tree.specs.Known.{known}
-use Rattle.wast_expand.specs.Expanded.{expanded}
+use Rattle.wast_expand.specs.Expanded.{ids_wanted}
+use Rattle.wast_namespace.specs.FirstUnmet.{first_unmet, Answers}
+use Rattle.wast_tree.specs.Faults.{told}
 use Rattle.wast_resolve.specs.Tree.{ModuleField}
+use Rattle.wast_resolve.specs.Demands.{order_demands}
 use Rattle.wast_resolve.specs.Resolved.{resolved}
-use Rattle.wast_resolve.proofs.Resolving.{unordered_still, indexed_still, well_formed_still, met_still, unnumbered_still}
+use Rattle.wast_resolve.proofs.Explicit.{wants_as_many}
+use Rattle.wast_resolve.proofs.Resolving.{expands_all, unordered_still, unexpanded_still, indexed_still, well_formed_still, met_still, unnumbered_still}
 use Rattle.wast_resolve.proofs.resolution.resolve.Goals as goal
 
 pub resolve-requires-clause-well_formed : goal.resolve-requires-clause-well_formed
-resolve-requires-clause-well_formed c =
-    well_formed_still c.args.gensym.now c.args.fields c.in_ok-fields-2.fields (c.in_ok-fields-2.ensures.list ∙ ap (expanded c.args.gensym.now) c.in_ok-fields.ensures.list) c.requires.above c.requires.well_formed
+resolve-requires-clause-well_formed c = well_formed_still c.args.gensym.now c.args.fields c.requires.above c.in_ok-fields-3.fields (expands_all c.args.gensym.now c.args.fields c.in_ok-fields.ensures.list c.in_ok-fields.ensures.counted c.in_ok-fields-2.ensures.list c.in_ok-fields-3.ensures.list) c.requires.well_formed
 
 pub resolve-requires-clause-indexed : goal.resolve-requires-clause-indexed
-resolve-requires-clause-indexed c = indexed_still c.args.gensym.now c.args.fields c.in_ok-fields-2.fields (c.in_ok-fields-2.ensures.list ∙ ap (expanded c.args.gensym.now) c.in_ok-fields.ensures.list)
+resolve-requires-clause-indexed c = indexed_still c.args.gensym.now c.args.fields c.requires.above c.in_ok-fields-3.fields (expands_all c.args.gensym.now c.args.fields c.in_ok-fields.ensures.list c.in_ok-fields.ensures.counted c.in_ok-fields-2.ensures.list c.in_ok-fields-3.ensures.list)
 
-pub returns-in_err-fields-clause-refusal : goal.returns-in_err-fields-clause-refusal
-returns-in_err-fields-clause-refusal c =
-    let p = err_from_is_err_and c.from_residual.result c.from_residual.ensures.1 in
-    rw (p.1, p.2) (unordered_still c.args.gensym.now c.args.fields c.in_err-fields.field-0.0 c.in_err-fields.ensures.refusal)
+pub returns-in_err-fields-2-clause-refusal : goal.returns-in_err-fields-2-clause-refusal
+returns-in_err-fields-2-clause-refusal c =
+    let p = err_from_is_err_and c.from_residual-in_err-fields-2.result c.from_residual-in_err-fields-2.ensures.1 in
+    rw (p.1, p.2)
+    (unordered_still c.args.gensym.now c.args.fields c.requires.above c.in_err-fields-2.field-0.0
+    (subst (λ (xs : List ModuleField). Answers ⊥ ⊥ (told c.in_err-fields-2.field-0.0) (first_unmet (order_demands xs))) c.in_ok-fields.ensures.list c.in_err-fields-2.ensures.refusal))
 
 pub returns-in_err-fields-3-clause-refusal : goal.returns-in_err-fields-3-clause-refusal
 returns-in_err-fields-3-clause-refusal c =
     let p = err_from_is_err_and c.from_residual-in_err-fields-3.result c.from_residual-in_err-fields-3.ensures.1 in
     rw (p.1, p.2)
-    (unnumbered_still c.args.gensym.now c.args.fields c.in_ok-fields-2.fields (c.in_ok-fields-2.ensures.list ∙ ap (expanded c.args.gensym.now) c.in_ok-fields.ensures.list) c.requires.above c.in_ok-fields.ensures.met c.in_err-fields-3.field-0.0
-    c.in_err-fields-3.ensures.refusal)
+    (unexpanded_still c.args.gensym.now c.args.fields c.requires.above c.in_err-fields-3.field-0.0
+    (subst (λ m. RunsOut m c.in_err-fields-3.field-0.0) (λ i. c.in_ok-fields.ensures.counted i + ids_wanted ((c.in_ok-fields-2.ensures.list ∙ c.in_ok-fields.ensures.list) i)) c.in_err-fields-3.ensures.refusal))
+
+pub returns-in_err-fields-4-clause-refusal : goal.returns-in_err-fields-4-clause-refusal
+returns-in_err-fields-4-clause-refusal c =
+    let p = err_from_is_err_and c.from_residual-in_err-fields-4.result c.from_residual-in_err-fields-4.ensures.1 in
+    rw (p.1, p.2)
+    (unnumbered_still c.args.gensym.now c.args.fields c.requires.above c.in_ok-fields-3.fields (expands_all c.args.gensym.now c.args.fields c.in_ok-fields.ensures.list c.in_ok-fields.ensures.counted c.in_ok-fields-2.ensures.list c.in_ok-fields-3.ensures.list)
+    (ap (λ (xs : List ModuleField). first_unmet (order_demands xs)) (sym c.in_ok-fields.ensures.list) ∙ c.in_ok-fields-2.ensures.met) c.in_err-fields-4.field-0.0 c.in_err-fields-4.ensures.refusal)
 
 pub returns-clause-met : goal.returns-clause-met
 returns-clause-met c =
-    met_still c.args.gensym.now c.args.fields c.in_ok-fields-2.fields (c.in_ok-fields-2.ensures.list ∙ ap (expanded c.args.gensym.now) c.in_ok-fields.ensures.list) c.requires.above c.in_ok-fields.ensures.met c.in_ok-fields-3.ensures.met
+    met_still c.args.gensym.now c.args.fields c.requires.above c.in_ok-fields-3.fields (expands_all c.args.gensym.now c.args.fields c.in_ok-fields.ensures.list c.in_ok-fields.ensures.counted c.in_ok-fields-2.ensures.list c.in_ok-fields-3.ensures.list)
+    (ap (λ (xs : List ModuleField). first_unmet (order_demands xs)) (sym c.in_ok-fields.ensures.list) ∙ c.in_ok-fields-2.ensures.met) c.in_ok-fields-4.ensures.met
 
 pub returns-clause-list : goal.returns-clause-list
-returns-clause-list c = c.in_ok-fields-3.ensures.list ∙ ap resolved (c.in_ok-fields-2.ensures.list ∙ ap (expanded c.args.gensym.now) c.in_ok-fields.ensures.list)
+returns-clause-list c = c.in_ok-fields-4.ensures.list ∙ ap resolved (expands_all c.args.gensym.now c.args.fields c.in_ok-fields.ensures.list c.in_ok-fields.ensures.counted c.in_ok-fields-2.ensures.list c.in_ok-fields-3.ensures.list)
 
 pub returns-clause-names : goal.returns-clause-names
-returns-clause-names c = c.in_ok-fields-3.ensures.names ∙ ap (λ (xs : List ModuleField). known (items xs)) (c.in_ok-fields-2.ensures.list ∙ ap (expanded c.args.gensym.now) c.in_ok-fields.ensures.list)
+returns-clause-names c = c.in_ok-fields-4.ensures.names ∙ ap (λ (xs : List ModuleField). known (items xs)) (expands_all c.args.gensym.now c.args.fields c.in_ok-fields.ensures.list c.in_ok-fields.ensures.counted c.in_ok-fields-2.ensures.list c.in_ok-fields-3.ensures.list)
+
+pub returns-clause-counter : goal.returns-clause-counter
+returns-clause-counter c =
+    c.in_ok-fields-3.ensures.counted
+    ∙ ((λ i. c.in_ok-fields.ensures.counted i + ids_wanted ((c.in_ok-fields-2.ensures.list ∙ c.in_ok-fields.ensures.list) i)) ∙ wants_as_many c.args.gensym.now c.args.fields)

@@ -1,4 +1,5 @@
--- A resolved list without what no part of a module tells: generated ids of types, and the places of the indices of type uses.
+-- A resolved list without what no part of a module tells: generated ids of items, and the places of the indices of type
+-- uses.
 use Rattle.std.specs.Prelude.{cond, Option, Some, None, option_map}
 use Rattle.wast_tree.specs.Ids.{name_of, is_generated}
 use Rattle.wast_expand.specs.Expanded.{start_of_text}
@@ -32,12 +33,19 @@ stripped_item_kind (kind.Global t) = kind.Global t
 stripped_item_kind (kind.Tag t) = kind.Tag (stripped_tag_type t)
 
 abbrev pub stripped_import : ImportItems → ImportItems
-stripped_import (import_items.Single source name sig) = import_items.Single source name (record sig { kind = stripped_item_kind sig.kind })
+stripped_import (import_items.Single source name sig) = import_items.Single source name (record sig { id = written_id sig.id; kind = stripped_item_kind sig.kind })
 
--- members of groups are given no ids, and no instruction has a type use
+-- members of groups and segments are given no ids, and no instruction has a type use
 abbrev pub stripped : ModuleField → ModuleField
 stripped (field.Ty t) = field.Ty (record t { id = written_id t.id })
-stripped (field.Func f) = field.Func (record f { ty = stripped_use f.ty })
+stripped (field.Rec r) = field.Rec r
 stripped (field.Import i) = field.Import (record i { items = stripped_import i.items })
-stripped (field.Tag t) = field.Tag (record t { ty = stripped_tag_type t.ty })
-stripped x = x
+stripped (field.Func f) = field.Func (record f { id = written_id f.id; ty = stripped_use f.ty })
+stripped (field.Table t) = field.Table (record t { id = written_id t.id })
+stripped (field.Memory m) = field.Memory (record m { id = written_id m.id })
+stripped (field.Global g) = field.Global (record g { id = written_id g.id })
+stripped (field.Export e) = field.Export e
+stripped (field.Start i) = field.Start i
+stripped (field.Elem e) = field.Elem e
+stripped (field.Data d) = field.Data d
+stripped (field.Tag t) = field.Tag (record t { id = written_id t.id; ty = stripped_tag_type t.ty })

@@ -1,0 +1,123 @@
+-- Fields that are too large to be resolved are too large to be encoded: a memory with too many bytes in place would have a
+-- data segment that is too long.
+use Rattle.std.proofs.Common.{◌≡◌, ℕ, ◌+◌, ◌<◌, ◌^◌, Bool, true, false, not, ◌||◌, List, [], ◌∷◌, ◌++◌, map, length, Option, inl, inr, refl, sym, ap, ◌∙◌, arith}
+use Rattle.std.specs.Prelude.{All}
+use Rattle.std.specs.List.{flat_map, list_any}
+use Rattle.std.proofs.Math.Bool.{or-true}
+use Rattle.std.proofs.lemmas.Bool.{lt-ltb}
+use Rattle.std.proofs.lemmas.List.Elements.{All-nil, All-head}
+use Rattle.std.proofs.lemmas.List.Folds.{list_any-append}
+use Rattle.wast_tree.specs.DataBytes.{all_bytes}
+use Rattle.wast_tree.specs.Items.{Item, items_in, items}
+use Rattle.wast_tree.specs.Known.{known}
+use Rattle.wasm_ops.proofs.Everywhere.{all_left, all_right}
+use Rattle.wasm_out.specs.DataSegments.{DataEntry, InRangeDataEntry}
+use Rattle.wasm_out.specs.Parts.{Data, InRangePart}
+use Rattle.wast_deinline.specs.Segments.{are_too_many, overflows_kind, overflows}
+use Rattle.wast_deinline.specs.WriteOut.{exports_of, data_in, memory_alone, write_out}
+use Rattle.wast_deinline.specs.Referring.{by_position}
+use Rattle.wast_deinline.specs.Written.{written_after, written_out}
+use Rattle.wast_expand.specs.ImpliedTypes.{implied}
+use Rattle.wast_expand.specs.Expanders.{LookUp}
+use Rattle.wast_expand.specs.Expanded.{unnamed_type, bound_field}
+use Rattle.wast_expand.specs.Completed.{completed}
+use Rattle.wast_expand.specs.Positioned as positioned
+use Rattle.wast_resolve.specs.Explicit.{by_positions}
+use Rattle.wast_resolve.specs.Resolved.{resolved_field, resolved}
+use Rattle.wast_core.specs.Tree.{Index, Memory, MemoryKind, ModuleField}
+use Rattle.wast_core.specs.Tree.space
+use Rattle.wast_core.specs.Tree.export
+use Rattle.wast_core.specs.Tree.memory
+use Rattle.wast_core.specs.Tree.field
+use Rattle.wast_core.specs.declared.slots.SectionKind.TheVariants as kind
+use Rattle.wast_core.specs.declared.slots.Slot.TheVariants as slot
+use Rattle.wast_core.specs.Slots.{order}
+use Rattle.wast_core.specs.Meaning.{entries_in, entries, listed}
+use Rattle.wast_core.specs.Bounded.{InRangeModule}
+use Rattle.wast_core.specs.Laws.{TooLargeIsUnbounded}
+
+-- a data segment of 2^32 bytes or more
+abbrev is_long : ModuleField → Bool
+is_long (field.Data d) = are_too_many d.bytes
+is_long x = false
+
+abbrev any_long : List ModuleField → Bool
+any_long xs = list_any is_long xs
+
+-- It stands among what is written out,
+first_true : (a b : Bool) → a ≡ true → (a || b) ≡ true
+first_true a b h = ap (λ c. c || b) h
+
+second_true : (a b : Bool) → b ≡ true → (a || b) ≡ true
+second_true a b h = ap (λ c. a || c) h ∙ or-true a
+
+memory_long : (m : Memory) (k : MemoryKind) (i : Index) → overflows_kind k ≡ true → any_long (data_in k m.span i ++ memory_alone m k ∷ []) ≡ true
+memory_long m (memory.Import source ty) i h = absurd (cc h)
+memory_long m (memory.Normal ty) i h = absurd (cc h)
+memory_long m (memory.Inline is64 pieces exponent) i h = first_true (are_too_many pieces) false h
+
+field_long : (before : List Item) (x : ModuleField) → overflows x ≡ true → any_long (write_out (by_position before) x) ≡ true
+field_long before (field.Memory m) h =
+    let i = by_position before space.Memory m.span m.id in
+    let exports = exports_of m.span export.Memory i m.exports in
+    list_any-append is_long exports (data_in m.kind m.span i ++ memory_alone m m.kind ∷ []) ∙ second_true (any_long exports) (any_long (data_in m.kind m.span i ++ memory_alone m m.kind ∷ [])) (memory_long m m.kind i h)
+field_long before x h = absurd (cc h)
+
+either_true : (p q a b : Bool) → (p ≡ true → a ≡ true) → (q ≡ true → b ≡ true) → (p || q) ≡ true → (a || b) ≡ true
+either_true true q a b first second h = first_true a b (first refl)
+either_true false q a b first second h = second_true a b (second h)
+
+after_long : (before : List Item) (xs : List ModuleField) → list_any overflows xs ≡ true → any_long (written_after before xs) ≡ true
+after_long before [] h = absurd (cc h)
+after_long before (x ∷ xs) h =
+    let here = write_out (by_position before) x in
+    let rest = written_after (before ++ items_in x) xs in
+    list_any-append is_long here rest ∙ either_true (overflows x) (list_any overflows xs) (any_long here) (any_long rest) (field_long before x) (after_long (before ++ items_in x) xs) h
+
+-- and stays where type uses are bound and indices are numbered.
+each_long : (f : ModuleField → ModuleField) → ((x : ModuleField) → is_long (f x) ≡ is_long x) → (xs : List ModuleField) → any_long (map f xs) ≡ any_long xs
+each_long f same [] = refl
+each_long f same (x ∷ xs) = ap (λ b. b || any_long (map f xs)) (same x) ∙ ap (λ b. is_long x || b) (each_long f same xs)
+
+bound_long : (find : LookUp) (x : ModuleField) → is_long (bound_field find x) ≡ is_long x
+bound_long find (field.Func f) = refl
+bound_long find x = refl
+
+numbered_long : (xs : List ModuleField) (x : ModuleField) → is_long (resolved_field (known (items xs)) x) ≡ is_long x
+numbered_long xs (field.Func f) = refl
+numbered_long xs x = refl
+
+stays_long : (fields : List ModuleField) → list_any overflows fields ≡ true → any_long (resolved (by_positions fields)) ≡ true
+stays_long fields h =
+    let xs = written_out fields in
+    let types = map unnamed_type (implied xs) in
+    each_long (resolved_field (known (items (by_positions fields)))) (numbered_long (by_positions fields)) (by_positions fields)
+    ∙ (each_long (bound_field (positioned.by_position xs)) (bound_long (positioned.by_position xs)) (completed xs) ∙ (list_any-append is_long xs types ∙ first_true (any_long xs) (any_long types) (after_long [] fields h)))
+
+-- But where all is in range, there is none.
+not_long : (x : ModuleField) → All InRangeDataEntry (entries_in Data x) → is_long x ≡ false
+not_long (field.Data d) h = ap not (lt-ltb (length (all_bytes d.bytes)) (2 ^ 32) (All-head InRangeDataEntry _ [] h).1)
+not_long x h = refl
+
+none_long : (xs : List ModuleField) → All InRangeDataEntry (entries Data xs) → any_long xs ≡ false
+none_long [] h = refl
+none_long (x ∷ xs) h =
+    ap (λ b. b || any_long xs) (not_long x (all_left InRangeDataEntry (entries_in Data x) (entries Data xs) h)) ∙ none_long xs (all_right InRangeDataEntry (entries_in Data x) (entries Data xs) h)
+
+all_in_range : (ds : List DataEntry) → All InRangePart (listed Data ds) → All InRangeDataEntry ds
+all_in_range [] h = All-nil InRangeDataEntry
+all_in_range (d ∷ ds) h = (All-head InRangePart _ [] h).1.1
+
+-- the section stands in its place in the order
+data_in_range : (name : Option (List ℕ)) (xs : List ModuleField) → InRangeModule name xs → All InRangeDataEntry (entries Data xs)
+data_in_range name xs h = all_in_range (entries Data xs) (h 37 slot.Names (omega arith)).0
+
+pub too_large_is_unbounded : TooLargeIsUnbounded
+too_large_is_unbounded n name fields h b =
+    elim h [
+      | inl crowded ↦ b.spaces crowded
+      | inr more ↦ elim more [
+        | inl counter ↦ let small = b.counter in absurd (omega (arith, counter, small))
+        | inr long ↦ absurd (cc (sym (stays_long fields long) ∙ none_long (resolved (by_positions fields)) (data_in_range name (resolved (by_positions fields)) b.written.in_range)))
+      ]
+    ]

@@ -1,0 +1,94 @@
+-- Well formed fields stay so where they are written out.
+use Rattle.std.proofs.Common.{◌≡◌, ℕ, Bool, true, not, ◌&&◌, ◌||◌, List, [], ◌∷◌, Option, Some, None, is_some, refl, ap, sym, ◌∙◌}
+use Rattle.std.specs.List.{list_all, list_any}
+use Rattle.std.specs.Cmp.Derive.{both_true}
+use Rattle.std.proofs.Math.Bool.{and-false, or-true}
+use Rattle.std.proofs.lemmas.Bool.{and_parts, eq-eqb}
+use Rattle.wast_tree.specs.Ids.{Name, Written, Generated, Mark, name_of, is_generated}
+use Rattle.wast_tree.specs.Spaces.{rank_of, same_space, name_if, is_called, is_borne}
+use Rattle.wast_tree.specs.Items.{Item, item, items}
+use Rattle.wast_tree.specs.Known.{Known, known, names_in}
+use Rattle.wast_tree.specs.Occurrences.{Ask, Wants, Bare, in_module, asked}
+use Rattle.wast_tree.specs.WellFormed.{is_settled, are_settled, has_settled_indices, are_plain}
+use Rattle.wast_tree.proofs.Bearing.{borne_among, borne_by_both}
+use Rattle.wast_deinline.specs.Tree.{Span, Id, Space, ModuleField}
+use Rattle.wast_deinline.specs.Tree.index
+use Rattle.wast_deinline.specs.Referring.{by_id}
+use Rattle.wast_deinline.specs.Written.{referable, written}
+use Rattle.wast_deinline.specs.Laws.{StaysWellFormed}
+use Rattle.wast_deinline.proofs.BothPass.{either_stays}
+use Rattle.wast_deinline.proofs.Plain.{stays_plain}
+use Rattle.wast_deinline.proofs.WrittenItems.{same_of_items, any_referable}
+use Rattle.wast_deinline.proofs.WrittenAsks.{written_pass}
+
+-- What is borne by these items is known.
+abbrev Knows : Known → List Item → Type 0
+Knows k xs = (s : Space) (q : Name) → is_borne q (names_in s xs) ≡ true → is_some (k.number s q) ≡ true
+
+module _ (k : Known) where
+  -- an id that is generated is known in the space of its item
+  abbrev is_settled_id : (Name → Option ℕ) → Option Mark → Bool
+  is_settled_id number None = true
+  is_settled_id number (Some m) = not (is_generated m.0) || is_some (number m.0)
+
+  abbrev is_settled_item : Item → Bool
+  is_settled_item x = is_settled_id (k.number x.space) x.id
+
+  own_settled : (s : Space) (span : Span) (id : Option Id) → is_settled_item (item s id []) ≡ true → is_settled k (Wants s (by_id s span id)) ≡ true
+  own_settled s span None h = refl
+  own_settled s span (Some id) h = h
+
+  -- each item bears its own
+  one_settled : (s : Space) (id : Option Mark) (fields : List (Option Mark)) (xs : List Item) → Knows k (record { space = s; id = id; fields = fields } ∷ xs) → is_settled_id (k.number s) id ≡ true
+  one_settled s None fields xs knows = refl
+  one_settled s (Some (Written text, p)) fields xs knows = refl
+  one_settled s (Some (Generated n, p)) fields xs knows =
+      knows s (Generated n) (borne_among s (Generated n) (record { space = s; id = Some (Generated n, p); fields = fields } ∷ xs)
+      ∙ ap (λ b. b || list_any (λ (x : Item). same_space s x.space && is_called (Generated n) (name_if x.id)) xs) (both_true (eq-eqb (rank_of s) (rank_of s) refl) (eq-eqb n n refl)))
+
+  all_settled : (xs : List Item) → Knows k xs → list_all is_settled_item xs ≡ true
+  all_settled [] knows = refl
+  all_settled (x ∷ xs) knows =
+      both_true (one_settled x.space x.id x.fields xs knows)
+      (all_settled xs (λ s q h. knows s q (borne_by_both s q (x ∷ []) xs ∙ (ap (λ b. is_borne q (names_in s (x ∷ [])) || b) h ∙ or-true (is_borne q (names_in s (x ∷ [])))))))
+
+  -- what was settled among items that are known
+  still_settled : (xs : List Item) → Knows k xs → (asks : List Ask) → are_settled (known xs) asks ≡ true → are_settled k asks ≡ true
+  still_settled xs knows [] h = refl
+  still_settled xs knows (a ∷ asks) h =
+      let parts = and_parts (is_settled (known xs) a) (are_settled (known xs) asks) h in
+      both_true (one a parts.0) (still_settled xs knows asks parts.1)
+    where
+      one : (a : Ask) → is_settled (known xs) a ≡ true → is_settled k a ≡ true
+      one (Wants s (index.Num m p)) h = refl
+      one (Wants s (index.Id id)) h =
+          let old = not (is_generated (name_of id)) in
+          either_stays old (is_some ((known xs).number s (name_of id))) old (is_some (k.number s (name_of id))) (λ e. e) (knows s (name_of id)) h
+      one (Bare m) h = refl
+
+module _ (n : ℕ) (fields : List ModuleField) where
+  abbrev new : Known
+  new = known (items (written n fields))
+
+  -- What is borne stays so.
+  abbrev bears : Space → Name → Item → Bool
+  bears s q x = same_space s x.space && is_called q (name_if x.id)
+
+  knows_referable : Knows new (items (referable n fields))
+  knows_referable s q h =
+      borne_among s q (items (written n fields))
+      ∙ (same_of_items (list_any (bears s q)) (λ t xs h. ap (λ b. b || list_any (bears s q) xs) (and-false (same_space s t))) (λ x xs ys e. ap (λ b. bears s q x || b) e) (referable n fields)
+      ∙ (sym (borne_among s q (items (referable n fields))) ∙ h))
+
+  knows_old : Knows new (items fields)
+  knows_old s q h =
+      knows_referable s q (borne_among s q (items (referable n fields)) ∙ any_referable (bears s q) (λ t. and-false (same_space s t)) n fields (sym (borne_among s q (items fields)) ∙ h))
+
+  has_settled : has_settled_indices fields ≡ true → has_settled_indices (written n fields) ≡ true
+  has_settled h =
+      written_pass (is_settled new) (is_settled_item new) (own_settled new) n fields (all_settled new (items (referable n fields)) knows_referable) (still_settled new (items fields) knows_old (asked (in_module fields)) h)
+
+pub written_well_formed : StaysWellFormed
+written_well_formed n fields h =
+    let parts = and_parts (has_settled_indices fields) (are_plain fields) h in
+    both_true (has_settled n fields parts.0) (stays_plain n fields parts.1)
