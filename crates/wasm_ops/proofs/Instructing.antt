@@ -7,7 +7,7 @@ use Rattle.wasm_ops.specs.Sinks.{SinkRules, Writes}
 use Rattle.wasm_ops.specs.Table.{Byte, Kind, Index, Signed32, Signed64, Heap, Field, field, InRangeField, kinds_of, table, opcode_bytes, Instr, InRangeInstr, instr}
 use Rattle.wasm_ops.specs.IndexInstrs.{index_byte}
 use Rattle.wasm_ops.specs.PlainInstrs.{plain_opcode, plain_instr}
-use Rattle.wast_tree.specs.declared.instrs.Plain.{Plain}
+use Rattle.wast_base.specs.declared.plain.Plain.{Plain}
 use Rattle.wasm_ops.proofs.Sinking.{puts_as}
 
 pub index_row : (op : IndexOp) → kinds_of (Byte (index_byte op)) table ≡ Some (Index ∷ [])

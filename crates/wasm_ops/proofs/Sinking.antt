@@ -8,7 +8,7 @@ use Rattle.std.proofs.lemmas.List.Concat.{flat_map-cons}
 use Rattle.std.proofs.lemmas.List.Elements.{All-nil, All-head, All-more}
 use Rattle.std.specs.Option.{option_to_list}
 use Rattle.wasm_ops.proofs.Everywhere.{all_one, flat_one}
-use Rattle.wast_tree.specs.declared.faults.Error.{Error}
+use Rattle.wast_base.specs.declared.faults.Error.{Error}
 use Rattle.wasm_ops.specs.declared.sink.Refusal.{Refusal}
 use Rattle.wasm_ops.specs.Sinks.{SinkRules, IsRefusal, Writes, Puts, Skips, AppendLaws, refused_as}
 

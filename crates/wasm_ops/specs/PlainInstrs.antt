@@ -1,10 +1,10 @@
 -- Instructions without immediates: the row of the table that each of the tree stands for (binary format, instructions).
 use Rattle.std.specs.Prelude.{[]}
 use Rattle.wasm_ops.specs.Table.{Opcode, Byte, Instr}
-use Rattle.wast_tree.specs.declared.instrs.BareOp.{BareOp}
-use Rattle.wast_tree.specs.declared.instrs.BareOp.TheVariants as bare
-use Rattle.wast_tree.specs.declared.instrs.Plain.{Plain}
-use Rattle.wast_tree.specs.declared.instrs.Plain.TheVariants as plain
+use Rattle.wast_base.specs.declared.plain.BareOp.{BareOp}
+use Rattle.wast_base.specs.declared.plain.BareOp.TheVariants as bare
+use Rattle.wast_base.specs.declared.plain.Plain.{Plain}
+use Rattle.wast_base.specs.declared.plain.Plain.TheVariants as plain
 
 abbrev pub bare_opcode : BareOp → Opcode
 bare_opcode bare.unreachable = Byte 0x00

@@ -9,7 +9,7 @@ ghost use Rattle.wasm_ops.specs.declared.sink.Refusal.TheVariants as refusal;
 ghost use Rattle.wasm_ops.specs.Spelling.{Any, InRangeU32, vec, InRangeVec, sized, InRangeSized, name, InRangeName};
 
 use crate::sink::{Length, Refusal, Sink};
-use wast_tree::Error;
+use wast_base::Error;
 
 /// What has a spelling in the binary format.
 pub trait Encode {

@@ -12,7 +12,7 @@ use crate::encode::Encode;
 use crate::leb128::Signed;
 use crate::ref_types::HeapType;
 use crate::sink::{Refusal, Sink};
-use wast_tree::{Error, Plain};
+use wast_base::{Error, Plain};
 
 /// An instruction whose one immediate is an index (binary format, instructions).
 #[derive(Clone, Copy, Debug, PartialEq, Eq)]

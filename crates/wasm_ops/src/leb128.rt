@@ -7,7 +7,7 @@ ghost use Rattle.wasm_ops.specs.Spelling.{InRangeS64};
 
 use crate::encode::Encode;
 use crate::sink::{Refusal, Sink};
-use wast_tree::Error;
+use wast_base::Error;
 
 /// The bytes of a number, and how many they are.
 pub(crate) fn unsigned_bytes(n: u64) -> ([u8; 10], usize)

@@ -27,6 +27,3 @@ pub use types::{
     ArrayType, CompositeInnerType, CompositeType, ExportKind, FieldType, FuncType, StorageType,
     StructType, SubType, ValType,
 };
-
-#[cfg(test)]
-mod tests;

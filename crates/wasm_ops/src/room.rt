@@ -1,7 +1,7 @@
 //! Room for bytes, reserved beforehand.
 
 ghost use Rattle.std.specs.Prelude.{◌≡◌, ◌≤◌, ◌+◌, ℕ, [], ◌++◌, length, vec_len, vec_capacity, IfOk, IfErr};
-ghost use Rattle.wast_tree.specs.Faults.{out_of_memory};
+ghost use Rattle.wast_base.specs.Faults.{out_of_memory};
 ghost use Rattle.wasm_ops.specs.Leb128.{unsigned};
 ghost use Rattle.wasm_ops.specs.Rooms as rooms;
 ghost use Rattle.wasm_ops.specs.Sinks.{Writes};
@@ -10,7 +10,7 @@ use crate::leb128::unsigned_bytes;
 use crate::sink::{Refusal, Sink};
 use std::alloc::Global;
 use std::marker::Model;
-use wast_tree::Error;
+use wast_base::Error;
 
 /// Bytes, and room for so many more, with the memory for them. Contracts see it as both: `items` and `left`.
 #[derive(Debug, Drop)]

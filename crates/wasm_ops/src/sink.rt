@@ -8,7 +8,7 @@ ghost use Rattle.wasm_ops.specs.declared.sink.Refusal.TheVariants as refusal;
 
 use crate::leb128::{unsigned_bytes, width};
 use std::marker::Model;
-use wast_tree::{Error, Fault};
+use wast_base::{Error, Fault};
 
 /// Why nothing was appended. It is small, so that each write can answer it; `?` makes an [`Error`] of it.
 #[derive(Clone, Copy, Debug, PartialEq, Eq)]

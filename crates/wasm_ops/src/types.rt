@@ -8,7 +8,7 @@ ghost use Rattle.wasm_ops.specs.Spelling.{Any, val_type, InRangeValType, storage
 use crate::encode::{Counted, Encode, Itself};
 use crate::ref_types::RefType;
 use crate::sink::{Refusal, Sink};
-use wast_tree::Seq;
+use wast_base::Seq;
 
 /// A value type (binary format, value types).
 #[derive(Clone, Copy, Debug, PartialEq, Eq, Hash)]

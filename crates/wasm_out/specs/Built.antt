@@ -1,8 +1,8 @@
 -- What a builder holds, and what its calls do: each adds one item or appends some bytes, or leaves it as it was.
 use Rattle.std.specs.Prelude.{◌≡◌, ◌⊎◌, ◌+◌, ℕ, List, [], ◌++◌, length, Result, Ok, Err}
 use Rattle.std.specs.List.{flat_map}
-use Rattle.wast_tree.specs.declared.faults.Error.{Error}
-use Rattle.wast_tree.specs.Faults.{too_large, out_of_memory}
+use Rattle.wast_base.specs.declared.faults.Error.{Error}
+use Rattle.wast_base.specs.Faults.{too_large, out_of_memory}
 use Rattle.wasm_ops.specs.Leb128.{unsigned}
 
 -- a builder: how many items, and their bytes

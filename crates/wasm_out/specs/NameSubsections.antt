@@ -1,6 +1,6 @@
 -- The name section: a custom section called name, of subsections behind an id and a length (custom sections, name section).
 use Rattle.std.specs.Prelude.{ℕ, List, ◌∷◌, ◌++◌, length, codes, Result}
-use Rattle.wast_tree.specs.declared.faults.Error.{Error}
+use Rattle.wast_base.specs.declared.faults.Error.{Error}
 use Rattle.wasm_ops.specs.Leb128.{unsigned}
 use Rattle.wasm_ops.specs.Spelling.{InRangeU32, vec, InRangeVec, InRangeSized, name, InRangeName}
 use Rattle.wasm_out.specs.Built.{Built, behind_count, Appends}

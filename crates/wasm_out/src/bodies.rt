@@ -12,7 +12,7 @@ use crate::locals::Locals;
 use std::alloc::Global;
 use std::marker::Model;
 use wasm_ops::{Encode, Itself, Sink, ValType};
-use wast_tree::Error;
+use wast_base::Error;
 
 /// The body of a function, without its length (binary format, code section). Contracts see it as its bytes.
 #[derive(Debug, Drop)]

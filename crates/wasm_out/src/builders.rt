@@ -16,7 +16,7 @@ use crate::sections::{Build, CODE_ID, EXPORT_ID, FUNCTION_ID, Section, TYPE_ID};
 use std::alloc::Global;
 use std::marker::{Model, PhantomData};
 use wasm_ops::{Counted, Encode, ExportKind, Itself, Name, Raw, SubType, WithLength};
-use wast_tree::Error;
+use wast_base::Error;
 
 /// A kind of sections whose content is a list.
 pub trait ListKind {

@@ -7,7 +7,7 @@ ghost use Rattle.wasm_out.specs.Built.{Adds, behind_count, empty};
 use std::alloc::Global;
 use std::marker::Model;
 use wasm_ops::{Encode, Raw, Refusal, Sink};
-use wast_tree::{Error, Fault};
+use wast_base::{Error, Fault};
 
 /// Items as bytes, and how many they are.
 #[derive(Debug, Drop)]

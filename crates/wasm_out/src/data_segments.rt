@@ -13,7 +13,7 @@ ghost use Rattle.wasm_out.specs.Parts as parts;
 use crate::builders::{ListKind, ListSection};
 use crate::sections::DATA_ID;
 use wasm_ops::{ConstExpr, Encode, Raw, Refusal, Sink, WithLength};
-use wast_tree::Error;
+use wast_base::Error;
 
 /// Where data stands: in a memory from an offset on, or in none (binary format, data section).
 #[derive(Clone, Copy, Debug)]

@@ -14,7 +14,7 @@ ghost use Rattle.wasm_out.specs.declared.elements.ElementKind.TheVariants as kin
 use crate::builders::{ListKind, ListSection};
 use crate::sections::ELEMENT_ID;
 use wasm_ops::{ConstExpr, Counted, Encode, Itself, RefType, Refusal, Sink};
-use wast_tree::Error;
+use wast_base::Error;
 
 /// What elements are (binary format, element section).
 #[derive(Clone, Copy, Debug, PartialEq, Eq)]

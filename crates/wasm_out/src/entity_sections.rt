@@ -11,7 +11,7 @@ ghost use Rattle.wasm_out.specs.Parts as parts;
 use crate::builders::{ListKind, ListSection};
 use crate::sections::{GLOBAL_ID, IMPORT_ID, MEMORY_ID, TABLE_ID, TAG_ID};
 use wasm_ops::{ConstExpr, EntityType, GlobalType, MemoryType, Name, TableType, TagType};
-use wast_tree::Error;
+use wast_base::Error;
 
 /// The kind of import sections.
 #[derive(Clone, Copy, Debug)]

@@ -12,8 +12,6 @@ mod locals;
 mod modules;
 mod names;
 mod sections;
-#[cfg(test)]
-mod tests;
 mod worked_bytes;
 
 pub use bodies::Function;

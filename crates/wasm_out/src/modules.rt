@@ -10,7 +10,7 @@ use crate::sections::Section;
 use std::alloc::Global;
 use std::marker::Model;
 use wasm_ops::{Encode, Raw, Sink, WithLength};
-use wast_tree::Error;
+use wast_base::Error;
 
 /// The magic and the version, which begin each module (binary format, modules).
 pub const HEADER: [u8; 8] = [0x00, 0x61, 0x73, 0x6d, 0x01, 0x00, 0x00, 0x00];

@@ -13,7 +13,7 @@ use crate::sections::{CUSTOM_ID, Section};
 use std::alloc::Global;
 use std::marker::{Model, PhantomData};
 use wasm_ops::{Encode, Name, Raw, WithLength};
-use wast_tree::Error;
+use wast_base::Error;
 
 /// Names by index, or maps of them by index (custom sections, name maps). Contracts see it as its items.
 #[derive(Debug, Drop)]

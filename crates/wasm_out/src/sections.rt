@@ -7,7 +7,7 @@ ghost use Rattle.wasm_out.specs.Built.{Built, Appends, behind_count, empty};
 
 use std::alloc::Global;
 use wasm_ops::{Encode, Name, Raw};
-use wast_tree::Error;
+use wast_base::Error;
 
 /// The id of custom sections, the name section among them (binary format, sections).
 pub(crate) const CUSTOM_ID: u8 = 0;

@@ -8,7 +8,7 @@ use Rattle.std.proofs.lemmas.List.Folds.{flat_map-map}
 use Rattle.wast_tree.specs.Occurrences.{in_heap}
 use Rattle.wast_tree.proofs.Visiting.{asked_steps}
 use Rattle.wasm_ops.specs.Covered.{is_covered_heap_type}
-use Rattle.wast_tree.specs.declared.faults.Error.{Error}
+use Rattle.wast_base.specs.declared.faults.Error.{Error}
 use Rattle.wasm_ops.specs.ConstExprs.{expression, InRangeExpression}
 use Rattle.wasm_ops.specs.declared.sink.Refusal.{Refusal}
 use Rattle.wasm_ops.specs.Sinks.{SinkRules, Writes}

@@ -6,7 +6,7 @@ use Rattle.std.specs.Global.{Vec}
 use Rattle.std.proofs.lemmas.Grind.{common_steps}
 use Rattle.std.proofs.lemmas.List.{length-map}
 use Rattle.std.proofs.lemmas.List.Elements.{All-map}
-use Rattle.wast_tree.specs.declared.faults.Error.{Error}
+use Rattle.wast_base.specs.declared.faults.Error.{Error}
 use Rattle.wast_tree.specs.WellFormed as tree
 use Rattle.wasm_ops.specs.ConstExprs.{expression, InRangeExpression}
 use Rattle.wasm_ops.specs.Spelling.{InRangeU32, vec, InRangeRefType}

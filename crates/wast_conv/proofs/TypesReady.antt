@@ -5,7 +5,7 @@ use Rattle.std.specs.Prelude.{not, is_none, Option, Some, None, option_map}
 use Rattle.std.specs.List.{flat_map, list_all}
 use Rattle.std.proofs.lemmas.Grind.{common_steps}
 use Rattle.std.proofs.lemmas.List.Folds.{list_all-append}
-use Rattle.wast_tree.specs.Ids.{is_number}
+use Rattle.wast_base.specs.Ids.{is_number}
 use Rattle.wast_tree.specs.Occurrences.{if_there, in_id, in_index, in_heap, in_val, in_storage, in_param, in_signature, in_struct_field, in_struct, in_inner, in_def, in_type, in_local}
 use Rattle.wast_tree.specs.WellFormed.{is_plain_heap, is_plain_val, is_plain_storage, is_plain_param, is_plain_signature, is_plain_struct_field, is_plain_inner, is_plain_def, is_plain_type, is_plain_local}
 use Rattle.wasm_ops.specs.Covered.{is_covered_heap_type, is_covered_val_type, is_covered_storage_type, is_covered_field_type, is_covered_composite_inner_type, is_covered_sub_type}

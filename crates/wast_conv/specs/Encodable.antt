@@ -1,7 +1,7 @@
 -- What the encoder may be handed: parts of the tree of a form that it takes, whose indices are numbers.
 use Rattle.std.specs.Prelude.{Bool, true, false, not, ◌&&◌, is_none, is_some, List, Option, Some, None}
 use Rattle.std.specs.List.{list_all}
-use Rattle.wast_tree.specs.Ids.{is_number}
+use Rattle.wast_base.specs.Ids.{is_number}
 use Rattle.wast_tree.specs.Occurrences.{in_type_use, in_table_type, in_global_type, in_instr, asked_in_steps}
 use Rattle.wast_tree.specs.WellFormed.{suits}
 use Rattle.wasm_ops.specs.Table.{is_covered_instr}

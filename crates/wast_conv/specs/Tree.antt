@@ -1,10 +1,10 @@
 -- The types of the tree under one roof, as in wast_tree: each type by its name, the variants of an enum behind a word.
-pub use Rattle.wast_tree.specs.declared.ids.Id.{Id}
-pub use Rattle.wast_tree.specs.declared.ids.Index.{Index}
-pub use Rattle.wast_tree.specs.declared.ids.Index.TheVariants as index
-pub use Rattle.wast_tree.specs.declared.ids.NameAnnotation.{NameAnnotation}
-pub use Rattle.wast_tree.specs.declared.spaces.Space.{Space}
-pub use Rattle.wast_tree.specs.declared.spaces.Space.TheVariants as space
+pub use Rattle.wast_base.specs.declared.ids.Id.{Id}
+pub use Rattle.wast_base.specs.declared.ids.Index.{Index}
+pub use Rattle.wast_base.specs.declared.ids.Index.TheVariants as index
+pub use Rattle.wast_base.specs.declared.ids.NameAnnotation.{NameAnnotation}
+pub use Rattle.wast_base.specs.declared.spaces.Space.{Space}
+pub use Rattle.wast_base.specs.declared.spaces.Space.TheVariants as space
 pub use Rattle.wast_tree.specs.declared.types.ValType.{ValType}
 pub use Rattle.wast_tree.specs.declared.types.ValType.TheVariants as value
 pub use Rattle.wast_tree.specs.declared.types.RefType.{RefType}

@@ -2,8 +2,8 @@
 
 ghost use Rattle.std.specs.Prelude.{◌≡◌, Bool, true, map, option_map, IfOk, IfErr, IsTrue};
 ghost use Rattle.std.specs.List.{All, flat_map, list_all};
-ghost use Rattle.wast_tree.specs.Ids.{is_number};
-ghost use Rattle.wast_tree.specs.Faults.{out_of_memory};
+ghost use Rattle.wast_base.specs.Ids.{is_number};
+ghost use Rattle.wast_base.specs.Faults.{out_of_memory};
 ghost use Rattle.wast_tree.specs.Occurrences.{in_heap, in_ref, in_val, in_storage, in_array, in_struct, in_signature, in_inner, in_def, in_type};
 ghost use Rattle.wasm_ops.specs.ConstExprs.{InRangeExpression};
 ghost use Rattle.wasm_ops.specs.Table.{instr, instrs, InRangeInstr, SpellsInstrs};

@@ -6,7 +6,7 @@ ghost use Rattle.wasm_ops.specs.Sinks.{Puts};
 ghost use Rattle.wasm_ops.specs.Spelling.{InRangeU32};
 ghost use Rattle.wasm_out.specs.Built.{Adds};
 ghost use Rattle.wasm_out.specs.Parts.{type_entry, InRangeTypeEntry, export_entry, InRangeExport};
-ghost use Rattle.wast_tree.specs.Ids.{is_number};
+ghost use Rattle.wast_base.specs.Ids.{is_number};
 ghost use Rattle.wast_conv.specs.Encodable.{is_encodable_type_use};
 ghost use Rattle.wast_conv.specs.Meaning as meaning;
 

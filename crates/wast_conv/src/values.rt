@@ -2,7 +2,7 @@
 
 ghost use Rattle.std.specs.Prelude.{◌≡◌, true, IsTrue};
 ghost use Rattle.std.specs.List.{list_all};
-ghost use Rattle.wast_tree.specs.Ids.{is_number};
+ghost use Rattle.wast_base.specs.Ids.{is_number};
 ghost use Rattle.wast_tree.specs.Occurrences.{in_heap};
 ghost use Rattle.wasm_ops.specs.declared.instrs.IndexOp.TheVariants.{Call};
 ghost use Rattle.wasm_ops.specs.declared.types.CompositeInnerType.TheVariants as composite;

@@ -5,8 +5,8 @@ use Rattle.std.specs.Borrow.{Bor}
 use Rattle.std.specs.Global.{Vec}
 use Rattle.std.specs.List.{flat_map, list_all}
 use Rattle.std.proofs.lemmas.List.Folds.{list_all-append}
-use Rattle.wast_tree.specs.declared.faults.Error.{Error}
-use Rattle.wast_tree.specs.declared.faults.Form.{Form}
+use Rattle.wast_base.specs.declared.faults.Error.{Error}
+use Rattle.wast_base.specs.declared.faults.Form.{Form}
 use Rattle.wast_tree.specs.Occurrences.{in_index, in_type, in_rec, in_type_use, in_locals, in_body, in_func, exported_space, in_export, in_field, asked_in, asked_in_steps, asked}
 use Rattle.wast_tree.specs.WrittenOut.{exports_nothing, is_written_func, is_written_table, is_written_memory, is_written_global, is_written_field, is_written_out}
 use Rattle.wast_tree.specs.WellFormed.{is_plain_type_use, is_plain_expression, is_plain_local, is_plain_func_kind, is_plain_func, is_plain_global_type, is_plain_global_kind, suits, is_plain_elem_kind, is_plain_payload, is_plain_field, are_plain, has_settled_indices, is_well_formed}
@@ -25,7 +25,7 @@ use Rattle.wast_core.specs.declared.module.ModuleKind.{ModuleKind}
 use Rattle.wast_core.specs.declared.module.ModuleKind.TheVariants as kind
 use Rattle.wasm_ops.specs.Sinks.{SinkRules, AppendLaws}
 use Rattle.wasm_out.specs.Reads.{Reads}
-use Rattle.wast_tree.specs.Faults.{too_large}
+use Rattle.wast_base.specs.Faults.{too_large}
 use Rattle.wast_core.specs.Bounded.{InRangeModule, IsWritable, IsBounded}
 use Rattle.wast_conv.specs.Encodable.{is_encodable_local, is_encodable_expression, is_encodable_type_use, is_encodable_kind, is_encodable_field, are_encodable}
 use Rattle.wast_core.specs.Headline.{IsMet, ResolvesKind, EncodesKind, IsUnwritten}

@@ -2,7 +2,7 @@
 use Rattle.std.proofs.Common.{◌≡◌, true, ◌&&◌, List, [], ◌∷◌, ◌++◌, Option, None, Some, sym, refl, ap, ◌∙◌}
 use Rattle.std.specs.Prelude.{is_some, not, ◌==◌, length}
 use Rattle.std.specs.List.{flat_map, list_all}
-use Rattle.wast_tree.specs.Ids.{is_number}
+use Rattle.wast_base.specs.Ids.{is_number}
 use Rattle.wast_tree.specs.Occurrences.{Occurrence, in_heap, in_ref, in_val, in_index, if_there, in_table_type, in_global_type, in_tag_type, in_use, in_item_kind, in_import, in_instr, in_expression, in_constant, in_constant_if, in_table_kind, in_global_kind, in_elem_kind, in_payload, in_data_kind, outside, asked_in_step, asked_in_steps, asked}
 use Rattle.wast_tree.specs.WellFormed.{is_plain_heap, is_plain_val, is_plain_instr, is_plain_expression, is_plain_expression_if, is_plain_table_type, is_plain_global_type, is_plain_item_kind, is_plain_import, is_plain_table_kind, is_plain_global_kind, is_plain_elem_kind, is_plain_payload, is_plain_data_kind}
 use Rattle.wast_tree.proofs.Visiting.{each_of_each, asked_both, asked_outside, asked_steps, asked_use, asked_constant, asked_constants}

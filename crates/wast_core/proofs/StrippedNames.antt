@@ -1,7 +1,7 @@
 -- The name section tells nothing of generated ids, and of the places of type uses.
 use Rattle.std.proofs.Common.{◌≡◌, ℕ, List, [], ◌∷◌, map, Option, Some, None, option_map, refl, ap, ◌∙◌}
 use Rattle.std.specs.Prelude.{cond}
-use Rattle.wast_tree.specs.Ids.{Name, Written, Generated, name_of, is_generated}
+use Rattle.wast_base.specs.Ids.{Name, Written, Generated, name_of, is_generated}
 use Rattle.wast_tree.specs.Items.{space_of_kind}
 use Rattle.wast_resolve.specs.Stripped.{written_id, at_start, stripped_use, stripped_tag_type, stripped_item_kind, stripped_import, stripped}
 use Rattle.wast_core.specs.Tree.{Id, Index, NameAnnotation, Space, TagType, ItemKind, ImportItems, Func, ModuleField}

@@ -2,7 +2,7 @@
 use Rattle.std.specs.Prelude.{IsTrue, option_map}
 use Rattle.std.specs.List.{list_all}
 use Rattle.std.specs.Option.{option_to_list}
-use Rattle.wast_tree.specs.Ids.{is_number}
+use Rattle.wast_base.specs.Ids.{is_number}
 use Rattle.wast_conv.specs.Encodable.{is_encodable_import, is_encodable_type_use, is_encodable_table, is_encodable_memory, is_encodable_tag, is_encodable_global, is_encodable_elem, is_encodable_kind, is_encodable_data}
 use Rattle.wast_core.specs.Meaning.{Contribution, import_entry, type_index, table_entry, memory_entry, tag_entry, global_entry, export_entry, number, element_entry, body, data_entry}
 use Rattle.wast_conv.specs.Entries.{entry_of, is_encodable_entry}

@@ -3,10 +3,10 @@ use Rattle.std.specs.Prelude.{◌≡◌, ℕ, ◌+◌, ◌≤◌, List, [], Opti
 use Rattle.std.specs.List.{flat_map}
 use Rattle.std.specs.Borrow.{Bor}
 use Rattle.std.specs.Global.{Vec}
-use Rattle.wast_tree.specs.declared.faults.Error.{Error}
-use Rattle.wast_tree.specs.declared.faults.Fault.TheVariants as fault
-use Rattle.wast_tree.specs.declared.faults.Form.{Form}
-use Rattle.wast_tree.specs.Faults.{refused, too_large, out_of_memory}
+use Rattle.wast_base.specs.declared.faults.Error.{Error}
+use Rattle.wast_base.specs.declared.faults.Fault.TheVariants as fault
+use Rattle.wast_base.specs.declared.faults.Form.{Form}
+use Rattle.wast_base.specs.Faults.{refused, too_large, out_of_memory}
 use Rattle.wast_tree.specs.Known.{known}
 use Rattle.wast_tree.specs.Items.{items}
 use Rattle.wasm_out.specs.Reads.{Reads}

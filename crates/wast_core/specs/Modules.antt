@@ -1,6 +1,6 @@
 -- Which modules are well formed, the greatest generation of their ids, and when they are ready to be resolved.
 use Rattle.std.specs.Prelude.{ℕ, max, ◌<◌, Bool, true, IsTrue}
-use Rattle.wast_tree.specs.Ids.{marked}
+use Rattle.wast_base.specs.Ids.{marked}
 use Rattle.wast_tree.specs.WellFormed as fields
 use Rattle.wast_tree.specs.Generations.{generation_if, greatest_generation}
 use Rattle.wast_core.specs.declared.module.Module.{Module}

@@ -1,7 +1,7 @@
 -- The forms in resolved fields that the encoder does not cover.
 use Rattle.std.specs.Prelude.{◌≡◌, List, [], ◌∷◌, Option, Some, None}
 use Rattle.std.specs.List.{flat_map}
-use Rattle.wast_tree.specs.declared.faults.Form.{Form}
+use Rattle.wast_base.specs.declared.faults.Form.{Form}
 use Rattle.wast_core.specs.Tree.{ModuleField}
 use Rattle.wast_core.specs.Tree.field
 

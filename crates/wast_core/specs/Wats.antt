@@ -1,9 +1,9 @@
 -- What encoding a text answers: its module's answer, or that components are not encoded.
 use Rattle.std.specs.Prelude.{◌≡◌, ⊤, ℕ, Result, Err}
 use Rattle.std.specs.Global.{Vec}
-use Rattle.wast_tree.specs.declared.faults.Error.{Error}
-use Rattle.wast_tree.specs.declared.faults.Fault.TheVariants as fault
-use Rattle.wast_tree.specs.Faults.{refused}
+use Rattle.wast_base.specs.declared.faults.Error.{Error}
+use Rattle.wast_base.specs.declared.faults.Fault.TheVariants as fault
+use Rattle.wast_base.specs.Faults.{refused}
 use Rattle.wast_core.specs.declared.wat.Wat.{Wat}
 use Rattle.wast_core.specs.declared.wat.Wat.TheVariants as wat
 use Rattle.wast_core.specs.Headline.{Encodes}

@@ -1,10 +1,10 @@
 -- What encoding a module that is resolved gives, and what it appends to a sink.
 use Rattle.std.specs.Prelude.{◌≡◌, ◌⊎◌, ℕ, List, [], length, Option, Some, None, Result, Ok, Err, ◌&&◌, IsTrue}
 use Rattle.std.specs.Global.{Vec}
-use Rattle.wast_tree.specs.declared.faults.Error.{Error}
-use Rattle.wast_tree.specs.declared.faults.Fault.TheVariants as fault
-use Rattle.wast_tree.specs.declared.faults.Form.{Form}
-use Rattle.wast_tree.specs.Faults.{refused, too_large, out_of_memory}
+use Rattle.wast_base.specs.declared.faults.Error.{Error}
+use Rattle.wast_base.specs.declared.faults.Fault.TheVariants as fault
+use Rattle.wast_base.specs.declared.faults.Form.{Form}
+use Rattle.wast_base.specs.Faults.{refused, too_large, out_of_memory}
 use Rattle.wast_tree.specs.WrittenOut.{is_written_out}
 use Rattle.wasm_ops.specs.Sinks.{SinkRules, refused_as}
 use Rattle.wasm_out.specs.Reads.{Reads}

@@ -6,7 +6,7 @@ use Rattle.std.specs.Cmp.Derive.{both_true}
 use Rattle.std.proofs.lemmas.List.Folds.{list_all-append}
 use Rattle.wast_tree.specs.Items.{Item, items_in}
 use Rattle.wast_tree.specs.WellFormed.{is_plain_heap, is_plain_expression, is_plain_type_use, is_plain_func_kind, is_plain_payload, is_plain_table_kind, is_plain_global_type, is_plain_global_kind, is_plain_tag_type, is_plain_field, are_plain}
-use Rattle.wast_tree.specs.Filling.{one_if, given_if}
+use Rattle.wast_base.specs.Filling.{one_if, given_if}
 use Rattle.wast_deinline.specs.Tree.{Span, Index, Func, FuncKind, Table, TableKind, Memory, MemoryKind, Global, GlobalKind, Tag, TagKind, ExportKind, ModuleField}
 use Rattle.wast_deinline.specs.Tree.space
 use Rattle.wast_deinline.specs.Tree.func

@@ -4,8 +4,8 @@ use Rattle.std.specs.List.{list_all, list_any}
 use Rattle.std.specs.Cmp.Derive.{both_true}
 use Rattle.std.proofs.Math.Bool.{and-false, or-true}
 use Rattle.std.proofs.lemmas.Bool.{and_parts, eq-eqb}
-use Rattle.wast_tree.specs.Ids.{Name, Written, Generated, Mark, name_of, is_generated}
-use Rattle.wast_tree.specs.Spaces.{rank_of, same_space, name_if, is_called, is_borne}
+use Rattle.wast_base.specs.Ids.{Name, Written, Generated, Mark, name_of, is_generated}
+use Rattle.wast_base.specs.Spaces.{rank_of, same_space, name_if, is_called, is_borne}
 use Rattle.wast_tree.specs.Items.{Item, item, items}
 use Rattle.wast_tree.specs.Known.{Known, known, names_in}
 use Rattle.wast_tree.specs.Occurrences.{Ask, Wants, Bare, in_module, asked}

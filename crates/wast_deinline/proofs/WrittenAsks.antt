@@ -8,7 +8,7 @@ use Rattle.std.proofs.lemmas.List.Folds.{list_all-append}
 use Rattle.wast_tree.specs.Items.{Item, item, items_in, items}
 use Rattle.wast_tree.specs.Occurrences.{Ask, Wants, Occurrence, outside, in_ref, in_func, in_global_type, in_constant, in_payload, in_table_kind, in_global_kind, in_tag_type, exported_space, in_field, in_module, asked}
 use Rattle.wast_tree.specs.Known.{names_in}
-use Rattle.wast_tree.specs.Filling.{one_if, given_if}
+use Rattle.wast_base.specs.Filling.{one_if, given_if}
 use Rattle.wast_tree.proofs.Visiting.{asked_both}
 use Rattle.wast_deinline.specs.Tree.{Span, Id, Index, Space, Func, FuncKind, Table, TableKind, Memory, MemoryKind, Global, GlobalKind, Tag, TagKind, ExportKind, ModuleField}
 use Rattle.wast_deinline.specs.Tree.index

@@ -6,9 +6,9 @@ use Rattle.std.specs.Cmp.Derive.{both_true}
 use Rattle.std.proofs.lemmas.Bool.{and_parts}
 use Rattle.std.proofs.lemmas.Grind.{flat_map-append}
 use Rattle.std.proofs.lemmas.List.Folds.{list_all-append, list_any-append}
-use Rattle.wast_tree.specs.Ids.{generated}
+use Rattle.wast_base.specs.Ids.{generated}
 use Rattle.wast_tree.specs.Items.{Item, item, items_in, items}
-use Rattle.wast_tree.specs.Filling.{one_if, given_if, wanted}
+use Rattle.wast_base.specs.Filling.{one_if, given_if, wanted}
 use Rattle.wast_deinline.specs.Tree.{Span, Id, Index, Space, Func, FuncKind, Table, TableKind, Memory, MemoryKind, Global, GlobalKind, Tag, TagKind, ExportKind, ModuleField}
 use Rattle.wast_deinline.specs.Tree.space
 use Rattle.wast_deinline.specs.Tree.func

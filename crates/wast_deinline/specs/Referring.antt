@@ -1,6 +1,6 @@
 -- Which items are referred to once abbreviations are written out, and how (text format: abbreviations).
 use Rattle.std.specs.Prelude.{ℕ, ◌&&◌, ◌||◌, not, is_none, length, Bool, false, List, Option, Some, None}
-use Rattle.wast_tree.specs.Ids.{generated, place_of}
+use Rattle.wast_base.specs.Ids.{generated, place_of}
 use Rattle.wast_tree.specs.Items.{Item}
 use Rattle.wast_tree.specs.Known.{names_in}
 use Rattle.wast_tree.specs.WrittenOut.{exports_nothing}

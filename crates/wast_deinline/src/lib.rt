@@ -16,6 +16,3 @@ pub use laws::written_laws;
 pub mod deinline {
     pub use crate::writing::run;
 }
-
-#[cfg(test)]
-mod tests;

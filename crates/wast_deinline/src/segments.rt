@@ -3,7 +3,7 @@
 ghost use Rattle.std.specs.Prelude.{◌≡◌, ◌≤◌, ◌<◌, ◌+◌, ◌^◌, length, IsTrue, IfOk, IfErr};
 ghost use Rattle.std.specs.Int.{div_ceil};
 ghost use Rattle.wast_tree.specs.DataBytes.{all_bytes};
-ghost use Rattle.wast_tree.specs.Faults.{too_large, out_of_memory};
+ghost use Rattle.wast_base.specs.Faults.{too_large, out_of_memory};
 ghost use Rattle.wast_deinline.specs.Segments.{at_zero, element_count, page_count, filled_memory_type, filled_table_type, data_into, elem_into, are_too_many};
 
 use std::alloc::Global;

@@ -2,7 +2,7 @@
 
 ghost use Rattle.std.specs.Prelude.{◌≡◌, ◌≤◌, ◌+◌, ◌++◌, ◌∷◌, [], flat_map, IfOk, IfErr, OnOk, ◌-◌, ◌^◌, min, length};
 ghost use Rattle.std.specs.List.{list_any};
-ghost use Rattle.wast_tree.specs.Faults.{too_large, out_of_memory};
+ghost use Rattle.wast_base.specs.Faults.{too_large, out_of_memory};
 ghost use Rattle.wast_deinline.specs.Tree.field;
 ghost use Rattle.wast_deinline.specs.Tree.kind as item_kind;
 ghost use Rattle.wast_deinline.specs.Segments.{overflows};

@@ -6,11 +6,11 @@ use Rattle.std.specs.Map.{lookup, keys_of}
 use Rattle.std.specs.Option.{option_or}
 use Rattle.std.proofs.lemmas.Map.Made.{is_some-lookup}
 use Rattle.std.proofs.lemmas.List.Concat.{flat_map-append}
-use Rattle.wast_tree.specs.declared.faults.Error.{Error}
+use Rattle.wast_base.specs.declared.faults.Error.{Error}
 use Rattle.wast_expand.specs.Tree.{Index, ValType}
 use Rattle.wast_expand.specs.Signatures.{Signature, type_of_param, same_signature}
 use Rattle.wast_expand.specs.ImpliedTypes.{is_among, first_new}
-use Rattle.wast_tree.specs.Filling.{RunsOut}
+use Rattle.wast_base.specs.Filling.{RunsOut}
 use Rattle.wast_expand.specs.Expanders.{Bindings, LookUp, index_of, with_more}
 use Rattle.wast_expand.specs.Expanded.{nameless, implied_type, implied_types, bindings_in, bindings}
 use Rattle.wast_expand.specs.Binding.{State, new_signatures, new_types, next_after, Adds}

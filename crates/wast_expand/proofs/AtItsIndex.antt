@@ -10,7 +10,7 @@ use Rattle.wast_expand.specs.Tree.field
 use Rattle.wast_expand.specs.Signatures.{Signature, signature_of, same_signature}
 use Rattle.wast_expand.specs.ImpliedTypes.{implied}
 use Rattle.wast_expand.specs.TypeSpace.{taken_kind, types_in, has_signature, type_ids, by_id, id_at}
-use Rattle.wast_tree.specs.Filling.{one_if, wanted}
+use Rattle.wast_base.specs.Filling.{one_if, wanted}
 use Rattle.wast_expand.specs.Expanders.{Bindings, index_of}
 use Rattle.wast_expand.specs.Expanded.{lacks_id, typed, binding_of, bindings}
 use Rattle.wast_expand.specs.Laws.{TakesTheTypeAtItsIndex}

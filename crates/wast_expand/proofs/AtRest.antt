@@ -13,7 +13,7 @@ use Rattle.wast_expand.specs.Signatures.{Signature}
 use Rattle.wast_expand.specs.NeedingUses.{needed_without, needed_by_use, needed_by_instr, needed_by_kind, needed_by_tag_type, needed_by_item_kind, needed_by_import, needed_by_field}
 use Rattle.wast_expand.specs.ImpliedTypes.{written, is_among, first_new, implied}
 use Rattle.wast_expand.specs.TypeSpace.{types_in, type_space}
-use Rattle.wast_tree.specs.Filling.{one_if, given_if, filled, wanted}
+use Rattle.wast_base.specs.Filling.{one_if, given_if, filled, wanted}
 use Rattle.wast_expand.specs.Expanders.{LookUp, index_of}
 use Rattle.wast_expand.specs.Expanded.{lacks_id, with_id, implied_types, typed, bindings, bound_index, bound_use, bound_instr, bound_kind, bound_tag_type, bound_item_kind, bound_import_items, bound_field, expanded}
 use Rattle.wast_expand.specs.Laws.{TypesAreTheSpace, StaysExpanded, WantsNoMore}

@@ -17,7 +17,7 @@ use Rattle.wast_expand.specs.Signatures.{Signature, same_signature}
 use Rattle.wast_expand.specs.SignatureLaws.{signatures_equiv}
 use Rattle.wast_expand.specs.NeedingUses.{inline_signature, needed_without, needed_by_use, needed_by_instr, needed_by_kind, needed_by_tag_type, needed_by_item_kind, needed_by_import, needed_by_field, needed}
 use Rattle.wast_expand.specs.ImpliedTypes.{written, is_among, first_new, implied}
-use Rattle.wast_tree.specs.Filling.{filled, wanted}
+use Rattle.wast_base.specs.Filling.{filled, wanted}
 use Rattle.wast_expand.specs.Expanders.{LookUp, index_of}
 use Rattle.wast_expand.specs.Expanded.{lacks_id, with_id, implied_types, typed, bindings_in, bindings, bound_index, bound_instr, bound_kind, bound_tag_type, bound_item_kind, bound_import_items, bound_field}
 use Rattle.wast_expand.specs.Laws.{UsesAreBound, ImpliedAreNew}

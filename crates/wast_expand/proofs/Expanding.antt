@@ -5,14 +5,14 @@ use Rattle.std.specs.Map.{keys_of}
 use Rattle.std.proofs.lemmas.Map.Made.{is_some-lookup}
 use Rattle.std.proofs.lemmas.List.{take_more, map-append}
 use Rattle.std.proofs.lemmas.List.Concat.{flat_map-append}
-use Rattle.wast_tree.specs.Ids.{generated}
+use Rattle.wast_base.specs.Ids.{generated}
 use Rattle.wast_expand.specs.Tree.{Id, Index, InnerTypeKind, ModuleField}
 use Rattle.wast_expand.specs.Tree.inner
 use Rattle.wast_expand.specs.Tree.field
 use Rattle.wast_expand.specs.Signatures.{Signature, same_signature}
 use Rattle.wast_expand.specs.NeedingUses.{needed_by_field, needed}
 use Rattle.wast_expand.specs.ImpliedTypes.{written_kind, written_in, written, is_among, first_new, implied}
-use Rattle.wast_tree.specs.Filling.{one_if, given_if, filled, wanted}
+use Rattle.wast_base.specs.Filling.{one_if, given_if, filled, wanted}
 use Rattle.wast_expand.specs.Expanders.{Bindings, LookUp, index_of, with_more, Extends}
 use Rattle.wast_expand.specs.Expanded.{lacks_id, with_id, implied_type, implied_types, typed, binding_of, bindings_in, bindings, bound_field, expanded, ids_wanted}
 use Rattle.wast_expand.specs.Binding.{State, state, new_signatures, new_types, next_after, Adds}

@@ -5,9 +5,9 @@ use Rattle.std.proofs.Math.Seq.{drop-cons, take-suc}
 use Rattle.std.specs.Prelude.{flat_map}
 use Rattle.std.proofs.lemmas.List.{append-nil, drop-drop, drop-set-lt, take_more_set, take-append-drop, take_all, map-append}
 use Rattle.std.proofs.lemmas.Grind.{flat_map-append}
-use Rattle.wast_tree.specs.declared.faults.Error.{Error}
+use Rattle.wast_base.specs.declared.faults.Error.{Error}
 use Rattle.wast_expand.specs.Signatures.{Signature}
-use Rattle.wast_tree.specs.Filling.{RunsOut}
+use Rattle.wast_base.specs.Filling.{RunsOut}
 use Rattle.wast_expand.specs.Expanders.{Bindings, LookUp, index_of, with_more}
 use Rattle.wast_expand.specs.Expanded.{bindings}
 use Rattle.wast_expand.specs.Binding.{State, new_types, next_after, Adds}

@@ -8,7 +8,7 @@ use Rattle.wast_expand.specs.Tree.func
 use Rattle.wast_expand.specs.Tree.field
 use Rattle.wast_expand.specs.Signatures.{Signature}
 use Rattle.wast_expand.specs.ImpliedTypes.{implied}
-use Rattle.wast_tree.specs.Filling.{one_if, given_if, filled, wanted}
+use Rattle.wast_base.specs.Filling.{one_if, given_if, filled, wanted}
 use Rattle.wast_expand.specs.Expanders.{LookUp, index_of}
 use Rattle.wast_expand.specs.Expanded.{lacks_id, with_id, implied_types, typed, bindings, bound_kind, bound_field}
 use Rattle.wast_expand.specs.Laws.{StaysWrittenOut}

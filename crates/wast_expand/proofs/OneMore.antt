@@ -1,7 +1,7 @@
 -- A type of its own for a signature that has none.
 use Rattle.std.proofs.Common.{◌≡◌, ℕ, ◌+◌, cond, List, [], ◌∷◌, ◌++◌, length, Some, None, is_some, sym, ap, ◌∙◌}
 use Rattle.std.specs.Option.{option_or}
-use Rattle.wast_tree.specs.Ids.{generated}
+use Rattle.wast_base.specs.Ids.{generated}
 use Rattle.wast_expand.specs.Tree.{Index, ValType, ModuleField}
 use Rattle.wast_expand.specs.Tree.index
 use Rattle.wast_expand.specs.Signatures.{Signature, same_signature}

@@ -10,7 +10,7 @@ use Rattle.wast_expand.specs.Tree.field
 use Rattle.wast_expand.specs.Signatures.{Signature, signature_of, same_signature}
 use Rattle.wast_expand.specs.ImpliedTypes.{implied}
 use Rattle.wast_expand.specs.TypeSpace.{taken_kind, types_in, has_signature, type_space, index_for}
-use Rattle.wast_tree.specs.Filling.{one_if, wanted}
+use Rattle.wast_base.specs.Filling.{one_if, wanted}
 use Rattle.wast_expand.specs.Expanders.{Bindings, index_of}
 use Rattle.wast_expand.specs.Expanded.{lacks_id, typed, binding_of, bindings}
 use Rattle.wast_expand.proofs.AtRest.{types_typed, none_lacks_after}

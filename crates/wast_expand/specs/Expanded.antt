@@ -9,11 +9,11 @@ use Rattle.wast_expand.specs.Tree.tag
 use Rattle.wast_expand.specs.Tree.kind
 use Rattle.wast_expand.specs.Tree.import_items
 use Rattle.wast_expand.specs.Tree.field
-use Rattle.wast_tree.specs.Ids.{generated}
+use Rattle.wast_base.specs.Ids.{generated}
 use Rattle.wast_expand.specs.Signatures.{Signature, signature_of}
 use Rattle.wast_expand.specs.NeedingUses.{inline_signature}
 use Rattle.wast_expand.specs.ImpliedTypes.{implied}
-use Rattle.wast_tree.specs.Filling.{filled, wanted}
+use Rattle.wast_base.specs.Filling.{filled, wanted}
 use Rattle.wast_expand.specs.Expanders.{Bindings, LookUp, index_of}
 
 -- A type that has no id wants one, but no member of a group.

@@ -9,11 +9,11 @@ use Rattle.std.specs.Cmp.Lexicographic.{lists_equiv}
 use Rattle.std.specs.Hash.{HashWrites, Alike, on_Alike, and-Alike, items_Alike}
 use Rattle.std.specs.Hash as fed
 use lib.Pointwise.{pointwise}
-use Rattle.wast_tree.specs.Ids.{named_by, same_name, same_index}
-use Rattle.wast_tree.specs.declared.ids.Name as code
-use Rattle.wast_tree.specs.declared.ids.Name.TheVariants as name
-use Rattle.wast_tree.specs.contracts.ids.NamePartialEq.TheImpl as names
-use Rattle.wast_tree.specs.contracts.ids.IndexPartialEq.TheImpl as indices
+use Rattle.wast_base.specs.Ids.{named_by, same_name, same_index}
+use Rattle.wast_base.specs.declared.ids.Name as code
+use Rattle.wast_base.specs.declared.ids.Name.TheVariants as name
+use Rattle.wast_base.specs.contracts.ids.NamePartialEq.TheImpl as names
+use Rattle.wast_base.specs.contracts.ids.IndexPartialEq.TheImpl as indices
 use Rattle.wast_tree.specs.contracts.types.AbstractHeapType as abstract_heaps
 use Rattle.wast_tree.specs.contracts.types.HeapTypePartialEq.TheImpl as heaps
 use Rattle.wast_tree.specs.contracts.types.RefTypePartialEq.TheImpl as refs

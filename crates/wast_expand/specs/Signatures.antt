@@ -2,7 +2,7 @@
 use Rattle.std.specs.Prelude.{ℕ, ◌==◌, Bool, true, false, ◌&&◌, List, [], map, Option, Some, None}
 use Rattle.std.specs.Bool.{beq}
 use lib.Pointwise.{pointwise}
-use Rattle.wast_tree.specs.Ids.{same_index}
+use Rattle.wast_base.specs.Ids.{same_index}
 use Rattle.wast_expand.specs.Tree.{Id, Index, NameAnnotation, AbstractHeapType, HeapType, RefType, ValType, FunctionType}
 use Rattle.wast_expand.specs.Tree.abstract
 use Rattle.wast_expand.specs.Tree.heap

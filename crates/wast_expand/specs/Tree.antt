@@ -1,9 +1,9 @@
 -- The types of the tree under one roof, as in wast_tree: each type by its name, the variants of an enum behind a word.
-pub use Rattle.wast_tree.specs.declared.ids.Span.{Span}
-pub use Rattle.wast_tree.specs.declared.ids.Id.{Id}
-pub use Rattle.wast_tree.specs.declared.ids.Index.{Index}
-pub use Rattle.wast_tree.specs.declared.ids.Index.TheVariants as index
-pub use Rattle.wast_tree.specs.declared.ids.NameAnnotation.{NameAnnotation}
+pub use Rattle.wast_base.specs.declared.ids.Span.{Span}
+pub use Rattle.wast_base.specs.declared.ids.Id.{Id}
+pub use Rattle.wast_base.specs.declared.ids.Index.{Index}
+pub use Rattle.wast_base.specs.declared.ids.Index.TheVariants as index
+pub use Rattle.wast_base.specs.declared.ids.NameAnnotation.{NameAnnotation}
 pub use Rattle.wast_tree.specs.declared.types.ValType.{ValType}
 pub use Rattle.wast_tree.specs.declared.types.ValType.TheVariants as value
 pub use Rattle.wast_tree.specs.declared.types.RefType.{RefType}
@@ -23,10 +23,10 @@ pub use Rattle.wast_tree.specs.declared.types.InnerTypeKind.TheVariants as inner
 pub use Rattle.wast_tree.specs.declared.types.TypeDef.{TypeDef}
 pub use Rattle.wast_tree.specs.declared.types.Type as ty
 pub use Rattle.wast_tree.specs.declared.types.Rec.{Rec}
-pub use Rattle.wast_tree.specs.declared.instrs.BareOp.{BareOp}
-pub use Rattle.wast_tree.specs.declared.instrs.BareOp.TheVariants as bare
-pub use Rattle.wast_tree.specs.declared.instrs.Plain.{Plain}
-pub use Rattle.wast_tree.specs.declared.instrs.Plain.TheVariants as plain
+pub use Rattle.wast_base.specs.declared.plain.BareOp.{BareOp}
+pub use Rattle.wast_base.specs.declared.plain.BareOp.TheVariants as bare
+pub use Rattle.wast_base.specs.declared.plain.Plain.{Plain}
+pub use Rattle.wast_base.specs.declared.plain.Plain.TheVariants as plain
 pub use Rattle.wast_tree.specs.declared.instrs.Instruction.{Instruction}
 pub use Rattle.wast_tree.specs.declared.instrs.Instruction.TheVariants as instr
 pub use Rattle.wast_tree.specs.declared.instrs.Expression.{Expression}

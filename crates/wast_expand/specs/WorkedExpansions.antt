@@ -12,7 +12,7 @@ use Rattle.wast_expand.specs.Tree.tag_kind
 use Rattle.wast_expand.specs.Tree.kind
 use Rattle.wast_expand.specs.Tree.import_items
 use Rattle.wast_expand.specs.Tree.field
-use Rattle.wast_tree.specs.Ids.{generated}
+use Rattle.wast_base.specs.Ids.{generated}
 use Rattle.wast_tree.specs.WorkedModules.{Address, text, place, id_at, by_id, by_number, plain_def, plain_type}
 use Rattle.wast_expand.specs.Signatures.{Signature, empty_signature, same_value, same_signature}
 use Rattle.wast_expand.specs.NeedingUses.{needed}

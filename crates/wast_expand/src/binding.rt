@@ -1,12 +1,12 @@
 //! Type uses are bound in their place, and types are made for the signatures that none has.
 
 ghost use Rattle.std.specs.Prelude.{◌≡◌, ◌≤◌, ◌+◌, ◌++◌, ◌∷◌, [], Some, List, map, flat_map, IfOk, IfErr, OnOk};
-ghost use Rattle.wast_tree.specs.Ids.{generated};
-ghost use Rattle.wast_tree.specs.Faults.{out_of_memory};
+ghost use Rattle.wast_base.specs.Ids.{generated};
+ghost use Rattle.wast_base.specs.Faults.{out_of_memory};
 ghost use Rattle.wast_expand.specs.Tree.index;
 ghost use Rattle.wast_expand.specs.Signatures.{Signature};
 ghost use Rattle.wast_expand.specs.NeedingUses.{needed_by_use, needed_by_instr, needed_by_expression, needed_by_kind, needed_by_func, needed_by_tag_type, needed_by_item_kind, needed_by_import, needed_by_field, inline_signature};
-ghost use Rattle.wast_tree.specs.Filling.{RunsOut};
+ghost use Rattle.wast_base.specs.Filling.{RunsOut};
 ghost use Rattle.wast_expand.specs.Expanders.{Bindings, LookUp, index_of, with_more, Extends};
 ghost use Rattle.wast_expand.specs.Expanded.{start_of_text, implied_type, bound_use, bound_instr, bound_expression, bound_kind, bound_func, bound_tag_type, bound_item_kind, bound_sig, bound_import_items, bound_import, bound_tag, bound_field};
 ghost use Rattle.wast_expand.specs.Binding.{state, next_after, Adds};

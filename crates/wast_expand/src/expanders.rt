@@ -1,7 +1,7 @@
 //! What signatures are bound to.
 
 ghost use Rattle.std.specs.Prelude.{◌≡◌, [], ◌∷◌, OnOk, OnErr, IfErr};
-ghost use Rattle.wast_tree.specs.Faults.{out_of_memory};
+ghost use Rattle.wast_base.specs.Faults.{out_of_memory};
 ghost use Rattle.wast_expand.specs.Expanders.{Bindings, index_of, Extends};
 
 use crate::keys::FuncKey;

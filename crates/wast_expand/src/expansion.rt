@@ -1,8 +1,8 @@
 //! The pass that gives each type an id and each type use an index.
 
 ghost use Rattle.std.specs.Prelude.{◌≡◌, ◌≤◌, ◌+◌, ◌++◌, [], IfOk, IfErr, OnOk};
-ghost use Rattle.wast_tree.specs.Faults.{out_of_memory};
-ghost use Rattle.wast_tree.specs.Filling.{one_if, given_if, filled, wanted, RunsOut};
+ghost use Rattle.wast_base.specs.Faults.{out_of_memory};
+ghost use Rattle.wast_base.specs.Filling.{one_if, given_if, filled, wanted, RunsOut};
 ghost use Rattle.wast_expand.specs.Expanders.{Extends};
 ghost use Rattle.wast_expand.specs.Expanded.{lacks_id, with_id, binding_of, bindings_in, bindings, expanded, ids_wanted};
 

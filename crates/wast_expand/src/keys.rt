@@ -2,7 +2,7 @@
 
 ghost use Rattle.std.specs.Prelude.{◌≡◌, ◌∷◌, [], map, IsOk, IfOk, IfErr, OnOk, OnErr};
 ghost use Rattle.std.specs.Cmp.{partial_equiv_from_equiv};
-ghost use Rattle.wast_tree.specs.Faults.{out_of_memory};
+ghost use Rattle.wast_base.specs.Faults.{out_of_memory};
 ghost use Rattle.wast_expand.specs.Signatures.{Signature, type_of_param, same_signature, signature_of, empty_signature};
 ghost use Rattle.wast_expand.specs.SignatureLaws.{signatures_equiv, signature_fed, signatures_alike};
 ghost use Rattle.wast_expand.specs.Expanded.{nameless, def_of};

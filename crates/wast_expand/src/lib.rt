@@ -20,6 +20,3 @@ pub use wast_deinline::deinline;
 pub mod types {
     pub use crate::expansion::expand;
 }
-
-#[cfg(test)]
-mod tests;

@@ -15,7 +15,7 @@ use Rattle.wasm_ops.proofs.Sinking.{written_as, one_written}
 use Rattle.wasm_out.specs.NameSubsections.{Named, Direct, Indirect, NameSubsection, subsection_id, name_payload, name_entry, map_entry, name_content, name_subsection, InRangeNameEntry, InRangeMapEntry, InRangeNameSubsection}
 use Rattle.wasm_out.specs.Parts.{Part, Custom, part, InRangePart}
 use Rattle.wasm_ops.proofs.Numbers.{unsigned-nonempty}
-use Rattle.wast_tree.specs.Spaces.{same_space}
+use Rattle.wast_base.specs.Spaces.{same_space}
 use Rattle.wast_names.specs.NameSection.{names_part, names_payload_of}
 use Rattle.wast_names.specs.Tree.{Space}
 use Rattle.wast_names.specs.Tree.space

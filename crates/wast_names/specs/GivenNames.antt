@@ -1,6 +1,6 @@
 -- The names that the text gives to what it numbers, and the entries of a map of them (custom sections, name section).
 use Rattle.std.specs.Prelude.{ℕ, ◌+◌, List, [], ◌∷◌, Option, Some, None}
-use Rattle.wast_tree.specs.Ids.{Name, Written, Generated, name_of}
+use Rattle.wast_base.specs.Ids.{Name, Written, Generated, name_of}
 use Rattle.wast_names.specs.Tree.{Id, NameAnnotation}
 
 -- a name is the annotation, else a written id, never a generated one

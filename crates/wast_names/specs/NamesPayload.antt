@@ -1,7 +1,7 @@
 -- The payload of the name section: the names of the module, of the items of each space, and of what stands within these (custom sections, name section).
 use Rattle.std.specs.Prelude.{ℕ, List, [], ◌∷◌, ◌++◌, Option, Some, None, All, map, if◌then◌else◌}
 use Rattle.std.specs.List.{flat_map}
-use Rattle.wast_tree.specs.Spaces.{same_space}
+use Rattle.wast_base.specs.Spaces.{same_space}
 use Rattle.wast_tree.specs.Items.{space_of_kind}
 use Rattle.wast_names.specs.Tree.{Space, ImportItems, ModuleField}
 use Rattle.wast_names.specs.Tree.space

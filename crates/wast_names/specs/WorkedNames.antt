@@ -2,7 +2,7 @@
 use Rattle.std.specs.Prelude.{◌≡◌, ℕ, ◌+◌, negsuc, true, false, List, [], ◌∷◌, Option, Some, None, length, codes}
 use Rattle.std.specs.List.{flat_map}
 use Rattle.wasm_out.specs.Parts.{part}
-use Rattle.wast_tree.specs.Ids.{generated}
+use Rattle.wast_base.specs.Ids.{generated}
 use Rattle.wast_tree.specs.WorkedModules.{Address, text, place, id_at, by_number, plain_def, plain_type, plain_func, plain_memory}
 use Rattle.wast_names.specs.NameSection.{names_part}
 use Rattle.wast_names.specs.NamesPayload.{name_subsections}

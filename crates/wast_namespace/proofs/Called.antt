@@ -7,8 +7,8 @@ use Rattle.std.specs.Cmp.Lexicographic.{bytes_decides}
 use Rattle.std.proofs.lemmas.Bool.{eqb-true, eq-eqb, lt-ltb}
 use Rattle.std.proofs.lemmas.Cmp.{nat_list_eq_equiv}
 use Rattle.std.proofs.lemmas.List.Quantifiers.{position-Some}
-use Rattle.wast_tree.specs.Ids.{Name, Written, Generated, same_name}
-use Rattle.wast_tree.specs.Spaces.{is_called, position_of, is_borne}
+use Rattle.wast_base.specs.Ids.{Name, Written, Generated, same_name}
+use Rattle.wast_base.specs.Spaces.{is_called, position_of, is_borne}
 use Rattle.wast_namespace.specs.Namespaces.{Key, key_of}
 
 -- names

@@ -5,9 +5,9 @@ use Rattle.std.specs.List.Sorted.{IsSortedBy}
 use Rattle.std.specs.FinMap.{get, from_sorted}
 use Rattle.std.proofs.lemmas.List.{get_or-map, length-map}
 use Rattle.std.proofs.lemmas.List.Sorted.{IsPermutation-map}
-use Rattle.wast_tree.specs.declared.ids.Id.{Id}
-use Rattle.wast_tree.specs.Ids.{Name}
-use Rattle.wast_tree.specs.Spaces.{position_of}
+use Rattle.wast_base.specs.declared.ids.Id.{Id}
+use Rattle.wast_base.specs.Ids.{Name}
+use Rattle.wast_base.specs.Spaces.{position_of}
 use Rattle.wast_namespace.specs.Namespaces.{Key, key_of, key_cmp, NameSpace, number_in}
 use Rattle.wast_namespace.specs.Places.{entry_of, entries_of, AreSorted}
 use Rattle.wast_namespace.specs.Filling.{keys_of, numbered_from, pair_cmp, IsClash, IsFirstClash, IsFilled, IsTie, IsLeastTie, IsFirstTie, HasFirstClash}

@@ -1,8 +1,8 @@
 -- Ids with their positions, as they are gathered.
 use Rattle.std.proofs.Common.{◌≡◌, ℕ, zero, suc, ◌+◌, ◌-◌, List, [], ◌∷◌, ◌++◌, length, Option, Some, None, refl, sym, ap, ◌∙◌, subst, arith}
-use Rattle.wast_tree.specs.declared.ids.Id.{Id}
-use Rattle.wast_tree.specs.Ids.{Name, name_of, marked}
-use Rattle.wast_tree.specs.Spaces.{name_if}
+use Rattle.wast_base.specs.declared.ids.Id.{Id}
+use Rattle.wast_base.specs.Ids.{Name, name_of, marked}
+use Rattle.wast_base.specs.Spaces.{name_if}
 use Rattle.wast_namespace.specs.Namespaces.{Key}
 use Rattle.wast_namespace.specs.Places.{entry_of, entries_of}
 use Rattle.wast_namespace.specs.Filling.{unnamed, names_from, ArePositions, keys_of, numbered_from}

@@ -6,7 +6,7 @@ use Rattle.std.specs.Ordering.{nat_cmp, ordering_then}
 use Rattle.std.specs.Option.{option_cmp}
 use Rattle.std.proofs.lemmas.Bool.{cases_Bool, ltb-true, ltb-false}
 use Rattle.std.proofs.lemmas.List.{get_or-map, length-map}
-use Rattle.wast_tree.specs.declared.ids.Id.{Id}
+use Rattle.wast_base.specs.declared.ids.Id.{Id}
 use Rattle.wast_namespace.specs.Namespaces.{Key, key_cmp}
 use Rattle.wast_namespace.specs.Places.{key_at, AreSorted, IsBetween}
 use Rattle.wast_namespace.specs.Heads.{head, heads_of, AreHeads, AreRising, IsCut, IsEnd}

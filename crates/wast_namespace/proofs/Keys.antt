@@ -6,7 +6,7 @@ use Rattle.std.specs.Cmp.{IsTotalOrder, nat_cmp_total}
 use Rattle.std.specs.Cmp.Lexicographic.{nat_list_cmp_total, slice_cmp, options_total}
 use Rattle.std.proofs.lemmas.Cmp.{on_total, then_total}
 use Rattle.std.proofs.lemmas.Map.Lookups.{CmpEqualImpliesEq, exact_pairs, exact_bytes, exact_unsigned}
-use Rattle.wast_tree.specs.Ids.{Name, Written, Generated, is_generated, generation_of}
+use Rattle.wast_base.specs.Ids.{Name, Written, Generated, is_generated, generation_of}
 use Rattle.wast_namespace.specs.Namespaces.{Key, generation_if, key_cmp}
 
 pub written_has_none : (n : Name) → is_generated n ≡ false → generation_if n ≡ None

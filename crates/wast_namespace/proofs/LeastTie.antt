@@ -6,7 +6,7 @@ use Rattle.std.specs.Ordering.{is_eq}
 use Rattle.std.proofs.lemmas.Bool.{cases_Bool, ltb-true, ltb-false}
 use Rattle.std.proofs.lemmas.Cmp.{tied_itself}
 use Rattle.std.proofs.lemmas.List.{get_or-map, length-map}
-use Rattle.wast_tree.specs.declared.ids.Id.{Id}
+use Rattle.wast_base.specs.declared.ids.Id.{Id}
 use Rattle.wast_namespace.specs.Namespaces.{Key, key_cmp}
 use Rattle.wast_namespace.specs.Places.{key_at, entry_of, entries_of}
 use Rattle.wast_namespace.specs.Filling.{IsTie, IsFirstTie, least_of}

@@ -8,9 +8,9 @@ use Rattle.std.specs.FinMap.{find, put, is_sorted, get, insert as map_insert, fr
 use Rattle.std.specs.FinMap.Entries.{below_all, is_sorted-put}
 use Rattle.std.specs.Prelude.{nat_lt}
 use Rattle.std.proofs.lemmas.Bool.{cases_Bool, ltb-true, ltb-false}
-use Rattle.wast_tree.specs.Ids.{name_of}
+use Rattle.wast_base.specs.Ids.{name_of}
 use Rattle.wast_namespace.specs.Namespaces.{Key, key_of, key_cmp}
-use Rattle.wast_tree.specs.declared.ids.Id.{Id}
+use Rattle.wast_base.specs.declared.ids.Id.{Id}
 use Rattle.wast_namespace.specs.Places.{key_at, entry_of, entries_of, AreSorted, IsAbove, IsBelow, IsBetween, IsAt, IsGap}
 use Rattle.wast_namespace.proofs.Basics.{any_default}
 use Rattle.wast_namespace.proofs.Keys.{exact_keys, keys_total}

@@ -1,9 +1,9 @@
 -- What an index denotes by what names denote, and the index with the number in its place (text format: indices).
 use Rattle.std.specs.Prelude.{ℕ, Option, Some, None}
-use Rattle.wast_tree.specs.declared.ids.Id.{Id}
-use Rattle.wast_tree.specs.declared.ids.Index.{Index}
-use Rattle.wast_tree.specs.declared.ids.Index.TheVariants as index
-use Rattle.wast_tree.specs.Ids.{Name, name_of, place_of}
+use Rattle.wast_base.specs.declared.ids.Id.{Id}
+use Rattle.wast_base.specs.declared.ids.Index.{Index}
+use Rattle.wast_base.specs.declared.ids.Index.TheVariants as index
+use Rattle.wast_base.specs.Ids.{Name, name_of, place_of}
 
 -- what an index denotes; a number denotes itself
 abbrev pub denoted : (Name → Option ℕ) → Index → Option ℕ

@@ -2,9 +2,9 @@
 use Rattle.std.specs.Prelude.{◌≡◌, ℕ, zero, suc, ◌-◌, ◌<◌, ◌≤◌, true, cond, nat_lt, List, [], ◌∷◌, length, map, take, Option, Some, None, option_map, slice_index_or, Result, Ok, Err}
 use Rattle.std.specs.declared.cmp.Ordering.{Ordering}
 use Rattle.std.specs.Ordering.{nat_cmp, ordering_then}
-use Rattle.wast_tree.specs.declared.ids.Id.{Id}
-use Rattle.wast_tree.specs.Ids.{Name, name_of}
-use Rattle.wast_tree.specs.Spaces.{position_of, is_borne}
+use Rattle.wast_base.specs.declared.ids.Id.{Id}
+use Rattle.wast_base.specs.Ids.{Name, name_of}
+use Rattle.wast_base.specs.Spaces.{position_of, is_borne}
 use Rattle.wast_namespace.specs.Namespaces.{Key, key_of, NameSpace, number_in}
 
 -- The item at p has the name of an earlier one.

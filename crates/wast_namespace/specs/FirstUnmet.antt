@@ -1,10 +1,10 @@
 -- Demands of names, the first one that is not met, and which errors tell it (text format: identifiers, indices).
 use Rattle.std.specs.Prelude.{◌≡◌, ℕ, Bool, is_some, if◌then◌else◌, List, [], ◌∷◌, Option, Some, None}
-use Rattle.wast_tree.specs.declared.ids.Span.{Span}
-use Rattle.wast_tree.specs.declared.ids.Index.{Index}
-use Rattle.wast_tree.specs.declared.ids.Index.TheVariants as index
-use Rattle.wast_tree.specs.Ids.{Name, text_of, Mark, mark_of, name_of}
-use Rattle.wast_tree.specs.Faults.{Refusal, Unknown, TooLarge, Memory, Told, At, Nowhere}
+use Rattle.wast_base.specs.declared.ids.Span.{Span}
+use Rattle.wast_base.specs.declared.ids.Index.{Index}
+use Rattle.wast_base.specs.declared.ids.Index.TheVariants as index
+use Rattle.wast_base.specs.Ids.{Name, text_of, Mark, mark_of, name_of}
+use Rattle.wast_base.specs.Faults.{Refusal, Unknown, TooLarge, Memory, Told, At, Nowhere}
 
 -- a fault at a place, and whether what is demanded there holds
 pub record Demand : Type 0 where

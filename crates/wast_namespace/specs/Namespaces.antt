@@ -6,8 +6,8 @@ use Rattle.std.specs.Option.{option_cmp}
 use Rattle.std.specs.Cmp.Lexicographic.{slice_cmp}
 use Rattle.std.specs.FinMap.{FinMap, empty, get, insert, code}
 use Rattle.std.specs.Coded.{Coded, coded×, coded_ℕ, coded_list, coded_option, code_by}
-use Rattle.wast_tree.specs.Ids.{Name, Written, Generated, text_of, Mark}
-use Rattle.wast_tree.specs.Faults.{Duplicate, DuplicateField}
+use Rattle.wast_base.specs.Ids.{Name, Written, Generated, text_of, Mark}
+use Rattle.wast_base.specs.Faults.{Duplicate, DuplicateField}
 use Rattle.wast_namespace.specs.FirstUnmet.{Demand, one_demand}
 
 -- the text of a name, and its generation where it is generated

@@ -1,8 +1,8 @@
 -- What a call returns that either gives what is wanted or answers the first unmet demand.
 use Rattle.std.specs.Prelude.{◌≡◌, Option, None, Result, Ok, Err}
-use Rattle.wast_tree.specs.declared.ids.Span.{Span}
-use Rattle.wast_tree.specs.declared.faults.Error.{Error}
-use Rattle.wast_tree.specs.Faults.{Refusal, Told, At, Nowhere, told}
+use Rattle.wast_base.specs.declared.ids.Span.{Span}
+use Rattle.wast_base.specs.declared.faults.Error.{Error}
+use Rattle.wast_base.specs.Faults.{Refusal, Told, At, Nowhere, told}
 use Rattle.wast_namespace.specs.FirstUnmet.{Answers}
 
 -- Nothing is unmet, or the error answers what is unmet.

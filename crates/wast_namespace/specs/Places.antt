@@ -2,8 +2,8 @@
 use Rattle.std.specs.Prelude.{◌≡◌, ℕ, ◌<◌, ◌≤◌, List, map, length, T, Result, Ok, Err, slice_index_or}
 use Rattle.std.specs.declared.cmp.Ordering.TheVariants.{Less, Equal, Greater}
 use Rattle.std.specs.FinMap.{is_sorted}
-use Rattle.wast_tree.specs.Ids.{name_of}
-use Rattle.wast_tree.specs.declared.ids.Id.{Id}
+use Rattle.wast_base.specs.Ids.{name_of}
+use Rattle.wast_base.specs.declared.ids.Id.{Id}
 use Rattle.wast_namespace.specs.Namespaces.{Key, key_of, key_cmp}
 
 -- what the id of a pair is called

@@ -3,8 +3,8 @@
 ghost use Rattle.std.specs.Prelude.{◌≡◌, ◌+◌, ◌<◌, ◌≤◌, ◌^◌, ◌↔◌, ◌++◌, ◌∷◌, [], IsTrue, List, Option as Maybe, length, IfOk, OnOk, OnErr};
 ghost use Rattle.std.specs.Ordering.{is_lt};
 ghost use Rattle.std.specs.List.Sorted.{IsPermutation, IsSortedBy};
-ghost use Rattle.wast_tree.specs.Ids.{Name, marked};
-ghost use Rattle.wast_tree.specs.Spaces.{name_if};
+ghost use Rattle.wast_base.specs.Ids.{Name, marked};
+ghost use Rattle.wast_base.specs.Spaces.{name_if};
 ghost use Rattle.wast_namespace.specs.Namespaces.{key_cmp};
 ghost use Rattle.wast_namespace.specs.Places.{entry_of, entries_of};
 ghost use Rattle.wast_namespace.specs.Filling.{ArePositions, names_from, pair_cmp, IsFirstTie, HasFirstClash, Fills, least_of};
@@ -15,7 +15,7 @@ use crate::order::compare;
 use std::alloc::{AllocError, Global};
 use std::cmp::Ordering;
 use std::marker::Model;
-use wast_tree::Id;
+use wast_base::Id;
 
 /// The items of a space in their order, before its name space is filled: the list of their names.
 #[derive(Drop)]

@@ -1,14 +1,14 @@
 //! Heads of names: eight bytes behind a common prefix as one number, by which a name is looked up among many.
 
 ghost use Rattle.std.specs.Prelude.{◌≡◌, ◌≤◌, ◌<◌, IfOk, length, [], slice_index_or};
-ghost use Rattle.wast_tree.specs.Ids.{name_of, text_of};
+ghost use Rattle.wast_base.specs.Ids.{name_of, text_of};
 ghost use Rattle.wast_namespace.specs.Namespaces.{key_of};
 ghost use Rattle.wast_namespace.specs.Places.{AreSorted, IsBetween};
 ghost use Rattle.wast_namespace.specs.Heads.{head as head_of, leading as leading_of, AreHeads, AreRising, IsCut, IsEnd};
 
 use std::alloc::{AllocError, Global};
 use std::cmp::Ordering;
-use wast_tree::Id;
+use wast_base::Id;
 
 /// The heads of sorted names, or none.
 #[derive(Drop)]

@@ -3,9 +3,9 @@
 ghost use Rattle.std.specs.Prelude.{◌≡◌, ⊤, ◌+◌, ◌<◌, ◌≤◌, ◌^◌, ◌↔◌, IsTrue, is_some, not, Some, IfOk, OnOk, OnErr, IfErr};
 ghost use Rattle.std.specs.FinMap as finmap;
 ghost use Rattle.std.specs.FinMap.{find, put};
-ghost use Rattle.wast_tree.specs.Ids.{name_of, place_of, mark_of, marked, text_of, is_generated};
-ghost use Rattle.wast_tree.specs.Faults.{told, At, Unknown};
-ghost use Rattle.wast_tree.specs.WellFormed.{is_settled_index};
+ghost use Rattle.wast_base.specs.Ids.{name_of, place_of, mark_of, marked, text_of, is_generated};
+ghost use Rattle.wast_base.specs.Faults.{told, At, Unknown};
+ghost use Rattle.wast_base.specs.Spaces.{is_settled_index};
 ghost use Rattle.wast_namespace.specs.FirstUnmet.{first_unmet, Answers, known_index};
 ghost use Rattle.wast_namespace.specs.Denoted.{denoted, numbered};
 ghost use Rattle.wast_namespace.specs.Outcomes.{Gives, unless_refused};
@@ -17,7 +17,7 @@ use crate::heads::Heads;
 use crate::order::place_between;
 use std::alloc::{AllocError, Global};
 use std::marker::Model;
-use wast_tree::{Error, Fault, Id, Index};
+use wast_base::{Error, Fault, Id, Index};
 
 /// A name space (text format, indices): a finite map from ids to numbers, beside a count of items.
 ///

@@ -1,12 +1,12 @@
 //! The order of names, and searches by whole names.
 
 ghost use Rattle.std.specs.Prelude.{◌≡◌};
-ghost use Rattle.wast_tree.specs.Ids.{name_of};
+ghost use Rattle.wast_base.specs.Ids.{name_of};
 ghost use Rattle.wast_namespace.specs.Namespaces.{key_cmp, key_of};
 ghost use Rattle.wast_namespace.specs.Places.{AreSorted, IsBetween, IsPlace};
 
 use std::cmp::Ordering;
-use wast_tree::Id;
+use wast_base::Id;
 
 /// What an id is called: its text, and its generation where it is generated.
 #[derive(Clone, Copy, PartialEq, Eq, PartialOrd, Ord)]

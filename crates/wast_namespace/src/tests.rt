@@ -1,7 +1,7 @@
 //! Examples of name spaces, whose answers come from outside.
 
 use crate::{Gathering, Namespace, resolve_error};
-use wast_tree::{Error, Fault, Id, Index, Span};
+use wast_base::{Error, Fault, Id, Index, Span};
 
 fn at(offset: usize) -> Span {
     Span { offset }

@@ -6,8 +6,8 @@ use Rattle.std.proofs.lemmas.Bool.{ltb-true}
 use Rattle.std.proofs.lemmas.List.Folds.{list_all-append}
 use Rattle.std.proofs.lemmas.Grind.{common_steps}
 use native.Mathlib.Omega.{arith}
-use Rattle.wast_tree.specs.Ids.{Name, name_of, generation_of, Mark, marked, mark_of, span_of_index}
-use Rattle.wast_tree.specs.Spaces.{word_of}
+use Rattle.wast_base.specs.Ids.{Name, name_of, generation_of, Mark, marked, mark_of, span_of_index}
+use Rattle.wast_base.specs.Spaces.{word_of}
 use Rattle.wast_tree.specs.Items.{items}
 use Rattle.wast_tree.specs.Known.{known}
 use Rattle.wast_tree.specs.Occurrences.{Ask, Wants, Bare, Step, Named, Matches, Declares, Occurrence, Outside, Body, outside, if_there, in_index, in_signature, in_inner, in_type, in_rec, in_type_use, matched_by, matched, in_instr, in_body, declared_params, declared_locals, declared, in_locals, in_func_kind, in_func, in_expression, in_ref, in_use, in_constant, in_constant_if, in_table_type, in_global_type, in_tag_type, in_item_kind, in_import, in_table_kind, in_memory_kind, in_global_kind, in_elem_kind, in_payload, in_data_kind, in_export, in_field, in_module, asked_in_step, asked_in_steps, asked}

@@ -22,8 +22,8 @@ use Rattle.wast_resolve.specs.Tree.index
 use Rattle.wast_resolve.specs.Tree.space
 use Rattle.wast_resolve.specs.Tree.inner
 use Rattle.wast_resolve.specs.Tree.ty
-use Rattle.wast_tree.specs.Ids.{name_of, marked, is_number}
-use Rattle.wast_tree.specs.Faults.{Refusal}
+use Rattle.wast_base.specs.Ids.{name_of, marked, is_number}
+use Rattle.wast_base.specs.Faults.{Refusal}
 use Rattle.wast_tree.specs.Items.{field_ids, fields_of, item, items_of_type, space_of_kind, items_of_import, items_in, items}
 use Rattle.wast_tree.specs.Occurrences.{Ask, Wants, Bare, Step, Named, Matches, Declares, Occurrence, Outside, Body, in_instr, asked_in, asked, asked_in_steps, in_module}
 use Rattle.wast_tree.specs.Known.{Known, known}

@@ -1,7 +1,7 @@
 -- The walk over the uses, after the items had what they demand.
 use Rattle.std.specs.Prelude.{⊤}
 use Rattle.std.proofs.Common.{◌≡◌, List, None, Option, sym, ◌∙◌, ap, subst}
-use Rattle.wast_tree.specs.Faults.{Told}
+use Rattle.wast_base.specs.Faults.{Told}
 use Rattle.wast_tree.specs.Items.{items}
 use Rattle.wast_tree.specs.Occurrences.{in_module}
 use Rattle.wast_tree.specs.Known.{Known, known}

@@ -2,7 +2,7 @@
 use Rattle.std.proofs.Common.{◌≡◌, ℕ, ◌+◌, ◌<◌, Bool, true, false, List, [], ◌∷◌, ◌++◌, map, Option, Some, None, option_map, is_none, is_some, refl, sym, ap, ◌∙◌, arith}
 use Rattle.std.specs.List.{slice_get}
 use Rattle.std.proofs.lemmas.List.{map-append}
-use Rattle.wast_tree.specs.Ids.{Name, name_of, generation_of}
+use Rattle.wast_base.specs.Ids.{Name, name_of, generation_of}
 use Rattle.wast_tree.specs.Items.{items}
 use Rattle.wast_tree.specs.Known.{Known, known}
 use Rattle.wast_tree.specs.Occurrences.{Ask, Wants, Bare, asked, in_module}
@@ -10,7 +10,7 @@ use Rattle.wast_tree.specs.Generations.{generation_in, greatest_asked, greatest_
 use Rattle.wast_expand.specs.Signatures.{Signature}
 use Rattle.wast_expand.specs.ImpliedTypes.{implied}
 use Rattle.wast_expand.specs.TypeSpace.{index_for, type_ids, by_id, id_at}
-use Rattle.wast_tree.specs.Filling.{one_if, given_if, filled, wanted}
+use Rattle.wast_base.specs.Filling.{one_if, given_if, filled, wanted}
 use Rattle.wast_expand.specs.Expanders.{LookUp, index_of}
 use Rattle.wast_expand.specs.Expanded.{start_of_text, lacks_id, with_id, unnamed_type, implied_types, typed, bindings, expanded}
 use Rattle.wast_expand.specs.Completed.{completed}

@@ -4,7 +4,7 @@ use Rattle.std.specs.List.{Contains}
 use Rattle.std.proofs.lemmas.List.Elements.{Contains-append_left, Contains-append_right}
 use native.Mathlib.Omega.{arith}
 use Rattle.std.proofs.lemmas.Grind.{flat_map-append}
-use Rattle.wast_tree.specs.declared.faults.Error.{Error}
+use Rattle.wast_base.specs.declared.faults.Error.{Error}
 use Rattle.wast_tree.specs.Occurrences.{Ask, Wants, if_there, in_id}
 use Rattle.wast_resolve.specs.Tree.{Id, Index, Space}
 use Rattle.wast_resolve.specs.CoreTypes.{Calls, none_left, answered, refused, index_of, indices_of, CallsOn, HasNeeds}

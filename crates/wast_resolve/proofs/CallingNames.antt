@@ -1,8 +1,8 @@
 -- Calls that look indices up by what a module makes known number them, and answer the first demand that is not met.
 use Rattle.std.proofs.Common.{◌≡◌, ℕ, zero, suc, arith, Bool, true, false, ◌&&◌, List, [], ◌∷◌, ◌++◌, refl, sym, ap, ◌∙◌, subst, map, Result, Ok, Err, Some, None}
 use Rattle.std.specs.List.{flat_map, Contains}
-use Rattle.wast_tree.specs.declared.faults.Error.{Error}
-use Rattle.wast_tree.specs.Faults.{told}
+use Rattle.wast_base.specs.declared.faults.Error.{Error}
+use Rattle.wast_base.specs.Faults.{told}
 use Rattle.wast_tree.specs.Occurrences.{Ask, Wants, Bare}
 use Rattle.wast_tree.specs.Known.{Known}
 use Rattle.wast_resolve.specs.Tree.{Index}
@@ -13,7 +13,8 @@ use Rattle.wast_resolve.specs.Scopes.{denoted}
 use Rattle.wast_resolve.specs.LookUps.{IsSettledFor, LooksTypesUp}
 use Rattle.wast_resolve.specs.Resolvers.{known_of}
 use Rattle.wast_resolve.specs.Laws.{ByResolver, NeedsOfResolver}
-use Rattle.wast_tree.specs.WellFormed.{is_settled_index, are_settled}
+use Rattle.wast_base.specs.Spaces.{is_settled_index}
+use Rattle.wast_tree.specs.WellFormed.{are_settled}
 use Rattle.wast_resolve.specs.Resolved.{numbered_at}
 use Rattle.wast_resolve.specs.Walking.{Walks}
 use Rattle.wast_resolve.specs.CoreTypes.{Calls, none_left, answered, refused, indices_of, CallsOn, blank}

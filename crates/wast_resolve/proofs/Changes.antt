@@ -4,9 +4,9 @@ use Rattle.std.specs.List.{position}
 use Rattle.std.proofs.lemmas.Bool.{eqb-true}
 use Rattle.std.proofs.lemmas.List.{map-append, length-map}
 use mathlib.Core.Path.{fun_ext}
-use Rattle.wast_tree.specs.Ids.{Name, Written, Generated, same_name, generation_of, Mark}
-use Rattle.wast_tree.specs.Faults.{Refusal, Duplicate}
-use Rattle.wast_tree.specs.Spaces.{spaces, word_of, name_if, same_space, is_called, position_of, is_borne}
+use Rattle.wast_base.specs.Ids.{Name, Written, Generated, same_name, generation_of, Mark}
+use Rattle.wast_base.specs.Faults.{Refusal, Duplicate}
+use Rattle.wast_base.specs.Spaces.{spaces, word_of, name_if, same_space, is_called, position_of, is_borne}
 use Rattle.wast_tree.specs.Items.{Item}
 use Rattle.wast_tree.specs.Known.{name_in, names_in}
 use Rattle.wast_tree.specs.Generations.{generation_if, greatest_item}

@@ -1,9 +1,9 @@
 -- What is gathered of the items of a space, one after the other.
 use Rattle.std.proofs.Common.{◌≡◌, ℕ, ◌≤◌, List, [], ◌∷◌, ◌++◌, refl, sym, ap, ◌∙◌, subst, append-nil, append_assoc, arith, length, length-append}
 use Rattle.std.specs.Prelude.{Option, Result, Ok, Err}
-use Rattle.wast_tree.specs.declared.faults.Error.{Error}
-use Rattle.wast_tree.specs.Ids.{Name}
-use Rattle.wast_tree.specs.Faults.{Told, told}
+use Rattle.wast_base.specs.declared.faults.Error.{Error}
+use Rattle.wast_base.specs.Ids.{Name}
+use Rattle.wast_base.specs.Faults.{Told, told}
 use Rattle.wast_tree.specs.Items.{Item}
 use Rattle.wast_tree.specs.Known.{name_in, names_in}
 use Rattle.wast_tree.specs.Visits.{Tells, Visits}

@@ -4,17 +4,16 @@ use Rattle.std.specs.Prelude.{max}
 use Rattle.std.specs.Cmp.{first_so, second_so}
 use Rattle.std.specs.List.{list_any}
 use Rattle.std.specs.Option.{option_or}
-use Rattle.wast_tree.specs.Ids.{Name, name_of, mark_of, generation_of, is_generated}
-use Rattle.wast_tree.specs.Faults.{Refusal}
-use Rattle.wast_tree.specs.Spaces.{word_of, name_if, same_space, is_called, is_borne}
-use Rattle.wast_tree.specs.Items.{Item, items}
+use Rattle.wast_base.specs.Ids.{Name, name_of, mark_of, generation_of, is_generated}
+use Rattle.wast_base.specs.Faults.{Refusal}
+use Rattle.wast_base.specs.Spaces.{word_of, name_if, same_space, is_called, is_borne}
+use Rattle.wast_tree.specs.Items.{Item, items, items_in}
 use Rattle.wast_tree.specs.Known.{Known, known, names_in}
 use Rattle.wast_tree.specs.Occurrences.{Ask, Wants, Bare, outside, if_there, in_index, in_signature, matched_by, in_locals, in_func_kind, in_func, in_use, in_tag_type, in_item_kind, in_import, in_field, asked, in_module}
 use Rattle.wast_tree.specs.Generations.{generation_in, greatest_item, greatest_asked, greatest_generation}
 use Rattle.wast_tree.specs.WellFormed.{is_settled, are_settled, are_plain, has_settled_indices}
 use Rattle.wast_tree.proofs.Bearing.{borne_among, borne_by_both}
 use Rattle.std.proofs.lemmas.Grind.{flat_map-append}
-use Rattle.wast_tree.specs.Items.{items_in}
 use Rattle.wast_expand.specs.Signatures.{Signature, signature_of}
 use Rattle.wast_expand.specs.NeedingUses.{inline_signature}
 use Rattle.wast_expand.specs.ImpliedTypes.{implied}

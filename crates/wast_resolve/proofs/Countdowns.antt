@@ -6,9 +6,9 @@ use Rattle.std.proofs.lemmas.Grind.{flat_map-append}
 use Rattle.std.proofs.lemmas.List.{get_or-set_same, get_or-set_other, length-append}
 use Rattle.std.proofs.Math.Seq.{get_or-append_seam, take-append_seam}
 use Rattle.wast_resolve.specs.Tree.{Space, Span}
-use Rattle.wast_tree.specs.Ids.{Name, Mark}
-use Rattle.wast_tree.specs.Faults.{Refusal}
-use Rattle.wast_tree.specs.Spaces.{rank_of, same_space, name_if, is_borne}
+use Rattle.wast_base.specs.Ids.{Name, Mark}
+use Rattle.wast_base.specs.Faults.{Refusal}
+use Rattle.wast_base.specs.Spaces.{rank_of, same_space, name_if, is_borne}
 use Rattle.wast_tree.specs.Items.{Item}
 use Rattle.wast_tree.specs.Known.{name_in, names_in}
 use Rattle.wast_resolve.specs.Demands.{Demand, first_unmet, new_name_by}

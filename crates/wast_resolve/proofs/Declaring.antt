@@ -3,9 +3,9 @@ use Rattle.std.proofs.Common.{◌≡◌, ℕ, zero, suc, ◌+◌, ◌<◌, ◌�
 use Rattle.std.specs.Prelude.{⊤, not, cond, codes, slice_index_or}
 use Rattle.std.proofs.Math.Seq.{get_or-append_seam, take-append_seam, drop-cons}
 use Rattle.std.proofs.lemmas.List.{map-append, length-map}
-use Rattle.wast_tree.specs.Ids.{Name, Mark, marked}
-use Rattle.wast_tree.specs.Faults.{Refusal, Duplicate, Told}
-use Rattle.wast_tree.specs.Spaces.{name_if, is_borne}
+use Rattle.wast_base.specs.Ids.{Name, Mark, marked}
+use Rattle.wast_base.specs.Faults.{Refusal, Duplicate, Told}
+use Rattle.wast_base.specs.Spaces.{name_if, is_borne}
 use Rattle.wast_tree.specs.Occurrences.{Step, Declares, declared_params, declared_locals, declared}
 use Rattle.wast_resolve.specs.Tree.{Span, Id, NameAnnotation, ValType, FunctionType, Local, FuncKind}
 use Rattle.wast_resolve.specs.Tree.func
@@ -15,7 +15,7 @@ use Rattle.wast_namespace.specs.Filling.{IsClash, IsFirstClash, HasFirstClash}
 use Rattle.wast_resolve.specs.Gathers.{Stops}
 use Rattle.wast_resolve.specs.Locals.{params_in, locals_in, marks, names, said_of}
 use Rattle.wast_namespace.specs.Outcomes.{Outcome}
-use Rattle.wast_tree.specs.declared.faults.Error.{Error}
+use Rattle.wast_base.specs.declared.faults.Error.{Error}
 use Rattle.std.specs.Prelude.{Result}
 use Rattle.wast_resolve.proofs.Collecting.{stops_more}
 

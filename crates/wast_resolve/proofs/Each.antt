@@ -5,7 +5,7 @@ use Rattle.std.proofs.Math.Seq.{drop-cons, take-suc}
 use Rattle.std.specs.Prelude.{flat_map}
 use Rattle.std.proofs.lemmas.List.{append-nil, drop-drop, drop-set-lt, take_more_set, take-append-drop, map-append}
 use Rattle.std.proofs.lemmas.Grind.{flat_map-append}
-use Rattle.wast_tree.specs.Faults.{Told}
+use Rattle.wast_base.specs.Faults.{Told}
 use Rattle.wast_resolve.specs.Demands.{Demand, first_unmet, Answers}
 use Rattle.wast_resolve.proofs.Parts.{both_met, first_fails, second_fails}
 

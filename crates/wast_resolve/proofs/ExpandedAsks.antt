@@ -7,7 +7,7 @@ use Rattle.wast_tree.proofs.Visiting.{asked_both, asked_func, asked_use}
 use Rattle.wast_expand.specs.Signatures.{Signature}
 use Rattle.wast_expand.specs.NeedingUses.{inline_signature}
 use Rattle.wast_expand.specs.ImpliedTypes.{implied}
-use Rattle.wast_tree.specs.Filling.{one_if, given_if, filled, wanted}
+use Rattle.wast_base.specs.Filling.{one_if, given_if, filled, wanted}
 use Rattle.wast_expand.specs.Expanders.{LookUp}
 use Rattle.wast_expand.specs.Expanded.{lacks_id, with_id, unnamed_type, implied_types, typed, bound_index, bound_use, bound_instr, bound_kind, bound_func, bound_tag_type, bound_item_kind, bound_import_items, bound_field}
 use Rattle.wast_expand.specs.Completed.{completed}

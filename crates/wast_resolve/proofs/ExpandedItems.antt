@@ -4,14 +4,14 @@ use Rattle.std.specs.Prelude.{max}
 use Rattle.std.specs.List.{flat_map}
 use Rattle.std.proofs.lemmas.List.{map-append}
 use Rattle.std.proofs.lemmas.Grind.{flat_map-append}
-use Rattle.wast_tree.specs.Ids.{Name, generation_of}
-use Rattle.wast_tree.specs.Spaces.{position_of}
+use Rattle.wast_base.specs.Ids.{Name, generation_of}
+use Rattle.wast_base.specs.Spaces.{position_of}
 use Rattle.wast_tree.specs.Items.{Item, field_ids, fields_of, item, space_of_kind, items_of_import, items_in, items}
 use Rattle.wast_tree.specs.Known.{names_in}
 use Rattle.wast_tree.specs.Generations.{greatest_item}
 use Rattle.wast_expand.specs.Signatures.{Signature}
 use Rattle.wast_expand.specs.ImpliedTypes.{implied}
-use Rattle.wast_tree.specs.Filling.{one_if, given_if, filled, wanted}
+use Rattle.wast_base.specs.Filling.{one_if, given_if, filled, wanted}
 use Rattle.wast_expand.specs.Expanders.{LookUp, index_of}
 use Rattle.wast_expand.specs.Expanded.{lacks_id, with_id, start_of_text, unnamed_type, implied_types, typed, bindings, bound_item_kind, bound_import_items, bound_field, expanded, ids_wanted}
 use Rattle.wast_expand.specs.Completed.{completed}

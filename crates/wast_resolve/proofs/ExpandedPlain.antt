@@ -8,7 +8,7 @@ use Rattle.wast_tree.specs.WellFormed.{is_plain_val, is_plain_param, is_plain_in
 use Rattle.wast_expand.specs.Signatures.{Signature, type_of_param, signature_of}
 use Rattle.wast_expand.specs.NeedingUses.{needed_without, needed_by_use, needed_by_instr, needed_by_kind, needed_by_tag_type, needed_by_item_kind, needed_by_import, needed_by_field}
 use Rattle.wast_expand.specs.ImpliedTypes.{implied}
-use Rattle.wast_tree.specs.Filling.{one_if, given_if, filled, wanted}
+use Rattle.wast_base.specs.Filling.{one_if, given_if, filled, wanted}
 use Rattle.wast_expand.specs.Expanders.{LookUp, index_of}
 use Rattle.wast_expand.specs.Expanded.{lacks_id, with_id, nameless, implied_types, typed, bindings, bound_instr, bound_kind, bound_tag_type, bound_item_kind, bound_import_items, bound_field, expanded}
 use Rattle.wast_resolve.specs.Tree.{Index, FunctionType, Instruction, FuncKind, TagType, ItemKind, ImportItems, ModuleField}

@@ -2,9 +2,9 @@
 use Rattle.std.proofs.Common.{◌≡◌, ℕ, zero, suc, ◌+◌, List, [], ◌∷◌, ◌++◌, length, map, get_or, Option, Some, None, option_map, codes, refl, sym, ap, ◌∙◌, subst, subst₂, arith, append_assoc, append-nil}
 use Rattle.std.proofs.lemmas.List.{length-map, map-append, length-append}
 use Rattle.wast_resolve.specs.Tree.{Span}
-use Rattle.wast_tree.specs.Ids.{Name, Mark, text_of}
-use Rattle.wast_tree.specs.Faults.{Refusal, DuplicateField, Told}
-use Rattle.wast_tree.specs.Spaces.{name_if}
+use Rattle.wast_base.specs.Ids.{Name, Mark, text_of}
+use Rattle.wast_base.specs.Faults.{Refusal, DuplicateField, Told}
+use Rattle.wast_base.specs.Spaces.{name_if}
 use Rattle.wast_resolve.specs.Demands.{first_unmet, field_demand, field_demands, each_after}
 use Rattle.wast_namespace.specs.Filling.{IsClash, HasFirstClash}
 use Rattle.wast_resolve.specs.Clashes.{field_clash_told, FindsAmong}

@@ -4,9 +4,9 @@ use Rattle.std.proofs.Common.{◌≡◌, ℕ, zero, suc, ◌+◌, ◌≤◌, ◌
 use Rattle.std.specs.Prelude.{⊤}
 use Rattle.std.proofs.lemmas.List.{get_or-set_same}
 use Rattle.wast_resolve.specs.Tree.{Space, Span}
-use Rattle.wast_tree.specs.Ids.{Name, Mark}
-use Rattle.wast_tree.specs.Faults.{Refusal, Duplicate, Told, At, told}
-use Rattle.wast_tree.specs.Spaces.{rank_of, word_of, name_if}
+use Rattle.wast_base.specs.Ids.{Name, Mark}
+use Rattle.wast_base.specs.Faults.{Refusal, Duplicate, Told, At, told}
+use Rattle.wast_base.specs.Spaces.{rank_of, word_of, name_if}
 use Rattle.wast_tree.specs.Items.{Item}
 use Rattle.wast_tree.specs.Known.{names_in}
 use Rattle.wast_resolve.specs.declared.clashes.Finder.{Finder}

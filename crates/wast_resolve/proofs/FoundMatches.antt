@@ -6,8 +6,8 @@ use Rattle.std.proofs.lemmas.Option.{slice_get-map, slice_get_within, get_or_fro
 use Rattle.std.proofs.lemmas.List.{map-append}
 use Rattle.std.proofs.lemmas.List.Quantifiers.{position-Some}
 use Rattle.std.proofs.lemmas.Grind.{flat_map-append}
-use Rattle.wast_tree.specs.Ids.{Name, name_of, place_of, marked}
-use Rattle.wast_tree.specs.Spaces.{name_if, position_of}
+use Rattle.wast_base.specs.Ids.{Name, name_of, place_of, marked}
+use Rattle.wast_base.specs.Spaces.{name_if, position_of}
 use Rattle.wast_tree.specs.Items.{item, items_of_type, space_of_kind, items_of_import, items_in, items}
 use Rattle.wast_tree.specs.Known.{name_in, names_in}
 use Rattle.wast_tree.specs.Occurrences.{in_signature}

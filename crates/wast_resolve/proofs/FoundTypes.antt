@@ -1,8 +1,8 @@
 -- What a signature is bound to is the id of a type that stands there.
 use Rattle.std.proofs.Common.{◌≡◌, ◌≤◌, Bool, true, false, cond, ◌&&◌, ◌||◌, List, [], ◌∷◌, ◌++◌, Option, Some, None, refl, ap, ◌∙◌, arith}
 use Rattle.std.specs.List.{list_any}
-use Rattle.wast_tree.specs.Ids.{name_of, generation_of}
-use Rattle.wast_tree.specs.Spaces.{name_if, same_space, is_called, is_borne}
+use Rattle.wast_base.specs.Ids.{name_of, generation_of}
+use Rattle.wast_base.specs.Spaces.{name_if, same_space, is_called, is_borne}
 use Rattle.wast_tree.specs.Items.{Item, fields_of, item, items_in, items}
 use Rattle.wast_tree.specs.Known.{names_in}
 use Rattle.wast_tree.specs.Generations.{greatest_item}

@@ -1,11 +1,11 @@
 -- Where no item has the name of an earlier one of its space, each name denotes the item that bears it.
 use Rattle.std.proofs.Common.{◌≡◌, ℕ, zero, suc, ◌<◌, Bool, true, false, not, ◌||◌, true≢false, is_some, cond, List, [], ◌∷◌, ◌++◌, length, get_or, Option, Some, None, option_map, refl, sym, ap, ◌∙◌, arith}
 use Rattle.std.proofs.lemmas.Bool.{eqb-true}
-use Rattle.wast_tree.specs.Ids.{Name, Mark}
-use Rattle.wast_tree.specs.Spaces.{same_space, rank_of, word_of, name_if, is_called, position_of, is_borne}
+use Rattle.wast_base.specs.Ids.{Name, Mark}
+use Rattle.wast_base.specs.Spaces.{same_space, rank_of, word_of, name_if, is_called, position_of, is_borne}
 use Rattle.wast_tree.specs.Items.{Item}
 use Rattle.wast_tree.specs.Known.{names_in}
-use Rattle.wast_tree.specs.Faults.{Refusal, Duplicate}
+use Rattle.wast_base.specs.Faults.{Refusal, Duplicate}
 use Rattle.wast_tree.proofs.Bearing.{borne_by_both}
 use Rattle.wast_resolve.specs.Tree.{Span, Space}
 use Rattle.wast_resolve.specs.Demands.{first_unmet, new_name_in, own_demand, field_demands, item_demand, item_demands, each_after}

@@ -1,7 +1,7 @@
 -- An inline type matches what it matched before its indices were numbered.
 use Rattle.std.proofs.Common.{◌≡◌, ℕ, ◌&&◌, List, [], ◌∷◌, ◌++◌, map, Option, Some, None, option_map, refl, ap, ◌∙◌}
 use Rattle.std.specs.Bool.{beq}
-use Rattle.wast_tree.specs.Ids.{Name, name_of, span_of_index}
+use Rattle.wast_base.specs.Ids.{Name, name_of, span_of_index}
 use Rattle.wast_tree.specs.Known.{Known}
 use Rattle.wast_tree.specs.Occurrences.{matched_by, matched}
 use Rattle.wast_expand.specs.Signatures.{Signature, type_of_param, same_heap_by, same_value_by, same_values_by}

@@ -4,7 +4,7 @@ use Rattle.std.specs.Option.{option_or}
 use Rattle.wast_expand.specs.Signatures.{Signature}
 use Rattle.wast_expand.specs.ImpliedTypes.{implied}
 use Rattle.wast_expand.specs.Expanders.{LookUp, index_of}
-use Rattle.wast_tree.specs.Filling.{given_if, one_if, filled, wanted}
+use Rattle.wast_base.specs.Filling.{given_if, one_if, filled, wanted}
 use Rattle.wast_expand.specs.Expanded.{lacks_id, with_id, unnamed_type, implied_types, typed, bindings, bound_field, expanded}
 use Rattle.wast_expand.specs.Completed.{completed}
 use Rattle.wast_resolve.specs.Tree.{Space, ModuleField}

@@ -2,10 +2,10 @@
 use Rattle.std.proofs.Common.{◌≡◌, ap, ◌∙◌, sym, subst, List, [], ◌∷◌, ◌++◌, Option, Some, None, refl, Result, Ok, Err}
 use Rattle.std.specs.List.{flat_map}
 use Rattle.std.proofs.lemmas.Grind.{flat_map-append}
-use Rattle.wast_tree.specs.Faults.{Told, told}
+use Rattle.wast_base.specs.Faults.{Told, told}
 use Rattle.wast_tree.specs.Occurrences.{Ask, if_there, in_id, outside}
 use Rattle.wast_tree.specs.Known.{Known}
-use Rattle.wast_tree.specs.declared.faults.Error.{Error}
+use Rattle.wast_base.specs.declared.faults.Error.{Error}
 use Rattle.wast_resolve.specs.Tree.{Id}
 use Rattle.wast_resolve.specs.Demands.{Demand, first_unmet, Answers, ask_demand, ask_demands, use_demands}
 use Rattle.wast_resolve.specs.Scopes.{Scope}

@@ -1,9 +1,9 @@
 -- What numbering the expanded list answers is what resolving the fields answers.
 use Rattle.std.proofs.Common.{◌≡◌, ℕ, ◌+◌, ◌<◌, ◌≤◌, ◌^◌, ◌⊎◌, true, List, [], None, inl, inr, sym, ap, ◌∙◌, subst, arith}
 use Rattle.std.specs.Prelude.{⊤, Contains}
-use Rattle.wast_tree.specs.Faults.{told, too_large, out_of_memory}
-use Rattle.wast_tree.specs.declared.faults.Error.{Error}
-use Rattle.wast_tree.specs.Filling.{RunsOut}
+use Rattle.wast_base.specs.Faults.{told, too_large, out_of_memory}
+use Rattle.wast_base.specs.declared.faults.Error.{Error}
+use Rattle.wast_base.specs.Filling.{RunsOut}
 use Rattle.wast_tree.specs.Generations.{greatest_generation}
 use Rattle.wast_tree.specs.WellFormed.{is_well_formed}
 use Rattle.wast_deinline.specs.Written.{written, references_wanted, CannotBeWritten}

@@ -6,8 +6,8 @@ use Rattle.std.specs.Cmp.{first_so, second_so}
 use Rattle.std.specs.List.{flat_map, list_all}
 use Rattle.std.proofs.lemmas.Bool.{eq-eqb}
 use Rattle.std.proofs.lemmas.Grind.{flat_map-append}
-use Rattle.wast_tree.specs.Ids.{name_of, same_index}
-use Rattle.wast_tree.specs.Faults.{Refusal}
+use Rattle.wast_base.specs.Ids.{name_of, same_index}
+use Rattle.wast_base.specs.Faults.{Refusal}
 use Rattle.wast_tree.specs.Known.{Known}
 use Rattle.wast_tree.specs.Occurrences.{Ask, Wants, if_there, in_index, in_id, in_heap, in_val, in_param, in_signature}
 use Rattle.wast_expand.specs.Signatures.{Signature, type_of_param, signature_of, same_heap_by, same_value_by, same_values_by, same_signature_by}

@@ -19,7 +19,7 @@ use Rattle.wast_resolve.specs.Tree.field
 use Rattle.wast_resolve.specs.Tree.ty
 use Rattle.wast_resolve.specs.Tree.space
 use Rattle.wast_resolve.specs.Tree.func
-use Rattle.wast_tree.specs.Ids.{Mark, marked}
+use Rattle.wast_base.specs.Ids.{Mark, marked}
 use Rattle.wast_tree.specs.Occurrences.{Ask, Step, Declares, Outside, Body, declared_params, declared_locals, declared, matched_by, matched, in_expression, if_there, in_index, in_id, in_heap, in_val, in_storage, in_param, in_signature, in_struct_field, in_struct, in_array, in_inner, in_type, in_rec, in_type_use, in_instr, in_local, in_locals, in_func_kind, in_func, in_use, in_constant, in_constant_if, in_tag_type, in_item_kind, in_import, in_table_kind, in_memory_kind, in_global_kind, in_global, in_elem_kind, in_payload, in_elem, in_data_kind, in_export, in_field, in_module, outside}
 use Rattle.wast_tree.specs.Known.{Known}
 use Rattle.wast_resolve.specs.Demands.{Here, start, after, after_all}

@@ -8,9 +8,9 @@ use Rattle.std.proofs.lemmas.List.{get_or-set_same, get_or-set_other}
 use Rattle.std.proofs.lemmas.List.FromFn.{get_or-range_with_len}
 use Rattle.std.proofs.lemmas.List.{map-append}
 use Rattle.std.proofs.lemmas.List.Elements.{Contains-get_or, Contains-append_left, Contains-append_right}
-use Rattle.wast_tree.specs.Ids.{Name}
-use Rattle.wast_tree.specs.Faults.{Told, Refusal}
-use Rattle.wast_tree.specs.Spaces.{spaces, rank_of, position_of}
+use Rattle.wast_base.specs.Ids.{Name}
+use Rattle.wast_base.specs.Faults.{Told, Refusal}
+use Rattle.wast_base.specs.Spaces.{spaces, rank_of, position_of}
 use Rattle.wast_tree.specs.Items.{Item, items}
 use Rattle.wast_tree.specs.Known.{known, names_in}
 use Rattle.wast_resolve.specs.Tree.{Space, Span, ModuleField}

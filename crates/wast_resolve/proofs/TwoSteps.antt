@@ -2,8 +2,8 @@
 use Rattle.std.specs.Prelude.{⊤}
 use Rattle.std.proofs.Common.{◌≡◌, ◌∙◌, ap, sym, subst, List, ◌++◌, append-nil, None, refl, Result}
 use Rattle.std.proofs.lemmas.Grind.{flat_map-append}
-use Rattle.wast_tree.specs.Faults.{Told}
-use Rattle.wast_tree.specs.declared.faults.Error.{Error}
+use Rattle.wast_base.specs.Faults.{Told}
+use Rattle.wast_base.specs.declared.faults.Error.{Error}
 use Rattle.wast_tree.specs.Known.{Known}
 use Rattle.wast_tree.specs.Occurrences.{Occurrence, outside, in_table_type, in_table_kind, in_elem_kind, in_payload, in_data_kind}
 use Rattle.wast_resolve.specs.Tree.{TableKind, ElemKind, ElemPayload, DataKind, ModuleField}

@@ -3,7 +3,7 @@ use Rattle.std.proofs.Common.{◌≡◌, refl, sym, ap, ◌∙◌, List, [], ◌
 use native.Mathlib.Omega.{arith}
 use Rattle.std.specs.Option.{option_or}
 use Rattle.wast_resolve.specs.Tree.{Span}
-use Rattle.wast_tree.specs.Faults.{Refusal, Told}
+use Rattle.wast_base.specs.Faults.{Refusal, Told}
 use Rattle.wast_resolve.specs.Demands.{Demand, first_unmet, Answers}
 
 more_unmet : (b : Bool) (f : Refusal × Span) (r s t : Option (Refusal × Span)) → (r ≡ None → s ≡ t) → cond b r (Some f) ≡ None → cond b s (Some f) ≡ t

@@ -2,11 +2,11 @@
 use Rattle.std.proofs.Common.{◌≡◌, ℕ, ◌+◌, ◌<◌, Bool, true, false, List, [], ◌∷◌, ◌++◌, map, append_assoc, refl, sym, ap, ◌∙◌, subst, arith}
 use Rattle.std.specs.Prelude.{max}
 use Rattle.std.proofs.lemmas.Grind.{flat_map-append}
-use Rattle.wast_tree.specs.Ids.{Name, generation_of}
+use Rattle.wast_base.specs.Ids.{Name, generation_of}
 use Rattle.wast_tree.specs.Items.{Item, items_in, items}
 use Rattle.wast_tree.specs.Known.{known}
 use Rattle.wast_tree.specs.Generations.{generation_if, greatest_item}
-use Rattle.wast_tree.specs.Filling.{one_if, given_if}
+use Rattle.wast_base.specs.Filling.{one_if, given_if}
 use Rattle.wast_expand.specs.ImpliedTypes.{implied}
 use Rattle.wast_expand.specs.Expanded.{unnamed_type}
 use Rattle.wast_expand.specs.Completed.{completed}

@@ -5,10 +5,10 @@ use Rattle.std.proofs.Common.{◌≡◌, ℕ, ◌+◌, Bool, List, [], ◌∷◌
 use Rattle.std.specs.List.{flat_map, position}
 use Rattle.std.specs.Option.{option_or}
 use Rattle.std.proofs.lemmas.List.{map-append}
-use Rattle.wast_tree.specs.Ids.{generated}
+use Rattle.wast_base.specs.Ids.{generated}
 use Rattle.wast_tree.specs.Items.{Item, items_in}
 use Rattle.wast_tree.specs.Imports.{defined_space}
-use Rattle.wast_tree.specs.Filling.{one_if, wanted}
+use Rattle.wast_base.specs.Filling.{one_if, wanted}
 use Rattle.wast_deinline.specs.Referring.{wants_id}
 use Rattle.wast_deinline.specs.Written.{written, written_out}
 use Rattle.wast_expand.specs.Signatures.{Signature}

@@ -1,6 +1,6 @@
 -- The list that is written out by ids has, once each index is a number, the numbers of the one by positions.
 use Rattle.std.proofs.Common.{◌≡◌, ℕ, ◌<◌, List, map, Some, None, refl, sym, ap, ◌∙◌, arith}
-use Rattle.wast_tree.specs.Ids.{generated}
+use Rattle.wast_base.specs.Ids.{generated}
 use Rattle.wast_tree.specs.Items.{items}
 use Rattle.wast_tree.specs.Known.{Known, known}
 use Rattle.wast_tree.specs.Occurrences.{asked, in_module}

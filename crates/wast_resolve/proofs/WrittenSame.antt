@@ -5,11 +5,11 @@ use Rattle.std.specs.Borrow.{Bor}
 use Rattle.std.specs.List.{flat_map}
 use Rattle.std.proofs.Math.Dec.{eqb-suc-zero}
 use Rattle.std.proofs.lemmas.List.{map-append}
-use Rattle.wast_tree.specs.Ids.{place_of, generated}
+use Rattle.wast_base.specs.Ids.{place_of, generated}
 use Rattle.wast_tree.specs.Items.{Item, item, items_in}
 use Rattle.wast_tree.specs.Known.{names_in}
 use Rattle.wast_tree.specs.Occurrences.{exported_space}
-use Rattle.wast_tree.specs.Filling.{one_if, given_if}
+use Rattle.wast_base.specs.Filling.{one_if, given_if}
 use Rattle.wast_deinline.specs.Tree.{InlineImport}
 use Rattle.wast_deinline.specs.Segments.{data_into, elem_into, has_bytes, has_elements}
 use Rattle.wast_deinline.specs.WriteOut.{Reference, import_of, export_of, exports_of, data_in, elem_in, func_alone, table_alone, memory_alone, global_alone, tag_alone, write_out}

@@ -3,9 +3,9 @@
 use Rattle.std.proofs.Common.{◌≡◌, ℕ, false, List, [], ◌∷◌, ◌++◌, map, Option, Some, None, is_some, refl, sym, ap, ◌∙◌}
 use Rattle.std.specs.Option.{option_or}
 use Rattle.std.proofs.lemmas.Grind.{flat_map-append}
-use Rattle.wast_tree.specs.Ids.{generated, name_of, mark_of}
-use Rattle.wast_tree.specs.Faults.{Refusal}
-use Rattle.wast_tree.specs.Spaces.{word_of}
+use Rattle.wast_base.specs.Ids.{generated, name_of, mark_of}
+use Rattle.wast_base.specs.Faults.{Refusal}
+use Rattle.wast_base.specs.Spaces.{word_of}
 use Rattle.wast_tree.specs.Occurrences.{Wants, Occurrence, Outside, in_constant, in_payload, exported_space, in_field, in_module}
 use Rattle.wast_deinline.specs.Segments.{at_zero}
 use Rattle.wast_deinline.specs.Written.{written, written_out}

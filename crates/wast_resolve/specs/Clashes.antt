@@ -1,8 +1,8 @@
 -- Looking for the first clash of all, in the order of the items, where the first one of each space is known.
 use Rattle.std.specs.Prelude.{◌≡◌, ⊤, ℕ, zero, suc, ◌≤◌, ◌^◌, List, length, codes, Option, Some, None, option_map, MatchOption, slice_index_or, slice_set}
-use Rattle.wast_tree.specs.Ids.{Mark, text_of}
-use Rattle.wast_tree.specs.Faults.{Duplicate, DuplicateField, Told, At, told}
-use Rattle.wast_tree.specs.Spaces.{word_of, rank_of}
+use Rattle.wast_base.specs.Ids.{Mark, text_of}
+use Rattle.wast_base.specs.Faults.{Duplicate, DuplicateField, Told, At, told}
+use Rattle.wast_base.specs.Spaces.{word_of, rank_of}
 use Rattle.wast_tree.specs.Items.{Item}
 use Rattle.wast_resolve.specs.declared.clashes.Finder.{Finder}
 use Rattle.wast_resolve.specs.Demands.{first_unmet, field_demands, Answers}

@@ -1,6 +1,6 @@
 -- What resolving the indices of a type does, by what one call on an index does (text format: types, indices).
 use Rattle.std.specs.Prelude.{ℕ, List, [], ◌∷◌, flat_map, Contains, Result, Ok, Err}
-use Rattle.wast_tree.specs.declared.faults.Error.{Error}
+use Rattle.wast_base.specs.declared.faults.Error.{Error}
 use Rattle.wast_tree.specs.Occurrences.{Ask, Wants, Bare}
 use Rattle.wast_resolve.specs.Tree.{Index}
 use Rattle.wast_resolve.specs.Tree.index

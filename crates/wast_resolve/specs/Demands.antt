@@ -4,10 +4,10 @@ use Rattle.std.specs.List.{list_any}
 use Rattle.wast_resolve.specs.Tree.{Span, Index, FunctionType, ModuleField}
 use Rattle.wast_resolve.specs.Tree.space
 use Rattle.wast_resolve.specs.Tree.field
-use Rattle.wast_tree.specs.Ids.{Name, text_of, Mark, span_of_index}
-use Rattle.wast_tree.specs.Faults.{Refusal, Duplicate, DuplicateField, OutOfBounds, NotFunc, NoMatch, told}
-use Rattle.wast_tree.specs.declared.faults.Error.{Error}
-use Rattle.wast_tree.specs.Spaces.{spaces, word_of, name_if, is_borne}
+use Rattle.wast_base.specs.Ids.{Name, text_of, Mark, span_of_index}
+use Rattle.wast_base.specs.Faults.{Refusal, Duplicate, DuplicateField, OutOfBounds, NotFunc, NoMatch, told}
+use Rattle.wast_base.specs.declared.faults.Error.{Error}
+use Rattle.wast_base.specs.Spaces.{spaces, word_of, name_if, is_borne}
 use Rattle.wast_tree.specs.Items.{Item, items}
 use Rattle.wast_tree.specs.Occurrences.{Ask, Wants, Bare, Step, Named, Matches, Declares, Occurrence, Outside, Body, declared, in_module}
 use Rattle.wast_tree.specs.Known.{Known, names_in}

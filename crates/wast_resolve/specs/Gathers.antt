@@ -1,8 +1,8 @@
 -- What gathering the items of a space gives: their names, or why it stopped.
 use Rattle.std.specs.Prelude.{◌≡◌, ⊤, ℕ, ◌≤◌, ◌^◌, List, ◌++◌, length, Option, Result, Ok, Err}
-use Rattle.wast_tree.specs.declared.faults.Error.{Error}
-use Rattle.wast_tree.specs.Ids.{Name}
-use Rattle.wast_tree.specs.Faults.{Told, At, Nowhere, Memory, TooLarge, told}
+use Rattle.wast_base.specs.declared.faults.Error.{Error}
+use Rattle.wast_base.specs.Ids.{Name}
+use Rattle.wast_base.specs.Faults.{Told, At, Nowhere, Memory, TooLarge, told}
 
 -- memory was refused, or there are so many items that some number is 2^32 or more
 abbrev pub Stops : Told → ℕ → Type 0

@@ -1,9 +1,9 @@
 -- The order of imports: each stands before what the module defines (text format: modules).
 use Rattle.std.specs.Prelude.{ℕ, false, List, [], ◌∷◌, Option, Some, None, codes}
 use Rattle.std.specs.Option.{option_or}
-use Rattle.wast_tree.specs.Faults.{ImportAfter}
+use Rattle.wast_base.specs.Faults.{ImportAfter}
 use Rattle.wast_tree.specs.Imports.{defined_space}
-use Rattle.wast_tree.specs.Spaces.{word_of}
+use Rattle.wast_base.specs.Spaces.{word_of}
 use Rattle.wast_resolve.specs.Tree.{Span, Space, ModuleField}
 use Rattle.wast_resolve.specs.Tree.space
 use Rattle.wast_resolve.specs.Tree.field

@@ -5,7 +5,7 @@ use Rattle.std.specs.Borrow.{Bor}
 use Rattle.wast_tree.specs.Occurrences.{Ask, asked, in_module}
 use Rattle.wast_tree.specs.WellFormed.{are_settled, is_well_formed}
 use Rattle.wast_tree.specs.WrittenOut.{is_written_out}
-use Rattle.wast_tree.specs.declared.faults.Error.{Error}
+use Rattle.wast_base.specs.declared.faults.Error.{Error}
 use Rattle.wast_tree.specs.Generations.{greatest_generation}
 use Rattle.wast_expand.specs.NeedingUses.{needed}
 use Rattle.wast_resolve.specs.Tree.{Index, ModuleField}

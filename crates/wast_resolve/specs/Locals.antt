@@ -1,8 +1,8 @@
 -- The names of parameters and locals, as they are looked through. Private functions alone use this.
 use Rattle.std.specs.Prelude.{List, [], ◌++◌, map, Option, Some, None, option_map, codes}
-use Rattle.wast_tree.specs.Ids.{Name, Mark}
-use Rattle.wast_tree.specs.Faults.{Refusal, Duplicate}
-use Rattle.wast_tree.specs.Spaces.{name_if}
+use Rattle.wast_base.specs.Ids.{Name, Mark}
+use Rattle.wast_base.specs.Faults.{Refusal, Duplicate}
+use Rattle.wast_base.specs.Spaces.{name_if}
 use Rattle.wast_tree.specs.Occurrences.{Step, declared}
 use Rattle.wast_resolve.specs.Tree.{Span, Id, NameAnnotation, ValType, FunctionType, Local, FuncKind}
 use Rattle.wast_resolve.specs.Tree.func

@@ -1,7 +1,7 @@
 -- What a look-up of an index needs, and what it answers.
 use Rattle.std.specs.Prelude.{◌≡◌, ℕ, Some, None, Result, IfOk, IfErr, IsTrue}
-use Rattle.wast_tree.specs.declared.faults.Error.{Error}
-use Rattle.wast_tree.specs.Faults.{told}
+use Rattle.wast_base.specs.declared.faults.Error.{Error}
+use Rattle.wast_base.specs.Faults.{told}
 use Rattle.wast_tree.specs.Occurrences.{in_index}
 use Rattle.wast_tree.specs.Known.{Known}
 use Rattle.wast_tree.specs.WellFormed.{are_settled}

@@ -19,7 +19,7 @@ use Rattle.wast_resolve.specs.Tree.elem
 use Rattle.wast_resolve.specs.Tree.payload
 use Rattle.wast_resolve.specs.Tree.data_kind
 use Rattle.wast_resolve.specs.Tree.field
-use Rattle.wast_tree.specs.Ids.{is_number}
+use Rattle.wast_base.specs.Ids.{is_number}
 use Rattle.wast_tree.specs.Items.{items}
 use Rattle.wast_tree.specs.Occurrences.{Ask, Wants, Bare, Step, Named, Matches, Declares, Occurrence, Outside, Body, declared, in_instr, exported_space}
 use Rattle.wast_tree.specs.Known.{Known, known}

@@ -3,7 +3,7 @@ use Rattle.std.specs.Prelude.{List, [], Option, slice_index_or, refl}
 use Rattle.std.specs.Coded.{Coded, coded_list, code_by}
 use Rattle.wast_resolve.specs.Tree.{Space}
 use Rattle.wast_resolve.specs.Tree.space
-use Rattle.wast_tree.specs.Spaces.{rank_of}
+use Rattle.wast_base.specs.Spaces.{rank_of}
 use Rattle.wast_tree.specs.Known.{Known}
 use Rattle.wast_expand.specs.Signatures.{Signature}
 use Rattle.wast_resolve.specs.declared.resolver.Ns.{Ns}

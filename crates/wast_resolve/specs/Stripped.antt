@@ -1,7 +1,7 @@
 -- A resolved list without what no part of a module tells: generated ids of items, and the places of the indices of type
 -- uses.
 use Rattle.std.specs.Prelude.{cond, Option, Some, None, option_map}
-use Rattle.wast_tree.specs.Ids.{name_of, is_generated}
+use Rattle.wast_base.specs.Ids.{name_of, is_generated}
 use Rattle.wast_expand.specs.Expanded.{start_of_text}
 use Rattle.wast_resolve.specs.Tree.{Id, Index, FunctionType, TypeUse, TagType, ItemKind, ImportItems, ModuleField}
 use Rattle.wast_resolve.specs.Tree.tag

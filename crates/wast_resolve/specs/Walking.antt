@@ -1,7 +1,7 @@
 -- What a walk over a part of the tree does.
 use Rattle.std.specs.Prelude.{◌≡◌, List, None, Result, Ok, Err}
-use Rattle.wast_tree.specs.declared.faults.Error.{Error}
-use Rattle.wast_tree.specs.Faults.{told}
+use Rattle.wast_base.specs.declared.faults.Error.{Error}
+use Rattle.wast_base.specs.Faults.{told}
 use Rattle.wast_tree.specs.Occurrences.{Step}
 use Rattle.wast_resolve.specs.Demands.{Demand, first_unmet, Answers, Here, after_all, step_demands}
 use Rattle.wast_resolve.specs.Scopes.{Scope}

@@ -1,9 +1,9 @@
 //! The first clash of a module, where the first one of each space is known.
 
 ghost use Rattle.std.specs.Prelude.{◌≡◌, ⊤, [], None, MatchOption, option_map, slice_index_or};
-ghost use Rattle.wast_tree.specs.Ids.{marked};
-ghost use Rattle.wast_tree.specs.Faults.{told};
-ghost use Rattle.wast_tree.specs.Spaces.{rank_of};
+ghost use Rattle.wast_base.specs.Ids.{marked};
+ghost use Rattle.wast_base.specs.Faults.{told};
+ghost use Rattle.wast_base.specs.Spaces.{rank_of};
 ghost use Rattle.wast_tree.specs.Items.{field_ids, item, items};
 ghost use Rattle.wast_tree.specs.Known.{names_in};
 ghost use Rattle.wast_resolve.specs.Tree.{Space};

@@ -2,7 +2,7 @@
 #![tactic(auto, using(crate::proofs::Calling::calls_on_none, crate::proofs::Calling::calls_on_both, crate::proofs::Calling::first_refused, crate::proofs::Calling::past_id, crate::proofs::Calling::needs_first, crate::proofs::Calling::needs_second, crate::proofs::Calling::needs_kept))]
 
 ghost use Rattle.std.specs.Prelude.{◌≡◌, ℕ, List, Result, flat_map, map, option_map};
-ghost use Rattle.wast_tree.specs.declared.faults.Error.{Error};
+ghost use Rattle.wast_base.specs.declared.faults.Error.{Error};
 ghost use Rattle.wast_tree.specs.Occurrences.{Ask, if_there, in_index, in_heap, in_ref, in_val, in_storage, in_param, in_signature, in_struct_field, in_struct, in_array, in_inner, in_def, in_type};
 ghost use Rattle.wast_resolve.specs.Tree.{Index};
 ghost use Rattle.wast_resolve.specs.Tree.space;

@@ -1,7 +1,7 @@
 //! The function types of a module, copied by their positions.
 
 ghost use Rattle.std.specs.Prelude.{◌≡◌, [], ◌∷◌, ◌++◌, map, IfOk, IfErr, OnOk};
-ghost use Rattle.wast_tree.specs.Faults.{out_of_memory};
+ghost use Rattle.wast_base.specs.Faults.{out_of_memory};
 ghost use Rattle.wast_expand.specs.TypeSpace.{taken_kind};
 ghost use Rattle.wast_resolve.specs.Scopes.{signatures_in, signatures};
 

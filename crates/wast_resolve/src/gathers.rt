@@ -1,8 +1,8 @@
 //! The items of a space, gathered from the fields of a module, and the fields of a struct.
 
 ghost use Rattle.std.specs.Prelude.{◌≡◌, [], ◌∷◌, map, Option as Maybe};
-ghost use Rattle.wast_tree.specs.Ids.{Mark, marked};
-ghost use Rattle.wast_tree.specs.Spaces.{name_if};
+ghost use Rattle.wast_base.specs.Ids.{Mark, marked};
+ghost use Rattle.wast_base.specs.Spaces.{name_if};
 ghost use Rattle.wast_tree.specs.Items.{field_ids, items};
 ghost use Rattle.wast_tree.specs.Known.{name_in, names_in};
 ghost use Rattle.wast_resolve.specs.Gathers.{Gathers, with_gathered};

@@ -1,7 +1,7 @@
 //! The order of imports: each stands before what the module defines.
 
 ghost use Rattle.std.specs.Prelude.{◌≡◌, None, IfOk, IfErr, OnOk};
-ghost use Rattle.wast_tree.specs.Faults.{told};
+ghost use Rattle.wast_base.specs.Faults.{told};
 ghost use Rattle.wast_tree.specs.Imports.{defined_space};
 ghost use Rattle.wast_namespace.specs.FirstUnmet.{first_unmet, Answers};
 ghost use Rattle.wast_namespace.specs.Outcomes.{Outcome};

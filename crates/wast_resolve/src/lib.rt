@@ -31,6 +31,3 @@ pub mod names {
     pub use crate::matches::TypeReference;
     pub use crate::passes::resolve;
 }
-
-#[cfg(test)]
-mod tests;

@@ -1,9 +1,9 @@
 //! The names of the parameters and locals of a function.
 
 ghost use Rattle.std.specs.Prelude.{◌≡◌, ⊤, ◌≤◌, ◌^◌, ◌++◌, [], map, length, slice_index_or, Option as Maybe, None, IfOk, IfErr};
-ghost use Rattle.wast_tree.specs.Ids.{Mark, marked};
-ghost use Rattle.wast_tree.specs.Spaces.{name_if};
-ghost use Rattle.wast_tree.specs.Faults.{told};
+ghost use Rattle.wast_base.specs.Ids.{Mark, marked};
+ghost use Rattle.wast_base.specs.Spaces.{name_if};
+ghost use Rattle.wast_base.specs.Faults.{told};
 ghost use Rattle.wast_tree.specs.Occurrences.{Declares, declared};
 ghost use Rattle.wast_resolve.specs.Scopes.{Scope};
 ghost use Rattle.wast_resolve.specs.Demands.{first_unmet, start, step_demands};

@@ -1,8 +1,8 @@
 //! Whether an inline type is that of the index beside it.
 
 ghost use Rattle.std.specs.Prelude.{◌≡◌, List, None, map, IsTrue, OnOk, IfErr};
-ghost use Rattle.wast_tree.specs.Ids.{is_number};
-ghost use Rattle.wast_tree.specs.Faults.{told};
+ghost use Rattle.wast_base.specs.Ids.{is_number};
+ghost use Rattle.wast_base.specs.Faults.{told};
 ghost use Rattle.wast_tree.specs.Occurrences.{Ask, in_signature};
 ghost use Rattle.wast_tree.specs.Known.{Known};
 ghost use Rattle.wast_tree.specs.WellFormed.{are_settled};

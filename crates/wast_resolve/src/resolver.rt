@@ -1,7 +1,7 @@
 //! The name spaces of a module.
 
 ghost use Rattle.std.specs.Prelude.{◌≡◌, Some, IfOk, IfErr};
-ghost use Rattle.wast_tree.specs.Ids.{name_of};
+ghost use Rattle.wast_base.specs.Ids.{name_of};
 ghost use Rattle.wast_resolve.specs.LookUps.{IsSettledFor, AnswersFor};
 ghost use Rattle.wast_resolve.specs.Resolved.{numbered_at};
 ghost use Rattle.wast_namespace.specs.Namespaces.{number_in};

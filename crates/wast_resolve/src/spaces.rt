@@ -1,7 +1,7 @@
 //! The name spaces of a module, filled from its fields.
 
 ghost use Rattle.std.specs.Prelude.{◌≡◌, ⊤, None, IfOk, IfErr, OnOk, length};
-ghost use Rattle.wast_tree.specs.Faults.{told};
+ghost use Rattle.wast_base.specs.Faults.{told};
 ghost use Rattle.wast_tree.specs.Items.{items};
 ghost use Rattle.wast_tree.specs.Known.{known, names_in};
 ghost use Rattle.wast_resolve.specs.Demands.{first_unmet, item_demands, Answers, IsCrowded};

@@ -1,7 +1,7 @@
 -- What the line of a row tells.
 use Rattle.std.proofs.Common.{◌≡◌, ℕ, ◌≤◌, ◌==◌, ◌&&◌, Bool, true, false, List, Some, Result, Ok, sym, subst, rules}
 use Rattle.std.specs.Global.{Vec}
-use Rattle.wast_tree.specs.declared.faults.Error.{Error}
+use Rattle.wast_base.specs.declared.faults.Error.{Error}
 use Rattle.wast_core.specs.declared.module.Module.{Module}
 use Rattle.wast_core.specs.Headline.{Encodes}
 use Rattle.wast_core.specs.Modules.{is_well_formed, generation_bound}

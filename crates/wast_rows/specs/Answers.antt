@@ -3,10 +3,10 @@ use Rattle.std.specs.Prelude.{◌≡◌, ◌≢◌, ℕ, ◌==◌, ◌&&◌, Boo
 use Rattle.std.specs.Fmt.{decimal}
 use Rattle.std.specs.Global.{Vec}
 use Rattle.hex.specs.Hex.{encode_lower}
-use Rattle.wast_tree.specs.declared.ids.Span.{Span}
-use Rattle.wast_tree.specs.declared.faults.Error.{Error}
-use Rattle.wast_tree.specs.declared.faults.Fault.TheVariants as fault
-use Rattle.wast_tree.specs.Faults.{fault_of, span_of, fault_text}
+use Rattle.wast_base.specs.declared.ids.Span.{Span}
+use Rattle.wast_base.specs.declared.faults.Error.{Error}
+use Rattle.wast_base.specs.declared.faults.Fault.TheVariants as fault
+use Rattle.wast_base.specs.Faults.{fault_of, span_of, fault_text}
 use Rattle.wast_core.specs.declared.module.Module.{Module}
 use Rattle.wast_core.specs.Headline.{Encodes}
 use Rattle.wast_core.specs.Modules.{is_well_formed, generation_bound}

@@ -2,5 +2,4 @@ pub mod Answers
 pub mod Errors
 pub mod Lines
 pub mod Numerals
-pub mod RowNumbers
 pub mod Runs

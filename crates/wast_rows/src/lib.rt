@@ -2,19 +2,10 @@
 #![tactic(auto)]
 
 mod answers;
-#[cfg(test)]
-mod core_tests;
 mod errors;
-mod field_samples;
-mod inline_samples;
 mod numbers;
-#[cfg(test)]
-mod resolve_tests;
 mod runs;
 mod samples;
-#[cfg(test)]
-mod tests;
-mod type_samples;
 
 pub use errors::RunError;
 pub use runs::run;

@@ -6,8 +6,8 @@ use Rattle.std.proofs.lemmas.Grind.{flat_map-append}
 use Rattle.std.proofs.lemmas.List.{drop_more}
 use Rattle.std.proofs.lemmas.Iterator.Adapters.{position_from-zero}
 use Rattle.wast_tree.specs.Tree.{Space, ModuleField}
-use Rattle.wast_tree.specs.Ids.{Name}
-use Rattle.wast_tree.specs.Spaces.{same_space, name_if, is_called, is_borne}
+use Rattle.wast_base.specs.Ids.{Name}
+use Rattle.wast_base.specs.Spaces.{same_space, name_if, is_called, is_borne}
 use Rattle.wast_tree.specs.Items.{Item, items_in, items}
 use Rattle.wast_tree.specs.Known.{name_in, names_in}
 

@@ -7,7 +7,7 @@ use Rattle.std.specs.Prelude.{Option, Some, None, map}
 use Rattle.wast_tree.specs.Tree.{Index, FunctionType, TypeUse, Expression, Local, FuncKind, Func}
 use Rattle.wast_tree.specs.Tree.func
 use Rattle.wast_tree.specs.Occurrences.{Ask, Step, Declares, Occurrence, Body, steps, outside, if_there, in_expression, in_use, in_constant, in_constant_if, in_type_use, in_body, in_locals, matched_by, matched, declared, declared_params, declared_locals, in_func_kind, in_func, asked_in_step, asked_in_steps, asked_in, asked}
-use Rattle.wast_tree.specs.Ids.{Mark, marked}
+use Rattle.wast_base.specs.Ids.{Mark, marked}
 use Rattle.wast_tree.specs.Visits.{Tells, Visits}
 
 tells_both : {V A : Type 0} (told : V → A → V → Type 0) (a b c : V) (xs ys : List A) → Tells told a xs b → Tells told b ys c → Tells told a (xs ++ ys) c

@@ -2,7 +2,7 @@
 use Rattle.std.specs.Prelude.{ℕ, max, List, [], ◌∷◌, map, Option, Some, None}
 use Rattle.wast_tree.specs.Tree.{Index, ModuleField}
 use Rattle.wast_tree.specs.Tree.index
-use Rattle.wast_tree.specs.Ids.{Mark, name_of, generation_of}
+use Rattle.wast_base.specs.Ids.{Mark, name_of, generation_of}
 use Rattle.wast_tree.specs.Items.{Item, items}
 use Rattle.wast_tree.specs.Occurrences.{Ask, Wants, Bare, asked, in_module}
 

@@ -7,7 +7,7 @@ use Rattle.wast_tree.specs.Tree.ty
 use Rattle.wast_tree.specs.Tree.import_items
 use Rattle.wast_tree.specs.Tree.kind
 use Rattle.wast_tree.specs.Tree.field
-use Rattle.wast_tree.specs.Ids.{Mark, marked}
+use Rattle.wast_base.specs.Ids.{Mark, marked}
 
 -- an item of a space, with its id if it has one; of a struct type also the ids of its fields, in their order
 pub record Item : Type 0 where

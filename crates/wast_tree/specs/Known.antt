@@ -1,8 +1,8 @@
 -- What the items of a module make known: the number that a name denotes in each space.
 use Rattle.std.specs.Prelude.{ℕ, List, [], ◌∷◌, Option, flat_map, if◌then◌else◌}
 use Rattle.wast_tree.specs.Tree.{Space}
-use Rattle.wast_tree.specs.Ids.{Name}
-use Rattle.wast_tree.specs.Spaces.{same_space, name_if, position_of}
+use Rattle.wast_base.specs.Ids.{Name}
+use Rattle.wast_base.specs.Spaces.{same_space, name_if, position_of}
 use Rattle.wast_tree.specs.Items.{Item}
 
 -- the names of the items of a space, by their positions

@@ -1,19 +1,13 @@
--- What the contracts cite. The tree, its ids and its spaces come first; then what a list of fields gives: its items, what
+-- What the contracts cite. The tree comes first; then what a list of fields gives: its items, what
 -- it asks, what it makes known, whether it is well formed and written out, and the greatest generation of its ids.
 pub mod DataBytes
-pub mod Faults
-pub mod Filling
 pub mod Generations
-pub mod Gensym
-pub mod Ids
 pub mod Imports
 pub mod Items
 pub mod Known
-pub mod Lending
 pub mod Occurrences
 pub mod Private
 pub mod WorkedModules
-pub mod Spaces
 pub mod Tree
 pub mod Visits
 pub mod WellFormed

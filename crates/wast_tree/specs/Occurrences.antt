@@ -20,7 +20,7 @@ use Rattle.wast_tree.specs.Tree.payload
 use Rattle.wast_tree.specs.Tree.data_kind
 use Rattle.wast_tree.specs.Tree.export
 use Rattle.wast_tree.specs.Tree.field
-use Rattle.wast_tree.specs.Ids.{Mark, mark_of, marked}
+use Rattle.wast_base.specs.Ids.{Mark, mark_of, marked}
 
 pub data Ask : Type 0 where
   -- an index, a number or an id, where one of this space is wanted

@@ -1,5 +1,5 @@
 -- Which lists of fields are well formed, as a test.
-use Rattle.std.specs.Prelude.{ℕ, nat_lt, Bool, true, false, not, ◌&&◌, ◌||◌, ◌==◌, is_none, is_some, length, List, Option, Some, None}
+use Rattle.std.specs.Prelude.{ℕ, nat_lt, Bool, true, false, not, ◌&&◌, ◌==◌, is_none, length, List, Option, Some, None}
 use Rattle.std.specs.List.{list_all}
 use Rattle.wast_tree.specs.Tree.{Id, Index, NameAnnotation, HeapType, ValType, StorageType, StructField, FunctionType, TypeUse, InnerTypeKind, TypeDef, AbstractHeapType, RefType, Local, Instruction, Expression, FuncKind, Func, TableType, GlobalType, TagType, ItemKind, ImportItems, TableKind, MemoryKind, GlobalKind, Global, ElemKind, ElemPayload, Elem, DataKind, ModuleField}
 use Rattle.wast_tree.specs.Tree.index
@@ -21,16 +21,12 @@ use Rattle.wast_tree.specs.Tree.elem
 use Rattle.wast_tree.specs.Tree.payload
 use Rattle.wast_tree.specs.Tree.data_kind
 use Rattle.wast_tree.specs.Tree.field
-use Rattle.wast_tree.specs.Ids.{Name, is_generated, name_of}
+use Rattle.wast_base.specs.Spaces.{is_settled_index}
 use Rattle.wast_tree.specs.Items.{items}
 use Rattle.wast_tree.specs.Occurrences.{Ask, Wants, Bare, asked, in_module}
 use Rattle.wast_tree.specs.Known.{Known, known}
 
--- A generated id where an index is wanted is that of an item of the space.
-abbrev pub is_settled_index : (Name → Option ℕ) → Index → Bool
-is_settled_index number (index.Num n span) = true
-is_settled_index number (index.Id id) = not (is_generated (name_of id)) || is_some (number (name_of id))
-
+-- What is asked is settled.
 abbrev pub is_settled : Known → Ask → Bool
 is_settled k (Wants s i) = is_settled_index (k.number s) i
 is_settled k (Bare m) = true

@@ -15,7 +15,7 @@ use Rattle.wast_tree.specs.Tree.data_kind
 use Rattle.wast_tree.specs.Tree.bytes
 use Rattle.wast_tree.specs.Tree.export
 use Rattle.wast_tree.specs.Tree.field
-use Rattle.wast_tree.specs.Ids.{written}
+use Rattle.wast_base.specs.Ids.{written}
 
 -- where a text lies
 abbrev pub Address : Type 0

@@ -1,17 +1,16 @@
 //! Which item has an id.
 
 ghost use Rattle.std.specs.Prelude.{◌≡◌, ⊤, ◌<◌, ◌≤◌, ◌||◌, length, is_some, MatchOption};
-ghost use Rattle.wast_tree.specs.Ids.{name_of, marked};
-ghost use Rattle.wast_tree.specs.Spaces.{is_borne, is_called, name_if};
+ghost use Rattle.wast_base.specs.Ids.{name_of, marked};
+ghost use Rattle.wast_base.specs.Spaces.{is_borne, is_called, name_if};
 ghost use Rattle.wast_tree.specs.Items.{items_in, items};
 ghost use Rattle.wast_tree.specs.Known.{names_in};
 ghost use Rattle.wast_tree.specs.Private.Bearers.{bears};
 
 use crate::fields::ModuleField;
-use crate::ids::Id;
-use crate::spaces::Space;
 use crate::types::StructField;
 use crate::visits::{ItemVisitor, visit_items_in};
+use wast_base::{Id, Space};
 
 /// An id, and the space in which an item with it is looked for.
 #[derive(Clone, Copy)]

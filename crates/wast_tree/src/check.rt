@@ -2,21 +2,20 @@
 
 ghost use Rattle.std.specs.Prelude.{◌≡◌, ◌&&◌, Bool};
 ghost use Rattle.std.specs.List.{list_all};
-ghost use Rattle.wast_tree.specs.Ids.{name_of};
-ghost use Rattle.wast_tree.specs.Spaces.{is_borne};
+ghost use Rattle.wast_base.specs.Ids.{name_of};
+ghost use Rattle.wast_base.specs.Spaces.{is_borne, is_settled_index};
 ghost use Rattle.wast_tree.specs.Items.{items};
 ghost use Rattle.wast_tree.specs.Known.{known, names_in};
-ghost use Rattle.wast_tree.specs.WellFormed.{is_settled_index, is_settled, is_plain_heap, is_plain_val, is_plain_storage, is_plain_param, is_plain_signature, is_plain_struct_field, is_plain_inner, is_plain_type, is_plain_local, is_plain_instr, is_plain_expression, is_plain_type_use, is_plain_func_kind, is_plain_func, is_plain_field, has_settled_indices, is_well_formed};
+ghost use Rattle.wast_tree.specs.WellFormed.{is_settled, is_plain_heap, is_plain_val, is_plain_storage, is_plain_param, is_plain_signature, is_plain_struct_field, is_plain_inner, is_plain_type, is_plain_local, is_plain_instr, is_plain_expression, is_plain_type_use, is_plain_func_kind, is_plain_func, is_plain_field, has_settled_indices, is_well_formed};
 
 use crate::bearers::bearer_from;
 use crate::fields::{Func, FuncKind, Local, ModuleField};
-use crate::ids::{Id, Index, NameAnnotation};
 use crate::instrs::{Expression, Instruction};
-use crate::spaces::Space;
 use crate::types::{
     FunctionType, HeapType, InnerTypeKind, StorageType, StructField, Type, TypeUse, ValType,
 };
 use crate::visits::{Visitor, visit_fields};
+use wast_base::{Id, Index, NameAnnotation, Space};
 
 /// Whether each generated id that it was told of, where an index is wanted, is that of an item of the fields.
 ///

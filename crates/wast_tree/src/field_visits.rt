@@ -7,8 +7,8 @@ use crate::entities::{GlobalType, TableType, TagType};
 use crate::fields::{Export, Global, GlobalKind, MemoryKind, TableKind};
 use crate::imports::{ImportItems, ItemKind};
 use crate::segments::{DataKind, Elem, ElemKind, ElemPayload};
-use crate::spaces::Space;
 use crate::visits::{Visit, Visitor, visit_index, visit_indices};
+use wast_base::Space;
 
 impl Visit for TableType<'_> {
     ghost asks = { in_table_type };

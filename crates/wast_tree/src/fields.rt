@@ -4,13 +4,11 @@ ghost use Rattle.std.specs.Prelude.{◌≡◌};
 ghost use Rattle.wast_tree.specs.Occurrences.{exported_space};
 
 use crate::entities::{GlobalType, MemoryType, TableType, TagType};
-use crate::ids::{Id, Index, NameAnnotation, Span};
 use crate::imports::Imports;
 use crate::instrs::Expression;
 use crate::segments::{Data, DataVal, Elem, ElemPayload};
-use crate::seq::Seq;
-use crate::spaces::Space;
 use crate::types::{FunctionType, Rec, RefType, Type, TypeUse, ValType};
+use wast_base::{Id, Index, NameAnnotation, Seq, Space, Span};
 
 /// A field of a module (text format, modules).
 #[derive(Debug, Drop)]

@@ -1,14 +1,13 @@
 //! The greatest generation of the ids of a module.
 
 ghost use Rattle.std.specs.Prelude.{◌≡◌, max};
-ghost use Rattle.wast_tree.specs.Ids.{name_of, generation_of};
+ghost use Rattle.wast_base.specs.Ids.{name_of, generation_of};
 ghost use Rattle.wast_tree.specs.Generations.{generation_if, generation_at, generation_in, greatest_generation};
 
 use crate::fields::ModuleField;
-use crate::ids::{Id, Index};
-use crate::spaces::Space;
 use crate::types::StructField;
 use crate::visits::{ItemVisitor, Visitor, visit_fields, visit_items};
+use wast_base::{Id, Index, Space};
 
 /// The greatest generation of the ids that it was told of.
 #[derive(Drop)]

@@ -1,17 +1,15 @@
 //! Imports.
 
 ghost use Rattle.std.specs.Prelude.{◌≡◌, ◌<◌, length, map, slice_index_or, IfOk, IfErr};
-ghost use Rattle.wast_tree.specs.Faults.{out_of_memory};
+ghost use Rattle.wast_base.specs.Faults.{out_of_memory};
 ghost use Rattle.wast_tree.specs.Imports.{item_sigs, unique_sigs};
 ghost use Rattle.wast_tree.specs.Items.{space_of_kind};
 ghost use Rattle.wast_tree.specs.Tree.import_items;
 
 use crate::entities::{GlobalType, MemoryType, TableType, TagType};
-use crate::faults::Error;
-use crate::ids::{Id, NameAnnotation, Span};
-use crate::spaces::Space;
 use crate::types::{FunctionType, TypeUse};
 use std::alloc::Global;
+use wast_base::{Error, Id, NameAnnotation, Space, Span};
 
 /// Imports of one field: `(import "m" "n" (func $f))` (text format, imports).
 #[derive(Debug, Drop)]

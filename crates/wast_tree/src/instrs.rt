@@ -1,33 +1,11 @@
 //! Instructions of the text format.
 
 ghost use Rattle.std.specs.Prelude.{◌≡◌, [], ◌∷◌, IfOk, IfErr};
-ghost use Rattle.wast_tree.specs.Faults.{out_of_memory};
+ghost use Rattle.wast_base.specs.Faults.{out_of_memory};
 
-use crate::faults::Error;
-use crate::ids::Index;
-use crate::seq::Seq;
 use crate::types::HeapType;
 use std::alloc::Global;
-
-/// An instruction whose text is one word without a dot, and that has no immediate (text format, instructions). The number
-/// of a variant is its opcode.
-#[allow(non_camel_case_types)]
-#[derive(Clone, Copy, Debug, PartialEq, Eq)]
-pub enum BareOp {
-    /// `unreachable`
-    unreachable = 0x00,
-    /// `nop`
-    nop = 0x01,
-    /// `drop`
-    drop = 0x1a,
-}
-
-/// An instruction that has no immediate, by the first word of its text (text format, instructions).
-#[derive(Clone, Copy, Debug, PartialEq, Eq)]
-pub enum Plain {
-    /// One whose text has no dot.
-    Bare(BareOp),
-}
+use wast_base::{Error, Index, Plain, Seq};
 
 /// An instruction (text format, instructions). Each variant but the classes has the name of its text, with `_` for `.`.
 #[allow(non_camel_case_types)]

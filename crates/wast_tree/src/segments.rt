@@ -2,13 +2,11 @@
 
 ghost use Rattle.std.specs.Prelude.{◌≡◌, ◌++◌, length, OnOk, OnErr, IfErr};
 ghost use Rattle.wast_tree.specs.DataBytes.{data_bytes};
-ghost use Rattle.wast_tree.specs.Faults.{out_of_memory};
+ghost use Rattle.wast_base.specs.Faults.{out_of_memory};
 
-use crate::faults::Error;
-use crate::ids::{Id, Index, NameAnnotation, Span};
 use crate::instrs::Expression;
-use crate::seq::Seq;
 use crate::types::RefType;
+use wast_base::{Error, Id, Index, NameAnnotation, Seq, Span};
 
 /// An element segment: `(elem $e (table $t) (offset ..) func $f)` (text format, element segments).
 #[derive(Debug, Drop)]

@@ -1,7 +1,6 @@
 //! Types of the text format.
 
-use crate::ids::{Id, Index, NameAnnotation, Span};
-use crate::seq::Seq;
+use wast_base::{Id, Index, NameAnnotation, Seq, Span};
 
 /// A value type (text format, value types).
 #[derive(Clone, Copy, Debug, PartialEq, Eq, Hash)]

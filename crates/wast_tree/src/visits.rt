@@ -3,21 +3,19 @@
 
 ghost use Rattle.std.specs.Prelude.{◌≡◌, ◌++◌, List};
 ghost use Rattle.std.specs.Prelude.{flat_map};
-ghost use Rattle.wast_tree.specs.Ids.{mark_of};
+ghost use Rattle.wast_base.specs.Ids.{mark_of};
 ghost use Rattle.wast_tree.specs.Items.{Item, item, fields_of, items_of_type, items_of_import, items_in, items};
 ghost use Rattle.wast_tree.specs.Occurrences.{Ask, Wants, Bare, if_there, in_index, in_id, in_heap, in_ref, in_val, in_storage, in_param, in_signature, in_struct_field, in_struct, in_array, in_inner, in_def, in_type, in_rec, in_type_use, in_instr, in_expression, in_local, in_locals, in_body, outside, in_func, in_field, in_module, asked, asked_in_steps};
 ghost use Rattle.wast_tree.specs.Visits.{Visits};
 
 use crate::fields::{Func, FuncKind, Local, ModuleField};
-use crate::ids::{Id, Index, NameAnnotation};
 use crate::imports::ImportItems;
 use crate::instrs::{Expression, Instruction};
-use crate::seq::Seq;
-use crate::spaces::Space;
 use crate::types::{
     ArrayType, FunctionType, HeapType, InnerTypeKind, Rec, RefType, StorageType, StructField,
     StructType, Type, TypeDef, TypeUse, ValType,
 };
+use wast_base::{Id, Index, NameAnnotation, Seq, Space};
 
 /// What is told of the items of a module (text format, modules), as a count or a list of them.
 pub trait ItemVisitor<'a> {

@@ -1,8 +1,8 @@
 -- Whether an item has the id that is sought.
 use Rattle.std.specs.Prelude.{Bool, ◌&&◌}
 use Rattle.wast_tree.specs.declared.bearers.Sought.{Sought}
-use Rattle.wast_tree.specs.Ids.{name_of}
-use Rattle.wast_tree.specs.Spaces.{same_space, is_called, name_if}
+use Rattle.wast_base.specs.Ids.{name_of}
+use Rattle.wast_base.specs.Spaces.{same_space, is_called, name_if}
 use Rattle.wast_tree.specs.Items.{Item}
 
 abbrev pub bears : Sought → Item → Bool

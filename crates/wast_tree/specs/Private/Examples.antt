@@ -19,7 +19,7 @@ use Rattle.wast_tree.specs.Tree.elem
 use Rattle.wast_tree.specs.Tree.payload
 use Rattle.wast_tree.specs.Tree.bytes
 use Rattle.wast_tree.specs.Tree.field
-use Rattle.wast_tree.specs.Ids.{Name, Written, Generated, Mark, mark_of, generated, same_id, same_index}
+use Rattle.wast_base.specs.Ids.{Name, Written, Generated, Mark, mark_of, generated, same_id, same_index}
 use Rattle.wast_tree.specs.Items.{items}
 use Rattle.wast_tree.specs.Occurrences.{Wants, Bare, Named, Matches, Declares, Outside, Body, in_module, asked}
 use Rattle.wast_tree.specs.Known.{known}

@@ -1,6 +1,6 @@
 use Rattle.std.proofs.Common.{◌∙◌, ap}
 use Rattle.std.specs.List.{list_all}
-use Rattle.wast_tree.specs.Ids.{is_number}
+use Rattle.wast_base.specs.Ids.{is_number}
 use Rattle.wast_conv.specs.Tree.space
 use Rattle.wast_conv.proofs.EachPasses.{numbers_only}
 use Rattle.wast_conv.proofs.TypesReady.{described_numbered}

@@ -1,6 +1,6 @@
 use Rattle.std.proofs.Common.{◌∙◌, subst}
 use Rattle.std.proofs.lemmas.Result.{err_from_is_err_and}
-use Rattle.wast_tree.specs.Filling.{RunsOut}
+use Rattle.wast_base.specs.Filling.{RunsOut}
 use Rattle.wast_expand.proofs.Expanding.{counts, lists}
 use Rattle.wast_expand.proofs.expansion.expand_fields.Goals as goal
 

@@ -1,5 +1,5 @@
 use Rattle.std.proofs.Common.{◌≡◌, ◌+◌, ◌≤◌, ◌++◌, take, drop, length}
-use Rattle.wast_tree.specs.Filling.{filled, wanted}
+use Rattle.wast_base.specs.Filling.{filled, wanted}
 use Rattle.wast_expand.specs.Expanded.{lacks_id, with_id}
 use Rattle.wast_expand.proofs.expansion.name_types.Given as goal
 

@@ -1,6 +1,6 @@
 use Rattle.std.proofs.Common.{◌+◌, ◌-◌, ◌/◌, ◌<◌, length, sym, ◌∙◌, arith}
 use Rattle.std.specs.declared.cmp.Ordering.TheVariants.{Less, Equal, Greater}
-use Rattle.wast_tree.specs.Ids.{name_of}
+use Rattle.wast_base.specs.Ids.{name_of}
 use Rattle.wast_namespace.specs.Namespaces.{key_of}
 use Rattle.wast_namespace.proofs.Searches.{any_answer, found_at, raised, lowered}
 use Rattle.wast_namespace.proofs.order.place_between.Goals as goal

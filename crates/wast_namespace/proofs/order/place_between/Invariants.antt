@@ -1,5 +1,5 @@
 use Rattle.std.proofs.Common.{◌-◌}
-use Rattle.wast_tree.specs.Ids.{name_of}
+use Rattle.wast_base.specs.Ids.{name_of}
 use Rattle.wast_namespace.specs.Namespaces.{key_of}
 use Rattle.wast_namespace.specs.Places.{IsBetween}
 use Rattle.wast_namespace.proofs.order.place_between.Given as goal

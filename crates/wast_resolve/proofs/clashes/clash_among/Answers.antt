@@ -1,7 +1,7 @@
 use Rattle.std.proofs.Common.{option_map, sym, subst}
 use Rattle.std.proofs.Math.ListN.{get_or-map}
-use Rattle.wast_tree.specs.Ids.{marked}
-use Rattle.wast_tree.specs.Faults.{told}
+use Rattle.wast_base.specs.Ids.{marked}
+use Rattle.wast_base.specs.Faults.{told}
 use Rattle.wast_tree.specs.Items.{field_ids}
 use Rattle.wast_resolve.specs.Clashes.{FindsAmong}
 use Rattle.wast_resolve.proofs.FieldClashes.{finds_none, finds_clash}

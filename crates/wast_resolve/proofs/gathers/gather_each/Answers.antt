@@ -1,7 +1,7 @@
 use Rattle.std.proofs.Common.{arith, ap}
 use Rattle.std.proofs.lemmas.Result.{err_from_is_err_and}
-use Rattle.wast_tree.specs.Faults.{told}
-use Rattle.wast_tree.specs.Spaces.{name_if}
+use Rattle.wast_base.specs.Faults.{told}
+use Rattle.wast_base.specs.Spaces.{name_if}
 use Rattle.wast_resolve.proofs.Declaring.{stops_at}
 use Rattle.wast_resolve.proofs.gathers.gather_each.Goals as goal
 

@@ -1,5 +1,5 @@
 use Rattle.std.proofs.Common.{◌≡◌, ◌++◌, map, drop}
-use Rattle.wast_tree.specs.Spaces.{name_if}
+use Rattle.wast_base.specs.Spaces.{name_if}
 use Rattle.wast_resolve.proofs.gathers.gather_each.Given as goal
 
 abbrev pub invariant-loop-item : goal.invariant-loop-item

@@ -1,7 +1,7 @@
 use Rattle.std.proofs.Common.{◌++◌, map, sym, ap, ◌∙◌}
 use Rattle.std.proofs.lemmas.Simd.{map-map}
-use Rattle.wast_tree.specs.Ids.{marked}
-use Rattle.wast_tree.specs.Spaces.{name_if}
+use Rattle.wast_base.specs.Ids.{marked}
+use Rattle.wast_base.specs.Spaces.{name_if}
 use Rattle.wast_resolve.proofs.gathers.gather_fields.Goals as goal
 
 pub returns : goal.returns

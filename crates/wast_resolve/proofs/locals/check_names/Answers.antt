@@ -1,7 +1,7 @@
 use Rattle.std.proofs.Common.{◌∙◌, subst, Some, None}
 use Rattle.std.proofs.lemmas.Result.{err_from_is_err_and}
-use Rattle.wast_tree.specs.Ids.{marked}
-use Rattle.wast_tree.specs.Faults.{told}
+use Rattle.wast_base.specs.Ids.{marked}
+use Rattle.wast_base.specs.Faults.{told}
 use Rattle.wast_resolve.specs.Locals.{marks, names}
 use Rattle.wast_namespace.specs.Filling.{HasFirstClash}
 use Rattle.wast_resolve.proofs.Unmet.{answers_more}

@@ -1,6 +1,6 @@
 use Rattle.std.proofs.Common.{◌++◌, map, ap, ◌∙◌}
-use Rattle.wast_tree.specs.Ids.{marked}
-use Rattle.wast_tree.specs.Spaces.{name_if}
+use Rattle.wast_base.specs.Ids.{marked}
+use Rattle.wast_base.specs.Spaces.{name_if}
 use Rattle.wast_resolve.proofs.Declaring.{names_are}
 use Rattle.wast_resolve.proofs.locals.gather_locals.Goals as goal
 

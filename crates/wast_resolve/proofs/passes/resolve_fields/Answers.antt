@@ -1,6 +1,6 @@
 use Rattle.std.proofs.Common.{◌∙◌, ap, map}
 use Rattle.std.proofs.lemmas.Result.{err_from_is_err_and}
-use Rattle.wast_tree.specs.Faults.{told}
+use Rattle.wast_base.specs.Faults.{told}
 use Rattle.wast_tree.specs.Known.{Known}
 use Rattle.wast_resolve.specs.Scopes.{signatures}
 use Rattle.wast_resolve.specs.Resolved.{resolved_field}

@@ -1,7 +1,7 @@
 use Rattle.std.proofs.Common.{refl, ap, ◌∙◌, get_or}
 use Rattle.std.proofs.lemmas.Result.{err_from_is_err_and}
-use Rattle.wast_tree.specs.Faults.{told}
-use Rattle.wast_tree.specs.Spaces.{spaces}
+use Rattle.wast_base.specs.Faults.{told}
+use Rattle.wast_base.specs.Spaces.{spaces}
 use Rattle.wast_tree.specs.Items.{items}
 use Rattle.wast_resolve.specs.Resolvers.{known_of}
 use Rattle.wast_resolve.specs.Demands.{first_unmet, item_demands}

@@ -1,6 +1,6 @@
 use Rattle.std.proofs.Common.{arith}
 use Rattle.std.proofs.lemmas.Result.{err_from_is_err_and}
-use Rattle.wast_tree.specs.Faults.{told}
+use Rattle.wast_base.specs.Faults.{told}
 use Rattle.wast_resolve.proofs.Each.{stops, goes_on}
 use Rattle.wast_resolve.proofs.walks.walk_each.Goals as goal
 

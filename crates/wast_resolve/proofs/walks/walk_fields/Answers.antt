@@ -1,6 +1,6 @@
 use Rattle.std.proofs.Common.{arith, ◌<◌, length}
 use Rattle.std.proofs.lemmas.Result.{err_from_is_err_and}
-use Rattle.wast_tree.specs.Faults.{told}
+use Rattle.wast_base.specs.Faults.{told}
 use Rattle.wast_resolve.proofs.Each.{stops_with, split, goes_on}
 use Rattle.wast_resolve.proofs.Counted.{many_at}
 use Rattle.wast_resolve.proofs.Unmet.{answers_more}

@@ -1,6 +1,6 @@
 use Rattle.std.proofs.Common.{arith}
 use Rattle.std.proofs.lemmas.Result.{err_from_is_err_and}
-use Rattle.wast_tree.specs.Faults.{told}
+use Rattle.wast_base.specs.Faults.{told}
 use Rattle.wast_resolve.specs.Demands.{start}
 use Rattle.wast_resolve.proofs.Stepping.{partway_more, partway_stops}
 use Rattle.wast_resolve.proofs.walks.walk_instrs.Goals as goal

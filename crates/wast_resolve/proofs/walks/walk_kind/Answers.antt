@@ -1,7 +1,7 @@
 use Rattle.std.specs.Prelude.{⊤, ◌≤◌, ◌^◌}
 use Rattle.std.proofs.Common.{◌≡◌, ◌∙◌, ◌++◌, ap, sym, subst, length, None}
 use Rattle.std.proofs.lemmas.Result.{err_from_is_err_and}
-use Rattle.wast_tree.specs.Faults.{told}
+use Rattle.wast_base.specs.Faults.{told}
 use Rattle.wast_tree.specs.Occurrences.{in_locals, in_body, declared}
 use Rattle.wast_resolve.specs.Demands.{first_unmet, Answers, start, ask_demands, step_demands}
 use Rattle.wast_resolve.specs.Locals.{opening}

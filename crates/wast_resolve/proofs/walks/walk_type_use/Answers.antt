@@ -1,6 +1,6 @@
 use Rattle.std.proofs.Common.{◌∙◌, ap, sym, subst}
 use Rattle.std.proofs.lemmas.Result.{err_from_is_err_and}
-use Rattle.wast_tree.specs.Faults.{told}
+use Rattle.wast_base.specs.Faults.{told}
 use Rattle.wast_tree.specs.Occurrences.{in_type_use, matched}
 use Rattle.wast_resolve.specs.Demands.{first_unmet, Answers, start, ask_demands, step_demands}
 use Rattle.wast_resolve.specs.Resolvers.{scope_of}

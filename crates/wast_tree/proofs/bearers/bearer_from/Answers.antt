@@ -1,5 +1,5 @@
 use Rattle.std.specs.Prelude.{is_some}
-use Rattle.wast_tree.specs.Ids.{name_of}
+use Rattle.wast_base.specs.Ids.{name_of}
 use Rattle.wast_tree.proofs.Bearing.{borne_after, borne_before}
 use Rattle.wast_tree.proofs.bearers.bearer_from.Goals as goal
 

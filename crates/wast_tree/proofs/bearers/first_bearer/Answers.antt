@@ -1,5 +1,5 @@
 use Rattle.std.proofs.Common.{sym, ◌∙◌}
-use Rattle.wast_tree.specs.Ids.{name_of}
+use Rattle.wast_base.specs.Ids.{name_of}
 use Rattle.wast_tree.proofs.Bearing.{borne_from, found_here, passed}
 use Rattle.wast_tree.proofs.bearers.first_bearer.Goals as goal
 

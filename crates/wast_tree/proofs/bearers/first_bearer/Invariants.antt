@@ -1,6 +1,6 @@
 use Rattle.std.proofs.Common.{◌≡◌, drop}
-use Rattle.wast_tree.specs.Ids.{name_of}
-use Rattle.wast_tree.specs.Spaces.{is_borne}
+use Rattle.wast_base.specs.Ids.{name_of}
+use Rattle.wast_base.specs.Spaces.{is_borne}
 use Rattle.wast_tree.specs.Items.{items}
 use Rattle.wast_tree.specs.Known.{names_in}
 use Rattle.wast_tree.proofs.bearers.first_bearer.Given as goal

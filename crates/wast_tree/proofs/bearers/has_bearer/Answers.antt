@@ -1,5 +1,5 @@
 use Rattle.std.proofs.Common.{sym, ◌∙◌}
-use Rattle.wast_tree.specs.Ids.{name_of}
+use Rattle.wast_base.specs.Ids.{name_of}
 use Rattle.wast_tree.specs.Items.{items_in}
 use Rattle.wast_tree.specs.Private.Bearers.{bears}
 use Rattle.wast_tree.proofs.Telling.{any_told}

@@ -1,6 +1,6 @@
 use Rattle.std.proofs.Common.{ap, sym, ◌∙◌, ◌==◌, ◌&&◌, length, map}
 use Rattle.std.specs.List.{list_all}
-use Rattle.wast_tree.specs.Ids.{is_number}
+use Rattle.wast_base.specs.Ids.{is_number}
 use Rattle.wasm_ops.specs.Spelling.{composite_inner_type, sub_bytes}
 use Rattle.wast_conv.specs.Meaning as meaning
 use Rattle.wast_conv.specs.Encodable.{is_encodable_inner}

@@ -1,7 +1,7 @@
 use Rattle.std.proofs.Common.{◌++◌, ap, sym, ◌∙◌, subst}
 use Rattle.std.proofs.lemmas.Result.{err_from_is_err_and}
 use Rattle.wast_expand.specs.NeedingUses.{needed_by_kind}
-use Rattle.wast_tree.specs.Filling.{RunsOut}
+use Rattle.wast_base.specs.Filling.{RunsOut}
 use Rattle.wast_expand.specs.Expanders.{LookUp}
 use Rattle.wast_expand.specs.Expanded.{bindings, bound_use}
 use Rattle.wast_expand.specs.Binding.{state, new_types}

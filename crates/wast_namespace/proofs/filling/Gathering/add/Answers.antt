@@ -1,6 +1,6 @@
 use Rattle.std.proofs.Common.{◌+◌, ◌++◌, ◌∷◌, [], sym, ap, ◌∙◌, subst, length, arith}
-use Rattle.wast_tree.specs.Ids.{marked}
-use Rattle.wast_tree.specs.Spaces.{name_if}
+use Rattle.wast_base.specs.Ids.{marked}
+use Rattle.wast_base.specs.Spaces.{name_if}
 use Rattle.wast_namespace.specs.declared.filling.Gathering.TheInside.{Inside}
 use Rattle.wast_namespace.proofs.Gathered.{IsOneMore, one_unnamed, one_named, gathered_length}
 use Rattle.wast_namespace.proofs.filling.Gathering.add.Goals as goal

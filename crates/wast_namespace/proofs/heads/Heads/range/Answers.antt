@@ -1,5 +1,5 @@
 use Rattle.std.proofs.Common.{rules, ◌≡◌, ◌<◌, length, ap, ◌∙◌}
-use Rattle.wast_tree.specs.Ids.{name_of}
+use Rattle.wast_base.specs.Ids.{name_of}
 use Rattle.wast_namespace.specs.Namespaces.{key_of}
 use Rattle.wast_namespace.specs.Heads.{head}
 use Rattle.wast_namespace.proofs.HeadRanges.{kept_rise, kept_range}

@@ -1,6 +1,6 @@
 use Rattle.std.proofs.Common.{sym, ◌∙◌, ap, Some}
 use Rattle.std.specs.FinMap.{get}
-use Rattle.wast_tree.specs.Ids.{name_of}
+use Rattle.wast_base.specs.Ids.{name_of}
 use Rattle.wast_namespace.specs.Namespaces.{NameSpace, key_of}
 use Rattle.wast_namespace.specs.Places.{IsAt, IsGap}
 use Rattle.wast_namespace.proofs.Searches.{get_sorted, find_at, find_gap}

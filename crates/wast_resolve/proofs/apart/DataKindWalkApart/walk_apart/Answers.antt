@@ -1,6 +1,6 @@
 use Rattle.std.proofs.Common.{ap, ◌∙◌}
 use Rattle.std.proofs.lemmas.Result.{err_from_is_err_and}
-use Rattle.wast_tree.specs.Faults.{told}
+use Rattle.wast_base.specs.Faults.{told}
 use Rattle.wast_tree.specs.Occurrences.{in_data_kind}
 use Rattle.wast_resolve.specs.Resolvers.{scope_of}
 use Rattle.wast_resolve.specs.TwoSteps.{in_data_memory, in_data_offset, with_data_offset}

@@ -1,0 +1,129 @@
+-- Faults, without where their texts lie in memory.
+use Rattle.std.specs.Prelude.{ℕ, Bool, true, false, List, ◌++◌, codes, Option, Some, None}
+use Rattle.std.specs.Fmt.{decimal}
+use Rattle.wast_base.specs.declared.ids.Span.{Span}
+use Rattle.wast_base.specs.declared.faults.Form.{Form}
+use Rattle.wast_base.specs.declared.faults.Form.TheVariants as form
+use Rattle.wast_base.specs.declared.faults.Fault.{Fault}
+use Rattle.wast_base.specs.declared.faults.Fault.TheVariants as fault
+use Rattle.wast_base.specs.declared.faults.Error.{Error}
+
+-- a fault with its texts as bytes
+pub data Refusal : Type 0 where
+  ImportAfter : List ℕ → Refusal
+  Duplicate : List ℕ → Refusal
+  DuplicateField : List ℕ → List ℕ → Refusal
+  Unknown : List ℕ → List ℕ → Refusal
+  NotFunc : Refusal
+  OutOfBounds : Refusal
+  NoMatch : Refusal
+  Labels : Refusal
+  NoNamedFields : List ℕ → ℕ → Refusal
+  TooLarge : Refusal
+  Uncovered : Form → Refusal
+  Memory : Refusal
+  Component : Refusal
+
+abbrev pub refusal_of : Fault → Refusal
+refusal_of (fault.ImportAfter kind) = ImportAfter kind.now
+refusal_of (fault.Duplicate kind) = Duplicate kind.now
+refusal_of (fault.DuplicateField kind name) = DuplicateField kind.now name.now
+refusal_of (fault.Unknown kind name) = Unknown kind.now name.now
+refusal_of fault.NotFunc = NotFunc
+refusal_of fault.OutOfBounds = OutOfBounds
+refusal_of fault.NoMatch = NoMatch
+refusal_of fault.Labels = Labels
+refusal_of (fault.NoNamedFields name n) = NoNamedFields name.now n
+refusal_of fault.TooLarge = TooLarge
+refusal_of (fault.Uncovered f) = Uncovered f
+refusal_of fault.Memory = Memory
+refusal_of fault.Component = Component
+
+-- what an error says, and where
+abbrev pub fault_of : Error → Fault
+fault_of e = e.fault
+
+abbrev pub span_of : Error → Option Span
+span_of e = e.span
+
+abbrev pub fault_number : Fault → ℕ
+fault_number (fault.ImportAfter kind) = 1
+fault_number (fault.Duplicate kind) = 2
+fault_number (fault.DuplicateField kind name) = 3
+fault_number (fault.Unknown kind name) = 4
+fault_number fault.NotFunc = 5
+fault_number fault.OutOfBounds = 6
+fault_number fault.NoMatch = 7
+fault_number fault.Labels = 8
+fault_number (fault.NoNamedFields name n) = 9
+fault_number fault.TooLarge = 10
+fault_number (fault.Uncovered f) = 11
+fault_number fault.Memory = 12
+fault_number fault.Component = 13
+
+-- E1 to E9 are faults of the text, which have a place
+abbrev pub is_placed : Fault → Bool
+is_placed fault.TooLarge = false
+is_placed (fault.Uncovered f) = false
+is_placed fault.Memory = false
+is_placed fault.Component = false
+is_placed f = true
+
+-- a fault of the text at its place, and a refusal, which has none
+abbrev pub placed : Span → Fault → Error
+placed span fault = record { span = Some span; fault = fault }
+
+abbrev pub refused : Fault → Error
+refused fault = record { span = None; fault = fault }
+
+abbrev pub too_large : Error
+too_large = refused fault.TooLarge
+
+abbrev pub out_of_memory : Error
+out_of_memory = refused fault.Memory
+
+-- what an error tells: a fault at a place, or one that has none
+pub data Told : Type 0 where
+  At : Refusal → Span → Told
+  Nowhere : Refusal → Told
+
+abbrev pub told_at : Refusal → Option Span → Told
+told_at fault (Some span) = At fault span
+told_at fault None = Nowhere fault
+
+abbrev pub told : Error → Told
+told e = told_at (refusal_of e.fault) e.span
+
+abbrev pub form_text : Form → List ℕ
+form_text form.StackSwitching = codes "stack switching"
+form_text form.Shared = codes "shared type"
+form_text form.Ordering = codes "memory ordering"
+form_text form.Atomic = codes "atomic of a global, table, struct or array"
+form_text form.Descriptor = codes "descriptor or exact type"
+form_text form.CompactImports = codes "compact import group"
+form_text form.ArrayMemArg = codes "array memory argument"
+form_text form.TargetArch = codes "target architecture"
+form_text form.Beyond = codes "instruction beyond the table"
+
+-- the end of the text on an unknown name, and on a struct without named fields
+unfoldable pub unknown_text : List ℕ → List ℕ
+unknown_text name = codes ": failed to find name `$" ++ (name ++ codes "`")
+
+unfoldable pub unnamed_text : ℕ → List ℕ
+unnamed_text n = codes "` in a struct without named fields, type index " ++ decimal n
+
+-- the text of a fault
+abbrev pub fault_text : Fault → List ℕ
+fault_text (fault.ImportAfter kind) = codes "import after " ++ kind.now
+fault_text (fault.Duplicate kind) = codes "duplicate " ++ (kind.now ++ codes " identifier")
+fault_text (fault.DuplicateField kind name) = codes "duplicate identifier: duplicate " ++ (kind.now ++ (codes " named `" ++ (name.now ++ codes "`")))
+fault_text (fault.Unknown kind name) = codes "unknown " ++ (kind.now ++ unknown_text name.now)
+fault_text fault.NotFunc = codes "invalid type: not a function type"
+fault_text fault.OutOfBounds = codes "unknown type: type index out of bounds"
+fault_text fault.NoMatch = codes "inline function type doesn't match type reference"
+fault_text fault.Labels = codes "mismatching labels between end and block"
+fault_text (fault.NoNamedFields name n) = codes "accessing a named field `" ++ (name.now ++ unnamed_text n)
+fault_text fault.TooLarge = codes "too large"
+fault_text (fault.Uncovered f) = codes "uncovered form: " ++ form_text f
+fault_text fault.Memory = codes "out of memory"
+fault_text fault.Component = codes "components are not encoded"

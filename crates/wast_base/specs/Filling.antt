@@ -1,0 +1,26 @@
+-- Ids that are filled in, one after the other, from a counter that is seen as the generation of its next id.
+use Rattle.std.specs.Prelude.{◌≡◌, ℕ, ◌+◌, ◌≤◌, ◌^◌, ◌⊎◌, Bool, true, false, List, [], ◌∷◌}
+use Rattle.wast_base.specs.Faults.{too_large, out_of_memory}
+use Rattle.wast_base.specs.declared.faults.Error.{Error}
+
+abbrev pub one_if : Bool → ℕ
+one_if true = 1
+one_if false = 0
+
+abbrev pub given_if : {A : Type 0} → Bool → (ℕ → A → A) → ℕ → A → A
+given_if true give n x = give n x
+given_if false give n x = x
+
+-- each item that wants an id is given the next one
+abbrev pub filled : {A : Type 0} → (A → Bool) → (ℕ → A → A) → ℕ → List A → List A
+filled wants give n [] = []
+filled wants give n (x ∷ xs) = given_if (wants x) give n x ∷ filled wants give (n + one_if (wants x)) xs
+
+-- how many items want one
+abbrev pub wanted : {A : Type 0} → (A → Bool) → List A → ℕ
+wanted wants [] = 0
+wanted wants (x ∷ xs) = one_if (wants x) + wanted wants xs
+
+-- Memory is refused, or the counter would pass 64 bits.
+abbrev pub RunsOut : ℕ → Error → Type 0
+RunsOut next e = (e ≡ out_of_memory) ⊎ ((e ≡ too_large) × (2 ^ 64 ≤ next))

@@ -1,0 +1,86 @@
+-- Ids and indices, without where their texts lie in memory (text format: identifiers, indices).
+use Rattle.std.specs.Prelude.{ℕ, ◌==◌, Bool, true, false, List, codes, Option, option_map}
+use lib.Pointwise.{pointwise}
+use Rattle.std.specs.Borrow.{Bor}
+use Rattle.wast_base.specs.declared.ids.Span.{Span}
+use Rattle.wast_base.specs.declared.ids.Name as code
+use Rattle.wast_base.specs.declared.ids.Name.TheVariants as name
+use Rattle.wast_base.specs.declared.ids.Id.{Id}
+use Rattle.wast_base.specs.declared.ids.Index.{Index}
+use Rattle.wast_base.specs.declared.ids.Index.TheVariants as index
+
+-- the bytes of a written name, or the generation of a generated one; a counter gives generations from 1 on
+pub data Name : Type 0 where
+  Written : List ℕ → Name
+  Generated : ℕ → Name
+
+abbrev pub same_text : List ℕ → List ℕ → Bool
+same_text a b = pointwise ◌==◌ a b
+
+abbrev pub same_name : Name → Name → Bool
+same_name (Written a) (Written b) = same_text a b
+same_name (Generated a) (Generated b) = a == b
+same_name (Written a) (Generated b) = false
+same_name (Generated a) (Written b) = false
+
+-- the text of a name
+abbrev pub text_of : Name → List ℕ
+text_of (Written text) = text
+text_of (Generated n) = codes "gensym"
+
+-- 0 where it is written
+abbrev pub generation_of : Name → ℕ
+generation_of (Written text) = 0
+generation_of (Generated n) = n
+
+abbrev pub is_generated : Name → Bool
+is_generated (Written text) = false
+is_generated (Generated n) = true
+
+-- what an id is called, and where it stands
+abbrev pub named_by : code.Name → Name
+named_by (name.Written text) = Written text.now
+named_by (name.Generated n) = Generated n
+
+abbrev pub name_of : Id → Name
+name_of id = named_by id.name
+
+abbrev pub place_of : Id → Span
+place_of id = id.span
+
+-- a name at a place
+abbrev pub Mark : Type 0
+Mark = Name × Span
+
+abbrev pub mark_of : Id → Mark
+mark_of id = (name_of id, place_of id)
+
+abbrev pub marked : Option Id → Option Mark
+marked id = option_map mark_of id
+
+-- a written id, and a generated one
+abbrev pub written : Bor (List ℕ) → Span → Id
+written text span = record { name = name.Written text; span = span }
+
+abbrev pub generated : ℕ → Span → Id
+generated n span = record { name = name.Generated n; span = span }
+
+-- the same name and generation, whatever the places
+abbrev pub same_id : Id → Id → Bool
+same_id a b = same_name (name_of a) (name_of b)
+
+-- the same numbers or ids, whatever the places
+abbrev pub same_index : Index → Index → Bool
+same_index (index.Num m p) (index.Num n q) = m == n
+same_index (index.Id a) (index.Id b) = same_id a b
+same_index (index.Num m p) (index.Id b) = false
+same_index (index.Id a) (index.Num n q) = false
+
+-- where an index stands
+abbrev pub span_of_index : Index → Span
+span_of_index (index.Num n span) = span
+span_of_index (index.Id id) = place_of id
+
+abbrev pub is_number : Index → Bool
+is_number (index.Num n span) = true
+is_number (index.Id id) = false

@@ -1,0 +1,8 @@
+-- What the contracts cite of what stands below the tree: ids, faults, index spaces, generated ids, and the borrows that
+-- lists and boxes lend.
+pub mod Faults
+pub mod Filling
+pub mod Gensym
+pub mod Ids
+pub mod Lending
+pub mod Spaces

@@ -1,0 +1,143 @@
+//! A list that contracts see as the list of its elements.
+
+ghost use Rattle.std.specs.Prelude.{◌≡◌, [], ◌∷◌, ◌++◌, ◌<◌, ◌==◌, length, slice_index_or, OnOk, OnErr};
+ghost use Rattle.std.specs.Borrow.{sem};
+ghost use Rattle.std.specs.Iterator.{YieldsFirst, item_count};
+
+use std::alloc::{AllocError, Global};
+use std::marker::Model;
+use std::vec;
+
+/// A `Vec` that contracts see as the list of its elements.
+///
+/// The lists of the tree are of this type, so that a tree is plain data where contracts speak of it. Only [`Seq::push`]
+/// takes memory.
+#[derive(Debug, Drop)]
+pub struct Seq<T> {
+    items: Vec<T>,
+}
+
+impl<T> Model for Seq<T> {
+    ghost use Rattle.std.specs.Prelude.{List};
+    ghost use Rattle.std.specs.Coded.{coded_list};
+
+    ghost Value = { List T };
+
+    ghost coded = { coded_list T.code };
+
+    ghost view = { λ s. s.items.items };
+}
+
+impl<T> Seq<T> {
+    ghost use Rattle.wast_base.specs.Lending.{LendsItem};
+
+    /// No elements. It takes no memory; `alloc` is what [`Seq::push`] will ask.
+    pub fn new(alloc: Global) -> Self
+        ensures { result ≡ [] }
+    {
+        Seq {
+            items: Vec::new(alloc),
+        }
+    }
+
+    /// The elements of a vector, in order. It takes no memory.
+    pub fn from_vec(items: Vec<T>) -> Self
+        ensures { result ≡ items.items }
+    {
+        Seq { items }
+    }
+
+    /// The elements in order, as a vector. It takes no memory.
+    pub fn into_vec(self) -> Vec<T>
+        ensures { result.items ≡ self }
+    {
+        let Seq { items } = self;
+        items
+    }
+
+    /// The elements in order, to read.
+    pub fn as_slice(&self) -> &[T]
+        ensures { result.now ≡ self.now }
+    {
+        self.items.as_slice()
+    }
+
+    /// How many elements there are.
+    pub fn len(&self) -> usize
+        ensures { result ≡ length self.now }
+    {
+        self.items.len()
+    }
+
+    /// Whether there are no elements.
+    pub fn is_empty(&self) -> bool
+        ensures { result ≡ (length self.now == 0) }
+    {
+        self.items.is_empty()
+    }
+
+    /// The element at an index, to change. It needs an index below the length.
+    pub fn at_mut(&mut self, index: usize) -> &mut T
+        requires { index < length self.old }
+        ensures* writes_back { sem 𝓛 (LendsItem T.row self.entry index result) }
+        ensures value { result.now ≡ slice_index_or self.old index result.now }
+    {
+        &mut self.items[index]
+    }
+}
+
+impl<T: Drop> Seq<T> {
+    /// Puts an element at the end. It may take memory; where that is refused it answers an error, the list stays as it was,
+    /// and the element is dropped.
+    pub fn push(&mut self, item: T) -> Result<(), AllocError>
+        ensures ok { OnOk result (self.new ≡ self.old ++ item ∷ []) }
+        ensures err { OnErr result (self.new ≡ self.old) }
+    {
+        self.items.push(item)?;
+        Ok(())
+    }
+}
+
+impl<T> Seq<T> {
+    /// The elements by value, in order. It takes no memory.
+    pub fn into_iter(self) -> IntoIter<T>
+        ensures { result ≡ self }
+    {
+        let Seq { items } = self;
+        IntoIter {
+            rest: items.into_iter(),
+        }
+    }
+}
+
+/// The elements of a `Seq` by value. Contracts see the list of those that are left. No call on it takes memory.
+#[derive(Drop)]
+pub struct IntoIter<T> {
+    rest: vec::IntoIter<T>,
+}
+
+impl<T> Model for IntoIter<T> {
+    ghost use Rattle.std.specs.Prelude.{List, ◌≡◌, length};
+    ghost use Rattle.std.specs.Coded.{coded_list};
+    ghost use Rattle.std.specs.Vec.Iter.{into_iter_items, into_iter_len};
+
+    ghost Value = { List T };
+
+    ghost coded = { coded_list T.code };
+
+    ghost view = { λ s. into_iter_items s.rest };
+
+    ghost invariant = { λ s. into_iter_len s.rest ≡ length (into_iter_items s.rest) };
+}
+
+impl<T: Drop> Iterator for IntoIter<T> {
+    type Item = T;
+
+    ghost next_gives = { YieldsFirst (λ s. s) };
+
+    ghost remaining = { item_count (λ s. s) };
+
+    fn next(&mut self) -> Option<T> {
+        self.rest.next()
+    }
+}

@@ -1,0 +1,241 @@
+//! Printed texts, and calls whose answers come from outside.
+
+ghost use Rattle.std.specs.Prelude.{IsTrue};
+ghost use Rattle.wast_base.specs.Faults.{is_placed};
+
+use crate::{Boxed, Error, Fault, Form, Gensym, Id, Index, Seq, Space, Span};
+use std::hash::{DefaultHasher, Hash, Hasher};
+
+fn at(offset: usize) -> Span {
+    Span { offset }
+}
+
+fn fault_at(offset: usize, fault: Fault<'static>) -> Error<'static>
+    requires { IsTrue (is_placed fault) }
+{
+    Error::new(at(offset), fault)
+}
+
+#[test]
+fn faults_have_their_texts(rt: HostRuntime) {
+    let placed = [
+        (
+            fault_at(1, Fault::ImportAfter("memory")),
+            "import after memory",
+        ),
+        (
+            fault_at(2, Fault::Duplicate("func")),
+            "duplicate func identifier",
+        ),
+        (
+            fault_at(3, Fault::DuplicateField("field", "x")),
+            "duplicate identifier: duplicate field named `x`",
+        ),
+        (
+            fault_at(4, Fault::Unknown("func", "g")),
+            "unknown func: failed to find name `$g`",
+        ),
+        (
+            fault_at(5, Fault::NotFunc),
+            "invalid type: not a function type",
+        ),
+        (
+            fault_at(6, Fault::OutOfBounds),
+            "unknown type: type index out of bounds",
+        ),
+        (
+            fault_at(7, Fault::NoMatch),
+            "inline function type doesn't match type reference",
+        ),
+        (
+            fault_at(8, Fault::Labels),
+            "mismatching labels between end and block",
+        ),
+        (
+            fault_at(9, Fault::NoNamedFields("x", 0)),
+            "accessing a named field `x` in a struct without named fields, type index 0",
+        ),
+    ];
+    for (error, want) in &placed {
+        let text = format!(in rt.alloc(); "{error}").expect(&rt, "memory");
+        assert!(rt; text.as_str() == *want, "{text}");
+        let place = error.number() as usize;
+        assert!(rt; error.span() == Some(at(place)), "{text}");
+    }
+    assert!(rt; fault_at(1, Fault::NotFunc).fault() == Fault::NotFunc);
+}
+
+#[test]
+fn refusals_have_their_texts(rt: HostRuntime) {
+    let refused = [
+        (10, Error::refusal(Fault::TooLarge), "too large"),
+        (
+            11,
+            Error::refusal(Fault::Uncovered(Form::Shared)),
+            "uncovered form: shared type",
+        ),
+        (12, Error::refusal(Fault::Memory), "out of memory"),
+        (
+            13,
+            Error::refusal(Fault::Component),
+            "components are not encoded",
+        ),
+    ];
+    for (number, error, want) in &refused {
+        let text = format!(in rt.alloc(); "{error}").expect(&rt, "memory");
+        assert!(rt; text.as_str() == *want, "{text}");
+        assert!(rt;
+            error.number() == *number && error.span().is_none(),
+            "{text}"
+        );
+    }
+}
+
+#[test]
+fn forms_have_their_texts(rt: HostRuntime) {
+    let forms = [
+        (Form::StackSwitching, "stack switching"),
+        (Form::Shared, "shared type"),
+        (Form::Ordering, "memory ordering"),
+        (Form::Atomic, "atomic of a global, table, struct or array"),
+        (Form::Descriptor, "descriptor or exact type"),
+        (Form::CompactImports, "compact import group"),
+        (Form::ArrayMemArg, "array memory argument"),
+        (Form::TargetArch, "target architecture"),
+        (Form::Beyond, "instruction beyond the table"),
+    ];
+    for (form, want) in &forms {
+        let text = format!(in rt.alloc(); "{form}").expect(&rt, "memory");
+        assert!(rt; text.as_str() == *want, "{text}");
+    }
+}
+
+#[test]
+fn places_tell_errors_apart(rt: HostRuntime) {
+    let error = fault_at(1, Fault::Labels);
+    assert!(rt; at(1) == at(1) && at(1) != at(2));
+    assert!(rt; error == fault_at(1, Fault::Labels));
+    assert!(rt; error != fault_at(2, Fault::Labels) && error != fault_at(1, Fault::NoMatch));
+    let memory = Error::refusal(Fault::Memory);
+    assert!(rt; memory == Error::refusal(Fault::Memory) && memory != error);
+}
+
+fn hash_of<T: Hash>(value: &T) -> u64 {
+    let mut state = DefaultHasher::new();
+    value.hash(&mut state);
+    state.finish()
+}
+
+#[test]
+fn ids_and_indices_ignore_places(rt: HostRuntime) {
+    let mut gensym = Gensym::new(1);
+    let made = gensym.generate(at(5)).expect(&rt, "counter");
+    let next = gensym.generate(at(5)).expect(&rt, "counter");
+    // each pair of neighbours differs
+    let ids = [
+        (Id::new("f", at(1)), Id::new("f", at(2)), "f", 0),
+        (Id::new("ff", at(1)), Id::new("ff", at(1)), "ff", 0),
+        (
+            made,
+            Id {
+                span: at(6),
+                ..made
+            },
+            "gensym",
+            1,
+        ),
+        (
+            Id::new("gensym", at(1)),
+            Id::new("gensym", at(3)),
+            "gensym",
+            0,
+        ),
+        (
+            next,
+            Id {
+                span: at(6),
+                ..next
+            },
+            "gensym",
+            2,
+        ),
+    ];
+    let mut last = Id::new("g", at(1));
+    for (id, moved, name, generation) in &ids {
+        assert!(rt; *id == *moved && id.is_same(moved) && hash_of(id) == hash_of(moved));
+        assert!(rt; *id != last && !id.is_same(&last) && hash_of(id) != hash_of(&last));
+        assert!(rt; id.name() == *name && id.generation() == *generation);
+        assert!(rt; id.is_gensym() == (*generation > 0));
+        let (index, other) = (Index::Id(*id), Index::Id(*moved));
+        assert!(rt; index == other && index.is_same(&other) && hash_of(&index) == hash_of(&other));
+        assert!(rt; !index.is_resolved() && index.span() == id.span());
+        assert!(rt; !index.is_same(&Index::Id(last)) && !index.is_same(&Index::Num(0, at(1))));
+        last = *id;
+    }
+}
+
+#[test]
+fn numbers_ignore_places(rt: HostRuntime) {
+    let (number, other) = (Index::Num(3, at(8)), Index::Num(3, at(9)));
+    assert!(rt; number == other && number.is_same(&other) && hash_of(&number) == hash_of(&other));
+    assert!(rt; number.is_resolved() && number.span() == at(8));
+    assert!(rt; !number.is_same(&Index::Num(4, at(8))));
+}
+
+#[test]
+fn generated_ids_are_counted(rt: HostRuntime) {
+    let too_large = Error::refusal(Fault::TooLarge);
+    let mut gensym = Gensym::new(3);
+    let mut slot = None;
+    let id = gensym.fill(at(4), &mut slot).expect(&rt, "counter");
+    assert!(rt; id.generation() == 3 && id.span() == at(4) && gensym.peek() == 4);
+    assert!(rt; gensym.fill(at(5), &mut slot) == Ok(id));
+    assert!(rt; slot.is_some_and(|there| there == id && there.span() == at(4)));
+    assert!(rt; gensym.peek() == 4);
+    assert!(rt;
+        gensym
+            .generate(at(6))
+            .is_ok_and(|id| id.generation() == 4 && id.span() == at(6))
+    );
+    assert!(rt; gensym.peek() == 5);
+    let mut last = Gensym::new(18446744073709551615);
+    for _ in 0..2 {
+        assert!(rt; last.generate(at(7)) == Err(too_large));
+        let mut empty = None;
+        assert!(rt; last.fill(at(7), &mut empty) == Err(too_large) && empty.is_none());
+        assert!(rt; last.peek() == 18446744073709551615);
+    }
+    assert!(rt; last.fill(at(7), &mut slot) == Ok(id));
+}
+
+#[test]
+fn lists_and_boxes_hold_their_values(rt: HostRuntime) {
+    let alloc = rt.alloc();
+    let mut list = Seq::new(alloc);
+    assert!(rt; list.is_empty() && list.len() == 0);
+    list.push(1).expect(&rt, "memory");
+    list.push(2).expect(&rt, "memory");
+    *list.at_mut(1) = 5;
+    assert!(rt; !list.is_empty() && list.len() == 2 && list.as_slice() == [1, 5].as_slice());
+    let mut list = Seq::from_vec(list.into_vec());
+    list.push(9).expect(&rt, "memory");
+    let mut rest = list.into_iter();
+    for want in [Some(1), Some(5), Some(9), None] {
+        assert!(rt; rest.next() == want);
+    }
+    let mut boxed = Boxed::new(alloc, 7).expect(&rt, "memory");
+    assert!(rt; *boxed.get() == 7);
+    *boxed.get_mut() = 8;
+    assert!(rt; boxed.into_inner() == 8);
+}
+
+#[test]
+fn spaces_have_words_and_ranks(rt: HostRuntime) {
+    let words = [
+        "func", "table", "memory", "global", "tag", "elem", "data", "type",
+    ];
+    for rank in 0..8 {
+        let space = Space::ALL[rank];
+        assert!(rt; space.rank() == rank && space.word() == words[rank]);
+    }
+}
