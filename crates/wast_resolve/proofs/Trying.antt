@@ -1,6 +1,6 @@
 -- The spaces that were filled so far, by their ranks.
 use Rattle.std.proofs.Common.{◌≡◌, ℕ, ◌+◌, ◌<◌, ◌≤◌, ◌^◌, ◌⊎◌, inl, inr, List, [], ◌∷◌, ◌++◌, refl, sym, ap, ◌∙◌, subst, arith, length, map, get_or, length-append, append_assoc}
-use Rattle.std.specs.Prelude.{⊤, Option, Some, None, Contains}
+use Rattle.std.specs.Prelude.{⊤, Option, Some, None, Result, Ok, Contains}
 use Rattle.std.specs.FinMap.{get-empty}
 use Rattle.std.proofs.Math.ListN.{set, length-set, get_or-map, get_or-append}
 use Rattle.std.proofs.Math.Seq.{get_or-append_seam}
@@ -9,6 +9,7 @@ use Rattle.std.proofs.lemmas.List.FromFn.{get_or-range_with_len}
 use Rattle.std.proofs.lemmas.List.{map-append}
 use Rattle.std.proofs.lemmas.List.Elements.{Contains-get_or, Contains-append_left, Contains-append_right}
 use Rattle.wast_base.specs.Ids.{Name}
+use Rattle.wast_base.specs.declared.faults.Error.{Error}
 use Rattle.wast_base.specs.Faults.{Told, Refusal}
 use Rattle.wast_base.specs.Spaces.{spaces, rank_of, position_of}
 use Rattle.wast_tree.specs.Items.{Item, items}
@@ -18,14 +19,14 @@ use Rattle.wast_resolve.specs.Tree.space
 use Rattle.wast_resolve.specs.Demands.{Answers, IsCrowded, space_counts, field_counts, item_counts, local_counts, counts}
 use Rattle.wast_namespace.specs.Namespaces.{NameSpace, key_cmp, key_of, empty_from, number_in}
 use Rattle.wast_resolve.specs.Resolvers.{known_in}
-use Rattle.wast_resolve.specs.Gathers.{Stops}
+use Rattle.wast_resolve.specs.Gathers.{Stops, Gathers, gathered_of}
 use Rattle.wast_namespace.specs.Filling.{HasFirstClash, IsTried}
 use Rattle.wast_resolve.proofs.FoundClashes.{AreMany}
 
 at_rank : (s d : Space) → get_or spaces (rank_of s) d ≡ s
 at_rank s d = grind (arith)
 
-below_8 : (s : Space) → rank_of s < 8
+pub below_8 : (s : Space) → rank_of s < 8
 below_8 s = grind (arith)
 
 pub rank_at : (i : ℕ) (d : Space) → i < 8 → rank_of (get_or spaces i d) ≡ i
@@ -33,6 +34,22 @@ rank_at i d lt = sym (get_or-map rank_of spaces i d) ∙ (get_or-range_with_len 
 
 pub same_rank : (s t : Space) → rank_of s ≡ rank_of t → s ≡ t
 same_rank s t e = sym (at_rank s space.Func) ∙ (ap (λ i. get_or spaces i space.Func) e ∙ at_rank t space.Func)
+
+-- what was gathered of the space of a rank
+gathered_at : (names : Space → List (Option Name)) (all before rest : List (Result (List (Option Name)) Error)) (x : Result (List (Option Name)) Error) → ((s : Space) → Gathers (Ok []) (names s) (gathered_of all s))
+    → before ++ x ∷ rest ≡ all → (s : Space) → rank_of s ≡ length before → Gathers (Ok []) (names s) x
+gathered_at names all before rest x h is s at =
+    let nothing : Result (List (Option Name)) Error = Ok [] in
+    subst (λ g. Gathers (Ok []) (names s) g)
+    (ap (λ i. get_or all i nothing) at ∙ (ap (λ l. get_or l (length before) nothing) (sym is) ∙ get_or-append_seam before x rest nothing)) (h s)
+
+-- the space whose turn it is, and what was gathered of it
+pub gathered_next : (names : Space → List (Option Name)) (all before rest : List (Result (List (Option Name)) Error)) (x : Result (List (Option Name)) Error) → length all ≡ 8 → ((s : Space) → Gathers (Ok []) (names s) (gathered_of all s))
+    → before ++ x ∷ rest ≡ all → (length before < 8) × Gathers (Ok []) (names (get_or spaces (length before) space.Func)) x
+gathered_next names all before rest x eight each whole =
+    let long = ap length whole in
+    let lt : length before < 8 = omega (arith, long, eight, length-append before (x ∷ rest)) in
+    (lt, gathered_at names all before rest x each whole (get_or spaces (length before) space.Func) (rank_at (length before) space.Func lt))
 
 -- the names of the items by their spaces
 abbrev pub by_space : List Item → Space → List (Option Name)

@@ -1,8 +1,12 @@
--- What gathering the items of a space gives: their names, or why it stopped.
-use Rattle.std.specs.Prelude.{◌≡◌, ⊤, ℕ, ◌≤◌, ◌^◌, List, ◌++◌, length, Option, Result, Ok, Err}
+-- What gathering the items of each space gives: their names, or why it stopped.
+use Rattle.std.specs.Prelude.{◌≡◌, ⊤, ℕ, ◌≤◌, ◌^◌, List, [], ◌++◌, length, slice_index_or, Option, Result, Ok, Err}
 use Rattle.wast_base.specs.declared.faults.Error.{Error}
 use Rattle.wast_base.specs.Ids.{Name}
 use Rattle.wast_base.specs.Faults.{Told, At, Nowhere, Memory, TooLarge, told}
+use Rattle.wast_base.specs.Spaces.{rank_of}
+use Rattle.wast_tree.specs.Items.{Item}
+use Rattle.wast_tree.specs.Known.{name_in}
+use Rattle.wast_resolve.specs.Tree.{Space}
 
 -- memory was refused, or there are so many items that some number is 2^32 or more
 abbrev pub Stops : Told → ℕ → Type 0
@@ -16,6 +20,15 @@ abbrev pub Gathers : Result (List (Option Name)) Error → List (Option Name) �
 Gathers (Err e) more new = new ≡ Err e
 Gathers (Ok names) more (Ok new) = new ≡ names ++ more
 Gathers (Ok names) more (Err e) = Stops (told e) (length (names ++ more))
+
+-- what was gathered of a space, where that of each stands at its rank
+abbrev pub gathered_of : List (Result (List (Option Name)) Error) → Space → Result (List (Option Name)) Error
+gathered_of gathered s = slice_index_or gathered (rank_of s) (Ok [])
+
+-- one more item, which is gathered for its space
+pub record GathersItem (old : List (Result (List (Option Name)) Error)) (x : Item) (new : List (Result (List (Option Name)) Error)) : Type 0 where
+  pub slots : length new ≡ length old
+  pub each : length old ≡ 8 → (s : Space) → Gathers (gathered_of old s) (name_in s x) (gathered_of new s)
 
 -- what a call leaves of what was gathered
 abbrev pub with_gathered : {T : Type 0} → Result T Error → List (Option Name) → Result (List (Option Name)) Error

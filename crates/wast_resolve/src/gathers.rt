@@ -1,11 +1,13 @@
 //! The items of a space, gathered from the fields of a module, and the fields of a struct.
 
-ghost use Rattle.std.specs.Prelude.{◌≡◌, [], ◌∷◌, map, Option as Maybe};
+ghost use Rattle.std.specs.Prelude.{◌≡◌, [], ◌∷◌, length, map, All, IfOk, IfErr, Option as Maybe};
+ghost use Rattle.wast_base.specs.Faults.{out_of_memory};
 ghost use Rattle.wast_base.specs.Ids.{Mark, marked};
 ghost use Rattle.wast_base.specs.Spaces.{name_if};
 ghost use Rattle.wast_tree.specs.Items.{field_ids, items};
-ghost use Rattle.wast_tree.specs.Known.{name_in, names_in};
-ghost use Rattle.wast_resolve.specs.Gathers.{Gathers, with_gathered};
+ghost use Rattle.wast_tree.specs.Known.{names_in};
+ghost use Rattle.wast_resolve.specs.Gathers.{Gathers, GathersItem, gathered_of, with_gathered};
+ghost use Rattle.wast_resolve.specs.Tree.{Space};
 
 use std::alloc::Global;
 use wast_namespace::Gathering;
@@ -14,41 +16,47 @@ use wast_tree::{
     visit_items,
 };
 
-/// How many ids the items of a space have; a guess where there are too many to be counted.
+/// How many ids the items of each space have, by its rank; a guess where there are too many to be counted.
 #[derive(Drop)]
 struct Counter {
-    space: Space,
-    ids: usize,
+    ids: [usize; 8],
 }
 
 impl<'a> ItemVisitor<'a> for Counter {
     ghost told = { λ old x new. Unit {0} };
 
     fn item(&mut self, space: Space, id: &Option<Id<'a>>, _fields: &[StructField<'a>]) {
-        if space.is(self.space) && id.is_some() {
-            self.ids = self.ids.saturating_add(1);
+        if id.is_some() {
+            let rank = space.rank();
+            self.ids[rank] = self.ids[rank].saturating_add(1);
         }
     }
 }
 
-/// The items of a space that it was told of, or why it stopped.
+/// The items of each space that it was told of, by its rank, or why it stopped there.
 #[derive(Drop)]
 struct Gatherer<'a> {
-    space: Space,
-    gathered: Result<Gathering<'a>, Error<'a>>,
+    gathered: Vec<Result<Gathering<'a>, Error<'a>>>,
 }
 
 impl<'a> ItemVisitor<'a> for Gatherer<'a> {
-    ghost told = { λ old x new. (new.space ≡ old.space) × Gathers old.gathered (name_in old.space x) new.gathered };
+    ghost told = { λ old x new. GathersItem old.gathered.items x new.gathered.items };
 
     fn item(&mut self, space: Space, id: &Option<Id<'a>>, _fields: &[StructField<'a>]) {
-        if !self.space.is(space) {
-            return;
+        let rank = space.rank();
+        if rank < self.gathered.len() {
+            add_to(&mut self.gathered[rank], *id);
         }
-        if let Ok(gathering) = &mut self.gathered {
-            if let Err(e) = add(gathering, *id) {
-                self.gathered = Err(e);
-            }
+    }
+}
+
+/// One more item, unless it has stopped.
+fn add_to<'a>(gathered: &mut Result<Gathering<'a>, Error<'a>>, id: Option<Id<'a>>)
+    ensures { Gathers gathered.old (name_if (marked id.entry) ∷ []) gathered.new }
+{
+    if let Ok(gathering) = gathered {
+        if let Err(e) = add(gathering, id) {
+            *gathered = Err(e);
         }
     }
 }
@@ -64,24 +72,49 @@ fn add<'a>(gathering: &mut Gathering<'a>, id: Option<Id<'a>>) -> Result<(), Erro
     Ok(())
 }
 
-/// The items of a space.
+/// Nothing, with room for so many ids; E12 where memory is refused.
+fn start<'a>(alloc: Global, ids: usize) -> Result<Gathering<'a>, Error<'a>>
+    ensures { Gathers (Ok []) [] result }
+{
+    Ok(Gathering::new(alloc, ids)?)
+}
+
+/// Nothing of each space, with room for so many ids, by its rank.
+fn start_each<'a>(
+    alloc: Global,
+    ids: [usize; 8],
+) -> Result<Vec<Result<Gathering<'a>, Error<'a>>>, Error<'a>>
+    ensures slots { IfOk result (λ v. length v.items ≡ 8) }
+    ensures each { IfOk result (λ v. All (Gathers (Ok []) []) v.items) }
+    ensures refusal { IfErr result (λ e. e ≡ out_of_memory) }
+{
+    let mut gathered = Vec::with_capacity(alloc, ids.len())?;
+    for rank in 0..8 {
+        let nothing: Result<Gathering<'a>, Error<'a>> = start(alloc, ids[rank]);
+        gathered.push(nothing)?;
+    }
+    Ok(gathered)
+}
+
+/// The items of each space, by its rank, or why it stopped there: E10 where the space has 2^32 items or more, and E12 where
+/// memory is refused.
 ///
-/// It asks for memory once. Where it is refused, that is E12; where the space has 2^32 items or more, E10.
+/// It asks for memory once for each space, and once for all. Where that is refused, it is E12.
 pub(crate) fn gather<'a>(
     alloc: Global,
     fields: &[ModuleField<'a>],
-    space: Space,
-) -> Result<Gathering<'a>, Error<'a>>
-    ensures { Gathers (Ok []) (names_in space (items fields.now)) result }
+) -> Result<Vec<Result<Gathering<'a>, Error<'a>>>, Error<'a>>
+    ensures slots { IfOk result (λ v. length v.items ≡ 8) }
+    ensures each { IfOk result (λ v. (s : Space) → Gathers (Ok []) (names_in s (items fields.now)) (gathered_of v.items s)) }
+    ensures refusal { IfErr result (λ e. e ≡ out_of_memory) }
 {
-    let mut counter = Counter { space, ids: 0 };
+    let mut counter = Counter { ids: [0; 8] };
     visit_items(fields, &mut counter);
     let mut gatherer = Gatherer {
-        space,
-        gathered: Ok(Gathering::new(alloc, counter.ids)?),
+        gathered: start_each(alloc, counter.ids)?,
     };
     visit_items(fields, &mut gatherer);
-    gatherer.gathered
+    Ok(gatherer.gathered)
 }
 
 /// What may have an id: a field of a struct, a parameter or a local.

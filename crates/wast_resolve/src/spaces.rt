@@ -1,31 +1,31 @@
 //! The name spaces of a module, filled from its fields.
 
-ghost use Rattle.std.specs.Prelude.{◌≡◌, ⊤, None, IfOk, IfErr, OnOk, length};
+ghost use Rattle.std.specs.Prelude.{◌≡◌, ⊤, List, [], Option as Maybe, None, IfOk, IfErr, OnOk, length};
 ghost use Rattle.wast_base.specs.Faults.{told};
+ghost use Rattle.wast_base.specs.Ids.{Name};
 ghost use Rattle.wast_tree.specs.Items.{items};
-ghost use Rattle.wast_tree.specs.Known.{known, names_in};
+ghost use Rattle.wast_tree.specs.Known.{known};
 ghost use Rattle.wast_resolve.specs.Demands.{first_unmet, item_demands, Answers, IsCrowded};
 ghost use Rattle.wast_resolve.specs.Resolvers.{known_of};
-ghost use Rattle.wast_resolve.specs.Gathers.{Stops};
+ghost use Rattle.wast_resolve.specs.Gathers.{Gathers, Stops};
 ghost use Rattle.wast_namespace.specs.Filling.{IsTried};
 
 use crate::clashes::first_clash;
 use crate::gathers::gather;
 use crate::resolver::Resolver;
 use std::alloc::Global;
-use wast_namespace::Namespace;
-use wast_tree::{Error, ModuleField, Space};
+use wast_namespace::{Gathering, Namespace};
+use wast_tree::{Error, ModuleField};
 
 /// The name space of a space and no clash, or the position of the first item whose id an earlier one bears.
 fn try_space<'a>(
     alloc: Global,
-    fields: &[ModuleField<'a>],
-    space: Space,
+    gathered: Result<Gathering<'a>, Error<'a>>,
 ) -> Result<(Namespace<'a>, Option<u32>), Error<'a>>
-    ensures tried { IfOk result (λ r. IsTried (names_in space (items fields.now)) r.0 r.1) }
-    ensures stops { IfErr result (λ e. Stops (told e) (length (names_in space (items fields.now)))) }
+    ensures tried { (names : List (Maybe Name)) → Gathers (Ok []) names gathered.entry → IfOk result (λ r. IsTried names r.0 r.1) }
+    ensures stops { (names : List (Maybe Name)) → Gathers (Ok []) names gathered.entry → IfErr result (λ e. Stops (told e) (length names)) }
 {
-    match gather(alloc, fields, space)?.filled(alloc)? {
+    match gathered?.filled(alloc)? {
         Ok(names) => Ok((names, None)),
         Err(clash) => Ok((Namespace::new(alloc), Some(clash))),
     }
@@ -46,10 +46,10 @@ pub(crate) fn name_spaces<'a>(
 {
     let mut spaces = Vec::new(alloc);
     let mut clashes = [None; 8];
-    for rank in 0..8 {
-        let (names, clash) = try_space(alloc, fields, Space::ALL[rank])?;
+    for gathered in gather(alloc, fields)? {
+        let (names, clash) = try_space(alloc, gathered)?;
+        clashes[spaces.len()] = clash;
         spaces.push(names)?;
-        clashes[rank] = clash;
     }
     match first_clash(alloc, fields, clashes) {
         Some(clash) => Err(clash),
