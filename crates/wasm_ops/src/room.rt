@@ -65,13 +65,17 @@ fn push_reserved(out: &mut Vec<u8>, bytes: &[u8])
     ensures items { out.new.items ≡ out.old.items ++ bytes.now }
     ensures capacity { vec_capacity out.old ≤ vec_capacity out.new }
 {
-    // Told so, the compiler leaves out what would make the vector grow.
-    if out.capacity() - out.len() < bytes.len() {
-        unreachable!();
-    }
-    match out.extend_from_slice(bytes) {
-        Ok(()) => {}
-        Err(_) => unreachable!(),
+    // One byte or two, as most numbers have, are put in their place without a call.
+    match bytes {
+        [byte] => out.push_reserved(*byte),
+        [first, second] => {
+            out.push_reserved(*first);
+            out.push_reserved(*second);
+        }
+        _ => match out.extend_from_slice(bytes) {
+            Ok(()) => {}
+            Err(_) => unreachable!(),
+        },
     }
 }
 
@@ -91,11 +95,11 @@ impl Sink for Room {
     ghost rules = { rooms.rules };
 
     fn push_bytes(&mut self, bytes: &[u8]) -> Result<(), Refusal> {
-        let Some(left) = self.left.checked_sub(bytes.len()) else {
+        if self.left < bytes.len() {
             return Err(Refusal::TooLarge);
-        };
+        }
         push_reserved(&mut self.bytes, bytes);
-        self.left = left;
+        self.left -= bytes.len();
         Ok(())
     }
 
