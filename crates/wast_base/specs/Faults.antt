@@ -9,35 +9,35 @@ use Rattle.wast_base.specs.declared.faults.Fault.TheVariants as fault
 use Rattle.wast_base.specs.declared.faults.Error.{Error}
 
 -- a fault with its texts as bytes
-pub data Refusal : Type 0 where
-  ImportAfter : List ℕ → Refusal
-  Duplicate : List ℕ → Refusal
-  DuplicateField : List ℕ → List ℕ → Refusal
-  Unknown : List ℕ → List ℕ → Refusal
-  NotFunc : Refusal
-  OutOfBounds : Refusal
-  NoMatch : Refusal
-  Labels : Refusal
-  NoNamedFields : List ℕ → ℕ → Refusal
-  TooLarge : Refusal
-  Uncovered : Form → Refusal
-  Memory : Refusal
-  Component : Refusal
+pub data Cause : Type 0 where
+  ImportAfter : List ℕ → Cause
+  Duplicate : List ℕ → Cause
+  DuplicateField : List ℕ → List ℕ → Cause
+  Unknown : List ℕ → List ℕ → Cause
+  NotFunc : Cause
+  OutOfBounds : Cause
+  NoMatch : Cause
+  Labels : Cause
+  NoNamedFields : List ℕ → ℕ → Cause
+  TooLarge : Cause
+  Uncovered : Form → Cause
+  Memory : Cause
+  Component : Cause
 
-abbrev pub refusal_of : Fault → Refusal
-refusal_of (fault.ImportAfter kind) = ImportAfter kind.now
-refusal_of (fault.Duplicate kind) = Duplicate kind.now
-refusal_of (fault.DuplicateField kind name) = DuplicateField kind.now name.now
-refusal_of (fault.Unknown kind name) = Unknown kind.now name.now
-refusal_of fault.NotFunc = NotFunc
-refusal_of fault.OutOfBounds = OutOfBounds
-refusal_of fault.NoMatch = NoMatch
-refusal_of fault.Labels = Labels
-refusal_of (fault.NoNamedFields name n) = NoNamedFields name.now n
-refusal_of fault.TooLarge = TooLarge
-refusal_of (fault.Uncovered f) = Uncovered f
-refusal_of fault.Memory = Memory
-refusal_of fault.Component = Component
+abbrev pub cause_of : Fault → Cause
+cause_of (fault.ImportAfter kind) = ImportAfter kind.now
+cause_of (fault.Duplicate kind) = Duplicate kind.now
+cause_of (fault.DuplicateField kind name) = DuplicateField kind.now name.now
+cause_of (fault.Unknown kind name) = Unknown kind.now name.now
+cause_of fault.NotFunc = NotFunc
+cause_of fault.OutOfBounds = OutOfBounds
+cause_of fault.NoMatch = NoMatch
+cause_of fault.Labels = Labels
+cause_of (fault.NoNamedFields name n) = NoNamedFields name.now n
+cause_of fault.TooLarge = TooLarge
+cause_of (fault.Uncovered f) = Uncovered f
+cause_of fault.Memory = Memory
+cause_of fault.Component = Component
 
 -- what an error says, and where
 abbrev pub fault_of : Error → Fault
@@ -84,15 +84,15 @@ out_of_memory = refused fault.Memory
 
 -- what an error tells: a fault at a place, or one that has none
 pub data Told : Type 0 where
-  At : Refusal → Span → Told
-  Nowhere : Refusal → Told
+  At : Cause → Span → Told
+  Nowhere : Cause → Told
 
-abbrev pub told_at : Refusal → Option Span → Told
+abbrev pub told_at : Cause → Option Span → Told
 told_at fault (Some span) = At fault span
 told_at fault None = Nowhere fault
 
 abbrev pub told : Error → Told
-told e = told_at (refusal_of e.fault) e.span
+told e = told_at (cause_of e.fault) e.span
 
 abbrev pub form_text : Form → List ℕ
 form_text form.StackSwitching = codes "stack switching"

@@ -4,19 +4,19 @@ use Rattle.wast_base.specs.declared.ids.Span.{Span}
 use Rattle.wast_base.specs.declared.ids.Index.{Index}
 use Rattle.wast_base.specs.declared.ids.Index.TheVariants as index
 use Rattle.wast_base.specs.Ids.{Name, text_of, Mark, mark_of, name_of}
-use Rattle.wast_base.specs.Faults.{Refusal, Unknown, TooLarge, Memory, Told, At, Nowhere}
+use Rattle.wast_base.specs.Faults.{Cause, Unknown, TooLarge, Memory, Told, At, Nowhere}
 
 -- a fault at a place, and whether what is demanded there holds
 pub record Demand : Type 0 where
-  pub fault : Refusal
+  pub fault : Cause
   pub place : Span
   pub met : Bool
 
-abbrev pub one_demand : Refusal → Span → Bool → List Demand
+abbrev pub one_demand : Cause → Span → Bool → List Demand
 one_demand fault place met = record { fault = fault; place = place; met = met } ∷ []
 
 -- the fault of the first demand that is not met, at its place
-abbrev pub first_unmet : List Demand → Option (Refusal × Span)
+abbrev pub first_unmet : List Demand → Option (Cause × Span)
 first_unmet [] = None
 first_unmet (d ∷ ds) = if d.met then first_unmet ds else Some (d.fault, d.place)
 
@@ -30,7 +30,7 @@ known_index number word (index.Id id) = unknown word (mark_of id) (is_some (numb
 
 -- What an error of resolving tells: the first unmet demand, or where memory may be refused that it was, or where there
 -- may be too many of something that there were.
-abbrev pub Answers : (memory many : Type 0) → Told → Option (Refusal × Span) → Type 0
+abbrev pub Answers : (memory many : Type 0) → Told → Option (Cause × Span) → Type 0
 Answers memory many (At fault place) unmet = unmet ≡ Some (fault, place)
 Answers memory many (Nowhere Memory) unmet = memory
 Answers memory many (Nowhere TooLarge) unmet = many

@@ -2,16 +2,16 @@
 use Rattle.std.specs.Prelude.{◌≡◌, Option, None, Result, Ok, Err}
 use Rattle.wast_base.specs.declared.ids.Span.{Span}
 use Rattle.wast_base.specs.declared.faults.Error.{Error}
-use Rattle.wast_base.specs.Faults.{Refusal, Told, At, Nowhere, told}
+use Rattle.wast_base.specs.Faults.{Cause, Told, At, Nowhere, told}
 use Rattle.wast_namespace.specs.FirstUnmet.{Answers}
 
 -- Nothing is unmet, or the error answers what is unmet.
-abbrev pub Outcome : {T : Type 0} → (memory many : Type 0) → Option (Refusal × Span) → Result T Error → Type 0
+abbrev pub Outcome : {T : Type 0} → (memory many : Type 0) → Option (Cause × Span) → Result T Error → Type 0
 Outcome memory many unmet (Ok x) = unmet ≡ None
 Outcome memory many unmet (Err e) = Answers memory many (told e) unmet
 
 -- Nothing is unmet and the value is what was wanted, or the error answers what is unmet; memory says whether it may want memory.
-abbrev pub Gives : {T : Type 0} → (memory : Type 0) → Option (Refusal × Span) → T → Result T Error → Type 0
+abbrev pub Gives : {T : Type 0} → (memory : Type 0) → Option (Cause × Span) → T → Result T Error → Type 0
 Gives memory unmet want (Ok x) = (unmet ≡ None) × (x ≡ want)
 Gives memory unmet want (Err e) = Answers memory ⊥ (told e) unmet
 

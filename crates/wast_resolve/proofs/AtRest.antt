@@ -23,7 +23,7 @@ use Rattle.wast_resolve.specs.Tree.space
 use Rattle.wast_resolve.specs.Tree.inner
 use Rattle.wast_resolve.specs.Tree.ty
 use Rattle.wast_base.specs.Ids.{name_of, marked, is_number}
-use Rattle.wast_base.specs.Faults.{Refusal}
+use Rattle.wast_base.specs.Faults.{Cause}
 use Rattle.wast_tree.specs.Items.{field_ids, fields_of, item, items_of_type, space_of_kind, items_of_import, items_in, items}
 use Rattle.wast_tree.specs.Occurrences.{Ask, Wants, Bare, Step, Named, Matches, Declares, Occurrence, Outside, Body, in_instr, asked_in, asked, asked_in_steps, in_module}
 use Rattle.wast_tree.specs.Known.{Known, known}
@@ -54,7 +54,7 @@ module _ (k : Known) where
       ∙ (ap (λ zs. map (resolved_ask k) (asked_in o) ++ zs) (asked_with os) ∙ sym (map-append (resolved_ask k) (asked_in o) (asked os)))
 
   -- an index whose demand is met becomes a number
-  met_index : (f : Refusal) (s : Span) (id : Id) (o : Option ℕ) → first_unmet (record { fault = f; place = s; met = is_some o } ∷ []) ≡ None → is_number (numbered_by o id) ≡ true
+  met_index : (f : Cause) (s : Span) (id : Id) (o : Option ℕ) → first_unmet (record { fault = f; place = s; met = is_some o } ∷ []) ≡ None → is_number (numbered_by o id) ≡ true
   met_index f s id None h = cc
   met_index f s id (Some n) h = refl
 

@@ -5,7 +5,7 @@ use Rattle.std.proofs.lemmas.Bool.{eqb-true}
 use Rattle.std.proofs.lemmas.List.{map-append, length-map}
 use mathlib.Core.Path.{fun_ext}
 use Rattle.wast_base.specs.Ids.{Name, Written, Generated, same_name, generation_of, Mark}
-use Rattle.wast_base.specs.Faults.{Refusal, Duplicate}
+use Rattle.wast_base.specs.Faults.{Cause, Duplicate}
 use Rattle.wast_base.specs.Spaces.{spaces, word_of, name_if, same_space, is_called, position_of, is_borne}
 use Rattle.wast_tree.specs.Items.{Item}
 use Rattle.wast_tree.specs.Known.{name_in, names_in}
@@ -130,7 +130,7 @@ one_more old n xs ys c lt h = let above = h.above in let r = rises n c in record
       borne_by_both s (Generated m) ys (new_of n c ∷ []) ∙ (ap (λ b. b || is_borne (Generated m) (names_in s (new_of n c ∷ []))) (h.new s m (omega (arith, le, r))) ∙ not_borne s (new_of n c) m (omega (arith, g, le)));
 }
 
-same_new : (fault : Name → Refusal) (xs ys : List (Option Name)) (o : Option Mark) → ((m : Mark) → o ≡ Some m → is_borne m.0 ys ≡ is_borne m.0 xs) → new_name_by fault ys o ≡ new_name_by fault xs o
+same_new : (fault : Name → Cause) (xs ys : List (Option Name)) (o : Option Mark) → ((m : Mark) → o ≡ Some m → is_borne m.0 ys ≡ is_borne m.0 xs) → new_name_by fault ys o ≡ new_name_by fault xs o
 same_new fault xs ys None h = refl
 same_new fault xs ys (Some m) h = ap (λ b. record { fault = fault m.0; place = m.1; met = not b } ∷ []) (h m refl)
 

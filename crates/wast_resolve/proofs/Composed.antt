@@ -5,7 +5,7 @@ use Rattle.std.specs.Cmp.{first_so, second_so}
 use Rattle.std.specs.List.{list_any}
 use Rattle.std.specs.Option.{option_or}
 use Rattle.wast_base.specs.Ids.{Name, name_of, mark_of, generation_of, is_generated}
-use Rattle.wast_base.specs.Faults.{Refusal}
+use Rattle.wast_base.specs.Faults.{Cause}
 use Rattle.wast_base.specs.Spaces.{word_of, name_if, same_space, is_called, is_borne}
 use Rattle.wast_tree.specs.Items.{Item, items, items_in}
 use Rattle.wast_tree.specs.Known.{Known, known, names_in}
@@ -129,7 +129,7 @@ module _ (n : ℕ) (fields : List ModuleField) where
   -- Where no items clash, uses demand what they demand in the list without their indices: each index that is filled in is
   -- known, and an inline type matches it once its names are known.
   module _ (free : first_unmet (item_demands (items (expanded n fields))) ≡ None) where
-    nothing_more : (o p : Option (Refusal × Span)) → (o ≡ None → p ≡ None) → option_or o p ≡ option_or o None
+    nothing_more : (o p : Option (Cause × Span)) → (o ≡ None → p ≡ None) → option_or o p ≡ option_or o None
     nothing_more None p h = h refl
     nothing_more (Some f) p h = refl
 

@@ -7,7 +7,7 @@ use Rattle.std.proofs.lemmas.List.{get_or-set_same, get_or-set_other, length-app
 use Rattle.std.proofs.Math.Seq.{get_or-append_seam, take-append_seam}
 use Rattle.wast_resolve.specs.Tree.{Space, Span}
 use Rattle.wast_base.specs.Ids.{Name, Mark}
-use Rattle.wast_base.specs.Faults.{Refusal}
+use Rattle.wast_base.specs.Faults.{Cause}
 use Rattle.wast_base.specs.Spaces.{rank_of, same_space, name_if, is_borne}
 use Rattle.wast_tree.specs.Items.{Item}
 use Rattle.wast_tree.specs.Known.{name_in, names_in}
@@ -61,16 +61,16 @@ module _ (earlier later : List (Option Name)) where
   bearer_here o c = (c.name, sym (get_or-append_seam earlier o later None) ∙ c.bears, ap (is_borne c.name) (sym (take-append_seam earlier (o ∷ later))) ∙ c.borne)
 
   -- what an item that does not clash demands is met
-  pub met_here : (fault : Name → Refusal) (mark : Option Mark) → (IsClash (earlier ++ name_if mark ∷ later) (length earlier) → ⊥) → first_unmet (new_name_by fault earlier mark) ≡ None
+  pub met_here : (fault : Name → Cause) (mark : Option Mark) → (IsClash (earlier ++ name_if mark ∷ later) (length earlier) → ⊥) → first_unmet (new_name_by fault earlier mark) ≡ None
   met_here fault None h = refl
   met_here fault (Some m) h = by_test (is_borne m.0 earlier) (fault m.0, m.1) (λ e. h (clash_here m.0 e))
     where
-      by_test : (b : Bool) (f : Refusal × Span) → (b ≡ true → ⊥) → cond (not b) None (Some f) ≡ None
+      by_test : (b : Bool) (f : Cause × Span) → (b ≡ true → ⊥) → cond (not b) None (Some f) ≡ None
       by_test true f h = absurd (h refl)
       by_test false f h = refl
 
   -- an item that clashes has an id, and is the first whose demand is not met
-  pub clashes_here : (fault : Name → Refusal) (mark : Option Mark) (ds : List Demand) → IsClash (earlier ++ name_if mark ∷ later) (length earlier)
+  pub clashes_here : (fault : Name → Cause) (mark : Option Mark) (ds : List Demand) → IsClash (earlier ++ name_if mark ∷ later) (length earlier)
       → (m : Mark) × (mark ≡ Some m) × (first_unmet (new_name_by fault earlier mark ++ ds) ≡ Some (fault m.0, m.1))
   clashes_here fault None ds c = absurd (cc (bearer_here None c).1)
   clashes_here fault (Some m) ds c =

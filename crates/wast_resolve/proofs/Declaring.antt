@@ -4,7 +4,7 @@ use Rattle.std.specs.Prelude.{⊤, not, cond, codes, slice_index_or}
 use Rattle.std.proofs.Math.Seq.{get_or-append_seam, take-append_seam, drop-cons}
 use Rattle.std.proofs.lemmas.List.{map-append, length-map}
 use Rattle.wast_base.specs.Ids.{Name, Mark, marked}
-use Rattle.wast_base.specs.Faults.{Refusal, Duplicate, Told}
+use Rattle.wast_base.specs.Faults.{Cause, Duplicate, Told}
 use Rattle.wast_base.specs.Spaces.{name_if, is_borne}
 use Rattle.wast_tree.specs.Occurrences.{Step, Declares, declared_params, declared_locals, declared}
 use Rattle.wast_resolve.specs.Tree.{Span, Id, NameAnnotation, ValType, FunctionType, Local, FuncKind}
@@ -20,7 +20,7 @@ use Rattle.std.specs.Prelude.{Result}
 use Rattle.wast_resolve.proofs.Collecting.{stops_more}
 
 -- what is unmet first, by the position of the first clash
-abbrev pub by_clash : List (Option Mark) → Option ℕ → Option (Refusal × Span)
+abbrev pub by_clash : List (Option Mark) → Option ℕ → Option (Cause × Span)
 by_clash ms None = None
 by_clash ms (Some p) = said_of (slice_index_or ms p None)
 
@@ -48,15 +48,15 @@ borne_here before rest q c =
 none_here : (before rest : List (Option Name)) → IsClash (before ++ None ∷ rest) (length before) → ⊥
 none_here before rest c = let e : None ≡ Some c.name = sym (get_or-append_seam before None rest None) ∙ c.bears in absurd (cc e)
 
-met_one : (b : Bool) (f : Refusal × Span) (r : Option (Refusal × Span)) → (b ≡ true → ⊥) → r ≡ None → cond (not b) r (Some f) ≡ None
+met_one : (b : Bool) (f : Cause × Span) (r : Option (Cause × Span)) → (b ≡ true → ⊥) → r ≡ None → cond (not b) r (Some f) ≡ None
 met_one true f r h e = absurd (h refl)
 met_one false f r h e = e
 
-unmet_one : (b : Bool) (f : Refusal × Span) (r : Option (Refusal × Span)) → b ≡ true → cond (not b) r (Some f) ≡ Some f
+unmet_one : (b : Bool) (f : Cause × Span) (r : Option (Cause × Span)) → b ≡ true → cond (not b) r (Some f) ≡ Some f
 unmet_one true f r h = refl
 unmet_one false f r h = cc
 
-later_one : (b : Bool) (f : Refusal × Span) (r s : Option (Refusal × Span)) → (b ≡ true → ⊥) → r ≡ s → cond (not b) r (Some f) ≡ s
+later_one : (b : Bool) (f : Cause × Span) (r s : Option (Cause × Span)) → (b ≡ true → ⊥) → r ≡ s → cond (not b) r (Some f) ≡ s
 later_one true f r s h e = absurd (h refl)
 later_one false f r s h e = e
 
@@ -95,7 +95,7 @@ module _ (c : Scope) where
   first_name ms p h = let at : p ≡ 0 + p = omega arith in first_after [] ms p (subst (λ q. IsFirstClash (names ms) q) at h)
 
 -- what stopped the gathering of names is an answer
-pub stops_names : (t : Told) (o : Option (Refusal × Span)) (n m : ℕ) → n ≡ m → Stops t n → Answers ⊤ (2 ^ 32 ≤ m) t o
+pub stops_names : (t : Told) (o : Option (Cause × Span)) (n m : ℕ) → n ≡ m → Stops t n → Answers ⊤ (2 ^ 32 ≤ m) t o
 stops_names t o n m is h = grind (arith, is)
 
 -- the names of a list, at its item at i

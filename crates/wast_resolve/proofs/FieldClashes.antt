@@ -3,7 +3,7 @@ use Rattle.std.proofs.Common.{◌≡◌, ℕ, zero, suc, ◌+◌, List, [], ◌�
 use Rattle.std.proofs.lemmas.List.{length-map, map-append, length-append}
 use Rattle.wast_resolve.specs.Tree.{Span}
 use Rattle.wast_base.specs.Ids.{Name, Mark, text_of}
-use Rattle.wast_base.specs.Faults.{Refusal, DuplicateField, Told}
+use Rattle.wast_base.specs.Faults.{Cause, DuplicateField, Told}
 use Rattle.wast_base.specs.Spaces.{name_if}
 use Rattle.wast_resolve.specs.Demands.{first_unmet, field_demand, field_demands, each_after}
 use Rattle.wast_namespace.specs.Filling.{IsClash, HasFirstClash}
@@ -11,15 +11,15 @@ use Rattle.wast_resolve.specs.Clashes.{field_clash_told, FindsAmong}
 use Rattle.wast_resolve.proofs.Unmet.{first_unmet-append}
 use Rattle.wast_resolve.proofs.Countdowns.{Ahead, from_start, still_free, one_nearer, not_here, none_past, met_here, clashes_here}
 
-abbrev field_fault : Name → Refusal
+abbrev field_fault : Name → Cause
 field_fault name = DuplicateField (codes "field") (text_of name)
 
 -- what the demand of a field says where it is not met
-abbrev says : Option Mark → Option (Refusal × Span)
+abbrev says : Option Mark → Option (Cause × Span)
 says id = option_map (λ m. (field_fault m.0, m.1)) id
 
 -- what is unmet first, by how far the first clash is ahead
-abbrev unmet_at : List (Option Mark) → Option ℕ → Option (Refusal × Span)
+abbrev unmet_at : List (Option Mark) → Option ℕ → Option (Cause × Span)
 unmet_at ids None = None
 unmet_at ids (Some n) = says (get_or ids n None)
 

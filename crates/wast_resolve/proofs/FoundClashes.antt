@@ -5,7 +5,7 @@ use Rattle.std.specs.Prelude.{⊤}
 use Rattle.std.proofs.lemmas.List.{get_or-set_same}
 use Rattle.wast_resolve.specs.Tree.{Space, Span}
 use Rattle.wast_base.specs.Ids.{Name, Mark}
-use Rattle.wast_base.specs.Faults.{Refusal, Duplicate, Told, At, told}
+use Rattle.wast_base.specs.Faults.{Cause, Duplicate, Told, At, told}
 use Rattle.wast_base.specs.Spaces.{rank_of, word_of, name_if}
 use Rattle.wast_tree.specs.Items.{Item}
 use Rattle.wast_tree.specs.Known.{names_in}
@@ -23,7 +23,7 @@ AreMany many [] = ⊤
 AreMany many (x ∷ xs) = (2 ^ 32 ≤ length x.fields → many) × AreMany many xs
 
 -- what was found, or that there is nothing to find
-abbrev Finds : Type 0 → Option Told → Option (Refusal × Span) → Type 0
+abbrev Finds : Type 0 → Option Told → Option (Cause × Span) → Type 0
 Finds many found unmet = MatchOption found (unmet ≡ None) (λ t. Answers ⊤ many t unmet)
 
 -- what was found at last of the demands; where it is nothing, no clash was ahead
@@ -50,7 +50,7 @@ module _ (many : Type 0) (all before : List Item) (x : Item) (rest : List Item) 
   abbrev around : List (Option Name)
   around = earlier ++ name_if x.id ∷ names_in x.space rest
 
-  abbrev fault : Name → Refusal
+  abbrev fault : Name → Cause
   fault name = Duplicate (word_of x.space)
 
   abbrev later : List Demand
@@ -114,7 +114,7 @@ seen_as of step a b [] h = ap of h
 seen_as of step a b (x ∷ xs) h = (of h.0, (h.1.0, seen_as of step h.0 b xs h.1.1))
 
 -- what is said of what an error tells is said of the error
-of_told : {E : Type 0} (many : Type 0) (tells : E → Told) (found : Option E) (unmet : Option (Refusal × Span)) → Finds many (option_map tells found) unmet → MatchOption found (unmet ≡ None) (λ e. Answers ⊤ many (tells e) unmet)
+of_told : {E : Type 0} (many : Type 0) (tells : E → Told) (found : Option E) (unmet : Option (Cause × Span)) → Finds many (option_map tells found) unmet → MatchOption found (unmet ≡ None) (λ e. Answers ⊤ many (tells e) unmet)
 of_told many tells None unmet h = h
 of_told many tells (Some e) unmet h = h
 

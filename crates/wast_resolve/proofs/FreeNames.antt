@@ -5,7 +5,7 @@ use Rattle.wast_base.specs.Ids.{Name, Mark}
 use Rattle.wast_base.specs.Spaces.{same_space, rank_of, word_of, name_if, is_called, position_of, is_borne}
 use Rattle.wast_tree.specs.Items.{Item}
 use Rattle.wast_tree.specs.Known.{names_in}
-use Rattle.wast_base.specs.Faults.{Refusal, Duplicate}
+use Rattle.wast_base.specs.Faults.{Cause, Duplicate}
 use Rattle.wast_tree.proofs.Bearing.{borne_by_both}
 use Rattle.wast_resolve.specs.Tree.{Span, Space}
 use Rattle.wast_resolve.specs.Demands.{first_unmet, new_name_in, own_demand, field_demands, item_demand, item_demands, each_after}
@@ -22,7 +22,7 @@ or_parts false b h = (refl, h)
 abbrev IsFree : Space → Name → List Item → List Item → ℕ → Type 0
 IsFree s q before xs p = (is_borne q (names_in s before) ≡ false) × (position_of q (names_in s xs) ≡ Some p)
 
-not_borne : (b : Bool) (f : Refusal × Span) → cond (not b) None (Some f) ≡ None → b ≡ false
+not_borne : (b : Bool) (f : Cause × Span) → cond (not b) None (Some f) ≡ None → b ≡ false
 not_borne true f h = absurd (cc h)
 not_borne false f h = refl
 

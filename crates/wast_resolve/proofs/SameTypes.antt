@@ -7,7 +7,7 @@ use Rattle.std.specs.List.{flat_map, list_all}
 use Rattle.std.proofs.lemmas.Bool.{eq-eqb}
 use Rattle.std.proofs.lemmas.Grind.{flat_map-append}
 use Rattle.wast_base.specs.Ids.{name_of, same_index}
-use Rattle.wast_base.specs.Faults.{Refusal}
+use Rattle.wast_base.specs.Faults.{Cause}
 use Rattle.wast_tree.specs.Known.{Known}
 use Rattle.wast_tree.specs.Occurrences.{Ask, Wants, if_there, in_index, in_id, in_heap, in_val, in_param, in_signature}
 use Rattle.wast_expand.specs.Signatures.{Signature, type_of_param, signature_of, same_heap_by, same_value_by, same_values_by, same_signature_by}
@@ -25,7 +25,7 @@ use Rattle.wast_resolve.proofs.ImpliedSignatures.{both_so, values_pass}
 
 -- Where the ids of the one are known.
 module _ (k : Known) where
-  same_some : (o : Option ℕ) (f : Refusal × Span) → cond (is_some o) None (Some f) ≡ None → same_number o o ≡ true
+  same_some : (o : Option ℕ) (f : Cause × Span) → cond (is_some o) None (Some f) ≡ None → same_number o o ≡ true
   same_some None f met = absurd (cc met)
   same_some (Some n) f met = eq-eqb n n refl
 

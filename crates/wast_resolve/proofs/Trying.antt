@@ -10,7 +10,7 @@ use Rattle.std.proofs.lemmas.List.{map-append}
 use Rattle.std.proofs.lemmas.List.Elements.{Contains-get_or, Contains-append_left, Contains-append_right}
 use Rattle.wast_base.specs.Ids.{Name}
 use Rattle.wast_base.specs.declared.faults.Error.{Error}
-use Rattle.wast_base.specs.Faults.{Told, Refusal}
+use Rattle.wast_base.specs.Faults.{Told, Cause}
 use Rattle.wast_base.specs.Spaces.{spaces, rank_of, position_of}
 use Rattle.wast_tree.specs.Items.{Item, items}
 use Rattle.wast_tree.specs.Known.{known, names_in}
@@ -119,11 +119,11 @@ crowded fields n c le = (n, (c, le))
 among_items : (fields : List ModuleField) (n : ℕ) → Contains (item_counts (items fields)) n → Contains (counts fields) n
 among_items fields n c = Contains-append_left (item_counts (items fields)) (local_counts fields) n c
 
-stops_one : (t : Told) (fields : List ModuleField) (o : Option (Refusal × Span)) (n : ℕ) → Contains (counts fields) n → Stops t n → Answers ⊤ (IsCrowded fields) t o
+stops_one : (t : Told) (fields : List ModuleField) (o : Option (Cause × Span)) (n : ℕ) → Contains (counts fields) n → Stops t n → Answers ⊤ (IsCrowded fields) t o
 stops_one t fields o n c h = grind (arith, crowded)
 
 -- what stopped one space is an answer for all
-pub stops_all : (t : Told) (fields : List ModuleField) (s : Space) (o : Option (Refusal × Span)) → Stops t (length (names_in s (items fields))) → Answers ⊤ (IsCrowded fields) t o
+pub stops_all : (t : Told) (fields : List ModuleField) (s : Space) (o : Option (Cause × Span)) → Stops t (length (names_in s (items fields))) → Answers ⊤ (IsCrowded fields) t o
 stops_all t fields s o h =
     let xs = items fields in
     let n = length (names_in s xs) in

@@ -3,10 +3,10 @@ use Rattle.std.proofs.Common.{◌≡◌, refl, sym, ap, ◌∙◌, List, [], ◌
 use native.Mathlib.Omega.{arith}
 use Rattle.std.specs.Option.{option_or}
 use Rattle.wast_resolve.specs.Tree.{Span}
-use Rattle.wast_base.specs.Faults.{Refusal, Told}
+use Rattle.wast_base.specs.Faults.{Cause, Told}
 use Rattle.wast_resolve.specs.Demands.{Demand, first_unmet, Answers}
 
-more_unmet : (b : Bool) (f : Refusal × Span) (r s t : Option (Refusal × Span)) → (r ≡ None → s ≡ t) → cond b r (Some f) ≡ None → cond b s (Some f) ≡ t
+more_unmet : (b : Bool) (f : Cause × Span) (r s t : Option (Cause × Span)) → (r ≡ None → s ≡ t) → cond b r (Some f) ≡ None → cond b s (Some f) ≡ t
 more_unmet true f r s t h e = h e
 more_unmet false f r s t h e = cc
 
@@ -20,7 +20,7 @@ pub first_unmet-or : (ds es : List Demand) → first_unmet (ds ++ es) ≡ option
 first_unmet-or [] es = refl
 first_unmet-or (d ∷ ds) es = by_met d.met (d.fault, d.place) (first_unmet ds) (first_unmet es) (first_unmet (ds ++ es)) (first_unmet-or ds es)
   where
-    by_met : (b : Bool) (f : Refusal × Span) (r s all : Option (Refusal × Span)) → all ≡ option_or r s → cond b all (Some f) ≡ option_or (cond b r (Some f)) s
+    by_met : (b : Bool) (f : Cause × Span) (r s all : Option (Cause × Span)) → all ≡ option_or r s → cond b all (Some f) ≡ option_or (cond b r (Some f)) s
     by_met true f r s all h = h
     by_met false f r s all h = refl
 
@@ -28,21 +28,21 @@ first_unmet-or (d ∷ ds) es = by_met d.met (d.fault, d.place) (first_unmet ds) 
 pub alike_behind : (ds es more others : List Demand) → first_unmet ds ≡ first_unmet es → (first_unmet ds ≡ None → first_unmet more ≡ first_unmet others) → first_unmet (ds ++ more) ≡ first_unmet (es ++ others)
 alike_behind ds es more others h k = first_unmet-or ds more ∙ (by_first (first_unmet ds) (first_unmet es) (first_unmet more) (first_unmet others) h k ∙ sym (first_unmet-or es others))
   where
-    by_first : (o p r s : Option (Refusal × Span)) → o ≡ p → (o ≡ None → r ≡ s) → option_or o r ≡ option_or p s
+    by_first : (o p r s : Option (Cause × Span)) → o ≡ p → (o ≡ None → r ≡ s) → option_or o r ≡ option_or p s
     by_first None p r s e h = h refl ∙ ap (λ q. option_or q s) e
     by_first (Some f) p r s e h = ap (λ q. option_or q s) e
 
-still_unmet : (b : Bool) (f g : Refusal × Span) (r s : Option (Refusal × Span)) → (r ≡ Some g → s ≡ Some g) → cond b r (Some f) ≡ Some g → cond b s (Some f) ≡ Some g
+still_unmet : (b : Bool) (f g : Cause × Span) (r s : Option (Cause × Span)) → (r ≡ Some g → s ≡ Some g) → cond b r (Some f) ≡ Some g → cond b s (Some f) ≡ Some g
 still_unmet true f g r s h e = h e
 still_unmet false f g r s h e = e
 
 -- a demand that is not met hides what comes after it
-unmet_append : (ds es : List Demand) (f : Refusal × Span) → first_unmet ds ≡ Some f → first_unmet (ds ++ es) ≡ Some f
+unmet_append : (ds es : List Demand) (f : Cause × Span) → first_unmet ds ≡ Some f → first_unmet (ds ++ es) ≡ Some f
 unmet_append [] es f h = cc
 unmet_append (d ∷ ds) es f h = still_unmet d.met (d.fault, d.place) f (first_unmet ds) (first_unmet (ds ++ es)) (unmet_append ds es f) h
 
 -- what is answered of some demands, under less, is answered of others, under more
-pub answers_more : {K L M N : Type 0} (t : Told) (o p : Option (Refusal × Span)) → (K → L) → (M → N) → ((f : Refusal × Span) → o ≡ Some f → p ≡ Some f) → Answers K M t o → Answers L N t p
+pub answers_more : {K L M N : Type 0} (t : Told) (o p : Option (Cause × Span)) → (K → L) → (M → N) → ((f : Cause × Span) → o ≡ Some f → p ≡ Some f) → Answers K M t o → Answers L N t p
 answers_more t o p l m h a = grind (arith, l, m, h)
 
 module _ {K L M N : Type 0} (t : Told) (ds es : List Demand) (l : K → L) (m : M → N) where
@@ -57,6 +57,6 @@ pub met_parts : (ds es : List Demand) → first_unmet (ds ++ es) ≡ None → (f
 met_parts [] es h = (refl, h)
 met_parts (d ∷ ds) es h = by_met d.met (first_unmet ds) (first_unmet es) (first_unmet (ds ++ es)) (d.fault, d.place) (met_parts ds es) h
   where
-    by_met : (b : Bool) (r s all : Option (Refusal × Span)) (f : Refusal × Span) → (all ≡ None → (r ≡ None) × (s ≡ None)) → cond b all (Some f) ≡ None → (cond b r (Some f) ≡ None) × (s ≡ None)
+    by_met : (b : Bool) (r s all : Option (Cause × Span)) (f : Cause × Span) → (all ≡ None → (r ≡ None) × (s ≡ None)) → cond b all (Some f) ≡ None → (cond b r (Some f) ≡ None) × (s ≡ None)
     by_met true r s all f g h = g h
     by_met false r s all f g h = cc

@@ -4,7 +4,7 @@ use Rattle.std.proofs.Common.{◌≡◌, ℕ, false, List, [], ◌∷◌, ◌++�
 use Rattle.std.specs.Option.{option_or}
 use Rattle.std.proofs.lemmas.Grind.{flat_map-append}
 use Rattle.wast_base.specs.Ids.{generated, name_of, mark_of}
-use Rattle.wast_base.specs.Faults.{Refusal}
+use Rattle.wast_base.specs.Faults.{Cause}
 use Rattle.wast_base.specs.Spaces.{word_of}
 use Rattle.wast_tree.specs.Occurrences.{Wants, Occurrence, Outside, in_constant, in_payload, exported_space, in_field, in_module}
 use Rattle.wast_deinline.specs.Segments.{at_zero}
@@ -23,17 +23,17 @@ use Rattle.wast_resolve.proofs.WrittenLooks.{completed_alike}
 use Rattle.wast_resolve.proofs.WrittenOwn.{Numbers}
 
 -- the first that is unmet of some fields
-abbrev first_of : List (Option (Refusal × Span)) → Option (Refusal × Span)
+abbrev first_of : List (Option (Cause × Span)) → Option (Cause × Span)
 first_of [] = None
 first_of (o ∷ os) = option_or o (first_of os)
 
 -- An index that stays an id is unknown.
-abbrev unmet_at : Space → Index → Option (Refusal × Span)
+abbrev unmet_at : Space → Index → Option (Cause × Span)
 unmet_at s (index.Num n p) = None
 unmet_at s (index.Id id) = first_unmet (unknown (word_of s) (mark_of id) false)
 
 module _ (c : Scope) where
-  abbrev unmet : ModuleField → Option (Refusal × Span)
+  abbrev unmet : ModuleField → Option (Cause × Span)
   unmet x = first_unmet (use_demands c (in_field x))
 
   all_unmet : (xs : List ModuleField) → first_unmet (use_demands c (in_module xs)) ≡ first_of (map unmet xs)

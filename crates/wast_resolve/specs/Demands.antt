@@ -5,7 +5,7 @@ use Rattle.wast_resolve.specs.Tree.{Span, Index, FunctionType, ModuleField}
 use Rattle.wast_resolve.specs.Tree.space
 use Rattle.wast_resolve.specs.Tree.field
 use Rattle.wast_base.specs.Ids.{Name, text_of, Mark, span_of_index}
-use Rattle.wast_base.specs.Faults.{Refusal, Duplicate, DuplicateField, OutOfBounds, NotFunc, NoMatch, told}
+use Rattle.wast_base.specs.Faults.{Cause, Duplicate, DuplicateField, OutOfBounds, NotFunc, NoMatch, told}
 use Rattle.wast_base.specs.declared.faults.Error.{Error}
 use Rattle.wast_base.specs.Spaces.{spaces, word_of, name_if, is_borne}
 use Rattle.wast_tree.specs.Items.{Item, items}
@@ -25,7 +25,7 @@ each_after f before [] = []
 each_after f before (x ∷ xs) = f before x ++ each_after f (before ++ x ∷ []) xs
 
 -- The name of an id is none of the earlier ones; where it is, this is the fault.
-abbrev pub new_name_by : (Name → Refusal) → List (Option Name) → Option Mark → List Demand
+abbrev pub new_name_by : (Name → Cause) → List (Option Name) → Option Mark → List Demand
 new_name_by fault earlier None = []
 new_name_by fault earlier (Some m) = one_demand (fault m.0) m.1 (not (is_borne m.0 earlier))
 

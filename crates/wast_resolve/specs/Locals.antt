@@ -1,7 +1,7 @@
 -- The names of parameters and locals, as they are looked through. Private functions alone use this.
 use Rattle.std.specs.Prelude.{List, [], ◌++◌, map, Option, Some, None, option_map, codes}
 use Rattle.wast_base.specs.Ids.{Name, Mark}
-use Rattle.wast_base.specs.Faults.{Refusal, Duplicate}
+use Rattle.wast_base.specs.Faults.{Cause, Duplicate}
 use Rattle.wast_base.specs.Spaces.{name_if}
 use Rattle.wast_tree.specs.Occurrences.{Step, declared}
 use Rattle.wast_resolve.specs.Tree.{Span, Id, NameAnnotation, ValType, FunctionType, Local, FuncKind}
@@ -29,5 +29,5 @@ abbrev pub names : List (Option Mark) → List (Option Name)
 names ms = map name_if ms
 
 -- what is said of one that has the name of an earlier one
-abbrev pub said_of : Option Mark → Option (Refusal × Span)
+abbrev pub said_of : Option Mark → Option (Cause × Span)
 said_of m = option_map (λ (m : Mark). (Duplicate (codes "local"), m.1)) m
