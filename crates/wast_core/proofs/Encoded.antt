@@ -97,7 +97,7 @@ encodable numbers stays indices written n fields above h met =
 -- encoding a resolved module answers as encoding the module that it was
 unwritten : SamePositions → (form : Option Form) (n : ℕ) (name : Option (List ℕ)) (fields : List ModuleField) (e : Error) → greatest_generation fields < n → IsMet fields → IsUnwritten form (IsWritable name (finished n fields)) e → IsUnwritten form (IsBounded n name fields) e
 unwritten positions (Some form) n name fields e above met h = h
-unwritten positions None n name fields e above met h = elim h [ inl memory ↦ inl memory | inr large ↦ inr (large.0, λ b. large.1 (written_where_meant positions n name fields above met b.written)) ]
+unwritten positions None n name fields e above met h = elim h [ inl memory ↦ inl memory | inr large ↦ inr (large.0, λ b. large.1 (written_where_meant positions n name fields above met b.writable)) ]
 
 pub encodes : SamePositions → (n : ℕ) (name : Option (List ℕ)) (old new : ModuleKind) (names : Bindings) (result : Result (Vec ℕ) Error) → bound_of_kind old < n → ResolvesKind n old (Ok names) new → EncodesResolved name new result → EncodesKind n name old result new
 encodes positions n name (kind.Text fs) new names result above r h = text fs new result above r (subst (λ k. EncodesResolved name k result) r.1 h)

@@ -118,6 +118,6 @@ too_large_is_unbounded n name fields h b =
       | inl crowded ↦ b.spaces crowded
       | inr more ↦ elim more [
         | inl counter ↦ let small = b.counter in absurd (omega (arith, counter, small))
-        | inr long ↦ absurd (cc (sym (stays_long fields long) ∙ none_long (resolved (by_positions fields)) (data_in_range name (resolved (by_positions fields)) b.written.in_range)))
+        | inr long ↦ absurd (cc (sym (stays_long fields long) ∙ none_long (resolved (by_positions fields)) (data_in_range name (resolved (by_positions fields)) b.writable.in_range)))
       ]
     ]

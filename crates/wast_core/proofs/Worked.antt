@@ -63,7 +63,7 @@ each_place name fields h names = all_both (λ s. All InRangePart (in_slot name f
     held slot.Names = names
 
 pub row1 : Row1
-row1 = (record { spaces = not_crowded [] refl; counter = omega arith; written = record { in_range = each_place None [] (All-nil InRangePart) (All-nil InRangeNameSubsection); length = omega arith } }, refl)
+row1 = (record { spaces = not_crowded [] refl; counter = omega arith; writable = record { in_range = each_place None [] (All-nil InRangePart) (All-nil InRangeNameSubsection); length = omega arith } }, refl)
 
 parts27 : All InRangePart out.worked_parts
 unfolding unsigned unsigned_in
@@ -99,13 +99,13 @@ bounded27 : (a b c d e f : Address) → IsBounded 1 None (worked.row27 a b c d e
 unfolding unsigned unsigned_in
 bounded27 a b c d e f =
     let fields = worked.row27 a b c d e f in
-    record { spaces = not_crowded (explicit fields) refl; counter = omega arith; written = record { in_range = each_place None (resolved (by_positions fields)) parts27 (names27 a b c d e f); length = omega arith } }
+    record { spaces = not_crowded (explicit fields) refl; counter = omega arith; writable = record { in_range = each_place None (resolved (by_positions fields)) parts27 (names27 a b c d e f); length = omega arith } }
 
 reads27 : (a b c d e f : Address) → Reads out.worked_bytes (meaning None (worked.row27 a b c d e f))
 unfolding unsigned unsigned_in
 reads27 a b c d e f =
     let bounded = bounded27 a b c d e f in
-    reads_module None (resolved (by_positions (worked.row27 a b c d e f))) out.worked_bytes refl (texts27 a b c d e f) bounded.written.in_range refl (below 256 out.worked_bytes refl)
+    reads_module None (resolved (by_positions (worked.row27 a b c d e f))) out.worked_bytes refl (texts27 a b c d e f) bounded.writable.in_range refl (below 256 out.worked_bytes refl)
 
 pub row27 : Row27
 unfolding unsigned unsigned_in

@@ -1,4 +1,4 @@
--- Which text modules are small enough: every count, length and position that the binary format writes is below 2^32, all bytes are at most the greatest usize, and the counter does not run out.
+-- Which text modules are bounded: every count, length and position that the binary format writes is below 2^32, all bytes are at most the greatest usize, and the counter does not run out.
 use Rattle.std.specs.Prelude.{ℕ, ◌+◌, ◌<◌, ◌^◌, ◌++◌, List, length, Option, All}
 use Rattle.std.specs.List.{flat_map}
 use Rattle.wasm_out.specs.Parts.{part, InRangePart}
@@ -47,4 +47,4 @@ pub record IsWritable (name : Option (List ℕ)) (fields : List ModuleField) : T
 pub record IsBounded (n : ℕ) (name : Option (List ℕ)) (fields : List ModuleField) : Type 0 where
   pub spaces : IsCrowded (explicit fields) → ⊥
   pub counter : n + ids_filled fields < 2 ^ 64
-  pub written : IsWritable name (resolved (by_positions fields))
+  pub writable : IsWritable name (resolved (by_positions fields))

@@ -36,7 +36,7 @@ ResolvesKind n (kind.Binary pieces) (Err e) new = ⊥
 ResolvesKind n (kind.Refused e) (Ok names) new = ⊥
 ResolvesKind n (kind.Refused e) (Err d) new = (d ≡ e) × (new ≡ kind.Refused e)
 
--- How far the counter rises: where fields are resolved by as many ids as are filled in, where they are refused by no one knows how many; else it stays.
+-- How far the counter rises: where fields are resolved by as many ids as are filled in; where they are refused it may rise, and never falls; else it stays.
 abbrev pub Counts : ModuleKind → ModuleKind → ℕ → ℕ → Type 0
 Counts (kind.Text fields) (kind.Text resolved) before after = after ≡ before + ids_filled fields
 Counts (kind.Text fields) (kind.Binary pieces) before after = ⊥
@@ -59,8 +59,8 @@ joined pieces = flat_map (λ p. p.now) pieces
 
 -- why resolved fields give no bytes: a form is not covered; else memory was refused, or they are too large
 abbrev pub IsUnwritten : Option Form → Type 0 → Error → Type 0
-IsUnwritten (Some form) small e = e ≡ refused (fault.Uncovered form)
-IsUnwritten None small e = (e ≡ out_of_memory) ⊎ ((e ≡ too_large) × (small → ⊥))
+IsUnwritten (Some form) is_bounded e = e ≡ refused (fault.Uncovered form)
+IsUnwritten None is_bounded e = (e ≡ out_of_memory) ⊎ ((e ≡ too_large) × (is_bounded → ⊥))
 
 -- Why a text module gives no bytes: it is not resolved, and keeps why; or it is resolved, and gives none.
 abbrev pub IsUnencoded : ℕ → Option (List ℕ) → List ModuleField → Error → ModuleKind → Type 0

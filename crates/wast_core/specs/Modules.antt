@@ -2,7 +2,7 @@
 use Rattle.std.specs.Prelude.{ℕ, max, ◌<◌, Bool, true, IsTrue}
 use Rattle.wast_base.specs.Ids.{marked}
 use Rattle.wast_tree.specs.WellFormed as fields
-use Rattle.wast_tree.specs.Generations.{generation_if, greatest_generation}
+use Rattle.wast_tree.specs.Generations.{generation_or_zero, greatest_generation}
 use Rattle.wast_core.specs.declared.module.Module.{Module}
 use Rattle.wast_core.specs.declared.module.ModuleKind.{ModuleKind}
 use Rattle.wast_core.specs.declared.module.ModuleKind.TheVariants as kind
@@ -24,7 +24,7 @@ bound_of_kind (kind.Refused e) = 0
 
 -- the greatest generation of an id in the module
 abbrev pub generation_bound : Module → ℕ
-generation_bound m = max (generation_if (marked m.id)) (bound_of_kind m.kind)
+generation_bound m = max (generation_or_zero (marked m.id)) (bound_of_kind m.kind)
 
 -- The module is well formed, and the counter above its generated ids.
 pub record IsReady (m : Module) (counter : ℕ) : Type 0 where

@@ -12,11 +12,11 @@ use Rattle.wast_core.specs.Meaning.{meaning}
 use Rattle.wast_core.specs.Tree.{ModuleField}
 use Rattle.wast_core.specs.Tree.field
 
--- `(module)`: small enough, and read from the header alone
+-- `(module)`: bounded, and read from the header alone
 abbrev pub Row1 : Type 0
 Row1 = IsBounded 1 None [] × (header ++ flat_map part (meaning None []) ≡ header)
 
--- `(module (type $t (func)) (func $f (type $t) call $f) (export "a" (func $f)))`: well formed and small enough, and read from the bytes of row 27
+-- `(module (type $t (func)) (func $f (type $t) call $f) (export "a" (func $f)))`: well formed and bounded, and read from the bytes of row 27
 abbrev pub Row27 : Type 0
 Row27 = (a b c d e f : Address) →
     let fields = row27 a b c d e f in

@@ -4,7 +4,7 @@ ghost use Rattle.wast_core.specs.WorkedMeanings.{Row1, Row2, Row8, Row24, Row27,
 ghost use Rattle.wast_core.specs.WorkedAbbreviations.{Row4, Row5, Row6, Row44};
 ghost use Rattle.wast_core.specs.WorkedEntries.{ImportedEntities, MemoryAndData, TableAndElements, TwoStarts};
 
-/// The modules of the rows 1 and 27 are small enough and read from their bytes; an implied type is written without a
+/// The modules of the rows 1 and 27 are bounded and read from their bytes; an implied type is written without a
 /// name, also beside a group; a written number stays; a name annotation stands before an id; an item without a name
 /// counts; and a length takes two bytes from 128 on.
 pub(crate) fn worked_modules()

@@ -6,10 +6,10 @@ use Rattle.std.specs.Cmp.Derive.{both_true}
 use Rattle.std.proofs.lemmas.Bool.{and_parts, ltb-true, lt-ltb}
 use Rattle.wast_tree.specs.Items.{Item, item, items}
 use Rattle.wast_tree.specs.Occurrences.{Ask, Wants, in_module, asked}
-use Rattle.wast_tree.specs.Generations.{greatest, generation_if, generation_in, greatest_item, greatest_asked}
+use Rattle.wast_tree.specs.Generations.{greatest, generation_or_zero, generation_in, greatest_item, greatest_asked}
 use Rattle.wast_deinline.specs.Tree.{Span, Id, Space, ModuleField}
 use Rattle.wast_deinline.specs.Referring.{by_id}
-use Rattle.wast_deinline.specs.Written.{referable, written, references_wanted, written_out}
+use Rattle.wast_deinline.specs.Written.{referable, written_out_from, references_wanted, written_out}
 use Rattle.wast_deinline.specs.Laws.{StaysBelow}
 use Rattle.wast_deinline.proofs.WrittenItems.{same_of_items, all_referable}
 use Rattle.wast_deinline.proofs.WrittenAsks.{written_pass, written_out_pass}
@@ -30,7 +30,7 @@ module _ {A : Type 0} (m : ℕ) (g : A → ℕ) where
 
 module _ (m : ℕ) where
   abbrev of_item : Item → ℕ
-  of_item x = generation_if x.id
+  of_item x = generation_or_zero x.id
 
   abbrev is_item_below : Item → Bool
   is_item_below x = nat_lt (of_item x) m
@@ -48,11 +48,11 @@ written_below n fields above =
     let some : 0 < m = omega (arith, above) in
     let given : list_all (is_item_below m) (items (referable n fields)) ≡ true =
     all_referable (is_item_below m) m (λ k s at lt. lt-ltb k m lt) n fields (omega arith) (each_below m (of_item m) (items fields) (omega (arith, above))) in
-    let of_items : greatest_item (items (written n fields)) < m =
-    greatest_below m (of_item m) (items (written n fields)) some
+    let of_items : greatest_item (items (written_out_from n fields)) < m =
+    greatest_below m (of_item m) (items (written_out_from n fields)) some
     (same_of_items (list_all (is_item_below m)) (λ s xs h. ap (λ b. b && list_all (is_item_below m) xs) (lt-ltb 0 m some)) (λ x xs ys e. ap (λ b. is_item_below m x && b) e) (referable n fields) ∙ given) in
-    let of_asks : greatest_asked (asked (in_module (written n fields))) < m =
-    greatest_below m generation_in (asked (in_module (written n fields))) some
+    let of_asks : greatest_asked (asked (in_module (written_out_from n fields))) < m =
+    greatest_below m generation_in (asked (in_module (written_out_from n fields))) some
     (written_pass (is_ask_below m) (is_item_below m) (own_below m) n fields given (each_below m generation_in (asked (in_module fields)) (omega (arith, above)))) in
     omega (arith, of_items, of_asks)
 

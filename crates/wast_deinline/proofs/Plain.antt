@@ -18,7 +18,7 @@ use Rattle.wast_deinline.specs.Tree.export
 use Rattle.wast_deinline.specs.Tree.field
 use Rattle.wast_deinline.specs.Segments.{at_zero}
 use Rattle.wast_deinline.specs.WriteOut.{Reference, export_of, exports_of, data_in, elem_in, func_alone, table_alone, memory_alone, global_alone, tag_alone, write_out}
-use Rattle.wast_deinline.specs.Referring.{by_id, by_position, wants_id, with_id}
+use Rattle.wast_deinline.specs.Referring.{by_id, by_position, wants_id, with_item_id}
 use Rattle.wast_deinline.specs.Written.{referable, written_after}
 use Rattle.wast_deinline.specs.Laws.{StaysPlain, StaysPlainByPosition}
 use Rattle.wast_deinline.proofs.BothPass.{first_is, second_is}
@@ -80,7 +80,7 @@ field_plain r (field.Tag t) h =
     both_plain (exports_of t.span export.Tag item t.exports) (tag_alone t t.kind ∷ []) (exports_plain t.span export.Tag item t.exports.names) (tag_plain t t.kind h)
 field_plain r x h = both_true h refl
 
-plain_given : (b : Bool) (n : ℕ) (x : ModuleField) → is_plain_field (given_if b with_id n x) ≡ is_plain_field x
+plain_given : (b : Bool) (n : ℕ) (x : ModuleField) → is_plain_field (given_if b with_item_id n x) ≡ is_plain_field x
 plain_given false n x = refl
 plain_given true n (field.Func f) = refl
 plain_given true n (field.Table t) = refl

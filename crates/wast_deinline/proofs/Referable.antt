@@ -6,10 +6,10 @@ use Rattle.wast_base.specs.Filling.{one_if, given_if}
 use Rattle.wast_deinline.specs.Tree.{ModuleField}
 use Rattle.wast_deinline.specs.Tree.field
 use Rattle.wast_deinline.specs.Segments.{overflows}
-use Rattle.wast_deinline.specs.Referring.{wants_id, with_id}
+use Rattle.wast_deinline.specs.Referring.{wants_id, with_item_id}
 use Rattle.wast_deinline.specs.Written.{referable, IsRefused, CannotBeWritten}
 
-overflows_given : (b : Bool) (n : ℕ) (x : ModuleField) → overflows (given_if b with_id n x) ≡ overflows x
+overflows_given : (b : Bool) (n : ℕ) (x : ModuleField) → overflows (given_if b with_item_id n x) ≡ overflows x
 overflows_given false n x = refl
 overflows_given true n (field.Memory m) = refl
 overflows_given true n x = refl

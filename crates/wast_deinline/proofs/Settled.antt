@@ -14,7 +14,7 @@ use Rattle.wast_tree.proofs.Bearing.{borne_among, borne_by_both}
 use Rattle.wast_deinline.specs.Tree.{Span, Id, Space, ModuleField}
 use Rattle.wast_deinline.specs.Tree.index
 use Rattle.wast_deinline.specs.Referring.{by_id}
-use Rattle.wast_deinline.specs.Written.{referable, written}
+use Rattle.wast_deinline.specs.Written.{referable, written_out_from}
 use Rattle.wast_deinline.specs.Laws.{StaysWellFormed}
 use Rattle.wast_deinline.proofs.BothPass.{either_stays}
 use Rattle.wast_deinline.proofs.Plain.{stays_plain}
@@ -68,7 +68,7 @@ module _ (k : Known) where
 
 module _ (n : ℕ) (fields : List ModuleField) where
   abbrev new : Known
-  new = known (items (written n fields))
+  new = known (items (written_out_from n fields))
 
   -- What is borne stays so.
   abbrev bears : Space → Name → Item → Bool
@@ -76,7 +76,7 @@ module _ (n : ℕ) (fields : List ModuleField) where
 
   knows_referable : Knows new (items (referable n fields))
   knows_referable s q h =
-      borne_among s q (items (written n fields))
+      borne_among s q (items (written_out_from n fields))
       ∙ (same_of_items (list_any (bears s q)) (λ t xs h. ap (λ b. b || list_any (bears s q) xs) (and-false (same_space s t))) (λ x xs ys e. ap (λ b. bears s q x || b) e) (referable n fields)
       ∙ (sym (borne_among s q (items (referable n fields))) ∙ h))
 
@@ -84,7 +84,7 @@ module _ (n : ℕ) (fields : List ModuleField) where
   knows_old s q h =
       knows_referable s q (borne_among s q (items (referable n fields)) ∙ any_referable (bears s q) (λ t. and-false (same_space s t)) n fields (sym (borne_among s q (items fields)) ∙ h))
 
-  has_settled : has_settled_indices fields ≡ true → has_settled_indices (written n fields) ≡ true
+  has_settled : has_settled_indices fields ≡ true → has_settled_indices (written_out_from n fields) ≡ true
   has_settled h =
       written_pass (is_settled new) (is_settled_item new) (own_settled new) n fields (all_settled new (items (referable n fields)) knows_referable) (still_settled new (items fields) knows_old (asked (in_module fields)) h)
 

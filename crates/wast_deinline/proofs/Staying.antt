@@ -17,7 +17,7 @@ use Rattle.wast_deinline.specs.Tree.export
 use Rattle.wast_deinline.specs.Tree.field
 use Rattle.wast_deinline.specs.Segments.{has_bytes, has_elements}
 use Rattle.wast_deinline.specs.WriteOut.{Reference, no_exports, exports_of, data_in, elem_in, func_alone, table_alone, memory_alone, global_alone, tag_alone, write_out}
-use Rattle.wast_deinline.specs.Referring.{by_id, by_position, wants_id, with_id}
+use Rattle.wast_deinline.specs.Referring.{by_id, by_position, wants_id, with_item_id}
 use Rattle.wast_deinline.specs.Written.{referable, written_after}
 use Rattle.wast_deinline.specs.Laws.{StaysWritten, StaysByPosition, WantsNoReference}
 use Rattle.wast_deinline.proofs.BothPass.{first_is, second_is}
@@ -115,7 +115,7 @@ wants_no_reference (x ∷ xs) h =
 none_given : (n : ℕ) (xs : List ModuleField) → is_written_out xs ≡ true → referable n xs ≡ xs
 none_given n [] h = refl
 none_given n (x ∷ xs) h =
-    ap (λ b. given_if b with_id n x ∷ filled wants_id with_id (n + one_if (wants_id x)) xs) (wants_none x (first_is _ (is_written_out xs) h))
+    ap (λ b. given_if b with_item_id n x ∷ filled wants_id with_item_id (n + one_if (wants_id x)) xs) (wants_none x (first_is _ (is_written_out xs) h))
     ∙ ap (λ ys. x ∷ ys) (none_given (n + one_if (wants_id x)) xs (second_is (is_written_field x) _ h))
 
 all_stay : (r : Reference) (xs : List ModuleField) → is_written_out xs ≡ true → flat_map (write_out r) xs ≡ xs

@@ -22,11 +22,11 @@ use Rattle.wast_deinline.specs.Tree.export
 use Rattle.wast_deinline.specs.Tree.field
 use Rattle.wast_deinline.specs.Segments.{at_zero}
 use Rattle.wast_deinline.specs.WriteOut.{Reference, export_of, exports_of, data_in, elem_in, func_alone, table_alone, memory_alone, global_alone, tag_alone, write_out}
-use Rattle.wast_deinline.specs.Referring.{by_id, place_or, by_position, wants_id, with_id}
-use Rattle.wast_deinline.specs.Written.{referable, written, written_after, written_out}
+use Rattle.wast_deinline.specs.Referring.{by_id, place_or, by_position, wants_id, with_item_id}
+use Rattle.wast_deinline.specs.Written.{referable, written_out_from, written_after, written_out}
 
 -- ids that are given change nothing of it
-asked_given : (b : Bool) (n : ℕ) (x : ModuleField) → in_field (given_if b with_id n x) ≡ in_field x
+asked_given : (b : Bool) (n : ℕ) (x : ModuleField) → in_field (given_if b with_item_id n x) ≡ in_field x
 asked_given false n x = refl
 asked_given true n (field.Func f) = refl
 asked_given true n (field.Table t) = refl
@@ -130,9 +130,9 @@ module _ (ok : Ask → Bool) where
 
   -- so by ids,
   pub written_pass : (good : Item → Bool) → ((s : Space) (span : Span) (id : Option Id) → good (item s id []) ≡ true → ok (Wants s (by_id s span id)) ≡ true)
-      → (n : ℕ) (fields : List ModuleField) → list_all good (items (referable n fields)) ≡ true → list_all ok (asked (in_module fields)) ≡ true → list_all ok (asked (in_module (written n fields))) ≡ true
+      → (n : ℕ) (fields : List ModuleField) → list_all good (items (referable n fields)) ≡ true → list_all ok (asked (in_module fields)) ≡ true → list_all ok (asked (in_module (written_out_from n fields))) ≡ true
   written_pass good own n fields its h =
-      all_fields (written n fields) ∙ all_pass by_id good own (referable n fields) its (sym (all_fields (referable n fields)) ∙ (ap pass (asked_referable n fields) ∙ h))
+      all_fields (written_out_from n fields) ∙ all_pass by_id good own (referable n fields) its (sym (all_fields (referable n fields)) ∙ (ap pass (asked_referable n fields) ∙ h))
 
   -- and by positions, where each number passes.
   module _ (numbers : (s : Space) (m : ℕ) (span : Span) → ok (Wants s (index.Num m span)) ≡ true) where

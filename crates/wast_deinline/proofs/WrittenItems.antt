@@ -20,7 +20,7 @@ use Rattle.wast_deinline.specs.Tree.export
 use Rattle.wast_deinline.specs.Tree.field
 use Rattle.wast_deinline.specs.Segments.{has_bytes, has_elements}
 use Rattle.wast_deinline.specs.WriteOut.{Reference, export_of, data_in, elem_in, func_alone, table_alone, memory_alone, global_alone, tag_alone, write_out}
-use Rattle.wast_deinline.specs.Referring.{by_id, by_position, exports_some, wants_id, with_id}
+use Rattle.wast_deinline.specs.Referring.{by_id, by_position, exports_some, wants_id, with_item_id}
 use Rattle.wast_deinline.specs.Written.{referable, written_after}
 use Rattle.wast_deinline.proofs.BothPass.{second_is, either_stays}
 
@@ -121,7 +121,7 @@ one_item : (n : ℕ) (s : Space) (p : Span) (id : Option Id) → is_none id ≡ 
 one_item n s p None h = record { s = s; p = p; old = refl; new = refl }
 one_item n s p (Some id) h = absurd cc
 
-pub given : (n : ℕ) (x : ModuleField) → wants_id x ≡ true → IsGiven n (items_in x) (items_in (with_id n x))
+pub given : (n : ℕ) (x : ModuleField) → wants_id x ≡ true → IsGiven n (items_in x) (items_in (with_item_id n x))
 given n (field.Func f) h = one_item n space.Func f.span f.id (second_is (exports_some f.exports) (is_none f.id) h)
 given n (field.Table t) h = one_item n space.Table t.span t.id (second_is (exports_some t.exports || has_elements t.kind) (is_none t.id) h)
 given n (field.Memory m) h = one_item n space.Memory m.span m.id (second_is (exports_some m.exports || has_bytes m.kind) (is_none m.id) h)
@@ -131,7 +131,7 @@ given n x h = absurd cc
 
 -- Where an item passes a test that none without an id passes, one still does once ids are given.
 module _ (p : Item → Bool) (none : (s : Space) → p (item s None []) ≡ false) where
-  any_given : (b : Bool) (n : ℕ) (x : ModuleField) → wants_id x ≡ b → list_any p (items_in x) ≡ true → list_any p (items_in (given_if b with_id n x)) ≡ true
+  any_given : (b : Bool) (n : ℕ) (x : ModuleField) → wants_id x ≡ b → list_any p (items_in x) ≡ true → list_any p (items_in (given_if b with_item_id n x)) ≡ true
   any_given false n x e h = h
   any_given true n x e h = let g = given n x e in absurd (cc (h, ap (list_any p) g.old, none g.s))
 
@@ -139,13 +139,13 @@ module _ (p : Item → Bool) (none : (s : Space) → p (item s None []) ≡ fals
   any_referable n [] h = h
   any_referable n (x ∷ xs) h =
       let next = n + one_if (wants_id x) in
-      list_any-append p (items_in (given_if (wants_id x) with_id n x)) (items (referable next xs))
-      ∙ either_stays (list_any p (items_in x)) (list_any p (items xs)) (list_any p (items_in (given_if (wants_id x) with_id n x))) (list_any p (items (referable next xs)))
+      list_any-append p (items_in (given_if (wants_id x) with_item_id n x)) (items (referable next xs))
+      ∙ either_stays (list_any p (items_in x)) (list_any p (items xs)) (list_any p (items_in (given_if (wants_id x) with_item_id n x))) (list_any p (items (referable next xs)))
       (any_given (wants_id x) n x refl) (any_referable next xs) (sym (list_any-append p (items_in x) (items xs)) ∙ h)
 
 -- Where each item passes a test, each still does once ids are given, if those with the ids of the next generations pass it.
 module _ (p : Item → Bool) (m : ℕ) (made : (k : ℕ) (s : Space) (at : Span) → k < m → p (item s (Some (generated k at)) []) ≡ true) where
-  all_given : (b : Bool) (n : ℕ) (x : ModuleField) → wants_id x ≡ b → n + one_if b ≤ m → list_all p (items_in x) ≡ true → list_all p (items_in (given_if b with_id n x)) ≡ true
+  all_given : (b : Bool) (n : ℕ) (x : ModuleField) → wants_id x ≡ b → n + one_if b ≤ m → list_all p (items_in x) ≡ true → list_all p (items_in (given_if b with_item_id n x)) ≡ true
   all_given false n x e le h = h
   all_given true n x e le h = let g = given n x e in ap (list_all p) g.new ∙ both_true (made n g.s g.p (omega (arith, le))) refl
 
@@ -154,5 +154,5 @@ module _ (p : Item → Bool) (m : ℕ) (made : (k : ℕ) (s : Space) (at : Span)
   all_referable n (x ∷ xs) le h =
       let next = n + one_if (wants_id x) in
       let parts = and_parts (list_all p (items_in x)) (list_all p (items xs)) (sym (list_all-append p (items_in x) (items xs)) ∙ h) in
-      list_all-append p (items_in (given_if (wants_id x) with_id n x)) (items (referable next xs))
+      list_all-append p (items_in (given_if (wants_id x) with_item_id n x)) (items (referable next xs))
       ∙ both_true (all_given (wants_id x) n x refl (omega (arith, le)) parts.0) (all_referable next xs (omega (arith, le)) parts.1)

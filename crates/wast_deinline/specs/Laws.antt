@@ -4,18 +4,18 @@ use Rattle.wast_tree.specs.Generations.{greatest_generation}
 use Rattle.wast_tree.specs.WellFormed.{are_plain, is_well_formed}
 use Rattle.wast_tree.specs.WrittenOut.{is_written_out}
 use Rattle.wast_deinline.specs.Tree.{ModuleField}
-use Rattle.wast_deinline.specs.Written.{written, references_wanted, written_out}
+use Rattle.wast_deinline.specs.Written.{written_out_from, references_wanted, written_out}
 
 -- No abbreviation is left.
 abbrev pub NothingIsLeft : Type 0
-NothingIsLeft = (n : ℕ) (fields : List ModuleField) → IsTrue (is_written_out (written n fields))
+NothingIsLeft = (n : ℕ) (fields : List ModuleField) → IsTrue (is_written_out (written_out_from n fields))
 
 abbrev pub NothingIsLeftByPosition : Type 0
 NothingIsLeftByPosition = (fields : List ModuleField) → IsTrue (is_written_out (written_out fields))
 
 -- A list without abbreviations stays, and takes no id.
 abbrev pub StaysWritten : Type 0
-StaysWritten = (n : ℕ) (fields : List ModuleField) → IsTrue (is_written_out fields) → written n fields ≡ fields
+StaysWritten = (n : ℕ) (fields : List ModuleField) → IsTrue (is_written_out fields) → written_out_from n fields ≡ fields
 
 abbrev pub StaysByPosition : Type 0
 StaysByPosition = (fields : List ModuleField) → IsTrue (is_written_out fields) → written_out fields ≡ fields
@@ -25,15 +25,15 @@ WantsNoReference = (fields : List ModuleField) → IsTrue (is_written_out fields
 
 -- What is covered today stays so.
 abbrev pub StaysPlain : Type 0
-StaysPlain = (n : ℕ) (fields : List ModuleField) → IsTrue (are_plain fields) → IsTrue (are_plain (written n fields))
+StaysPlain = (n : ℕ) (fields : List ModuleField) → IsTrue (are_plain fields) → IsTrue (are_plain (written_out_from n fields))
 
 abbrev pub StaysPlainByPosition : Type 0
 StaysPlainByPosition = (fields : List ModuleField) → IsTrue (are_plain fields) → IsTrue (are_plain (written_out fields))
 
 -- Where the counter begins above the generations of the fields, each generation is below that of the next id.
 abbrev pub StaysBelow : Type 0
-StaysBelow = (n : ℕ) (fields : List ModuleField) → greatest_generation fields < n → greatest_generation (written n fields) < n + references_wanted fields
+StaysBelow = (n : ℕ) (fields : List ModuleField) → greatest_generation fields < n → greatest_generation (written_out_from n fields) < n + references_wanted fields
 
 -- Well formed fields stay so.
 abbrev pub StaysWellFormed : Type 0
-StaysWellFormed = (n : ℕ) (fields : List ModuleField) → is_well_formed fields ≡ true → is_well_formed (written n fields) ≡ true
+StaysWellFormed = (n : ℕ) (fields : List ModuleField) → is_well_formed fields ≡ true → is_well_formed (written_out_from n fields) ≡ true

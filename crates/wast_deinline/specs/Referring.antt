@@ -43,16 +43,16 @@ wants_id (field.Data d) = false
 wants_id (field.Tag t) = exports_some t.exports && is_none t.id
 
 -- with the id of a generation, at the place of the field
-abbrev pub with_id : ℕ → ModuleField → ModuleField
-with_id n (field.Ty t) = field.Ty t
-with_id n (field.Rec r) = field.Rec r
-with_id n (field.Import i) = field.Import i
-with_id n (field.Func f) = field.Func (record f { id = Some (generated n f.span) })
-with_id n (field.Table t) = field.Table (record t { id = Some (generated n t.span) })
-with_id n (field.Memory m) = field.Memory (record m { id = Some (generated n m.span) })
-with_id n (field.Global g) = field.Global (record g { id = Some (generated n g.span) })
-with_id n (field.Export e) = field.Export e
-with_id n (field.Start i) = field.Start i
-with_id n (field.Elem e) = field.Elem e
-with_id n (field.Data d) = field.Data d
-with_id n (field.Tag t) = field.Tag (record t { id = Some (generated n t.span) })
+abbrev pub with_item_id : ℕ → ModuleField → ModuleField
+with_item_id n (field.Ty t) = field.Ty t
+with_item_id n (field.Rec r) = field.Rec r
+with_item_id n (field.Import i) = field.Import i
+with_item_id n (field.Func f) = field.Func (record f { id = Some (generated n f.span) })
+with_item_id n (field.Table t) = field.Table (record t { id = Some (generated n t.span) })
+with_item_id n (field.Memory m) = field.Memory (record m { id = Some (generated n m.span) })
+with_item_id n (field.Global g) = field.Global (record g { id = Some (generated n g.span) })
+with_item_id n (field.Export e) = field.Export e
+with_item_id n (field.Start i) = field.Start i
+with_item_id n (field.Elem e) = field.Elem e
+with_item_id n (field.Data d) = field.Data d
+with_item_id n (field.Tag t) = field.Tag (record t { id = Some (generated n t.span) })

@@ -22,7 +22,7 @@ use Rattle.wast_deinline.specs.Tree.global
 use Rattle.wast_deinline.specs.Tree.tag_kind
 use Rattle.wast_deinline.specs.Tree.export
 use Rattle.wast_deinline.specs.Tree.field
-use Rattle.wast_deinline.specs.Written.{written, references_wanted, written_out}
+use Rattle.wast_deinline.specs.Written.{written_out_from, references_wanted, written_out}
 
 -- the id of a generation for the field at n, and as an index
 abbrev pub made : ℕ → ℕ → Id
@@ -60,7 +60,7 @@ empty_memory_with a b item id =
 abbrev pub EmptyMemory : Type 0
 EmptyMemory = (a b : Address) →
     (references_wanted (empty_memory a b) ≡ 1)
-    × (written 5 (empty_memory a b) ≡ empty_memory_with a b (by_made 5 9) (Some (made 5 9)))
+    × (written_out_from 5 (empty_memory a b) ≡ empty_memory_with a b (by_made 5 9) (Some (made 5 9)))
     × (written_out (empty_memory a b) ≡ empty_memory_with a b (by_number 0 9) None)
 
 -- `(module (import "m" "n" (memory 1)) (memory $m i64 (pagesize 2) (data "ab" "c")))`: an id that is there stays; three
@@ -85,7 +85,7 @@ long_memory_with a b c d e item =
 abbrev pub LongMemory : Type 0
 LongMemory = (a b c d e : Address) →
     (references_wanted (long_memory a b c d e) ≡ 0)
-    × (written 5 (long_memory a b c d e) ≡ long_memory_with a b c d e (by_id c (codes "m") 44))
+    × (written_out_from 5 (long_memory a b c d e) ≡ long_memory_with a b c d e (by_id c (codes "m") 44))
     × (written_out (long_memory a b c d e) ≡ long_memory_with a b c d e (by_number 1 44))
 
 -- `(module (func (export "f") (import "m" "n")) (func $g (import "m" "n")))`: imports, of which the first is exported.
@@ -112,7 +112,7 @@ imported_funcs_with a b c d e f item id =
 abbrev pub ImportedFuncs : Type 0
 ImportedFuncs = (a b c d e f : Address) →
     (references_wanted (imported_funcs a b c d e f) ≡ 1)
-    × (written 5 (imported_funcs a b c d e f) ≡ imported_funcs_with a b c d e f (by_made 5 9) (Some (made 5 9)))
+    × (written_out_from 5 (imported_funcs a b c d e f) ≡ imported_funcs_with a b c d e f (by_made 5 9) (Some (made 5 9)))
     × (written_out (imported_funcs a b c d e f) ≡ imported_funcs_with a b c d e f (by_number 0 9) None)
 
 -- `(module (table funcref (elem $f $f)))`: two elements, and a table that holds two.
@@ -136,7 +136,7 @@ table_of_two_with a b item id =
 abbrev pub TableOfTwo : Type 0
 TableOfTwo = (a b : Address) →
     (references_wanted (table_of_two a b) ≡ 1)
-    × (written 5 (table_of_two a b) ≡ table_of_two_with a b (by_made 5 9) (Some (made 5 9)))
+    × (written_out_from 5 (table_of_two a b) ≡ table_of_two_with a b (by_made 5 9) (Some (made 5 9)))
     × (written_out (table_of_two a b) ≡ table_of_two_with a b (by_number 0 9) None)
 
 -- `(module (global (export "g") (import "m" "n") i32) (start 0) (tag $t (export "t")))`: an id for the global alone.
@@ -162,5 +162,5 @@ global_and_tag_with a b c d e first second id =
 abbrev pub GlobalAndTag : Type 0
 GlobalAndTag = (a b c d e : Address) →
     (references_wanted (global_and_tag a b c d e) ≡ 1)
-    × (written 5 (global_and_tag a b c d e) ≡ global_and_tag_with a b c d e (by_made 5 9) (by_id d (codes "t") 67) (Some (made 5 9)))
+    × (written_out_from 5 (global_and_tag a b c d e) ≡ global_and_tag_with a b c d e (by_made 5 9) (by_id d (codes "t") 67) (Some (made 5 9)))
     × (written_out (global_and_tag a b c d e) ≡ global_and_tag_with a b c d e (by_number 0 9) (by_number 0 67) None)

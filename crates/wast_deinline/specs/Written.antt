@@ -9,15 +9,15 @@ use Rattle.wast_base.specs.Filling.{filled, wanted, RunsOut}
 use Rattle.wast_deinline.specs.Tree.{ModuleField}
 use Rattle.wast_deinline.specs.Segments.{overflows}
 use Rattle.wast_deinline.specs.WriteOut.{write_out}
-use Rattle.wast_deinline.specs.Referring.{by_id, by_position, wants_id, with_id}
+use Rattle.wast_deinline.specs.Referring.{by_id, by_position, wants_id, with_item_id}
 
 -- each item that is referred to has an id
 abbrev pub referable : ℕ → List ModuleField → List ModuleField
-referable n fields = filled wants_id with_id n fields
+referable n fields = filled wants_id with_item_id n fields
 
 -- The list that writing out gives, from a counter: each item is referred to by its id.
-abbrev pub written : ℕ → List ModuleField → List ModuleField
-written n fields = flat_map (write_out by_id) (referable n fields)
+abbrev pub written_out_from : ℕ → List ModuleField → List ModuleField
+written_out_from n fields = flat_map (write_out by_id) (referable n fields)
 
 -- how many ids it takes
 abbrev pub references_wanted : List ModuleField → ℕ

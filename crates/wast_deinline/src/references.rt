@@ -5,7 +5,7 @@ ghost use Rattle.wast_base.specs.Gensym.{Fills};
 ghost use Rattle.wast_base.specs.Filling.{one_if, given_if, RunsOut};
 ghost use Rattle.wast_deinline.specs.Tree.space;
 ghost use Rattle.wast_deinline.specs.Segments.{has_bytes, has_elements};
-ghost use Rattle.wast_deinline.specs.Referring.{by_id, exports_some, wants_id, with_id};
+ghost use Rattle.wast_deinline.specs.Referring.{by_id, exports_some, wants_id, with_item_id};
 ghost use Rattle.wast_deinline.specs.Written.{referable, references_wanted};
 
 use wast_tree::{
@@ -30,7 +30,7 @@ pub(crate) fn name_items<'a>(
 
 /// Gives the item of a field an id, where it is referred to.
 fn name_item<'a>(field: &mut ModuleField<'a>, gensym: &mut Gensym) -> Result<(), Error<'a>>
-    ensures field { OnOk result (field.new ≡ given_if (wants_id field.old) with_id gensym.old field.old) }
+    ensures field { OnOk result (field.new ≡ given_if (wants_id field.old) with_item_id gensym.old field.old) }
     ensures counted { OnOk result (gensym.new ≡ gensym.old + one_if (wants_id field.old)) }
     ensures refusal { IfErr result (RunsOut (gensym.old + one_if (wants_id field.old))) }
     ensures rising { gensym.old ≤ gensym.new }

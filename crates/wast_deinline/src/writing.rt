@@ -8,7 +8,7 @@ ghost use Rattle.wast_deinline.specs.Tree.kind as item_kind;
 ghost use Rattle.wast_deinline.specs.Segments.{overflows};
 ghost use Rattle.wast_deinline.specs.WriteOut.{no_exports, exports_of, import_of, func_alone, global_alone, tag_alone, write_out};
 ghost use Rattle.wast_deinline.specs.Referring.{by_id};
-ghost use Rattle.wast_deinline.specs.Written.{written, references_wanted, IsRefused, CannotBeWritten};
+ghost use Rattle.wast_deinline.specs.Written.{written_out_from, references_wanted, IsRefused, CannotBeWritten};
 
 use crate::references::{by_id, has_bytes, has_elements, name_items};
 use crate::segments::{data_into, elem_into, filled_memory_type, filled_table_type};
@@ -37,7 +37,7 @@ pub fn run<'a>(
     fields: Seq<ModuleField<'a>>,
     gensym: &mut Gensym,
 ) -> Result<Seq<ModuleField<'a>>, Error<'a>>
-    ensures list { IfOk result (λ out. out ≡ written gensym.old fields.entry) }
+    ensures list { IfOk result (λ out. out ≡ written_out_from gensym.old fields.entry) }
     ensures counted { OnOk result (gensym.new ≡ gensym.old + references_wanted fields.entry) }
     ensures refusal { IfErr result (CannotBeWritten gensym.old fields.entry) }
     ensures rising { gensym.old ≤ gensym.new }

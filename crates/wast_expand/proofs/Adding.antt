@@ -11,7 +11,7 @@ use Rattle.wast_expand.specs.Tree.{Index, ValType}
 use Rattle.wast_expand.specs.Signatures.{Signature, type_of_param, same_signature}
 use Rattle.wast_expand.specs.ImpliedTypes.{is_among, first_new}
 use Rattle.wast_base.specs.Filling.{RunsOut}
-use Rattle.wast_expand.specs.Expanders.{Bindings, LookUp, index_of, with_more}
+use Rattle.wast_expand.specs.Expanders.{BoundSignatures, LookUp, index_of, with_more}
 use Rattle.wast_expand.specs.Expanded.{nameless, implied_type, implied_types, bindings_in, bindings}
 use Rattle.wast_expand.specs.Binding.{State, new_signatures, new_types, next_after, Adds}
 
@@ -20,7 +20,7 @@ less_runs_out m n e le (inl x) = inl x
 less_runs_out m n e le (inr r) = inr (r.0, omega (arith, r.1))
 
 -- more bindings after more bindings
-pub lookup-append : (test : Signature → Bool) (a b : Bindings) → lookup test (a ++ b) ≡ option_or (lookup test a) (lookup test b)
+pub lookup-append : (test : Signature → Bool) (a b : BoundSignatures) → lookup test (a ++ b) ≡ option_or (lookup test a) (lookup test b)
 lookup-append test [] b = refl
 lookup-append test (e ∷ a) b = head_case (test e.0) e.1 (lookup test a) (lookup test b) (lookup test (a ++ b)) (lookup-append test a b)
   where
@@ -32,7 +32,7 @@ or_or : (o p q : Option Index) → option_or (option_or o p) q ≡ option_or o (
 or_or None p q = refl
 or_or (Some i) p q = refl
 
-pub with_more_twice : (find : LookUp) (a b : Bindings) (s : Signature) → with_more (with_more find a) b s ≡ with_more find (a ++ b) s
+pub with_more_twice : (find : LookUp) (a b : BoundSignatures) (s : Signature) → with_more (with_more find a) b s ≡ with_more find (a ++ b) s
 with_more_twice find a b s = or_or (find s) (index_of a s) (index_of b s) ∙ ap (option_or (find s)) (sym (lookup-append (same_signature s) a b))
 
 -- the signature of an implied type is the one it was made for
@@ -124,7 +124,7 @@ module _ {a b : State} {ss : List Signature} (h : Adds a b ss) where
   }
 
   -- What was bound by more stays bound by more after it.
-  pub more_then : (more : Bindings) → with_more (index_of b.bound) more ≡ with_more (index_of a.bound) (bindings (new_types a ss) ++ more)
+  pub more_then : (more : BoundSignatures) → with_more (index_of b.bound) more ≡ with_more (index_of a.bound) (bindings (new_types a ss) ++ more)
   more_then more = ap (λ (find : LookUp). with_more find more) bound_then ∙ fun_ext (λ (s : Signature). with_more_twice (index_of a.bound) (bindings (new_types a ss)) more s)
 
 -- fewer uses do not run out first

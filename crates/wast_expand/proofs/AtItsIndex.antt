@@ -11,7 +11,7 @@ use Rattle.wast_expand.specs.Signatures.{Signature, signature_of, same_signature
 use Rattle.wast_expand.specs.ImpliedTypes.{implied}
 use Rattle.wast_expand.specs.TypeSpace.{taken_kind, types_in, has_signature, type_ids, by_id, id_at}
 use Rattle.wast_base.specs.Filling.{one_if, wanted}
-use Rattle.wast_expand.specs.Expanders.{Bindings, index_of}
+use Rattle.wast_expand.specs.Expanders.{BoundSignatures, index_of}
 use Rattle.wast_expand.specs.Expanded.{lacks_id, typed, binding_of, bindings}
 use Rattle.wast_expand.specs.Laws.{TakesTheTypeAtItsIndex}
 use Rattle.wast_expand.proofs.AtRest.{types_typed, none_lacks_after}
@@ -26,7 +26,7 @@ one_further : (before : List (Option Id)) (id : Option Id) (ids : List (Option I
 one_further before id ids types s = λ i. id_at (position_from (has_signature s) (length-append before (id ∷ []) i) types) (append_assoc before (id ∷ []) ids i)
 
 -- one type, before the rest
-type_placed : (k : InnerTypeKind) (id : Option Id) (before ids : List (Option Id)) (rest : Bindings) (types : List (Option Signature)) (s : Signature) (n : ℕ) → one_if (is_none id) + n ≡ 0
+type_placed : (k : InnerTypeKind) (id : Option Id) (before ids : List (Option Id)) (rest : BoundSignatures) (types : List (Option Signature)) (s : Signature) (n : ℕ) → one_if (is_none id) + n ≡ 0
     → index_of rest s ≡ id_at (position_from (has_signature s) (length before + 1) types) (before ++ id ∷ ids)
     → index_of (binding_of k id ++ rest) s ≡ id_at (position_from (has_signature s) (length before) (taken_kind k ∷ types)) (before ++ id ∷ ids)
 type_placed k None before ids rest types s n h r = absurd (omega (arith, h))

@@ -15,20 +15,20 @@ use Rattle.wast_expand.specs.ImpliedTypes.{written, is_among, first_new, implied
 use Rattle.wast_expand.specs.TypeSpace.{types_in, type_space}
 use Rattle.wast_base.specs.Filling.{one_if, given_if, filled, wanted}
 use Rattle.wast_expand.specs.Expanders.{LookUp, index_of}
-use Rattle.wast_expand.specs.Expanded.{lacks_id, with_id, implied_types, typed, bindings, bound_index, bound_use, bound_instr, bound_kind, bound_tag_type, bound_item_kind, bound_import_items, bound_field, expanded}
+use Rattle.wast_expand.specs.Expanded.{lacks_id, with_type_id, implied_types, typed, bindings, bound_index, bound_use, bound_instr, bound_kind, bound_tag_type, bound_item_kind, bound_import_items, bound_field, expanded}
 use Rattle.wast_expand.specs.Laws.{TypesAreTheSpace, StaysExpanded, WantsNoMore}
 use Rattle.wast_expand.proofs.Adding.{types_again}
 use Rattle.wast_expand.proofs.Covered.{uses_are_bound}
 
 -- Ids and bound uses change no type.
-types_given : (b : Bool) (n : ℕ) (x : ModuleField) → types_in (given_if b with_id n x) ≡ types_in x
+types_given : (b : Bool) (n : ℕ) (x : ModuleField) → types_in (given_if b with_type_id n x) ≡ types_in x
 types_given false n x = refl
 types_given true n (field.Ty t) = refl
 types_given true n x = refl
 
-types_filled : (n : ℕ) (xs : List ModuleField) → flat_map types_in (filled lacks_id with_id n xs) ≡ flat_map types_in xs
+types_filled : (n : ℕ) (xs : List ModuleField) → flat_map types_in (filled lacks_id with_type_id n xs) ≡ flat_map types_in xs
 types_filled n [] = refl
-types_filled n (x ∷ xs) = ap (λ ts. ts ++ flat_map types_in (filled lacks_id with_id (n + one_if (lacks_id x)) xs)) (types_given (lacks_id x) n x) ∙ ap (λ ts. types_in x ++ ts) (types_filled (n + one_if (lacks_id x)) xs)
+types_filled n (x ∷ xs) = ap (λ ts. ts ++ flat_map types_in (filled lacks_id with_type_id (n + one_if (lacks_id x)) xs)) (types_given (lacks_id x) n x) ∙ ap (λ ts. types_in x ++ ts) (types_filled (n + one_if (lacks_id x)) xs)
 
 types_bound_in : (find : LookUp) (x : ModuleField) → types_in (bound_field find x) ≡ types_in x
 types_bound_in find (field.Ty t) = refl
@@ -45,14 +45,14 @@ types_implied n (s ∷ ss) = ap (λ (vs : List ValType). Some (vs, s.1) ∷ flat
 pub types_typed : (n : ℕ) (fields : List ModuleField) → flat_map types_in (typed n fields) ≡ type_space fields
 types_typed n fields =
     let m : ℕ = n + wanted lacks_id fields in
-    flat_map-append types_in (filled lacks_id with_id n fields) (implied_types m (implied fields))
+    flat_map-append types_in (filled lacks_id with_type_id n fields) (implied_types m (implied fields))
     ∙ (ap (λ ts. ts ++ flat_map types_in (implied_types m (implied fields))) (types_filled n fields) ∙ ap (λ ts. flat_map types_in fields ++ ts) (types_implied m (implied fields)))
 
 pub types_are_the_space : TypesAreTheSpace
 types_are_the_space n fields = types_bound (index_of (bindings (typed n fields))) (typed n fields) ∙ types_typed n fields
 
 -- Each type has its id.
-lacks_given : (x : ModuleField) (b : Bool) (n : ℕ) → b ≡ lacks_id x → lacks_id (given_if b with_id n x) ≡ false
+lacks_given : (x : ModuleField) (b : Bool) (n : ℕ) → b ≡ lacks_id x → lacks_id (given_if b with_type_id n x) ≡ false
 lacks_given (field.Ty t) true n h = refl
 lacks_given x true n h = refl
 lacks_given x false n h = sym h
@@ -61,8 +61,8 @@ lacks_bound : (find : LookUp) (x : ModuleField) → lacks_id (bound_field find x
 lacks_bound find (field.Ty t) = refl
 lacks_bound find x = refl
 
-pub none_lacks_after : (n m : ℕ) (ss : List Signature) (xs : List ModuleField) → wanted lacks_id (filled lacks_id with_id n xs ++ implied_types m ss) ≡ 0
-none_lacks_after n m ss (x ∷ xs) = ap (λ b. one_if b + wanted lacks_id (filled lacks_id with_id (n + one_if (lacks_id x)) xs ++ implied_types m ss)) (lacks_given x (lacks_id x) n refl) ∙ ap (λ k. 0 + k) (none_lacks_after (n + one_if (lacks_id x)) m ss xs)
+pub none_lacks_after : (n m : ℕ) (ss : List Signature) (xs : List ModuleField) → wanted lacks_id (filled lacks_id with_type_id n xs ++ implied_types m ss) ≡ 0
+none_lacks_after n m ss (x ∷ xs) = ap (λ b. one_if b + wanted lacks_id (filled lacks_id with_type_id (n + one_if (lacks_id x)) xs ++ implied_types m ss)) (lacks_given x (lacks_id x) n refl) ∙ ap (λ k. 0 + k) (none_lacks_after (n + one_if (lacks_id x)) m ss xs)
 none_lacks_after n m [] [] = refl
 none_lacks_after n m (s ∷ ss) [] = ap (λ k. 0 + k) (none_lacks_after n (m + 1) ss [])
 
@@ -140,7 +140,7 @@ wants_no_more n fields = ap (λ ss. wanted lacks_id (expanded n fields) + length
 typed_again : (m n : ℕ) (fields : List ModuleField) → typed m (expanded n fields) ≡ expanded n fields
 typed_again m n fields =
     let xs : List ModuleField = expanded n fields in
-    ap (λ ss. filled lacks_id with_id m xs ++ implied_types (m + wanted lacks_id xs) ss) (implied_none n fields) ∙ (append-nil (filled lacks_id with_id m xs) ∙ filled_none lacks_id with_id m xs (none_lacks n fields))
+    ap (λ ss. filled lacks_id with_type_id m xs ++ implied_types (m + wanted lacks_id xs) ss) (implied_none n fields) ∙ (append-nil (filled lacks_id with_type_id m xs) ∙ filled_none lacks_id with_type_id m xs (none_lacks n fields))
 
 pub stays_expanded : StaysExpanded
 stays_expanded m n fields =

@@ -6,10 +6,10 @@ use Rattle.std.specs.Option.{option_or}
 use Rattle.wast_expand.specs.Tree.{Index}
 use Rattle.wast_expand.specs.Signatures.{Signature, same_signature}
 use Rattle.wast_expand.specs.SignatureLaws.{signatures_equiv}
-use Rattle.wast_expand.specs.Expanders.{Bindings, index_of, with_more}
+use Rattle.wast_expand.specs.Expanders.{BoundSignatures, index_of, with_more}
 
 -- equal signatures are bound to the same
-pub same_index_of : (es : Bindings) (s k : Signature) → same_signature s k ≡ true → index_of es s ≡ index_of es k
+pub same_index_of : (es : BoundSignatures) (s k : Signature) → same_signature s k ≡ true → index_of es s ≡ index_of es k
 same_index_of es s k h = ap (λ (test : Signature → Bool). lookup test es) (fun_ext (λ (z : Signature). signatures_equiv.congr s k z h))
 
 one_kept : (b : Bool) (o : Option Index) (i : Index) → (b ≡ true → is_some o ≡ true) → o ≡ option_or o (cond b (Some i) None)
@@ -27,10 +27,10 @@ one_new b (Some j) i h = new_case b i j h
 one_new true None i h = refl
 
 -- a key that is bound stays so
-pub kept : (es : Bindings) (k s : Signature) (i : Index) → is_some (index_of es k) ≡ true → index_of es s ≡ with_more (index_of es) ((k, i) ∷ []) s
+pub kept : (es : BoundSignatures) (k s : Signature) (i : Index) → is_some (index_of es k) ≡ true → index_of es s ≡ with_more (index_of es) ((k, i) ∷ []) s
 kept es k s i h = one_kept (same_signature s k) (index_of es s) i (λ e. ap is_some (same_index_of es s k e) ∙ h)
 
 -- a key that is not is bound to the index
-pub put_new : (es : Bindings) (k s : Signature) (i : Index) (found : Option Index) → is_some (index_of es k) ≡ false → found ≡ cond (same_signature k s) (Some i) (index_of es s)
+pub put_new : (es : BoundSignatures) (k s : Signature) (i : Index) (found : Option Index) → is_some (index_of es k) ≡ false → found ≡ cond (same_signature k s) (Some i) (index_of es s)
     → found ≡ with_more (index_of es) ((k, i) ∷ []) s
 put_new es k s i found h e = e ∙ (ap (λ b. cond b (Some i) (index_of es s)) (signatures_equiv.symm k s) ∙ one_new (same_signature s k) (index_of es s) i (λ e. ap is_some (same_index_of es s k e) ∙ h))

@@ -19,7 +19,7 @@ use Rattle.wast_expand.specs.NeedingUses.{inline_signature, needed_without, need
 use Rattle.wast_expand.specs.ImpliedTypes.{written, is_among, first_new, implied}
 use Rattle.wast_base.specs.Filling.{filled, wanted}
 use Rattle.wast_expand.specs.Expanders.{LookUp, index_of}
-use Rattle.wast_expand.specs.Expanded.{lacks_id, with_id, implied_types, typed, bindings_in, bindings, bound_index, bound_instr, bound_kind, bound_tag_type, bound_item_kind, bound_import_items, bound_field}
+use Rattle.wast_expand.specs.Expanded.{lacks_id, with_type_id, implied_types, typed, bindings_in, bindings, bound_index, bound_instr, bound_kind, bound_tag_type, bound_item_kind, bound_import_items, bound_field}
 use Rattle.wast_expand.specs.Laws.{UsesAreBound, ImpliedAreNew}
 use Rattle.wast_expand.proofs.Adding.{lookup-append, known_after}
 use Rattle.wast_expand.proofs.Expanding.{needed_filled, written_known}
@@ -65,7 +65,7 @@ implied_are_new fields = none_known (is_among (written fields)) (needed fields)
 -- what is found among all types
 known_typed : (n : ℕ) (fields : List ModuleField) (s : Signature) → is_some (index_of (bindings (typed n fields)) s) ≡ (is_among (written fields) s || is_among (implied fields) s)
 known_typed n fields s =
-    let named : List ModuleField = filled lacks_id with_id n fields in
+    let named : List ModuleField = filled lacks_id with_type_id n fields in
     let m : ℕ = n + wanted lacks_id fields in
     ap (λ bs. is_some (index_of bs s)) (flat_map-append bindings_in named (implied_types m (implied fields)))
     ∙ (ap is_some (lookup-append (same_signature s) (bindings named) (bindings (implied_types m (implied fields))))
@@ -78,7 +78,7 @@ needed_implied n (s ∷ ss) = needed_implied (n + 1) ss
 needed_typed : (n : ℕ) (fields : List ModuleField) → needed (typed n fields) ≡ needed fields
 needed_typed n fields =
     let m : ℕ = n + wanted lacks_id fields in
-    flat_map-append needed_by_field (filled lacks_id with_id n fields) (implied_types m (implied fields))
+    flat_map-append needed_by_field (filled lacks_id with_type_id n fields) (implied_types m (implied fields))
     ∙ (ap (λ ss. ss ++ needed (implied_types m (implied fields))) (needed_filled n fields)
     ∙ (ap (λ ss. needed fields ++ ss) (needed_implied m (implied fields)) ∙ append-nil (needed fields)))
 

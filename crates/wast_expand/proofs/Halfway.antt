@@ -8,7 +8,7 @@ use Rattle.std.proofs.lemmas.Grind.{flat_map-append}
 use Rattle.wast_base.specs.declared.faults.Error.{Error}
 use Rattle.wast_expand.specs.Signatures.{Signature}
 use Rattle.wast_base.specs.Filling.{RunsOut}
-use Rattle.wast_expand.specs.Expanders.{Bindings, LookUp, index_of, with_more}
+use Rattle.wast_expand.specs.Expanders.{BoundSignatures, LookUp, index_of, with_more}
 use Rattle.wast_expand.specs.Expanded.{bindings}
 use Rattle.wast_expand.specs.Binding.{State, new_types, next_after, Adds}
 use Rattle.wast_expand.proofs.Adding.{less_runs_out, adds_none, adds_both, count_then, more_then, first_after}
@@ -18,7 +18,7 @@ pub record IsHalfway {X : Type 0} (needed : X → List Signature) (bound : LookU
   pub len : length nows ≡ length olds
   pub left : drop i nows ≡ drop i olds
   pub adds : Adds a b (flat_map needed (take i olds))
-  pub become : (more : Bindings) → take i nows ≡ map (bound (with_more (index_of b.bound) more)) (take i olds)
+  pub become : (more : BoundSignatures) → take i nows ≡ map (bound (with_more (index_of b.bound) more)) (take i olds)
 
 module _ {X : Type 0} {needed : X → List Signature} {bound : LookUp → X → X} {olds nows : List X} {i : ℕ} {a b : State} (h : IsHalfway needed bound olds nows i a b) where
   same_item : (d : X) → i < length nows → drop i olds ≡ get_or nows i d ∷ drop (suc i) olds
@@ -47,7 +47,7 @@ module _ {X : Type 0} {needed : X → List Signature} {bound : LookUp → X → 
         ∙ (ap (λ zs. flat_map needed (take i olds) ++ flat_map needed zs) rest ∙ sym (append_assoc (flat_map needed (take i olds)) (needed x) (flat_map needed (drop (suc i) olds)))))
 
     -- one part more
-    pub goes_on : {y : X} {c : State} → Adds b c (needed x) → ((more : Bindings) → y ≡ bound (with_more (index_of c.bound) more) x) → IsHalfway needed bound olds (set nows i y) (i + 1) a c
+    pub goes_on : {y : X} {c : State} → Adds b c (needed x) → ((more : BoundSignatures) → y ≡ bound (with_more (index_of c.bound) more) x) → IsHalfway needed bound olds (set nows i y) (i + 1) a c
     goes_on {y} {c} k new =
         let lt2 : i < length nows = omega (arith, h.len) in
         record {
@@ -71,7 +71,7 @@ module _ {X : Type 0} {needed : X → List Signature} {bound : LookUp → X → 
   pub adds_all : length olds ≤ i → Adds a b (flat_map needed olds)
   adds_all le = subst (λ xs. Adds a b (flat_map needed xs)) (take_all i olds le) h.adds
 
-  pub become_all : length olds ≤ i → (more : Bindings) → nows ≡ map (bound (with_more (index_of b.bound) more)) olds
+  pub become_all : length olds ≤ i → (more : BoundSignatures) → nows ≡ map (bound (with_more (index_of b.bound) more)) olds
   become_all le more = sym (take_all i nows (omega (arith, h.len))) ∙ (h.become more ∙ ap (map (bound (with_more (index_of b.bound) more))) (take_all i olds le))
 
 -- none yet

@@ -10,7 +10,7 @@ use Rattle.wast_expand.specs.Signatures.{Signature}
 use Rattle.wast_expand.specs.ImpliedTypes.{implied}
 use Rattle.wast_base.specs.Filling.{one_if, given_if, filled, wanted}
 use Rattle.wast_expand.specs.Expanders.{LookUp, index_of}
-use Rattle.wast_expand.specs.Expanded.{lacks_id, with_id, implied_types, typed, bindings, bound_kind, bound_field}
+use Rattle.wast_expand.specs.Expanded.{lacks_id, with_type_id, implied_types, typed, bindings, bound_kind, bound_field}
 use Rattle.wast_expand.specs.Laws.{StaysWrittenOut}
 
 kind_written : (find : LookUp) (k : FuncKind) → is_written_func (bound_kind find k) ≡ is_written_func k
@@ -21,7 +21,7 @@ written_bound : (find : LookUp) (x : ModuleField) → is_written_field (bound_fi
 written_bound find (field.Func f) = ap (λ b. exports_nothing f.exports && b) (kind_written find f.kind)
 written_bound find x = refl
 
-written_given : (b : Bool) (n : ℕ) (x : ModuleField) → is_written_field (given_if b with_id n x) ≡ is_written_field x
+written_given : (b : Bool) (n : ℕ) (x : ModuleField) → is_written_field (given_if b with_type_id n x) ≡ is_written_field x
 written_given false n x = refl
 written_given true n (field.Ty t) = refl
 written_given true n x = refl
@@ -30,10 +30,10 @@ written_map : (find : LookUp) (xs : List ModuleField) → is_written_out (map (b
 written_map find [] = refl
 written_map find (x ∷ xs) = ap (λ b. b && is_written_out (map (bound_field find) xs)) (written_bound find x) ∙ ap (λ b. is_written_field x && b) (written_map find xs)
 
-written_filled : (n : ℕ) (xs : List ModuleField) → is_written_out (filled lacks_id with_id n xs) ≡ is_written_out xs
+written_filled : (n : ℕ) (xs : List ModuleField) → is_written_out (filled lacks_id with_type_id n xs) ≡ is_written_out xs
 written_filled n [] = refl
 written_filled n (x ∷ xs) =
-    ap (λ b. b && is_written_out (filled lacks_id with_id (n + one_if (lacks_id x)) xs)) (written_given (lacks_id x) n x)
+    ap (λ b. b && is_written_out (filled lacks_id with_type_id (n + one_if (lacks_id x)) xs)) (written_given (lacks_id x) n x)
     ∙ ap (λ b. is_written_field x && b) (written_filled (n + one_if (lacks_id x)) xs)
 
 written_implied : (n : ℕ) (ss : List Signature) → is_written_out (implied_types n ss) ≡ true
@@ -47,7 +47,7 @@ and_true false = refl
 pub stays_written_out : StaysWrittenOut
 stays_written_out n fields =
     let m : ℕ = n + wanted lacks_id fields in
-    let named : List ModuleField = filled lacks_id with_id n fields in
+    let named : List ModuleField = filled lacks_id with_type_id n fields in
     written_map (index_of (bindings (typed n fields))) (typed n fields)
     ∙ (list_all-append is_written_field named (implied_types m (implied fields))
     ∙ (ap (λ b. is_written_out named && b) (written_implied m (implied fields)) ∙ (and_true (is_written_out named) ∙ written_filled n fields)))

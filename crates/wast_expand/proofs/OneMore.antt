@@ -6,22 +6,22 @@ use Rattle.wast_expand.specs.Tree.{Index, ValType, ModuleField}
 use Rattle.wast_expand.specs.Tree.index
 use Rattle.wast_expand.specs.Signatures.{Signature, same_signature}
 use Rattle.wast_expand.specs.SignatureLaws.{signatures_equiv}
-use Rattle.wast_expand.specs.Expanders.{Bindings, index_of, with_more, Extends}
+use Rattle.wast_expand.specs.Expanders.{BoundSignatures, index_of, with_more, Extends}
 use Rattle.wast_expand.specs.Expanded.{start_of_text, implied_type, implied_types, bindings}
 use Rattle.wast_expand.specs.Binding.{state, new_signatures, Adds}
 use Rattle.wast_expand.proofs.Adding.{types_again}
 
-pub now_bound : (old new : Bindings) (s : Signature) (i j : Index) → index_of old s ≡ None → i ≡ j → Extends old new ((s, j) ∷ []) → index_of new s ≡ Some i
+pub now_bound : (old new : BoundSignatures) (s : Signature) (i j : Index) → index_of old s ≡ None → i ≡ j → Extends old new ((s, j) ∷ []) → index_of new s ≡ Some i
 now_bound old new s i j none is h =
     h s ∙ (ap (λ o. option_or o (cond (same_signature s s) (Some j) None)) none ∙ (ap (λ b. cond b (Some j) None) (signatures_equiv.refl s) ∙ ap (λ (k : Index). Some k) (sym is)))
 
-new_one : (old : Bindings) (s : Signature) → index_of old s ≡ None → new_signatures old (s ∷ []) ≡ s ∷ []
+new_one : (old : BoundSignatures) (s : Signature) → index_of old s ≡ None → new_signatures old (s ∷ []) ≡ s ∷ []
 new_one old s none = ap (λ b. cond b [] (s ∷ [])) (ap is_some none)
 
 one_binding : (n : ℕ) (s : Signature) → (s, index.Id (generated n start_of_text)) ∷ [] ≡ bindings (implied_types n (s ∷ []))
 one_binding n s = ap (λ (vs : List ValType). ((vs, s.1), index.Id (generated n start_of_text)) ∷ []) (sym (types_again s.0))
 
-pub adds_one : {old new : Bindings} {xs ys : List ModuleField} {m n : ℕ} {s : Signature} → index_of old s ≡ None → Extends old new ((s, index.Id (generated m start_of_text)) ∷ []) → ys ≡ xs ++ implied_type m s ∷ [] → n ≡ m + 1
+pub adds_one : {old new : BoundSignatures} {xs ys : List ModuleField} {m n : ℕ} {s : Signature} → index_of old s ≡ None → Extends old new ((s, index.Id (generated m start_of_text)) ∷ []) → ys ≡ xs ++ implied_type m s ∷ [] → n ≡ m + 1
     → Adds (state old xs m) (state new ys n) (s ∷ [])
 adds_one {old} {new} {xs} {ys} {m} {n} {s} none types fields counter =
     let one : new_signatures old (s ∷ []) ≡ s ∷ [] = new_one old s none in

@@ -11,7 +11,7 @@ use Rattle.wast_expand.specs.Signatures.{Signature, signature_of, same_signature
 use Rattle.wast_expand.specs.ImpliedTypes.{implied}
 use Rattle.wast_expand.specs.TypeSpace.{taken_kind, types_in, has_signature, type_space, index_for}
 use Rattle.wast_base.specs.Filling.{one_if, wanted}
-use Rattle.wast_expand.specs.Expanders.{Bindings, index_of}
+use Rattle.wast_expand.specs.Expanders.{BoundSignatures, index_of}
 use Rattle.wast_expand.specs.Expanded.{lacks_id, typed, binding_of, bindings}
 use Rattle.wast_expand.proofs.AtRest.{types_typed, none_lacks_after}
 
@@ -32,7 +32,7 @@ module _ (s : Signature) where
   is_there types = list_any (has_signature s) types
 
   -- a type that has its id, before others
-  type_there : (k : InnerTypeKind) (id : Option Id) (rest : Bindings) (types : List (Option Signature)) (n : ℕ) → one_if (is_none id) + n ≡ 0
+  type_there : (k : InnerTypeKind) (id : Option Id) (rest : BoundSignatures) (types : List (Option Signature)) (n : ℕ) → one_if (is_none id) + n ≡ 0
       → is_some (index_of rest s) ≡ is_there types → is_some (index_of (binding_of k id ++ rest) s) ≡ is_there (taken_kind k ∷ types)
   type_there k None rest types n h r = absurd (omega (arith, h))
   type_there (inner.Func t) (Some id) rest types n h r = by_test (same_signature s (signature_of t)) r

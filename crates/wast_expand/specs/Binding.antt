@@ -3,19 +3,19 @@ use Rattle.std.specs.Prelude.{◌≡◌, ℕ, ◌+◌, is_some, List, ◌++◌, 
 use Rattle.wast_expand.specs.Tree.{ModuleField}
 use Rattle.wast_expand.specs.Signatures.{Signature}
 use Rattle.wast_expand.specs.ImpliedTypes.{first_new}
-use Rattle.wast_expand.specs.Expanders.{Bindings, index_of, Extends}
+use Rattle.wast_expand.specs.Expanders.{BoundSignatures, index_of, Extends}
 use Rattle.wast_expand.specs.Expanded.{implied_types, bindings}
 
 -- what signatures are bound to, the types that are implied so far, and the generation of the next id
 pub record State : Type 0 where
-  pub bound : Bindings
+  pub bound : BoundSignatures
   pub implied : List ModuleField
   pub next : ℕ
 
-abbrev pub state : Bindings → List ModuleField → ℕ → State
+abbrev pub state : BoundSignatures → List ModuleField → ℕ → State
 state bound implied next = record { bound = bound; implied = implied; next = next }
 
-abbrev pub new_signatures : Bindings → List Signature → List Signature
+abbrev pub new_signatures : BoundSignatures → List Signature → List Signature
 new_signatures bound ss = first_new (λ s. is_some (index_of bound s)) ss
 
 -- the types for those that are not bound

@@ -14,7 +14,7 @@ use Rattle.wast_expand.specs.Signatures.{Signature, signature_of}
 use Rattle.wast_expand.specs.NeedingUses.{inline_signature}
 use Rattle.wast_expand.specs.ImpliedTypes.{implied}
 use Rattle.wast_base.specs.Filling.{filled, wanted}
-use Rattle.wast_expand.specs.Expanders.{Bindings, LookUp, index_of}
+use Rattle.wast_expand.specs.Expanders.{BoundSignatures, LookUp, index_of}
 
 -- A type that has no id wants one, but no member of a group.
 abbrev pub lacks_id : ModuleField → Bool
@@ -31,19 +31,19 @@ lacks_id (field.Elem e) = false
 lacks_id (field.Data d) = false
 lacks_id (field.Tag t) = false
 
-abbrev pub with_id : ℕ → ModuleField → ModuleField
-with_id n (field.Ty t) = field.Ty (record t { id = Some (generated n t.span) })
-with_id n (field.Rec r) = field.Rec r
-with_id n (field.Import i) = field.Import i
-with_id n (field.Func f) = field.Func f
-with_id n (field.Table t) = field.Table t
-with_id n (field.Memory m) = field.Memory m
-with_id n (field.Global g) = field.Global g
-with_id n (field.Export e) = field.Export e
-with_id n (field.Start i) = field.Start i
-with_id n (field.Elem e) = field.Elem e
-with_id n (field.Data d) = field.Data d
-with_id n (field.Tag t) = field.Tag t
+abbrev pub with_type_id : ℕ → ModuleField → ModuleField
+with_type_id n (field.Ty t) = field.Ty (record t { id = Some (generated n t.span) })
+with_type_id n (field.Rec r) = field.Rec r
+with_type_id n (field.Import i) = field.Import i
+with_type_id n (field.Func f) = field.Func f
+with_type_id n (field.Table t) = field.Table t
+with_type_id n (field.Memory m) = field.Memory m
+with_type_id n (field.Global g) = field.Global g
+with_type_id n (field.Export e) = field.Export e
+with_type_id n (field.Start i) = field.Start i
+with_type_id n (field.Elem e) = field.Elem e
+with_type_id n (field.Data d) = field.Data d
+with_type_id n (field.Tag t) = field.Tag t
 
 -- the type of a signature: final where nothing else is said, without parents, its parameters without names
 abbrev pub nameless : ValType → Option Id × Option NameAnnotation × ValType
@@ -66,7 +66,7 @@ abbrev pub unnamed_type : Signature → ModuleField
 unnamed_type s = field.Ty (record { span = start_of_text; id = None; name = None; def = def_of s false })
 
 abbrev pub implied_type : ℕ → Signature → ModuleField
-implied_type n s = with_id n (unnamed_type s)
+implied_type n s = with_type_id n (unnamed_type s)
 
 abbrev pub implied_types : ℕ → List Signature → List ModuleField
 implied_types n [] = []
@@ -74,16 +74,16 @@ implied_types n (s ∷ ss) = implied_type n s ∷ implied_types (n + 1) ss
 
 -- each type has an id, and the implied types stand last
 abbrev pub typed : ℕ → List ModuleField → List ModuleField
-typed n fields = filled lacks_id with_id n fields ++ implied_types (n + wanted lacks_id fields) (implied fields)
+typed n fields = filled lacks_id with_type_id n fields ++ implied_types (n + wanted lacks_id fields) (implied fields)
 
 -- the function types, by their ids
-abbrev pub binding_of : InnerTypeKind → Option Id → Bindings
+abbrev pub binding_of : InnerTypeKind → Option Id → BoundSignatures
 binding_of (inner.Func t) None = []
 binding_of (inner.Func t) (Some id) = (signature_of t, index.Id id) ∷ []
 binding_of (inner.Struct t) id = []
 binding_of (inner.Array t) id = []
 
-abbrev pub bindings_in : ModuleField → Bindings
+abbrev pub bindings_in : ModuleField → BoundSignatures
 bindings_in (field.Ty t) = binding_of t.def.kind t.id
 bindings_in (field.Rec r) = []
 bindings_in (field.Import i) = []
@@ -97,7 +97,7 @@ bindings_in (field.Elem e) = []
 bindings_in (field.Data d) = []
 bindings_in (field.Tag t) = []
 
-abbrev pub bindings : List ModuleField → Bindings
+abbrev pub bindings : List ModuleField → BoundSignatures
 bindings fields = flat_map bindings_in fields
 
 -- a use without an index has that of its type

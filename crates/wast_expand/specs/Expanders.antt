@@ -6,20 +6,20 @@ use Rattle.wast_expand.specs.Tree.{Index}
 use Rattle.wast_expand.specs.Signatures.{Signature, same_signature}
 
 -- signatures, each with the index of a type
-abbrev pub Bindings : Type 0
-Bindings = List (Signature × Index)
+abbrev pub BoundSignatures : Type 0
+BoundSignatures = List (Signature × Index)
 
 -- what a signature is bound to
 abbrev pub LookUp : Type 0
 LookUp = Signature → Option Index
 
 -- the index of the first type that has the signature
-abbrev pub index_of : Bindings → LookUp
+abbrev pub index_of : BoundSignatures → LookUp
 index_of bindings s = lookup (same_signature s) bindings
 
 -- what is bound stays so, and other signatures are bound by more
-abbrev pub with_more : LookUp → Bindings → LookUp
+abbrev pub with_more : LookUp → BoundSignatures → LookUp
 with_more find more s = option_or (find s) (index_of more s)
 
-abbrev pub Extends : Bindings → Bindings → Bindings → Type 0
+abbrev pub Extends : BoundSignatures → BoundSignatures → BoundSignatures → Type 0
 Extends old new more = (s : Signature) → index_of new s ≡ with_more (index_of old) more s

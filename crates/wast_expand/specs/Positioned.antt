@@ -8,9 +8,9 @@ use Rattle.wast_expand.specs.Expanded.{start_of_text, bound_field}
 use Rattle.wast_expand.specs.Completed.{completed}
 
 -- a signature is bound to the position of its type in the type space
-abbrev pub by_position : List ModuleField → LookUp
-by_position fields s = option_map (λ k. index.Num k start_of_text) (index_for fields s)
+abbrev pub position_for : List ModuleField → LookUp
+position_for fields s = option_map (λ k. index.Num k start_of_text) (index_for fields s)
 
 -- the completed list, each use without an index bound so
 abbrev pub positioned : List ModuleField → List ModuleField
-positioned fields = map (bound_field (by_position fields)) (completed fields)
+positioned fields = map (bound_field (position_for fields)) (completed fields)

@@ -7,7 +7,7 @@ use Rattle.wast_expand.specs.Tree.field
 use Rattle.wast_expand.specs.Signatures.{Signature, signature_of, same_signature}
 use Rattle.wast_expand.specs.ImpliedTypes.{implied}
 
--- the signature of a type that a use may take: a function type that is a field of its own
+-- the signature of a type, where it is a function type; of a field of its own it is what a use may take
 abbrev pub taken_kind : InnerTypeKind → Option Signature
 taken_kind (inner.Func t) = Some (signature_of t)
 taken_kind (inner.Struct t) = None

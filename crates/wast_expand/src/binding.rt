@@ -7,7 +7,7 @@ ghost use Rattle.wast_expand.specs.Tree.index;
 ghost use Rattle.wast_expand.specs.Signatures.{Signature};
 ghost use Rattle.wast_expand.specs.NeedingUses.{needed_by_use, needed_by_instr, needed_by_expression, needed_by_kind, needed_by_func, needed_by_tag_type, needed_by_item_kind, needed_by_import, needed_by_field, inline_signature};
 ghost use Rattle.wast_base.specs.Filling.{RunsOut};
-ghost use Rattle.wast_expand.specs.Expanders.{Bindings, LookUp, index_of, with_more, Extends};
+ghost use Rattle.wast_expand.specs.Expanders.{BoundSignatures, LookUp, index_of, with_more, Extends};
 ghost use Rattle.wast_expand.specs.Expanded.{start_of_text, implied_type, bound_use, bound_instr, bound_expression, bound_kind, bound_func, bound_tag_type, bound_item_kind, bound_sig, bound_import_items, bound_import, bound_tag, bound_field};
 ghost use Rattle.wast_expand.specs.Binding.{state, next_after, Adds};
 
@@ -35,7 +35,7 @@ pub(crate) trait Bind<'a> {
         implied: &mut Seq<ModuleField<'a>>,
         gensym: &mut Gensym,
     ) -> Result<(), Error<'a>>
-        ensures bound { OnOk result ((more : Bindings) → self.new ≡ bound (with_more (index_of cx.new) more) self.old) }
+        ensures bound { OnOk result ((more : BoundSignatures) → self.new ≡ bound (with_more (index_of cx.new) more) self.old) }
         ensures adds { OnOk result (Adds (state cx.old implied.old gensym.old) (state cx.new implied.new gensym.new) (needed self.old)) }
         ensures refusal { IfErr result (RunsOut (next_after (state cx.old implied.old gensym.old) (needed self.old))) }
         ensures rising { gensym.old ≤ gensym.new };
@@ -49,7 +49,7 @@ pub(crate) fn bind_each<'a, T: Bind<'a>>(
     implied: &mut Seq<ModuleField<'a>>,
     gensym: &mut Gensym,
 ) -> Result<(), Error<'a>>
-    ensures bound { OnOk result ((more : Bindings) → parts.new ≡ map (T.bound (with_more (index_of cx.new) more)) parts.old) }
+    ensures bound { OnOk result ((more : BoundSignatures) → parts.new ≡ map (T.bound (with_more (index_of cx.new) more)) parts.old) }
     ensures adds { OnOk result (Adds (state cx.old implied.old gensym.old) (state cx.new implied.new gensym.new) (flat_map T.needed parts.old)) }
     ensures refusal { IfErr result (RunsOut (next_after (state cx.old implied.old gensym.old) (flat_map T.needed parts.old))) }
     ensures rising { gensym.old ≤ gensym.new }

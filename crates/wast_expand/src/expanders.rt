@@ -2,7 +2,7 @@
 
 ghost use Rattle.std.specs.Prelude.{◌≡◌, [], ◌∷◌, OnOk, OnErr, IfErr};
 ghost use Rattle.wast_base.specs.Faults.{out_of_memory};
-ghost use Rattle.wast_expand.specs.Expanders.{Bindings, index_of, Extends};
+ghost use Rattle.wast_expand.specs.Expanders.{BoundSignatures, index_of, Extends};
 
 use crate::keys::FuncKey;
 use std::alloc::Global;
@@ -17,7 +17,7 @@ pub struct Expander<'a> {
 }
 
 impl<'a> Model for Expander<'a> {
-    ghost Value = { Bindings };
+    ghost Value = { BoundSignatures };
 
     ghost view = { λ cx. cx.func_type_to_idx.entries };
 }

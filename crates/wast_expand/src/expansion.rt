@@ -4,7 +4,7 @@ ghost use Rattle.std.specs.Prelude.{◌≡◌, ◌≤◌, ◌+◌, ◌++◌, [],
 ghost use Rattle.wast_base.specs.Faults.{out_of_memory};
 ghost use Rattle.wast_base.specs.Filling.{one_if, given_if, filled, wanted, RunsOut};
 ghost use Rattle.wast_expand.specs.Expanders.{Extends};
-ghost use Rattle.wast_expand.specs.Expanded.{lacks_id, with_id, binding_of, bindings_in, bindings, expanded, ids_wanted};
+ghost use Rattle.wast_expand.specs.Expanded.{lacks_id, with_type_id, binding_of, bindings_in, bindings, expanded, ids_wanted};
 
 use crate::binding::bind_each;
 use crate::expanders::Expander;
@@ -65,7 +65,7 @@ fn expand_fields<'a>(
 
 /// Gives each type an id.
 fn name_types<'a>(fields: &mut Seq<ModuleField<'a>>, gensym: &mut Gensym) -> Result<(), Error<'a>>
-    ensures fields { OnOk result (fields.new ≡ filled lacks_id with_id gensym.old fields.old) }
+    ensures fields { OnOk result (fields.new ≡ filled lacks_id with_type_id gensym.old fields.old) }
     ensures counted { OnOk result (gensym.new ≡ gensym.old + wanted lacks_id fields.old) }
     ensures refusal { IfErr result (RunsOut (gensym.old + wanted lacks_id fields.old)) }
     ensures rising { gensym.old ≤ gensym.new }
@@ -78,7 +78,7 @@ fn name_types<'a>(fields: &mut Seq<ModuleField<'a>>, gensym: &mut Gensym) -> Res
 
 /// Gives a type an id.
 fn name_type<'a>(field: &mut ModuleField<'a>, gensym: &mut Gensym) -> Result<(), Error<'a>>
-    ensures field { OnOk result (field.new ≡ given_if (lacks_id field.old) with_id gensym.old field.old) }
+    ensures field { OnOk result (field.new ≡ given_if (lacks_id field.old) with_type_id gensym.old field.old) }
     ensures counted { OnOk result (gensym.new ≡ gensym.old + one_if (lacks_id field.old)) }
     ensures refusal { IfErr result (RunsOut (gensym.old + one_if (lacks_id field.old))) }
     ensures rising { gensym.old ≤ gensym.new }

@@ -3,7 +3,7 @@ use Rattle.std.proofs.Common.{◌≡◌, ℕ, false, List, [], ◌∷◌, Option
 use Rattle.std.specs.List.{flat_map}
 use Rattle.wast_tree.specs.Items.{space_of_kind}
 use Rattle.wast_names.specs.HavingNames.{has_items, has_lists}
-use Rattle.wast_names.specs.NamesPayload.{import_names, name_in, names_given}
+use Rattle.wast_names.specs.NamesPayload.{import_names, given_name_in, names_given}
 use Rattle.wast_names.specs.WithinItems.{lists_in_type, lists_in_kind, lists_in_import, lists_within}
 use Rattle.wast_names.specs.Tree.{Space, ItemKind, ImportItems, ModuleField}
 use Rattle.wast_names.specs.Tree.space
@@ -16,25 +16,25 @@ use Rattle.wast_names.specs.declared.within.Within.TheVariants as within
 use Rattle.wast_names.proofs.NameMaps.{other_space}
 
 -- segments and types are not imported
-no_elem_named : (k : ItemKind) (name : Option (List ℕ)) → flat_map (name_in space.Elem) ((space_of_kind k, name) ∷ []) ≡ []
+no_elem_named : (k : ItemKind) (name : Option (List ℕ)) → flat_map (given_name_in space.Elem) ((space_of_kind k, name) ∷ []) ≡ []
 no_elem_named (kind.Func u) name = refl
 no_elem_named k name = refl
 
-no_elem_imported : (i : ImportItems) → flat_map (name_in space.Elem) (import_names i) ≡ []
+no_elem_imported : (i : ImportItems) → flat_map (given_name_in space.Elem) (import_names i) ≡ []
 no_elem_imported (import_items.Single source name sig) = no_elem_named sig.kind _
 
-no_data_named : (k : ItemKind) (name : Option (List ℕ)) → flat_map (name_in space.Data) ((space_of_kind k, name) ∷ []) ≡ []
+no_data_named : (k : ItemKind) (name : Option (List ℕ)) → flat_map (given_name_in space.Data) ((space_of_kind k, name) ∷ []) ≡ []
 no_data_named (kind.Func u) name = refl
 no_data_named k name = refl
 
-no_data_imported : (i : ImportItems) → flat_map (name_in space.Data) (import_names i) ≡ []
+no_data_imported : (i : ImportItems) → flat_map (given_name_in space.Data) (import_names i) ≡ []
 no_data_imported (import_items.Single source name sig) = no_data_named sig.kind _
 
-no_type_named : (k : ItemKind) (name : Option (List ℕ)) → flat_map (name_in space.Ty) ((space_of_kind k, name) ∷ []) ≡ []
+no_type_named : (k : ItemKind) (name : Option (List ℕ)) → flat_map (given_name_in space.Ty) ((space_of_kind k, name) ∷ []) ≡ []
 no_type_named (kind.Func u) name = refl
 no_type_named k name = refl
 
-no_type_imported : (i : ImportItems) → flat_map (name_in space.Ty) (import_names i) ≡ []
+no_type_imported : (i : ImportItems) → flat_map (given_name_in space.Ty) (import_names i) ≡ []
 no_type_imported (import_items.Single source name sig) = no_type_named sig.kind _
 
 pub no_items_elsewhere : (s : Space) (f : ModuleField) → has_items s f ≡ false → names_given s f ≡ []

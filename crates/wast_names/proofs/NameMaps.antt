@@ -21,16 +21,16 @@ use Rattle.wast_names.specs.Tree.{Space}
 use Rattle.wast_names.specs.Tree.space
 use Rattle.wast_names.specs.Tree.ty
 use Rattle.wast_names.specs.Names.{counted, InRangeMap, map_bytes}
-use Rattle.wast_names.specs.NamesPayload.{name_in, type_name, direct, indirect}
+use Rattle.wast_names.specs.NamesPayload.{given_name_in, type_name, direct, indirect}
 
 -- the names of a group's types
-pub group_names : (s : Space) (types : List ty.«Type») (items : List (Space × Option (List ℕ))) → map type_name types ≡ items → flat_map (name_in s) items ≡ flat_map (λ t. name_in s (type_name t)) types
-group_names s types items is = ap (flat_map (name_in s)) (sym is) ∙ flat_map-map (name_in s) type_name types
+pub group_names : (s : Space) (types : List ty.«Type») (items : List (Space × Option (List ℕ))) → map type_name types ≡ items → flat_map (given_name_in s) items ≡ flat_map (λ t. given_name_in s (type_name t)) types
+group_names s types items is = ap (flat_map (given_name_in s)) (sym is) ∙ flat_map-map (given_name_in s) type_name types
 
 -- types are items of the type space alone
-pub other_space : (s : Space) (types : List ty.«Type») → same_space s space.Ty ≡ false → flat_map (name_in s) (map type_name types) ≡ []
+pub other_space : (s : Space) (types : List ty.«Type») → same_space s space.Ty ≡ false → flat_map (given_name_in s) (map type_name types) ≡ []
 other_space s [] h = refl
-other_space s (t ∷ types) h = flat_map-cons (name_in s) (type_name t) (map type_name types) ∙ rw (h, other_space s types h) refl
+other_space s (t ∷ types) h = flat_map-cons (given_name_in s) (type_name t) (map type_name types) ∙ rw (h, other_space s types h) refl
 
 -- a subsection, of its id and its content behind the length
 pub subsection_written : {S R : Type 0} (rules : SinkRules S) (a b : S) (s : NameSubsection) (id : ℕ) (r : Result R Refusal)

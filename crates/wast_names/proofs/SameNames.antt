@@ -13,7 +13,7 @@ use Rattle.wast_names.specs.declared.names_payload.NameMap.{NameMap}
 use Rattle.wast_names.specs.declared.names_payload.NameMap.TheVariants as map_of
 use Rattle.wast_names.specs.GivenNames.{named_from}
 use Rattle.wast_names.specs.WithinItems.{arity, arity_of, types_in, locals_of, inline_params, tag_params, list_of, lists_in_type, lists_in_func, lists_in_tag, lists_in_imported_func, lists_in_kind, lists_in_import, lists_within}
-use Rattle.wast_names.specs.NamesPayload.{item_names_in, name_in, names_given, named_items, direct, named_of, indirect, named_within, map_names, module_name, name_maps, name_subsections}
+use Rattle.wast_names.specs.NamesPayload.{item_names_in, given_name_in, names_given, named_items, direct, named_of, indirect, named_within, map_names, module_name, name_maps, name_subsections}
 use Rattle.wast_names.proofs.Each.{each_like}
 
 -- the lists within a field are those within another, each field among the fields of its module
@@ -33,7 +33,7 @@ pub record KeepsNames (f : ModuleField → ModuleField) : Type 0 where
 
 module _ (f : ModuleField → ModuleField) (keeps : KeepsNames f) where
   same_items : (s : Space) (xs : List ModuleField) → named_items s (map f xs) ≡ named_items s xs
-  same_items s xs = ap (named_from 0) (each_like f (names_given s) (names_given s) (λ x. ap (flat_map (name_in s)) (keeps.items x)) xs)
+  same_items s xs = ap (named_from 0) (each_like f (names_given s) (names_given s) (λ x. ap (flat_map (given_name_in s)) (keeps.items x)) xs)
 
   same_map : (xs : List ModuleField) (m : NameMap) → map_names (map f xs) m ≡ map_names xs m
   same_map xs (map_of.Items s) = ap (direct (named_of s)) (same_items s xs)

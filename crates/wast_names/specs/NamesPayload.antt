@@ -39,12 +39,12 @@ item_names_in (field.Data d) = (space.Data, given_name d.name d.id) ∷ []
 item_names_in (field.Tag t) = (space.Tag, given_name t.name t.id) ∷ []
 
 -- the name of an item, where it is an item of the space
-abbrev pub name_in : Space → Space × Option (List ℕ) → List (Option (List ℕ))
-name_in s p = if same_space s p.0 then p.1 ∷ [] else []
+abbrev pub given_name_in : Space → Space × Option (List ℕ) → List (Option (List ℕ))
+given_name_in s p = if same_space s p.0 then p.1 ∷ [] else []
 
 -- the names of the items of a space in a field
 abbrev pub names_given : Space → ModuleField → List (Option (List ℕ))
-names_given s f = flat_map (name_in s) (item_names_in f)
+names_given s f = flat_map (given_name_in s) (item_names_in f)
 
 abbrev pub named_items : Space → List ModuleField → List (ℕ × List ℕ)
 named_items s fields = named_from 0 (flat_map (names_given s) fields)

@@ -10,7 +10,7 @@ ghost use Rattle.wast_reach.specs.Reaches.{are_reaches};
 ghost use Rattle.wast_names.specs.NameSection.{names_part, names_payload_of};
 ghost use Rattle.wast_names.specs.GivenNames.{id_text, given_name, named_from};
 ghost use Rattle.wast_names.specs.Names.{text_seen, items_seen, counted, WritesItems};
-ghost use Rattle.wast_names.specs.NamesPayload.{type_name, import_names, item_names_in, name_in, names_given, named_of, named_within, map_names, module_name, name_subsections, InRangeNames};
+ghost use Rattle.wast_names.specs.NamesPayload.{type_name, import_names, item_names_in, given_name_in, names_given, named_of, named_within, map_names, module_name, name_subsections, InRangeNames};
 
 use crate::name_maps::{NameItems, count_each, put_each, put_map, put_name};
 use crate::named_fields::{with_items, with_lists};
@@ -89,7 +89,7 @@ fn items_of<'b, 'a>(field: &'b ModuleField<'a>) -> Items<'b, 'a>
 
 /// One, where an item is of the space and has a name.
 fn count_item(space: Space, own: Space, name: Option<&str>) -> u64
-    ensures { result ≡ length (named_from 0 (name_in space (own, text_seen name.entry))) }
+    ensures { result ≡ length (named_from 0 (given_name_in space (own, text_seen name.entry))) }
 {
     u64::from(space.is(own) && name.is_some())
 }
@@ -102,8 +102,8 @@ fn put_item<S: Sink>(
     position: u64,
     out: &mut S,
 ) -> Result<u64, Refusal>
-    ensures written { WritesItems S.rules name_entry InRangeNameEntry (name_in space (own, text_seen name.entry)) position out.old out.new result }
-    ensures next { IfOk result (λ p. p ≡ counted (position + length (name_in space (own, text_seen name.entry)))) }
+    ensures written { WritesItems S.rules name_entry InRangeNameEntry (given_name_in space (own, text_seen name.entry)) position out.old out.new result }
+    ensures next { IfOk result (λ p. p ≡ counted (position + length (given_name_in space (own, text_seen name.entry)))) }
 {
     if !space.is(own) {
         return Ok(position);
@@ -114,7 +114,7 @@ fn put_item<S: Sink>(
 impl<'a> NameItems<Type<'a>> for Space {
     ghost Entry = { List ℕ };
 
-    ghost items = { λ s t. name_in s (type_name t) };
+    ghost items = { λ s t. given_name_in s (type_name t) };
 
     ghost entry = { name_entry };
 

@@ -10,7 +10,7 @@ use Rattle.wast_base.specs.Ids.{Name, name_of, generation_of, Mark, marked, mark
 use Rattle.wast_base.specs.Spaces.{word_of}
 use Rattle.wast_tree.specs.Items.{items}
 use Rattle.wast_tree.specs.Known.{known}
-use Rattle.wast_tree.specs.Occurrences.{Ask, Wants, Bare, Step, Named, Matches, Declares, Occurrence, Outside, Body, outside, if_there, in_index, in_signature, in_inner, in_type, in_rec, in_type_use, matched_by, matched, in_instr, in_body, declared_params, declared_locals, declared, in_locals, in_func_kind, in_func, in_expression, in_ref, in_use, in_constant, in_constant_if, in_table_type, in_global_type, in_tag_type, in_item_kind, in_import, in_table_kind, in_memory_kind, in_global_kind, in_elem_kind, in_payload, in_data_kind, in_export, in_field, in_module, asked_in_step, asked_in_steps, asked}
+use Rattle.wast_tree.specs.Occurrences.{Ask, Wants, Bare, Step, Named, Matches, Declares, Occurrence, Outside, InOrder, outside, if_there, in_index, in_signature, in_inner, in_type, in_rec, in_type_use, matched_by, matched, in_instr, in_body, declared_params, declared_locals, declared, in_locals, in_func_kind, in_func, in_expression, in_ref, in_use, in_constant, in_constant_if, in_table_type, in_global_type, in_tag_type, in_item_kind, in_import, in_table_kind, in_memory_kind, in_global_kind, in_elem_kind, in_payload, in_data_kind, in_export, in_field, in_module, asked_in_step, asked_in_steps, asked}
 use Rattle.wast_tree.proofs.Visiting.{each_of_each, asked_both, asked_outside, asked_use, asked_constant}
 use Rattle.wast_expand.specs.Signatures.{Signature, signature_of}
 use Rattle.wast_expand.specs.TypeSpace.{taken_kind}
@@ -47,7 +47,7 @@ module _ (ok : Ask → Bool) where
 
   abbrev pub passes : Occurrence → Bool
   passes (Outside a) = ok a
-  passes (Body ss) = list_all step_passes ss
+  passes (InOrder ss) = list_all step_passes ss
 
   abbrev pub type_passes : Option Signature → Bool
   type_passes None = true
@@ -106,7 +106,7 @@ module _ (ok : Ask → Bool) where
       let rest = second_part ok index (inline ++ (in_locals f.kind ++ body)) whole in
       let second = first_part ok inline (in_locals f.kind ++ body) rest in
       let kind = second_part ok inline (in_locals f.kind ++ body) rest in
-      both_pass passes (outside (in_type_use f.ty)) (Body (matched f.ty) ∷ (outside (in_locals f.kind) ++ in_func_kind f.ty.inline f.kind)) (outside_pass (in_type_use f.ty) (both_pass ok index inline first second))
+      both_pass passes (outside (in_type_use f.ty)) (InOrder (matched f.ty) ∷ (outside (in_locals f.kind) ++ in_func_kind f.ty.inline f.kind)) (outside_pass (in_type_use f.ty) (both_pass ok index inline first second))
       (both_so (list_all step_passes (matched f.ty)) (list_all passes (outside (in_locals f.kind) ++ in_func_kind f.ty.inline f.kind)) (matched_passes f.ty.index f.ty.inline first second)
       (both_pass passes (outside (in_locals f.kind)) (in_func_kind f.ty.inline f.kind) (outside_pass (in_locals f.kind) (first_part ok (in_locals f.kind) body kind))
       (kind_passes f.ty.inline f.kind (second_part ok (in_locals f.kind) body kind))))
@@ -127,7 +127,7 @@ module _ (ok : Ask → Bool) where
       let index = if_there (in_index space.Ty) u.index in
       let inline = if_there in_signature u.inline in
       let whole = sym (ap (pass ok) (asked_use u)) ∙ h in
-      both_pass passes (outside (in_type_use u)) (Body (matched u) ∷ []) (outside_pass (in_type_use u) whole)
+      both_pass passes (outside (in_type_use u)) (InOrder (matched u) ∷ []) (outside_pass (in_type_use u) whole)
       (both_so (list_all step_passes (matched u)) true (matched_passes u.index u.inline (first_part ok index inline whole) (second_part ok index inline whole)) refl)
 
   constant_passes : (e : Expression) → pass ok (asked (in_constant e)) ≡ true → list_all passes (in_constant e) ≡ true
@@ -284,7 +284,7 @@ module _ (ok : Ask → Bool) where
 
     one_alike : (o : Occurrence) → passes o ≡ true → use_demand c o ≡ use_demand d o
     one_alike (Outside a) p = ask_alike a p
-    one_alike (Body ss) p = steps_alike start ss p
+    one_alike (InOrder ss) p = steps_alike start ss p
 
     uses_alike : (os : List Occurrence) → list_all passes os ≡ true → use_demands c os ≡ use_demands d os
     uses_alike [] p = refl

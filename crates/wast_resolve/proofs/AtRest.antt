@@ -25,13 +25,13 @@ use Rattle.wast_resolve.specs.Tree.ty
 use Rattle.wast_base.specs.Ids.{name_of, marked, is_number}
 use Rattle.wast_base.specs.Faults.{Cause}
 use Rattle.wast_tree.specs.Items.{field_ids, fields_of, item, items_of_type, space_of_kind, items_of_import, items_in, items}
-use Rattle.wast_tree.specs.Occurrences.{Ask, Wants, Bare, Step, Named, Matches, Declares, Occurrence, Outside, Body, in_instr, asked_in, asked, asked_in_steps, in_module}
+use Rattle.wast_tree.specs.Occurrences.{Ask, Wants, Bare, Step, Named, Matches, Declares, Occurrence, Outside, InOrder, in_instr, asked_in, asked, asked_in_steps, in_module}
 use Rattle.wast_tree.specs.Known.{Known, known}
 use Rattle.wast_tree.specs.Generations.{generation_in, greatest_item, greatest_asked, greatest_generation}
 use Rattle.wast_tree.specs.WellFormed.{are_settled, is_plain_heap, is_plain_val, is_plain_storage, is_plain_param, is_plain_signature, is_plain_struct_field, is_plain_inner, is_plain_type, is_plain_inline, is_plain_type_use, is_plain_local, is_plain_instr, is_plain_expression, is_plain_expression_if, is_plain_func_kind, is_plain_func, is_plain_table_type, is_plain_global_type, is_plain_tag_type, is_plain_item_kind, is_plain_import, is_plain_table_kind, is_plain_global_kind, is_func_heap, is_funcref, holds_functions, is_some_or, suits, is_plain_elem_kind, is_plain_payload, is_plain_elem, is_plain_data_kind, is_plain_field, are_plain, has_settled_indices, is_well_formed}
 use Rattle.wast_resolve.specs.Scopes.{Scope, scope}
 use Rattle.wast_resolve.specs.Demands.{first_unmet, ask_demand, ask_demands, Here, start, after, after_all, step_demand, step_demands, use_demand, use_demands, item_demands, name_demands}
-use Rattle.wast_resolve.specs.Resolved.{numbered_at, numbered_by, resolved_ask, resolved_steps, resolved_occurrence, resolved_heap, resolved_val, resolved_storage, resolved_param, resolved_signature, resolved_struct_field, resolved_inner, resolved_type, resolved_type_use, resolved_local, resolved_ref, resolved_instr, resolved_instrs, resolved_expression, body_of, resolved_func_kind, resolved_func, resolved_constant, resolved_table_type, resolved_global_type, resolved_tag_type, resolved_item_kind, resolved_import_items, resolved_table_kind, resolved_global_kind, resolved_elem_kind, resolved_payload, resolved_elem, resolved_data_kind, resolved_field, resolved, is_numbered, is_resolved}
+use Rattle.wast_resolve.specs.Resolved.{numbered_at, numbered_by, resolved_ask, resolved_steps, resolved_occurrence, resolved_heap, resolved_val, resolved_storage, resolved_param, resolved_signature, resolved_struct_field, resolved_inner, resolved_type, resolved_type_use, resolved_local, resolved_ref, resolved_instr, resolved_instrs, resolved_expression, here_in_body, resolved_func_kind, resolved_func, resolved_constant, resolved_table_type, resolved_global_type, resolved_tag_type, resolved_item_kind, resolved_import_items, resolved_table_kind, resolved_global_kind, resolved_elem_kind, resolved_payload, resolved_elem, resolved_data_kind, resolved_field, resolved, is_numbered, is_resolved}
 use Rattle.wast_resolve.proofs.Standing.{stands}
 use Rattle.wast_resolve.proofs.Unmet.{first_unmet-append, met_parts}
 
@@ -45,7 +45,7 @@ module _ (k : Known) where
 
   asked_one : (o : Occurrence) → asked_in (resolved_occurrence k o) ≡ map (resolved_ask k) (asked_in o)
   asked_one (Outside a) = refl
-  asked_one (Body ss) = asked_steps start ss
+  asked_one (InOrder ss) = asked_steps start ss
 
   asked_with : (os : List Occurrence) → asked (map (resolved_occurrence k) os) ≡ map (resolved_ask k) (asked os)
   asked_with [] = refl
@@ -266,7 +266,7 @@ module _ (k : Known) where
 
   plain_func_kind : (inline : Option FunctionType) (f : FuncKind) → is_plain_func_kind (resolved_func_kind k inline f) ≡ is_plain_func_kind f
   plain_func_kind inline (func.Import import exact) = refl
-  plain_func_kind inline (func.Inline locals e) = rw (plain_locals locals, plain_expression (body_of inline (func.Inline locals e)) e) refl
+  plain_func_kind inline (func.Inline locals e) = rw (plain_locals locals, plain_expression (here_in_body inline (func.Inline locals e)) e) refl
 
   plain_func : (f : Func) → is_plain_func (resolved_func k f) ≡ is_plain_func f
   plain_func f = rw (plain_type_use f.ty, plain_func_kind f.ty.inline f.kind) refl
@@ -305,7 +305,7 @@ module _ (c : Scope) where
 
   one_met : (o : Occurrence) → first_unmet (use_demand c o) ≡ None → first_unmet (ask_demands c.known (asked_in o)) ≡ None
   one_met (Outside a) met = ap first_unmet (append-nil (ask_demand c.known a)) ∙ met
-  one_met (Body ss) met = steps_met start ss met
+  one_met (InOrder ss) met = steps_met start ss met
 
   uses_met : (os : List Occurrence) → first_unmet (use_demands c os) ≡ None → first_unmet (ask_demands c.known (asked os)) ≡ None
   uses_met [] met = refl

@@ -12,9 +12,9 @@ use Rattle.wast_expand.specs.ImpliedTypes.{implied}
 use Rattle.wast_expand.specs.TypeSpace.{index_for, type_ids, by_id, id_at}
 use Rattle.wast_base.specs.Filling.{one_if, given_if, filled, wanted}
 use Rattle.wast_expand.specs.Expanders.{LookUp, index_of}
-use Rattle.wast_expand.specs.Expanded.{start_of_text, lacks_id, with_id, unnamed_type, implied_types, typed, bindings, expanded}
+use Rattle.wast_expand.specs.Expanded.{start_of_text, lacks_id, with_type_id, unnamed_type, implied_types, typed, bindings, expanded}
 use Rattle.wast_expand.specs.Completed.{completed}
-use Rattle.wast_expand.specs.Positioned.{by_position, positioned}
+use Rattle.wast_expand.specs.Positioned.{position_for, positioned}
 use Rattle.wast_expand.proofs.AtItsIndex.{takes_the_type_at_its_index}
 use Rattle.wast_expand.proofs.Positions.{bound_where_there}
 use Rattle.wast_resolve.specs.Tree.{Id, Index, Space, ModuleField}
@@ -43,12 +43,12 @@ module _ (k : Known) (find : LookUp) where
   none_written None h = refl
   none_written (Some id) h = absurd (cc h)
 
-  given_aside : (b : Bool) (n : ℕ) (x : ModuleField) → lacks_id x ≡ b → told (given_if b with_id n x) ≡ told x
+  given_aside : (b : Bool) (n : ℕ) (x : ModuleField) → lacks_id x ≡ b → told (given_if b with_type_id n x) ≡ told x
   given_aside false n x h = refl
   given_aside true n (field.Ty t) h = ap (λ (id : Option Id). field.Ty (record t { id = id; def = resolved_def k t.def })) (none_written t.id h)
   given_aside true n x h = refl
 
-  filled_aside : (n : ℕ) (xs : List ModuleField) → map told (filled lacks_id with_id n xs) ≡ map told xs
+  filled_aside : (n : ℕ) (xs : List ModuleField) → map told (filled lacks_id with_type_id n xs) ≡ map told xs
   filled_aside n [] = refl
   filled_aside n (x ∷ xs) = λ i. given_aside (lacks_id x) n x refl i ∷ filled_aside (n + one_if (lacks_id x)) xs i
 
@@ -59,14 +59,14 @@ module _ (k : Known) (find : LookUp) where
   ids_aside : (n : ℕ) (fields : List ModuleField) → map told (typed n fields) ≡ map told (completed fields)
   ids_aside n fields =
       let m : ℕ = n + wanted lacks_id fields in
-      map-append told (filled lacks_id with_id n fields) (implied_types m (implied fields))
+      map-append told (filled lacks_id with_type_id n fields) (implied_types m (implied fields))
       ∙ (ap (λ xs. xs ++ map told (implied_types m (implied fields))) (filled_aside n fields)
       ∙ (ap (λ xs. map told fields ++ xs) (implied_aside m (implied fields)) ∙ sym (map-append told fields (map unnamed_type (implied fields)))))
 
 -- What the list by positions tells.
-pub told_positions : (fields : List ModuleField) → map stripped (resolved (positioned fields)) ≡ map (told_by (known (items (completed fields))) (by_position fields)) (completed fields)
+pub told_positions : (fields : List ModuleField) → map stripped (resolved (positioned fields)) ≡ map (told_by (known (items (completed fields))) (position_for fields)) (completed fields)
 told_positions fields =
-    ap (λ xs. map stripped (map (resolved_field (known xs)) (positioned fields))) (bound_items (by_position fields) (completed fields)) ∙ one_pass (known (items (completed fields))) (by_position fields) (completed fields)
+    ap (λ xs. map stripped (map (resolved_field (known xs)) (positioned fields))) (bound_items (position_for fields) (completed fields)) ∙ one_pass (known (items (completed fields))) (position_for fields) (completed fields)
 
 abbrev number_at : Known → Option Index → Option Index
 number_at k i = option_map at_start (option_map (numbered_at k space.Ty) i)
@@ -113,7 +113,7 @@ module _ (n : ℕ) (fields : List ModuleField) (above : greatest_generation fiel
   bound_at None i is there = ap (number_at new) is
   bound_at (Some k) i is there = at_position k (slice_get (type_ids (typed n fields)) k) i refl is there
 
-  bound_alike : (s : Signature) → number_at new (made s) ≡ number_at old (by_position fields s)
+  bound_alike : (s : Signature) → number_at new (made s) ≡ number_at old (position_for fields s)
   bound_alike s = bound_at (index_for fields s) (made s) (takes_the_type_at_its_index n fields s) (bound_where_there n fields s) ∙ sym (position_stays old (index_for fields s))
 
   -- The indices that are written denote what they denoted.
@@ -123,4 +123,4 @@ module _ (n : ℕ) (fields : List ModuleField) (above : greatest_generation fiel
   pub numbered_by_position : map stripped (numbered n fields) ≡ map stripped (resolved (positioned fields))
   numbered_by_position =
       one_pass new made (typed n fields)
-      ∙ (ids_aside new made n fields ∙ (all_same new old made (by_position fields) bound_alike (completed fields) old_alike ∙ sym (told_positions fields)))
+      ∙ (ids_aside new made n fields ∙ (all_same new old made (position_for fields) bound_alike (completed fields) old_alike ∙ sym (told_positions fields)))

@@ -9,7 +9,7 @@ use Rattle.wast_base.specs.Faults.{Cause, Duplicate}
 use Rattle.wast_base.specs.Spaces.{spaces, word_of, name_if, same_space, is_called, position_of, is_borne}
 use Rattle.wast_tree.specs.Items.{Item}
 use Rattle.wast_tree.specs.Known.{name_in, names_in}
-use Rattle.wast_tree.specs.Generations.{generation_if, greatest_item}
+use Rattle.wast_tree.specs.Generations.{generation_or_zero, greatest_item}
 use Rattle.wast_tree.proofs.Bearing.{borne_among, borne_by_both}
 use Rattle.wast_resolve.specs.Tree.{Span, Space}
 use Rattle.wast_resolve.specs.Demands.{first_unmet, each_after, new_name_by, own_demand, field_demands, item_demand, item_demands, space_counts, field_counts, item_counts}
@@ -97,7 +97,7 @@ same_length s n cs lt =
     sym (length-map (names_in s (news n cs)) (is_called q)) ∙ (ap length (called_news q s n cs lt) ∙ length-map (names_in s (olds cs)) (is_called q))
 
 -- No id of an earlier generation bears a later name.
-later_name : (o : Option Mark) (m : ℕ) → generation_if o < m → is_called (Generated m) (name_if o) ≡ false
+later_name : (o : Option Mark) (m : ℕ) → generation_or_zero o < m → is_called (Generated m) (name_if o) ≡ false
 later_name None m lt = refl
 later_name (Some (Written t, p)) m lt = refl
 later_name (Some (Generated k, p)) m lt = not_equal (m == k) m k refl (λ e. omega (arith, lt, e))
@@ -106,7 +106,7 @@ and_false : (b c : Bool) → c ≡ false → ((b && c) || false) ≡ false
 and_false true c h = ap (λ d. d || false) h
 and_false false c h = refl
 
-not_borne : (s : Space) (x : Item) (m : ℕ) → generation_if x.id < m → is_borne (Generated m) (names_in s (x ∷ [])) ≡ false
+not_borne : (s : Space) (x : Item) (m : ℕ) → generation_or_zero x.id < m → is_borne (Generated m) (names_in s (x ∷ [])) ≡ false
 not_borne s x m lt = borne_among s (Generated m) (x ∷ []) ∙ and_false (same_space s x.space) (is_called (Generated m) (name_if x.id)) (later_name x.id m lt)
 
 -- What stands before: older names are borne as they were, and those of the next generations are not borne.
@@ -115,11 +115,11 @@ record Before (old n : ℕ) (xs ys : List Item) : Type 0 where
   same : (s : Space) (q : Name) → generation_of q < old → is_borne q (names_in s ys) ≡ is_borne q (names_in s xs)
   new : (s : Space) (m : ℕ) → n ≤ m → is_borne (Generated m) (names_in s ys) ≡ false
 
-given_below : (n : ℕ) (c : Change) → generation_if (old_of c).id < n → generation_if (new_of n c).id < next_of n c
+given_below : (n : ℕ) (c : Change) → generation_or_zero (old_of c).id < n → generation_or_zero (new_of n c).id < next_of n c
 given_below n (Kept x) lt = lt
 given_below n (Given s p fields) lt = omega arith
 
-one_more : (old n : ℕ) (xs ys : List Item) (c : Change) → generation_if (old_of c).id < old → Before old n xs ys → Before old (next_of n c) (xs ++ old_of c ∷ []) (ys ++ new_of n c ∷ [])
+one_more : (old n : ℕ) (xs ys : List Item) (c : Change) → generation_or_zero (old_of c).id < old → Before old n xs ys → Before old (next_of n c) (xs ++ old_of c ∷ []) (ys ++ new_of n c ∷ [])
 one_more old n xs ys c lt h = let above = h.above in let r = rises n c in record {
   above = omega arith;
   same = λ s q less.
@@ -144,7 +144,7 @@ clashes old n xs ys (c ∷ cs) lt h = one c (clashes old (next_of n c) (xs ++ ol
         → greatest_item (olds (c ∷ cs)) < old → first_unmet (each_after item_demand ys (news n (c ∷ cs))) ≡ first_unmet (each_after item_demand xs (olds (c ∷ cs)))
     one (Kept x) rest lt =
         let same : own_demand ys x ≡ own_demand xs x = same_new (λ name. Duplicate (word_of x.space)) (names_in x.space xs) (names_in x.space ys) x.id
-        (λ m is. h.same x.space m.0 (let g : generation_if x.id ≡ generation_of m.0 = ap generation_if is in omega (arith, g, lt))) in
+        (λ m is. h.same x.space m.0 (let g : generation_or_zero x.id ≡ generation_of m.0 = ap generation_or_zero is in omega (arith, g, lt))) in
         alike_behind (item_demand ys x) (item_demand xs x) (each_after item_demand (ys ++ x ∷ []) (news n cs)) (each_after item_demand (xs ++ x ∷ []) (olds cs)) (ap (λ ds. first_unmet (ds ++ field_demands x.fields)) same) (λ met. rest)
     one (Given s p fields) rest lt =
         let x = new_of n (Given s p fields) in

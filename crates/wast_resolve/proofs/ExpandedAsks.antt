@@ -2,14 +2,14 @@
 use Rattle.std.proofs.Common.{◌≡◌, ℕ, ◌+◌, Bool, true, false, List, [], ◌∷◌, ◌++◌, map, append_assoc, Option, Some, None, refl, sym, ap, ◌∙◌, arith}
 use Rattle.std.specs.List.{flat_map}
 use Rattle.std.proofs.lemmas.Grind.{flat_map-append, common_steps}
-use Rattle.wast_tree.specs.Occurrences.{Ask, Wants, Body, if_there, in_index, in_signature, in_instr, in_locals, in_body, declared, in_func_kind, in_func, in_use, in_tag_type, in_item_kind, in_import, in_field, in_module, asked_in_steps, asked}
+use Rattle.wast_tree.specs.Occurrences.{Ask, Wants, InOrder, if_there, in_index, in_signature, in_instr, in_locals, in_body, declared, in_func_kind, in_func, in_use, in_tag_type, in_item_kind, in_import, in_field, in_module, asked_in_steps, asked}
 use Rattle.wast_tree.proofs.Visiting.{asked_both, asked_func, asked_use}
 use Rattle.wast_expand.specs.Signatures.{Signature}
 use Rattle.wast_expand.specs.NeedingUses.{inline_signature}
 use Rattle.wast_expand.specs.ImpliedTypes.{implied}
 use Rattle.wast_base.specs.Filling.{one_if, given_if, filled, wanted}
 use Rattle.wast_expand.specs.Expanders.{LookUp}
-use Rattle.wast_expand.specs.Expanded.{lacks_id, with_id, unnamed_type, implied_types, typed, bound_index, bound_use, bound_instr, bound_kind, bound_func, bound_tag_type, bound_item_kind, bound_import_items, bound_field}
+use Rattle.wast_expand.specs.Expanded.{lacks_id, with_type_id, unnamed_type, implied_types, typed, bound_index, bound_use, bound_instr, bound_kind, bound_func, bound_tag_type, bound_item_kind, bound_import_items, bound_field}
 use Rattle.wast_expand.specs.Completed.{completed}
 use Rattle.wast_resolve.specs.Tree.{Index, FunctionType, TypeUse, Instruction, FuncKind, Func, TagType, ItemKind, ImportItems, ModuleField}
 use Rattle.wast_resolve.specs.Tree.tag
@@ -48,7 +48,7 @@ module _ (find : LookUp) where
 
   pub bound_in_kind : (inline : Option FunctionType) (k : FuncKind) → in_func_kind inline (bound_kind find k) ≡ in_func_kind inline k
   bound_in_kind inline (func.Import import exact) = refl
-  bound_in_kind inline (func.Inline locals e) = ap (λ ss. Body (declared inline (func.Inline locals e) ++ ss) ∷ []) (bound_in_instrs e.instrs)
+  bound_in_kind inline (func.Inline locals e) = ap (λ ss. InOrder (declared inline (func.Inline locals e) ++ ss) ∷ []) (bound_in_instrs e.instrs)
 
   bound_rest : (inline : Option FunctionType) (k : FuncKind) → asked_in_rest inline (bound_kind find k) ≡ asked_in_rest inline k
   bound_rest inline k =
@@ -113,14 +113,14 @@ module _ {M : Type 0} (find : LookUp) (measure : List Ask → M) (each : (a : As
       ∙ (field_measure x (asked (in_module (map (bound_field find) xs))) (asked (in_module xs)) (bound_measure xs) ∙ ap measure (sym (asked_both (in_field x) (in_module xs))))
 
 -- Ids ask nothing.
-given_asks : (b : Bool) (n : ℕ) (x : ModuleField) → in_field (given_if b with_id n x) ≡ in_field x
+given_asks : (b : Bool) (n : ℕ) (x : ModuleField) → in_field (given_if b with_type_id n x) ≡ in_field x
 given_asks false n x = refl
 given_asks true n (field.Ty t) = refl
 given_asks true n x = refl
 
-filled_asks : (n : ℕ) (xs : List ModuleField) → in_module (filled lacks_id with_id n xs) ≡ in_module xs
+filled_asks : (n : ℕ) (xs : List ModuleField) → in_module (filled lacks_id with_type_id n xs) ≡ in_module xs
 filled_asks n [] = refl
-filled_asks n (x ∷ xs) = ap (λ os. os ++ in_module (filled lacks_id with_id (n + one_if (lacks_id x)) xs)) (given_asks (lacks_id x) n x) ∙ ap (λ os. in_field x ++ os) (filled_asks (n + one_if (lacks_id x)) xs)
+filled_asks n (x ∷ xs) = ap (λ os. os ++ in_module (filled lacks_id with_type_id (n + one_if (lacks_id x)) xs)) (given_asks (lacks_id x) n x) ∙ ap (λ os. in_field x ++ os) (filled_asks (n + one_if (lacks_id x)) xs)
 
 implied_asks : (n : ℕ) (ss : List Signature) → in_module (implied_types n ss) ≡ in_module (map unnamed_type ss)
 implied_asks n [] = refl
@@ -129,6 +129,6 @@ implied_asks n (s ∷ ss) = ap (λ os. in_field (unnamed_type s) ++ os) (implied
 pub typed_asks : (n : ℕ) (fields : List ModuleField) → in_module (typed n fields) ≡ in_module (completed fields)
 typed_asks n fields =
     let m : ℕ = n + wanted lacks_id fields in
-    flat_map-append in_field (filled lacks_id with_id n fields) (implied_types m (implied fields))
+    flat_map-append in_field (filled lacks_id with_type_id n fields) (implied_types m (implied fields))
     ∙ (ap (λ os. os ++ in_module (implied_types m (implied fields))) (filled_asks n fields)
     ∙ (ap (λ os. in_module fields ++ os) (implied_asks m (implied fields)) ∙ sym (flat_map-append in_field fields (map unnamed_type (implied fields)))))

@@ -13,7 +13,7 @@ use Rattle.wast_expand.specs.Signatures.{Signature}
 use Rattle.wast_expand.specs.ImpliedTypes.{implied}
 use Rattle.wast_base.specs.Filling.{one_if, given_if, filled, wanted}
 use Rattle.wast_expand.specs.Expanders.{LookUp, index_of}
-use Rattle.wast_expand.specs.Expanded.{lacks_id, with_id, start_of_text, unnamed_type, implied_types, typed, bindings, bound_item_kind, bound_import_items, bound_field, expanded, ids_wanted}
+use Rattle.wast_expand.specs.Expanded.{lacks_id, with_type_id, start_of_text, unnamed_type, implied_types, typed, bindings, bound_item_kind, bound_import_items, bound_field, expanded, ids_wanted}
 use Rattle.wast_expand.specs.Completed.{completed}
 use Rattle.wast_resolve.specs.Tree.{Id, Span, Space, StructField, ItemKind, ImportItems, ModuleField}
 use Rattle.wast_resolve.specs.Tree.kind
@@ -73,19 +73,19 @@ add_zero n = omega arith
 add_add : (n a b : ℕ) → n + (a + b) ≡ (n + a) + b
 add_add n a b = omega arith
 
-new_fields : (n : ℕ) (xs : List ModuleField) (ss : List Signature) → items (filled lacks_id with_id n xs ++ implied_types (n + wanted lacks_id xs) ss) ≡ news n (flat_map change_in xs ++ map implied_change ss)
+new_fields : (n : ℕ) (xs : List ModuleField) (ss : List Signature) → items (filled lacks_id with_type_id n xs ++ implied_types (n + wanted lacks_id xs) ss) ≡ news n (flat_map change_in xs ++ map implied_change ss)
 new_fields n [] ss = ap (λ m. items (implied_types m ss)) (add_zero n) ∙ new_implied n ss
 new_fields n (x ∷ xs) ss =
-    let rest : ℕ → List Item = λ (m : ℕ). items (filled lacks_id with_id (n + one_if (lacks_id x)) xs ++ implied_types m ss) in
-    ap (λ m. items_in (given_if (lacks_id x) with_id n x) ++ rest m) (add_add n (one_if (lacks_id x)) (wanted lacks_id xs))
+    let rest : ℕ → List Item = λ (m : ℕ). items (filled lacks_id with_type_id (n + one_if (lacks_id x)) xs ++ implied_types m ss) in
+    ap (λ m. items_in (given_if (lacks_id x) with_type_id n x) ++ rest m) (add_add n (one_if (lacks_id x)) (wanted lacks_id xs))
     ∙ (one x (rest ((n + one_if (lacks_id x)) + wanted lacks_id xs)) (flat_map change_in xs ++ map implied_change ss) (new_fields (n + one_if (lacks_id x)) xs ss)
     ∙ ap (news n) (sym (append_assoc (change_in x) (flat_map change_in xs) (map implied_change ss))))
   where
-    by_id : (b : Bool) (t : ty.«Type») (ys : List Item) (cs : List Change) → ys ≡ news (n + one_if b) cs → items_in (given_if b with_id n (field.Ty t)) ++ ys ≡ news n (type_change b t.id t.span (fields_of t.def.kind) ∷ cs)
+    by_id : (b : Bool) (t : ty.«Type») (ys : List Item) (cs : List Change) → ys ≡ news (n + one_if b) cs → items_in (given_if b with_type_id n (field.Ty t)) ++ ys ≡ news n (type_change b t.id t.span (fields_of t.def.kind) ∷ cs)
     by_id true t ys cs h = ap (λ zs. new_of n (Given space.Ty t.span (field_ids (fields_of t.def.kind))) ∷ zs) h
     by_id false t ys cs h = ap (λ zs. item space.Ty t.id (fields_of t.def.kind) ∷ zs) (h ∙ ap (λ m. news m cs) (add_zero n))
 
-    one : (x : ModuleField) (ys : List Item) (cs : List Change) → ys ≡ news (n + one_if (lacks_id x)) cs → items_in (given_if (lacks_id x) with_id n x) ++ ys ≡ news n (change_in x ++ cs)
+    one : (x : ModuleField) (ys : List Item) (cs : List Change) → ys ≡ news (n + one_if (lacks_id x)) cs → items_in (given_if (lacks_id x) with_type_id n x) ++ ys ≡ news n (change_in x ++ cs)
     one (field.Ty t) ys cs h = by_id (is_none t.id) t ys cs h
     one x ys cs h = new_kept n (items_in x) ys cs (h ∙ ap (λ m. news m cs) (add_zero n))
 

@@ -10,7 +10,7 @@ use Rattle.wast_expand.specs.NeedingUses.{needed_without, needed_by_use, needed_
 use Rattle.wast_expand.specs.ImpliedTypes.{implied}
 use Rattle.wast_base.specs.Filling.{one_if, given_if, filled, wanted}
 use Rattle.wast_expand.specs.Expanders.{LookUp, index_of}
-use Rattle.wast_expand.specs.Expanded.{lacks_id, with_id, nameless, implied_types, typed, bindings, bound_instr, bound_kind, bound_tag_type, bound_item_kind, bound_import_items, bound_field, expanded}
+use Rattle.wast_expand.specs.Expanded.{lacks_id, with_type_id, nameless, implied_types, typed, bindings, bound_instr, bound_kind, bound_tag_type, bound_item_kind, bound_import_items, bound_field, expanded}
 use Rattle.wast_resolve.specs.Tree.{Index, FunctionType, Instruction, FuncKind, TagType, ItemKind, ImportItems, ModuleField}
 use Rattle.wast_resolve.specs.Tree.tag
 use Rattle.wast_resolve.specs.Tree.kind
@@ -50,14 +50,14 @@ all_bound : (find : LookUp) (xs : List ModuleField) → are_plain (map (bound_fi
 all_bound find [] = refl
 all_bound find (x ∷ xs) = ap (λ b. b && are_plain (map (bound_field find) xs)) (plain_bound find x) ∙ ap (λ b. is_plain_field x && b) (all_bound find xs)
 
-plain_given : (b : Bool) (n : ℕ) (x : ModuleField) → is_plain_field (given_if b with_id n x) ≡ is_plain_field x
+plain_given : (b : Bool) (n : ℕ) (x : ModuleField) → is_plain_field (given_if b with_type_id n x) ≡ is_plain_field x
 plain_given false n x = refl
 plain_given true n (field.Ty t) = refl
 plain_given true n x = refl
 
-all_filled : (n : ℕ) (xs : List ModuleField) → are_plain (filled lacks_id with_id n xs) ≡ are_plain xs
+all_filled : (n : ℕ) (xs : List ModuleField) → are_plain (filled lacks_id with_type_id n xs) ≡ are_plain xs
 all_filled n [] = refl
-all_filled n (x ∷ xs) = ap (λ b. b && are_plain (filled lacks_id with_id (n + one_if (lacks_id x)) xs)) (plain_given (lacks_id x) n x) ∙ ap (λ b. is_plain_field x && b) (all_filled (n + one_if (lacks_id x)) xs)
+all_filled n (x ∷ xs) = ap (λ b. b && are_plain (filled lacks_id with_type_id (n + one_if (lacks_id x)) xs)) (plain_given (lacks_id x) n x) ∙ ap (λ b. is_plain_field x && b) (all_filled (n + one_if (lacks_id x)) xs)
 
 -- Plain uses need types of plain values alone.
 plain_use : (i : Option Index) (inline : Option FunctionType) → is_plain_inline inline ≡ true → list_all (values_pass is_plain_val) (needed_without i inline) ≡ true
@@ -110,5 +110,5 @@ pub plain_expanded : (n : ℕ) (fields : List ModuleField) → are_plain fields 
 plain_expanded n fields h =
     let m : ℕ = n + wanted lacks_id fields in
     all_bound (index_of (bindings (typed n fields))) (typed n fields)
-    ∙ (list_all-append is_plain_field (filled lacks_id with_id n fields) (implied_types m (implied fields))
+    ∙ (list_all-append is_plain_field (filled lacks_id with_type_id n fields) (implied_types m (implied fields))
     ∙ both_so _ _ (all_filled n fields ∙ h) (plain_types m (implied fields) ∙ plain_signatures fields h))

@@ -6,7 +6,7 @@ use Rattle.wast_expand.specs.Signatures.{Signature}
 use Rattle.wast_expand.specs.ImpliedTypes.{implied}
 use Rattle.wast_base.specs.Filling.{one_if, given_if, filled, wanted}
 use Rattle.wast_expand.specs.Expanders.{LookUp, index_of}
-use Rattle.wast_expand.specs.Expanded.{lacks_id, with_id, unnamed_type, implied_types, typed, bindings, bound_field, expanded}
+use Rattle.wast_expand.specs.Expanded.{lacks_id, with_type_id, unnamed_type, implied_types, typed, bindings, bound_field, expanded}
 use Rattle.wast_expand.specs.Completed.{completed}
 use Rattle.wast_resolve.specs.Tree.{ModuleField}
 use Rattle.wast_resolve.specs.Tree.field
@@ -15,18 +15,18 @@ use Rattle.wast_resolve.specs.Demands.{local_counts_in, local_counts}
 use Rattle.wast_resolve.proofs.ExpandedAsks.{bound_declared}
 
 -- What neither ids nor indices of type uses change, field by field, they do not change in the list.
-module _ {A : Type 0} (f : ModuleField → List A) (bound : (find : LookUp) (x : ModuleField) → f (bound_field find x) ≡ f x) (given : (n : ℕ) (x : ModuleField) → f (with_id n x) ≡ f x) where
+module _ {A : Type 0} (f : ModuleField → List A) (bound : (find : LookUp) (x : ModuleField) → f (bound_field find x) ≡ f x) (given : (n : ℕ) (x : ModuleField) → f (with_type_id n x) ≡ f x) where
   each_bound : (find : LookUp) (xs : List ModuleField) → flat_map f (map (bound_field find) xs) ≡ flat_map f xs
   each_bound find [] = refl
   each_bound find (x ∷ xs) = ap (λ ys. ys ++ flat_map f (map (bound_field find) xs)) (bound find x) ∙ ap (λ ys. f x ++ ys) (each_bound find xs)
 
-  if_given : (b : Bool) (n : ℕ) (x : ModuleField) → f (given_if b with_id n x) ≡ f x
+  if_given : (b : Bool) (n : ℕ) (x : ModuleField) → f (given_if b with_type_id n x) ≡ f x
   if_given false n x = refl
   if_given true n x = given n x
 
-  each_filled : (n : ℕ) (xs : List ModuleField) → flat_map f (filled lacks_id with_id n xs) ≡ flat_map f xs
+  each_filled : (n : ℕ) (xs : List ModuleField) → flat_map f (filled lacks_id with_type_id n xs) ≡ flat_map f xs
   each_filled n [] = refl
-  each_filled n (x ∷ xs) = ap (λ ys. ys ++ flat_map f (filled lacks_id with_id (n + one_if (lacks_id x)) xs)) (if_given (lacks_id x) n x) ∙ ap (λ ys. f x ++ ys) (each_filled (n + one_if (lacks_id x)) xs)
+  each_filled n (x ∷ xs) = ap (λ ys. ys ++ flat_map f (filled lacks_id with_type_id (n + one_if (lacks_id x)) xs)) (if_given (lacks_id x) n x) ∙ ap (λ ys. f x ++ ys) (each_filled (n + one_if (lacks_id x)) xs)
 
   each_implied : (n : ℕ) (ss : List Signature) → flat_map f (implied_types n ss) ≡ flat_map f (map unnamed_type ss)
   each_implied n [] = refl
@@ -36,7 +36,7 @@ module _ {A : Type 0} (f : ModuleField → List A) (bound : (find : LookUp) (x :
   all_stay n fields =
       let m : ℕ = n + wanted lacks_id fields in
       each_bound (index_of (bindings (typed n fields))) (typed n fields)
-      ∙ (flat_map-append f (filled lacks_id with_id n fields) (implied_types m (implied fields))
+      ∙ (flat_map-append f (filled lacks_id with_type_id n fields) (implied_types m (implied fields))
       ∙ (ap (λ ys. ys ++ flat_map f (implied_types m (implied fields))) (each_filled n fields)
       ∙ (ap (λ ys. flat_map f fields ++ ys) (each_implied m (implied fields)) ∙ sym (flat_map-append f fields (map unnamed_type (implied fields))))))
 
@@ -44,7 +44,7 @@ bound_signatures : (find : LookUp) (x : ModuleField) → signatures_in (bound_fi
 bound_signatures find (field.Ty t) = refl
 bound_signatures find x = refl
 
-given_signatures : (n : ℕ) (x : ModuleField) → signatures_in (with_id n x) ≡ signatures_in x
+given_signatures : (n : ℕ) (x : ModuleField) → signatures_in (with_type_id n x) ≡ signatures_in x
 given_signatures n (field.Ty t) = refl
 given_signatures n x = refl
 
@@ -52,7 +52,7 @@ bound_counts : (find : LookUp) (x : ModuleField) → local_counts_in (bound_fiel
 bound_counts find (field.Func f) = ap (λ ss. length ss ∷ []) (bound_declared find f.ty.inline f.kind)
 bound_counts find x = refl
 
-given_counts : (n : ℕ) (x : ModuleField) → local_counts_in (with_id n x) ≡ local_counts_in x
+given_counts : (n : ℕ) (x : ModuleField) → local_counts_in (with_type_id n x) ≡ local_counts_in x
 given_counts n (field.Func f) = refl
 given_counts n x = refl
 

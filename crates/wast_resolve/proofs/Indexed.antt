@@ -18,7 +18,7 @@ use Rattle.wast_resolve.specs.Tree.space
 use Rattle.wast_resolve.specs.Tree.func
 use Rattle.wast_resolve.specs.Tree.field
 use Rattle.wast_resolve.specs.Demands.{Here, after_all}
-use Rattle.wast_resolve.specs.Resolved.{numbered_at, resolved_signature, resolved_instr, resolved_instrs, body_of, resolved_func_kind, resolved_tag_type, resolved_item_kind, resolved_import_items, resolved_field}
+use Rattle.wast_resolve.specs.Resolved.{numbered_at, resolved_signature, resolved_instr, resolved_instrs, here_in_body, resolved_func_kind, resolved_tag_type, resolved_item_kind, resolved_import_items, resolved_field}
 use Rattle.wast_resolve.proofs.OfExpanded.{HasIndices}
 
 -- where neither part needs anything, both need nothing
@@ -42,7 +42,7 @@ module _ (k : Known) where
 
   has_kind : (inline : Option FunctionType) (f : FuncKind) → needed_by_kind f ≡ [] → needed_by_kind (resolved_func_kind k inline f) ≡ []
   has_kind inline (func.Import import exact) none = refl
-  has_kind inline (func.Inline locals e) none = has_instrs (body_of inline (func.Inline locals e)) e.instrs none
+  has_kind inline (func.Inline locals e) none = has_instrs (here_in_body inline (func.Inline locals e)) e.instrs none
 
   has_tag : (t : TagType) → needed_by_tag_type t ≡ [] → needed_by_tag_type (resolved_tag_type k t) ≡ []
   has_tag (tag.Exception u) none = has_index u.index u.inline none

@@ -5,7 +5,7 @@ use Rattle.wast_expand.specs.Signatures.{Signature}
 use Rattle.wast_expand.specs.ImpliedTypes.{implied}
 use Rattle.wast_expand.specs.Expanders.{LookUp, index_of}
 use Rattle.wast_base.specs.Filling.{given_if, one_if, filled, wanted}
-use Rattle.wast_expand.specs.Expanded.{lacks_id, with_id, unnamed_type, implied_types, typed, bindings, bound_field, expanded}
+use Rattle.wast_expand.specs.Expanded.{lacks_id, with_type_id, unnamed_type, implied_types, typed, bindings, bound_field, expanded}
 use Rattle.wast_expand.specs.Completed.{completed}
 use Rattle.wast_resolve.specs.Tree.{Space, ModuleField}
 use Rattle.wast_resolve.specs.Tree.field
@@ -32,15 +32,15 @@ bound_orders : (find : LookUp) (last : Option Space) (xs : List ModuleField) →
 bound_orders find last [] = refl
 bound_orders find last (x ∷ xs) = one_alike last (bound_field find x) x (map (bound_field find) xs) xs (bound_alike find x) (λ o. bound_orders find o xs)
 
-given_alike : (b : Bool) (n : ℕ) (x : ModuleField) → Alike (given_if b with_id n x) x
+given_alike : (b : Bool) (n : ℕ) (x : ModuleField) → Alike (given_if b with_type_id n x) x
 given_alike false n x = record { place = refl; space = refl }
 given_alike true n (field.Ty t) = record { place = refl; space = refl }
 given_alike true n x = record { place = refl; space = refl }
 
-filled_orders : (n : ℕ) (last : Option Space) (xs : List ModuleField) → orders_from last (filled lacks_id with_id n xs) ≡ orders_from last xs
+filled_orders : (n : ℕ) (last : Option Space) (xs : List ModuleField) → orders_from last (filled lacks_id with_type_id n xs) ≡ orders_from last xs
 filled_orders n last [] = refl
 filled_orders n last (x ∷ xs) =
-    one_alike last (given_if (lacks_id x) with_id n x) x (filled lacks_id with_id (n + one_if (lacks_id x)) xs) xs (given_alike (lacks_id x) n x) (λ o. filled_orders (n + one_if (lacks_id x)) o xs)
+    one_alike last (given_if (lacks_id x) with_type_id n x) x (filled lacks_id with_type_id (n + one_if (lacks_id x)) xs) xs (given_alike (lacks_id x) n x) (λ o. filled_orders (n + one_if (lacks_id x)) o xs)
 
 -- Types demand nothing of it.
 none_unnamed : (last : Option Space) (ss : List Signature) → orders_from last (map unnamed_type ss) ≡ []
@@ -63,5 +63,5 @@ expanded_orders n fields =
     let m : ℕ = n + wanted lacks_id fields in
     orders_are (expanded n fields)
     ∙ (bound_orders (index_of (bindings (typed n fields))) None (typed n fields)
-    ∙ (behind (implied_types m (implied fields)) (λ o. none_implied m o (implied fields)) None (filled lacks_id with_id n fields)
+    ∙ (behind (implied_types m (implied fields)) (λ o. none_implied m o (implied fields)) None (filled lacks_id with_type_id n fields)
     ∙ (filled_orders n None fields ∙ (sym (orders_are fields) ∙ sym (completed_orders fields)))))

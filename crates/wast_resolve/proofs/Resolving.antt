@@ -6,7 +6,7 @@ use Rattle.wast_base.specs.declared.faults.Error.{Error}
 use Rattle.wast_base.specs.Filling.{RunsOut}
 use Rattle.wast_tree.specs.Generations.{greatest_generation}
 use Rattle.wast_tree.specs.WellFormed.{is_well_formed}
-use Rattle.wast_deinline.specs.Written.{written, references_wanted, CannotBeWritten}
+use Rattle.wast_deinline.specs.Written.{written_out_from, references_wanted, CannotBeWritten}
 use Rattle.wast_expand.specs.NeedingUses.{needed}
 use Rattle.wast_expand.specs.Expanded.{expanded, ids_wanted}
 use Rattle.wast_expand.specs.Completed.{completed}
@@ -29,12 +29,12 @@ unwritten_still n fields e h =
     elim h [ inl runs_out ↦ out_of n fields (2 ^ 64 ≤ n + references_wanted fields) e (λ m. inr (inl (omega (arith, m)))) runs_out | inr many ↦ out_of n fields _ e (λ m. inr (inr m)) many ]
 
 -- What is expanded after abbreviations are written out is the list in which nothing is left out.
-pub expands_all : (n : ℕ) (fields : List ModuleField) {m : ℕ} {xs ys zs : List ModuleField} → xs ≡ written n fields → m ≡ n + references_wanted fields → ys ≡ xs → zs ≡ expanded m ys → zs ≡ explicit_from n fields
+pub expands_all : (n : ℕ) (fields : List ModuleField) {m : ℕ} {xs ys zs : List ModuleField} → xs ≡ written_out_from n fields → m ≡ n + references_wanted fields → ys ≡ xs → zs ≡ expanded m ys → zs ≡ explicit_from n fields
 expands_all n fields w c o e = e ∙ (λ i. expanded (c i) ((o ∙ w) i))
 
 module _ (n : ℕ) (fields : List ModuleField) (above : greatest_generation fields < n) where
   abbrev rest : List ModuleField
-  rest = written n fields
+  rest = written_out_from n fields
 
   -- what is so large of what is written out
   abbrev IsLarge : Type 0

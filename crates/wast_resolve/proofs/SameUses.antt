@@ -20,7 +20,7 @@ use Rattle.wast_resolve.specs.Tree.func
 use Rattle.wast_resolve.specs.Tree.instr
 use Rattle.wast_resolve.specs.Tree.field
 use Rattle.wast_resolve.specs.Demands.{Here, after_all}
-use Rattle.wast_resolve.specs.Resolved.{numbered_at, body_of, resolved_type_use, resolved_instr, resolved_instrs, resolved_func_kind, resolved_tag_type, resolved_item_kind, resolved_import_items, resolved_field}
+use Rattle.wast_resolve.specs.Resolved.{numbered_at, here_in_body, resolved_type_use, resolved_instr, resolved_instrs, resolved_func_kind, resolved_tag_type, resolved_item_kind, resolved_import_items, resolved_field}
 use Rattle.wast_resolve.proofs.SameAsks.{Same, before, behind, same_index, same_if_index, same_inline, same_heap, same_type, same_rec, same_locals}
 use Rattle.wast_resolve.proofs.SameApart.{of_outside, same_table_type, same_global_type, same_table_kind, same_global, same_elem, same_data_kind}
 use Rattle.wast_resolve.specs.Stripped.{written_id, at_start, stripped_use, stripped_tag_type, stripped_item_kind, stripped_import, stripped}
@@ -57,7 +57,7 @@ module _ (k l : Known) (find other : LookUp) where
   same_kind : (inline : Option FunctionType) (f : FuncKind) → Same k l (in_locals f) → Same k l (asked_in_steps (in_body f)) → resolved_func_kind k inline (bound_kind find f) ≡ resolved_func_kind l inline (bound_kind other f)
   same_kind inline (func.Import import exact) types body i = func.Import import exact
   same_kind inline (func.Inline locals e) types body i =
-      func.Inline (same_locals k l locals types i) (record e { instrs = same_instrs (body_of inline (func.Inline locals e)) e.instrs body i })
+      func.Inline (same_locals k l locals types i) (record e { instrs = same_instrs (here_in_body inline (func.Inline locals e)) e.instrs body i })
 
   module _ (alike : (s : Signature) → option_map at_start (option_map (numbered_at k space.Ty) (find s)) ≡ option_map at_start (option_map (numbered_at l space.Ty) (other s))) where
     -- a type use that is bound

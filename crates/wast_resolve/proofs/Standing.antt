@@ -20,10 +20,10 @@ use Rattle.wast_resolve.specs.Tree.ty
 use Rattle.wast_resolve.specs.Tree.space
 use Rattle.wast_resolve.specs.Tree.func
 use Rattle.wast_base.specs.Ids.{Mark, marked}
-use Rattle.wast_tree.specs.Occurrences.{Ask, Step, Declares, Outside, Body, declared_params, declared_locals, declared, matched_by, matched, in_expression, if_there, in_index, in_id, in_heap, in_val, in_storage, in_param, in_signature, in_struct_field, in_struct, in_array, in_inner, in_type, in_rec, in_type_use, in_instr, in_local, in_locals, in_func_kind, in_func, in_use, in_constant, in_constant_if, in_tag_type, in_item_kind, in_import, in_table_kind, in_memory_kind, in_global_kind, in_global, in_elem_kind, in_payload, in_elem, in_data_kind, in_export, in_field, in_module, outside}
+use Rattle.wast_tree.specs.Occurrences.{Ask, Step, Declares, Outside, InOrder, declared_params, declared_locals, declared, matched_by, matched, in_expression, if_there, in_index, in_id, in_heap, in_val, in_storage, in_param, in_signature, in_struct_field, in_struct, in_array, in_inner, in_type, in_rec, in_type_use, in_instr, in_local, in_locals, in_func_kind, in_func, in_use, in_constant, in_constant_if, in_tag_type, in_item_kind, in_import, in_table_kind, in_memory_kind, in_global_kind, in_global, in_elem_kind, in_payload, in_elem, in_data_kind, in_export, in_field, in_module, outside}
 use Rattle.wast_tree.specs.Known.{Known}
 use Rattle.wast_resolve.specs.Demands.{Here, start, after, after_all}
-use Rattle.wast_resolve.specs.Resolved.{numbered_at, resolved_ask, resolved_step, resolved_steps, resolved_occurrence, resolved_heap, resolved_val, resolved_storage, resolved_param, resolved_signature, resolved_struct_field, resolved_struct, resolved_array, resolved_inner, resolved_type, resolved_rec, resolved_type_use, resolved_local, resolved_instr, resolved_instrs, resolved_locals, body_of, resolved_func_kind, resolved_func, resolved_constant, resolved_tag_type, resolved_item_kind, resolved_import_items, resolved_table_kind, resolved_global_kind, resolved_global, resolved_elem_kind, resolved_payload, resolved_elem, resolved_data_kind, resolved_export, resolved_field}
+use Rattle.wast_resolve.specs.Resolved.{numbered_at, resolved_ask, resolved_step, resolved_steps, resolved_occurrence, resolved_heap, resolved_val, resolved_storage, resolved_param, resolved_signature, resolved_struct_field, resolved_struct, resolved_array, resolved_inner, resolved_type, resolved_rec, resolved_type_use, resolved_local, resolved_instr, resolved_instrs, resolved_locals, here_in_body, resolved_func_kind, resolved_func, resolved_constant, resolved_tag_type, resolved_item_kind, resolved_import_items, resolved_table_kind, resolved_global_kind, resolved_global, resolved_elem_kind, resolved_payload, resolved_elem, resolved_data_kind, resolved_export, resolved_field}
 
 -- joined lists, an optional part, and each part of a list
 module _ {B : Type 0} (n : B → B) where
@@ -163,16 +163,16 @@ module _ (k : Known) where
   stands_func_kind inline (func.Import import exact) = refl
   stands_func_kind inline (func.Inline locals e) =
       let f = func.Inline locals e in
-      let h = body_of inline f in
-      ap (λ ss. Body ss ∷ [])
+      let h = here_in_body inline f in
+      ap (λ ss. InOrder ss ∷ [])
       (ap (λ ss. ss ++ flat_map in_instr (resolved_instrs k h e.instrs)) (declares_still inline f ∙ sym (steps_declared start inline f))
       ∙ (ap (λ ss. resolved_steps k start (declared inline f) ++ ss) (stands_instrs h e.instrs) ∙ sym (resolved_steps-append start (declared inline f) (in_expression e))))
 
-  stands_matched : (u : TypeUse FunctionType) → Body (matched (resolved_type_use k u)) ≡ resolved_occurrence k (Body (matched u))
+  stands_matched : (u : TypeUse FunctionType) → InOrder (matched (resolved_type_use k u)) ≡ resolved_occurrence k (InOrder (matched u))
   stands_matched u = by_parts u.index u.inline
     where
       by_parts : (i : Option Index) (inline : Option FunctionType)
-          → Body (matched_by (option_map (numbered_at k space.Ty) i) (option_map (resolved_signature k) inline)) ≡ resolved_occurrence k (Body (matched_by i inline))
+          → InOrder (matched_by (option_map (numbered_at k space.Ty) i) (option_map (resolved_signature k) inline)) ≡ resolved_occurrence k (InOrder (matched_by i inline))
       by_parts None None = refl
       by_parts None (Some t) = refl
       by_parts (Some i) None = refl
@@ -181,15 +181,15 @@ module _ (k : Known) where
   stands_func : (f : Func) → in_func (resolved_func k f) ≡ map (resolved_occurrence k) (in_func f)
   stands_func f =
       both (resolved_occurrence k) _ _ _ _ (stands_outside _ _ (stands_type_use f.ty))
-      (both (resolved_occurrence k) (Body (matched (resolved_type_use k f.ty)) ∷ []) _ (Body (matched f.ty) ∷ []) _ (ap (λ o. o ∷ []) (stands_matched f.ty))
+      (both (resolved_occurrence k) (InOrder (matched (resolved_type_use k f.ty)) ∷ []) _ (InOrder (matched f.ty) ∷ []) _ (ap (λ o. o ∷ []) (stands_matched f.ty))
       (both (resolved_occurrence k) _ _ _ _ (stands_outside _ _ (stands_local_types f.ty.inline f.kind)) (stands_func_kind f.ty.inline f.kind)))
 
   stands_use : (u : TypeUse FunctionType) → in_use (resolved_type_use k u) ≡ map (resolved_occurrence k) (in_use u)
   stands_use u =
-      both (resolved_occurrence k) _ (Body (matched (resolved_type_use k u)) ∷ []) _ (Body (matched u) ∷ []) (stands_outside _ _ (stands_type_use u)) (ap (λ o. o ∷ []) (stands_matched u))
+      both (resolved_occurrence k) _ (InOrder (matched (resolved_type_use k u)) ∷ []) _ (InOrder (matched u) ∷ []) (stands_outside _ _ (stands_type_use u)) (ap (λ o. o ∷ []) (stands_matched u))
 
   stands_constant : (e : Expression) → in_constant (resolved_constant k e) ≡ map (resolved_occurrence k) (in_constant e)
-  stands_constant e = ap (λ ss. Body ss ∷ []) (stands_instrs start e.instrs)
+  stands_constant e = ap (λ ss. InOrder ss ∷ []) (stands_instrs start e.instrs)
 
   stands_constant_if : (e : Option Expression) → in_constant_if (option_map (resolved_constant k) e) ≡ map (resolved_occurrence k) (in_constant_if e)
   stands_constant_if None = refl

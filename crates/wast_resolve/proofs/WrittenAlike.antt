@@ -4,7 +4,7 @@ use Rattle.std.proofs.lemmas.Bool.{lt-ltb}
 use Rattle.wast_tree.specs.Items.{items}
 use Rattle.wast_tree.specs.Occurrences.{asked, in_module}
 use Rattle.wast_tree.specs.Generations.{generation_in, greatest_item, greatest_generation}
-use Rattle.wast_deinline.specs.Written.{written, written_out}
+use Rattle.wast_deinline.specs.Written.{written_out_from, written_out}
 use Rattle.wast_deinline.proofs.WrittenAsks.{written_out_pass}
 use Rattle.wast_deinline.proofs.Below.{each_below}
 use Rattle.wast_expand.specs.Expanded.{ids_wanted}
@@ -22,7 +22,7 @@ use Rattle.wast_resolve.proofs.WrittenUses.{written_uses}
 
 module _ (n : ℕ) (fields : List ModuleField) (above : greatest_generation fields < n) where
   abbrev new : List ModuleField
-  new = completed (written n fields)
+  new = completed (written_out_from n fields)
 
   abbrev old : List ModuleField
   old = completed (written_out fields)
@@ -51,5 +51,5 @@ module _ (n : ℕ) (fields : List ModuleField) (above : greatest_generation fiel
   written_counts =
       ap (λ ms. ms ++ local_counts new) (written_item_counts n fields items_below) ∙ ap (λ ms. item_counts (items old) ++ ms) (alike_local_counts (completed_looks n fields))
 
-pub written_wants : (n : ℕ) (fields : List ModuleField) → ids_wanted (written n fields) ≡ ids_wanted (written_out fields)
+pub written_wants : (n : ℕ) (fields : List ModuleField) → ids_wanted (written_out_from n fields) ≡ ids_wanted (written_out fields)
 written_wants n fields = alike_wants (written_looks n fields)

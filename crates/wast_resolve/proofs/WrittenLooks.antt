@@ -10,7 +10,7 @@ use Rattle.wast_tree.specs.Items.{Item, items_in}
 use Rattle.wast_tree.specs.Imports.{defined_space}
 use Rattle.wast_base.specs.Filling.{one_if, wanted}
 use Rattle.wast_deinline.specs.Referring.{wants_id}
-use Rattle.wast_deinline.specs.Written.{written, written_out}
+use Rattle.wast_deinline.specs.Written.{written_out_from, written_out}
 use Rattle.wast_expand.specs.Signatures.{Signature}
 use Rattle.wast_expand.specs.NeedingUses.{needed_by_field, needed}
 use Rattle.wast_expand.specs.ImpliedTypes.{written_in, is_among, first_new, implied}
@@ -19,7 +19,7 @@ use Rattle.wast_expand.specs.TypeSpace.{types_in, type_space, has_signature}
 use Rattle.wast_expand.specs.Expanders.{LookUp}
 use Rattle.wast_expand.specs.Expanded.{start_of_text, lacks_id, unnamed_type, ids_wanted}
 use Rattle.wast_expand.specs.Completed.{completed}
-use Rattle.wast_expand.specs.Positioned.{by_position}
+use Rattle.wast_expand.specs.Positioned.{position_for}
 use Rattle.wast_resolve.specs.Tree.{Id, Index, Space, Span, ModuleField}
 use Rattle.wast_resolve.specs.Tree.index
 use Rattle.wast_resolve.specs.Tree.field
@@ -109,7 +109,7 @@ module _ {xs ys : List ModuleField} (h : LookAlike xs ys) where
   alike_type_space : type_space xs ≡ type_space ys
   alike_type_space = ap (λ ts. ts ++ map Some (implied xs)) (alike (λ l. l.types)) ∙ ap (λ (ss : List Signature). flat_map types_in ys ++ map Some ss) alike_implied
 
-  pub alike_positions : by_position xs ≡ by_position ys
+  pub alike_positions : position_for xs ≡ position_for ys
   alike_positions = ap {B = LookUp} (λ (types : List (Option Signature)) (s : Signature). option_map (λ p. index.Num p start_of_text) (position (has_signature s) types)) alike_type_space
 
   pub alike_orders : order_demands xs ≡ order_demands ys
@@ -120,16 +120,16 @@ module _ {xs ys : List ModuleField} (h : LookAlike xs ys) where
       ap (λ m. m + length (implied xs)) (wanted_by_looks xs ∙ (ap (wanted (λ (l : Look). l.lacks)) h.looks ∙ sym (wanted_by_looks ys))) ∙ ap (λ (ss : List Signature). wanted lacks_id ys + length ss) alike_implied
 
 module _ (n : ℕ) (fields : List ModuleField) where
-  pub written_looks : LookAlike (written n fields) (written_out fields)
+  pub written_looks : LookAlike (written_out_from n fields) (written_out fields)
   written_looks = record { looks = fields_alike Any (look_blind n) n [] fields (omega arith) (all_any n [] fields) }
 
   -- What is the same of each part is the same with the types that are implied.
   pub completed_alike : {X : Type 0} {give : ModuleField → X} (Same : Space → Index → Index → Type 0) → IsBlind Same n give → AllOwn Same n [] fields
-      → map give (completed (written n fields)) ≡ map give (completed (written_out fields))
+      → map give (completed (written_out_from n fields)) ≡ map give (completed (written_out fields))
   completed_alike {give = give} Same blind own =
-      map-append give (written n fields) (map unnamed_type (implied (written n fields)))
-      ∙ (ap (λ ys. ys ++ map give (map unnamed_type (implied (written n fields)))) (fields_alike Same blind n [] fields (omega arith) own)
+      map-append give (written_out_from n fields) (map unnamed_type (implied (written_out_from n fields)))
+      ∙ (ap (λ ys. ys ++ map give (map unnamed_type (implied (written_out_from n fields)))) (fields_alike Same blind n [] fields (omega arith) own)
       ∙ (ap (λ ss. map give (written_out fields) ++ map give (map unnamed_type ss)) (alike_implied written_looks) ∙ sym (map-append give (written_out fields) (map unnamed_type (implied (written_out fields))))))
 
-  pub completed_looks : LookAlike (completed (written n fields)) (completed (written_out fields))
+  pub completed_looks : LookAlike (completed (written_out_from n fields)) (completed (written_out fields))
   completed_looks = record { looks = completed_alike Any (look_blind n) (all_any n [] fields) }

@@ -10,8 +10,8 @@ use Rattle.wast_tree.specs.Items.{Item, item, items_in, items}
 use Rattle.wast_tree.specs.Known.{Known, known, name_in, names_in}
 use Rattle.wast_base.specs.Filling.{one_if, given_if}
 use Rattle.wast_deinline.specs.WriteOut.{write_out}
-use Rattle.wast_deinline.specs.Referring.{by_id, wants_id, with_id}
-use Rattle.wast_deinline.specs.Written.{referable, written}
+use Rattle.wast_deinline.specs.Referring.{by_id, wants_id, with_item_id}
+use Rattle.wast_deinline.specs.Written.{referable, written_out_from}
 use Rattle.wast_expand.specs.ImpliedTypes.{implied}
 use Rattle.wast_expand.specs.Expanded.{unnamed_type}
 use Rattle.wast_expand.specs.Completed.{completed}
@@ -54,7 +54,7 @@ module _ (s : Space) where
       by_space false o p = refl
 
   -- as many with an id that is given
-  as_many : (b : Bool) (m : ℕ) (x : ModuleField) → wants_id x ≡ b → length (names_in s (items_in (given_if b with_id m x))) ≡ length (names_in s (items_in x))
+  as_many : (b : Bool) (m : ℕ) (x : ModuleField) → wants_id x ≡ b → length (names_in s (items_in (given_if b with_item_id m x))) ≡ length (names_in s (items_in x))
   as_many false m x e = refl
   as_many true m x e = let g = given m x e in ap (λ xs. length (names_in s xs)) g.new ∙ (one_name g.s (Some (generated m g.p)) None ∙ sym (ap (λ xs. length (names_in s xs)) g.old))
 
@@ -75,7 +75,7 @@ module _ (all rest : List ModuleField) (free : first_unmet (item_demands (items 
   all_own m before [] pre is same = tt
   all_own m before (x ∷ xs) pre is same =
       let next = m + one_if (wants_id x) in
-      let y : ModuleField = given_if (wants_id x) with_id m x in
+      let y : ModuleField = given_if (wants_id x) with_item_id m x in
       let ws : List ModuleField = write_out by_id y in
       let more : List ModuleField = flat_map (write_out by_id) (referable next xs) in
       let parts : all ≡ pre ++ (ws ++ (more ++ rest)) = is ∙ ap (λ zs. pre ++ zs) (append_assoc ws more rest) in (
@@ -88,5 +88,5 @@ module _ (all rest : List ModuleField) (free : first_unmet (item_demands (items 
             omega (arith, now, then, one, same s its)),
       )
 
-pub completed_own : (n : ℕ) (fields : List ModuleField) → first_unmet (item_demands (items (completed (written n fields)))) ≡ None → AllOwn (Numbers (known (items (completed (written n fields))))) n [] fields
-completed_own n fields free = all_own (completed (written n fields)) (map unnamed_type (implied (written n fields))) free n [] fields [] refl (λ s its. refl)
+pub completed_own : (n : ℕ) (fields : List ModuleField) → first_unmet (item_demands (items (completed (written_out_from n fields)))) ≡ None → AllOwn (Numbers (known (items (completed (written_out_from n fields))))) n [] fields
+completed_own n fields free = all_own (completed (written_out_from n fields)) (map unnamed_type (implied (written_out_from n fields))) free n [] fields [] refl (λ s its. refl)

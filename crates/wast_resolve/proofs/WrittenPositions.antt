@@ -6,12 +6,12 @@ use Rattle.wast_tree.specs.Known.{Known, known}
 use Rattle.wast_tree.specs.Occurrences.{asked, in_module}
 use Rattle.wast_tree.specs.Generations.{greatest_asked, greatest_generation}
 use Rattle.wast_deinline.specs.Segments.{at_zero}
-use Rattle.wast_deinline.specs.Written.{written, written_out}
+use Rattle.wast_deinline.specs.Written.{written_out_from, written_out}
 use Rattle.wast_deinline.proofs.Below.{written_out_below}
 use Rattle.wast_expand.specs.TypeSpace.{index_for}
 use Rattle.wast_expand.specs.Expanders.{LookUp}
 use Rattle.wast_expand.specs.Completed.{completed}
-use Rattle.wast_expand.specs.Positioned.{by_position, positioned}
+use Rattle.wast_expand.specs.Positioned.{position_for, positioned}
 use Rattle.wast_resolve.specs.Tree.{Span, Index, ModuleField}
 use Rattle.wast_resolve.specs.Tree.elem
 use Rattle.wast_resolve.specs.Tree.data_kind
@@ -43,9 +43,9 @@ told_blind k find n = record {
     by_field m span (field.Func f) = refl
     by_field m span x = refl
 
-module _ (n : ℕ) (fields : List ModuleField) (above : greatest_generation fields < n) (met : first_unmet (demands (completed (written n fields))) ≡ None) where
+module _ (n : ℕ) (fields : List ModuleField) (above : greatest_generation fields < n) (met : first_unmet (demands (completed (written_out_from n fields))) ≡ None) where
   abbrev new : List ModuleField
-  new = completed (written n fields)
+  new = completed (written_out_from n fields)
 
   abbrev old : List ModuleField
   old = completed (written_out fields)
@@ -53,11 +53,11 @@ module _ (n : ℕ) (fields : List ModuleField) (above : greatest_generation fiel
   no_clash : first_unmet (item_demands (items new)) ≡ None
   no_clash = (met_parts (item_demands (items new)) (use_demands (scope new) (in_module new)) (met_parts (order_demands new) (name_demands new) met).1).0
 
-  pub written_positions : map stripped (resolved (positioned (written n fields))) ≡ map stripped (resolved (positioned (written_out fields)))
+  pub written_positions : map stripped (resolved (positioned (written_out_from n fields))) ≡ map stripped (resolved (positioned (written_out fields)))
   written_positions =
-      let find : LookUp = by_position (written_out fields) in
+      let find : LookUp = position_for (written_out fields) in
       let as_old : greatest_asked (asked (in_module old)) < n = completed_below n (written_out fields) (written_out_below n fields (omega (arith, above))) in
-      told_positions (written n fields)
+      told_positions (written_out_from n fields)
       ∙ (ap (λ (f : LookUp). map (told_by (known (items new)) f) new) (alike_positions (written_looks n fields))
       ∙ (completed_alike n fields (Numbers (known (items new))) (told_blind (known (items new)) find n) (completed_own n fields no_clash)
       ∙ (all_same (known (items new)) (known (items old)) find find (λ s. position_stays (known (items new)) (index_for (written_out fields) s) ∙ sym (position_stays (known (items old)) (index_for (written_out fields) s))) old

@@ -13,7 +13,7 @@ use Rattle.wast_base.specs.Filling.{one_if, given_if}
 use Rattle.wast_deinline.specs.Tree.{InlineImport}
 use Rattle.wast_deinline.specs.Segments.{data_into, elem_into, has_bytes, has_elements}
 use Rattle.wast_deinline.specs.WriteOut.{Reference, import_of, export_of, exports_of, data_in, elem_in, func_alone, table_alone, memory_alone, global_alone, tag_alone, write_out}
-use Rattle.wast_deinline.specs.Referring.{by_id, by_position, exports_some, wants_id, with_id}
+use Rattle.wast_deinline.specs.Referring.{by_id, by_position, exports_some, wants_id, with_item_id}
 use Rattle.wast_deinline.specs.Written.{referable, written_after}
 use Rattle.wast_deinline.proofs.WrittenItems.{is_of_segments}
 use Rattle.wast_resolve.specs.Tree.{Span, Id, Index, NameAnnotation, Space, ItemKind, ExportKind, ElemPayload, DataVal, FuncKind, Func, TableKind, Table, MemoryKind, Memory, GlobalKind, Global, TagKind, Tag, ModuleField}
@@ -67,7 +67,7 @@ module _ (Same : Space → Index → Index → Type 0) where
 
   abbrev pub AllOwn : ℕ → List Item → List ModuleField → Type 0
   AllOwn n before [] = ⊤
-  AllOwn n before (x ∷ xs) = Owns before (given_if (wants_id x) with_id n x) × AllOwn (n + one_if (wants_id x)) (before ++ items_in x) xs
+  AllOwn n before (x ∷ xs) = Owns before (given_if (wants_id x) with_item_id n x) × AllOwn (n + one_if (wants_id x)) (before ++ items_in x) xs
 
   module _ {X : Type 0} {give : ModuleField → X} {n : ℕ} (blind : IsBlind Same n give) where
     abbrev Alike : List ModuleField → List ModuleField → Type 0
@@ -164,15 +164,15 @@ module _ (Same : Space → Index → Index → Type 0) where
     -- A field that is given an id where it wants one, or keeps the one that it has.
     module _ (m : ℕ) (le : n ≤ m) (before : List Item) where
       module _ (s : Space) (its : is_of_segments s ≡ false) (span : Span) (z : ModuleField) (bears : (id : Option Id) → items_in (called id z) ≡ item s id [] ∷ [])
-          (gives : with_id m z ≡ called (Some (generated m span)) z) where
+          (gives : with_item_id m z ≡ called (Some (generated m span)) z) where
         abbrev ByTwo : Bool → Type 0
         ByTwo o = (r q : Reference) (x y : Option Id) → SameByIds give x y → (o ≡ true → Same s (r s span x) (q s span y)) → Alike (write_out r (called x z)) (write_out q (called y z))
 
         same : {id : Option Id} → SameByIds give id id
         same = record { of_import = λ span name source k. refl; of_field = λ w. refl }
 
-        one_alike : (o : Bool) (id : Option Id) → called id z ≡ z → ByTwo o → Owns before (given_if (o && is_none id) with_id m z)
-            → Alike (write_out by_id (given_if (o && is_none id) with_id m z)) (write_out (by_position before) z)
+        one_alike : (o : Bool) (id : Option Id) → called id z ≡ z → ByTwo o → Owns before (given_if (o && is_none id) with_item_id m z)
+            → Alike (write_out by_id (given_if (o && is_none id) with_item_id m z)) (write_out (by_position before) z)
         one_alike true None is turns own =
             ap (λ y. map give (write_out by_id y)) gives
             ∙ (turns by_id (by_position before) (Some (generated m span)) None (blind.given m span le) (λ h. own s (generated m span) its (ap items_in gives ∙ bears (Some (generated m span))))
@@ -183,7 +183,7 @@ module _ (Same : Space → Index → Index → Type 0) where
         one_alike false id is turns own =
             ap (λ y. map give (write_out by_id y)) (sym is) ∙ (turns by_id (by_position before) id id same (λ h. absurd (true≢false (sym h))) ∙ ap (λ y. map give (write_out (by_position before) y)) is)
 
-      field_alike : (x : ModuleField) → Owns before (given_if (wants_id x) with_id m x) → Alike (write_out by_id (given_if (wants_id x) with_id m x)) (write_out (by_position before) x)
+      field_alike : (x : ModuleField) → Owns before (given_if (wants_id x) with_item_id m x) → Alike (write_out by_id (given_if (wants_id x) with_item_id m x)) (write_out (by_position before) x)
       field_alike (field.Func f) own = one_alike space.Func refl f.span (field.Func f) (λ id. refl) refl (exports_some f.exports) f.id refl (λ r q x y named same. func_turns r q x y named f same) own
       field_alike (field.Table t) own =
           one_alike space.Table refl t.span (field.Table t) (λ id. refl) refl (exports_some t.exports || has_elements t.kind) t.id refl (λ r q x y named same. table_turns r q x y named t same) own
@@ -197,5 +197,5 @@ module _ (Same : Space → Index → Index → Type 0) where
     fields_alike m before [] le own = refl
     fields_alike m before (x ∷ xs) le own =
         let next = m + one_if (wants_id x) in
-        both (write_out by_id (given_if (wants_id x) with_id m x)) (write_out (by_position before) x) (flat_map (write_out by_id) (referable next xs)) (written_after (before ++ items_in x) xs)
+        both (write_out by_id (given_if (wants_id x) with_item_id m x)) (write_out (by_position before) x) (flat_map (write_out by_id) (referable next xs)) (written_after (before ++ items_in x) xs)
         (field_alike m le before x own.0) (fields_alike next (before ++ items_in x) xs (omega (arith, le)) own.1)

@@ -8,7 +8,7 @@ use Rattle.wast_base.specs.Faults.{Cause}
 use Rattle.wast_base.specs.Spaces.{word_of}
 use Rattle.wast_tree.specs.Occurrences.{Wants, Occurrence, Outside, in_constant, in_payload, exported_space, in_field, in_module}
 use Rattle.wast_deinline.specs.Segments.{at_zero}
-use Rattle.wast_deinline.specs.Written.{written, written_out}
+use Rattle.wast_deinline.specs.Written.{written_out_from, written_out}
 use Rattle.wast_expand.specs.Completed.{completed}
 use Rattle.wast_resolve.specs.Tree.{Id, Index, Space, Span, ModuleField}
 use Rattle.wast_resolve.specs.Tree.index
@@ -66,6 +66,6 @@ module _ (c : Scope) where
       by_field a b x = refl
 
   pub written_uses : (n : ℕ) (fields : List ModuleField) → AllOwn (Numbers c.known) n [] fields
-      → first_unmet (use_demands c (in_module (completed (written n fields)))) ≡ first_unmet (use_demands c (in_module (completed (written_out fields))))
+      → first_unmet (use_demands c (in_module (completed (written_out_from n fields)))) ≡ first_unmet (use_demands c (in_module (completed (written_out fields))))
   written_uses n fields own =
-      all_unmet (completed (written n fields)) ∙ (ap first_of (completed_alike n fields (Numbers c.known) (unmet_blind n) own) ∙ sym (all_unmet (completed (written_out fields))))
+      all_unmet (completed (written_out_from n fields)) ∙ (ap first_of (completed_alike n fields (Numbers c.known) (unmet_blind n) own) ∙ sym (all_unmet (completed (written_out fields))))

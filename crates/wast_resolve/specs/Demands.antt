@@ -9,7 +9,7 @@ use Rattle.wast_base.specs.Faults.{Cause, Duplicate, DuplicateField, OutOfBounds
 use Rattle.wast_base.specs.declared.faults.Error.{Error}
 use Rattle.wast_base.specs.Spaces.{spaces, word_of, name_if, is_borne}
 use Rattle.wast_tree.specs.Items.{Item, items}
-use Rattle.wast_tree.specs.Occurrences.{Ask, Wants, Bare, Step, Named, Matches, Declares, Occurrence, Outside, Body, declared, in_module}
+use Rattle.wast_tree.specs.Occurrences.{Ask, Wants, Bare, Step, Named, Matches, Declares, Occurrence, Outside, InOrder, declared, in_module}
 use Rattle.wast_tree.specs.Known.{Known, names_in}
 use Rattle.wast_expand.specs.Signatures.{Signature}
 use Rattle.wast_deinline.specs.Segments.{overflows}
@@ -99,7 +99,7 @@ step_demands c h (s ∷ ss) = step_demand c h s ++ step_demands c (after h s) ss
 
 abbrev pub use_demand : Scope → Occurrence → List Demand
 use_demand c (Outside a) = ask_demand c.known a
-use_demand c (Body ss) = step_demands c start ss
+use_demand c (InOrder ss) = step_demands c start ss
 
 abbrev pub use_demands : Scope → List Occurrence → List Demand
 use_demands c os = flat_map (use_demand c) os

@@ -1,7 +1,7 @@
 -- The list of fields in which nothing is left out: abbreviations are written out, and each type stands there (text format:
 -- abbreviations, type uses).
 use Rattle.std.specs.Prelude.{ℕ, ◌+◌, List}
-use Rattle.wast_deinline.specs.Written.{written, references_wanted, written_out}
+use Rattle.wast_deinline.specs.Written.{written_out_from, references_wanted, written_out}
 use Rattle.wast_expand.specs.Expanded.{expanded, ids_wanted}
 use Rattle.wast_expand.specs.Completed.{completed}
 use Rattle.wast_expand.specs.Positioned.{positioned}
@@ -17,7 +17,7 @@ by_positions fields = positioned (written_out fields)
 
 -- with the ids that a counter gives to items and types, and an index in each type use
 abbrev pub explicit_from : ℕ → List ModuleField → List ModuleField
-explicit_from n fields = expanded (n + references_wanted fields) (written n fields)
+explicit_from n fields = expanded (n + references_wanted fields) (written_out_from n fields)
 
 -- how many ids that takes
 abbrev pub ids_filled : List ModuleField → ℕ

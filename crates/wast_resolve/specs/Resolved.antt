@@ -21,7 +21,7 @@ use Rattle.wast_resolve.specs.Tree.data_kind
 use Rattle.wast_resolve.specs.Tree.field
 use Rattle.wast_base.specs.Ids.{is_number}
 use Rattle.wast_tree.specs.Items.{items}
-use Rattle.wast_tree.specs.Occurrences.{Ask, Wants, Bare, Step, Named, Matches, Declares, Occurrence, Outside, Body, declared, in_instr, exported_space}
+use Rattle.wast_tree.specs.Occurrences.{Ask, Wants, Bare, Step, Named, Matches, Declares, Occurrence, Outside, InOrder, declared, in_instr, exported_space}
 use Rattle.wast_tree.specs.Known.{Known, known}
 pub use Rattle.wast_namespace.specs.Denoted.{numbered_by, numbered}
 use Rattle.wast_resolve.specs.Demands.{Here, start, after, after_all}
@@ -141,7 +141,7 @@ resolved_steps k h (s ∷ ss) = resolved_step k h s ∷ resolved_steps k (after 
 
 abbrev pub resolved_occurrence : Known → Occurrence → Occurrence
 resolved_occurrence k (Outside a) = Outside (resolved_ask k a)
-resolved_occurrence k (Body ss) = Body (resolved_steps k start ss)
+resolved_occurrence k (InOrder ss) = InOrder (resolved_steps k start ss)
 
 -- Each instruction, from where it stands.
 abbrev pub resolved_instr : Known → Here → Instruction → Instruction
@@ -173,11 +173,11 @@ resolved_body k h (func.Import import exact) = func.Import import exact
 resolved_body k h (func.Inline locals e) = func.Inline locals (resolved_expression k h e)
 
 -- where a body stands: behind what is declared
-abbrev pub body_of : Option FunctionType → FuncKind → Here
-body_of inline f = after_all start (declared inline f)
+abbrev pub here_in_body : Option FunctionType → FuncKind → Here
+here_in_body inline f = after_all start (declared inline f)
 
 abbrev pub resolved_func_kind : Known → Option FunctionType → FuncKind → FuncKind
-resolved_func_kind k inline f = resolved_body k (body_of inline f) (resolved_locals k f)
+resolved_func_kind k inline f = resolved_body k (here_in_body inline f) (resolved_locals k f)
 
 abbrev pub resolved_func : Known → Func → Func
 resolved_func k f = record f { kind = resolved_func_kind k f.ty.inline f.kind; ty = resolved_type_use k f.ty }

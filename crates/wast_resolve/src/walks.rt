@@ -3,7 +3,7 @@
 
 ghost use Rattle.std.specs.Prelude.{⊤, ◌≤◌, ◌^◌, List, [], ◌∷◌, ◌++◌, length, map, flat_map, option_map};
 ghost use Rattle.wast_tree.specs.Known.{Known};
-ghost use Rattle.wast_tree.specs.Occurrences.{Ask, Body, if_there, outside, in_index, in_heap, in_ref, in_val, in_storage, in_param, in_signature, in_struct_field, in_struct, in_array, in_inner, in_def, in_type, in_rec, in_type_use, in_instr, in_expression, in_local, in_locals, in_body, matched, declared, in_func_kind, in_func, in_table_type, in_global_type, in_export, in_field, in_module};
+ghost use Rattle.wast_tree.specs.Occurrences.{Ask, InOrder, if_there, outside, in_index, in_heap, in_ref, in_val, in_storage, in_param, in_signature, in_struct_field, in_struct, in_array, in_inner, in_def, in_type, in_rec, in_type_use, in_instr, in_expression, in_local, in_locals, in_body, matched, declared, in_func_kind, in_func, in_table_type, in_global_type, in_export, in_field, in_module};
 ghost use Rattle.wast_resolve.specs.Demands.{Here, start, first_unmet, ask_demands, step_demands, use_demands, local_counts_in, local_counts, HasMany};
 ghost use Rattle.wast_namespace.specs.Outcomes.{Outcome};
 ghost use Rattle.wast_resolve.specs.Resolved.{numbered_at, resolved_heap, resolved_ref, resolved_val, resolved_storage, resolved_param, resolved_signature, resolved_struct_field, resolved_struct, resolved_array, resolved_inner, resolved_def, resolved_type, resolved_rec, resolved_type_use, resolved_local, resolved_instr, resolved_instrs, resolved_expression, resolved_locals, resolved_body, resolved_func_kind, resolved_func, resolved_table_type, resolved_global_type, resolved_export, resolved_field};
@@ -303,7 +303,7 @@ pub(crate) fn walk_type_use<'a>(
     names: &Resolver<'a>,
     ty: &mut TypeUse<'a, FunctionType<'a>>,
 ) -> Result<(), Error<'a>>
-    ensures { Walks ⊥ ⊥ (use_demands (scope_of names.now) (outside (in_type_use ty.old) ++ Body (matched ty.old) ∷ [])) (resolved_type_use (known_of names.now) ty.old) ty.new result }
+    ensures { Walks ⊥ ⊥ (use_demands (scope_of names.now) (outside (in_type_use ty.old) ++ InOrder (matched ty.old) ∷ [])) (resolved_type_use (known_of names.now) ty.old) ty.new result }
 {
     ty.walk(names)?;
     check_type_use(names, ty)?;

@@ -6,7 +6,7 @@ use Rattle.std.proofs.lemmas.List.{take_more}
 use Rattle.std.specs.Prelude.{Option, Some, None, map}
 use Rattle.wast_tree.specs.Tree.{Index, FunctionType, TypeUse, Expression, Local, FuncKind, Func}
 use Rattle.wast_tree.specs.Tree.func
-use Rattle.wast_tree.specs.Occurrences.{Ask, Step, Declares, Occurrence, Body, steps, outside, if_there, in_expression, in_use, in_constant, in_constant_if, in_type_use, in_body, in_locals, matched_by, matched, declared, declared_params, declared_locals, in_func_kind, in_func, asked_in_step, asked_in_steps, asked_in, asked}
+use Rattle.wast_tree.specs.Occurrences.{Ask, Step, Declares, Occurrence, InOrder, steps, outside, if_there, in_expression, in_use, in_constant, in_constant_if, in_type_use, in_body, in_locals, matched_by, matched, declared, declared_params, declared_locals, in_func_kind, in_func, asked_in_step, asked_in_steps, asked_in, asked}
 use Rattle.wast_base.specs.Ids.{Mark, marked}
 use Rattle.wast_tree.specs.Visits.{Tells, Visits}
 
@@ -83,7 +83,7 @@ asked_func_kind inline (func.Inline locals e) =
 pub asked_func : (f : Func) → asked (in_func f) ≡ in_type_use f.ty ++ (in_locals f.kind ++ asked_in_steps (in_body f.kind))
 asked_func f =
     let kind = outside (in_locals f.kind) ++ in_func_kind f.ty.inline f.kind in
-    asked_both (outside (in_type_use f.ty)) (Body (matched f.ty) ∷ kind)
+    asked_both (outside (in_type_use f.ty)) (InOrder (matched f.ty) ∷ kind)
     ∙ (ap (λ asks. asks ++ (asked_in_steps (matched f.ty) ++ asked kind)) (asked_outside (in_type_use f.ty))
     ∙ (ap (λ asks. in_type_use f.ty ++ (asks ++ asked kind)) (asked_matched f.ty.index f.ty.inline)
     ∙ ap (λ asks. in_type_use f.ty ++ asks)
@@ -93,7 +93,7 @@ asked_func f =
 -- a type use outside of functions
 pub asked_use : (u : TypeUse FunctionType) → asked (in_use u) ≡ in_type_use u
 asked_use u =
-    asked_both (outside (in_type_use u)) (Body (matched u) ∷ [])
+    asked_both (outside (in_type_use u)) (InOrder (matched u) ∷ [])
     ∙ (ap (λ asks. asks ++ (asked_in_steps (matched u) ++ [])) (asked_outside (in_type_use u))
     ∙ (ap (λ asks. in_type_use u ++ (asks ++ [])) (asked_matched u.index u.inline) ∙ append-nil (in_type_use u)))
 

@@ -12,9 +12,9 @@ greatest [] = 0
 greatest (n ∷ ns) = max n (greatest ns)
 
 -- the generation of an id, and 0 of none and of a number
-abbrev pub generation_if : Option Mark → ℕ
-generation_if None = 0
-generation_if (Some m) = generation_of m.0
+abbrev pub generation_or_zero : Option Mark → ℕ
+generation_or_zero None = 0
+generation_or_zero (Some m) = generation_of m.0
 
 abbrev pub generation_at : Index → ℕ
 generation_at (index.Num n span) = 0
@@ -26,7 +26,7 @@ generation_in (Bare m) = generation_of m.0
 
 -- among the items, and among what is asked
 abbrev pub greatest_item : List Item → ℕ
-greatest_item xs = greatest (map (λ x. generation_if x.id) xs)
+greatest_item xs = greatest (map (λ x. generation_or_zero x.id) xs)
 
 abbrev pub greatest_asked : List Ask → ℕ
 greatest_asked asks = greatest (map generation_in asks)

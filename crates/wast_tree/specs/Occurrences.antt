@@ -39,7 +39,7 @@ pub data Step : Type 0 where
 
 pub data Occurrence : Type 0 where
   Outside : Ask → Occurrence
-  Body : List Step → Occurrence
+  InOrder : List Step → Occurrence
 
 abbrev pub steps : List Ask → List Step
 steps asks = map Named asks
@@ -167,15 +167,15 @@ declared inline k = declared_params inline ++ declared_locals k
 -- what is declared, and then what the body asks; what is imported has no body
 abbrev pub in_func_kind : Option FunctionType → FuncKind → List Occurrence
 in_func_kind inline (func.Import import exact) = []
-in_func_kind inline (func.Inline locals e) = Body (declared inline (func.Inline locals e) ++ in_expression e) ∷ []
+in_func_kind inline (func.Inline locals e) = InOrder (declared inline (func.Inline locals e) ++ in_expression e) ∷ []
 
 -- the index and the inline type, whether they match, the types of the locals, and then the body
 abbrev pub in_func : Func → List Occurrence
-in_func f = outside (in_type_use f.ty) ++ (Body (matched f.ty) ∷ (outside (in_locals f.kind) ++ in_func_kind f.ty.inline f.kind))
+in_func f = outside (in_type_use f.ty) ++ (InOrder (matched f.ty) ∷ (outside (in_locals f.kind) ++ in_func_kind f.ty.inline f.kind))
 
 -- a type use outside of functions: the index and the inline type, and whether they match
 abbrev pub in_use : TypeUse FunctionType → List Occurrence
-in_use u = outside (in_type_use u) ++ Body (matched u) ∷ []
+in_use u = outside (in_type_use u) ++ InOrder (matched u) ∷ []
 
 abbrev pub in_table_type : TableType → List Ask
 in_table_type t = in_ref t.elem
@@ -198,7 +198,7 @@ in_import (import_items.Single source name sig) = in_item_kind sig.kind
 
 -- a constant expression stands alone: it has no parameters and no locals
 abbrev pub in_constant : Expression → List Occurrence
-in_constant e = Body (in_expression e) ∷ []
+in_constant e = InOrder (in_expression e) ∷ []
 
 abbrev pub in_constant_if : Option Expression → List Occurrence
 in_constant_if None = []
@@ -281,7 +281,7 @@ asked_in_steps ss = flat_map asked_in_step ss
 
 abbrev pub asked_in : Occurrence → List Ask
 asked_in (Outside a) = a ∷ []
-asked_in (Body ss) = asked_in_steps ss
+asked_in (InOrder ss) = asked_in_steps ss
 
 abbrev pub asked : List Occurrence → List Ask
 asked os = flat_map asked_in os

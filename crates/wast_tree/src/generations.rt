@@ -2,7 +2,7 @@
 
 ghost use Rattle.std.specs.Prelude.{◌≡◌, max};
 ghost use Rattle.wast_base.specs.Ids.{name_of, generation_of};
-ghost use Rattle.wast_tree.specs.Generations.{generation_if, generation_at, generation_in, greatest_generation};
+ghost use Rattle.wast_tree.specs.Generations.{generation_or_zero, generation_at, generation_in, greatest_generation};
 
 use crate::fields::ModuleField;
 use crate::types::StructField;
@@ -24,7 +24,7 @@ impl Greatest {
 }
 
 impl<'a> ItemVisitor<'a> for Greatest {
-    ghost told = { λ old x new. new.generation ≡ max old.generation (generation_if x.id) };
+    ghost told = { λ old x new. new.generation ≡ max old.generation (generation_or_zero x.id) };
 
     fn item(&mut self, _space: Space, id: &Option<Id<'a>>, _fields: &[StructField<'a>]) {
         if let Some(id) = id {

@@ -21,11 +21,11 @@ use Rattle.wast_tree.specs.Tree.bytes
 use Rattle.wast_tree.specs.Tree.field
 use Rattle.wast_base.specs.Ids.{Name, Written, Generated, Mark, mark_of, generated, same_id, same_index}
 use Rattle.wast_tree.specs.Items.{items}
-use Rattle.wast_tree.specs.Occurrences.{Wants, Bare, Named, Matches, Declares, Outside, Body, in_module, asked}
+use Rattle.wast_tree.specs.Occurrences.{Wants, Bare, Named, Matches, Declares, Outside, InOrder, in_module, asked}
 use Rattle.wast_tree.specs.Known.{known}
 use Rattle.wast_tree.specs.WellFormed.{has_settled_indices, is_well_formed}
 use Rattle.wast_tree.specs.WrittenOut.{is_written_out}
-use Rattle.wast_tree.specs.Generations.{generation_if, generation_in, greatest_generation}
+use Rattle.wast_tree.specs.Generations.{generation_or_zero, generation_in, greatest_generation}
 use Rattle.wast_tree.specs.WorkedModules.{Address, text, place, id_at, by_id, by_number, plain_def, plain_type, plain_func, export_field, row27_with, row27, row31, row32, plain_global_type, plain_memory_type, plain_memory, filled_memory}
 
 -- a generated id, alone, as an index and as what it is called at its place
@@ -101,14 +101,14 @@ StandsInRow27 = (a b c d e f : Address) →
     ∷ [])
     × (in_module (row27 a b c d e f)
     ≡ Outside (Wants space.Ty (by_id d (codes "t") 40))
-    ∷ Body []
-    ∷ Body (Named (Wants space.Func (by_id e (codes "f") 49)) ∷ [])
+    ∷ InOrder []
+    ∷ InOrder (Named (Wants space.Func (by_id e (codes "f") 49)) ∷ [])
     ∷ Outside (Wants space.Func (by_id f (codes "f") 71))
     ∷ [])
     × (in_module (row27_with a b c (by_number 0 40) (by_number 1 49) (by_number 2 71))
     ≡ Outside (Wants space.Ty (by_number 0 40))
-    ∷ Body []
-    ∷ Body (Named (Wants space.Func (by_number 1 49)) ∷ [])
+    ∷ InOrder []
+    ∷ InOrder (Named (Wants space.Func (by_number 1 49)) ∷ [])
     ∷ Outside (Wants space.Func (by_number 2 71))
     ∷ [])
 
@@ -123,7 +123,7 @@ StandsInFilledMemory = (a b c d e : Address) →
     ∷ [])
     × (in_module (filled_memory a b c d e)
     ≡ Outside (Wants space.Memory (by_id d (codes "m") 69))
-    ∷ Body (Named (Wants space.Global (by_id e (codes "g") 92)) ∷ [])
+    ∷ InOrder (Named (Wants space.Global (by_id e (codes "g") 92)) ∷ [])
     ∷ [])
     × (is_well_formed (filled_memory a b c d e) ≡ true)
 
@@ -151,10 +151,10 @@ StandsEverywhere = (a : Address) →
     ∷ Outside (Wants space.Ty (made_index 18))
     ∷ Outside (Wants space.Ty (made_index 9))
     ∷ Outside (Bare (made_mark 10))
-    ∷ Body (Matches (made_index 9) (record { params = (Some (made 10), None, value.I32) ∷ []; results = [] }) ∷ [])
+    ∷ InOrder (Matches (made_index 9) (record { params = (Some (made 10), None, value.I32) ∷ []; results = [] }) ∷ [])
     ∷ Outside (Wants space.Ty (made_index 19))
     ∷ Outside (Bare (made_mark 7))
-    ∷ Body (Declares (Some (made_mark 10)) ∷ Declares (Some (made_mark 7)) ∷ Named (Wants space.Func (made_index 8)) ∷ [])
+    ∷ InOrder (Declares (Some (made_mark 10)) ∷ Declares (Some (made_mark 7)) ∷ Named (Wants space.Func (made_index 8)) ∷ [])
     ∷ Outside (Wants space.Func (made_index 11))
     ∷ [])
 
@@ -308,13 +308,13 @@ StandsInPlace = (a : Address) →
     ∷ Outside (Wants space.Func (made_index 3))
     ∷ [])
     × (in_module (table_in_place funcref false (payload.Exprs (record { nullable = true; heap = heap.Concrete (made_index 2) }) (body_of (instr.ref_func (made_index 1) ∷ []) ∷ [])) ∷ [])
-    ≡ Body (Named (Wants space.Func (made_index 1)) ∷ [])
+    ≡ InOrder (Named (Wants space.Func (made_index 1)) ∷ [])
     ∷ Outside (Wants space.Ty (made_index 2))
     ∷ [])
     × (in_module (func_alone (record bare_func { kind = func.Import (from_m a) false; ty = record { index = Some (made_index 1); inline = Some (record { params = (Some (made 2), None, value.I32) ∷ []; results = [] }) } }))
     ≡ Outside (Wants space.Ty (made_index 1))
     ∷ Outside (Bare (made_mark 2))
-    ∷ Body (Matches (made_index 1) (record { params = (Some (made 2), None, value.I32) ∷ []; results = [] }) ∷ [])
+    ∷ InOrder (Matches (made_index 1) (record { params = (Some (made 2), None, value.I32) ∷ []; results = [] }) ∷ [])
     ∷ [])
     × (in_module (memory_in_place a None ∷ []) ≡ [])
 
@@ -349,5 +349,5 @@ GenerationsOfRows = (a b c d e f : Address) →
     × (greatest_generation (export_field a 0 (made_index 7) ∷ field.Ty (plain_type (Some (made 3)) 0) ∷ []) ≡ 7)
     × (greatest_generation (field.Ty (plain_type (Some (made 7)) 0) ∷ export_field a 0 (made_index 3) ∷ []) ≡ 7)
     × (greatest_generation [] ≡ 0)
-    × (map (λ x. generation_if x.id) (items (everywhere_generated a)) ≡ 1 ∷ 14 ∷ 17 ∷ 6 ∷ [])
+    × (map (λ x. generation_or_zero x.id) (items (everywhere_generated a)) ≡ 1 ∷ 14 ∷ 17 ∷ 6 ∷ [])
     × (map generation_in (asked (in_module (everywhere_generated a))) ≡ 3 ∷ 4 ∷ 5 ∷ 2 ∷ 12 ∷ 13 ∷ 15 ∷ 16 ∷ 18 ∷ 9 ∷ 10 ∷ 19 ∷ 7 ∷ 8 ∷ 11 ∷ [])

@@ -1,12 +1,12 @@
 use Rattle.std.proofs.Common.{◌≡◌, ◌+◌, ◌≤◌, ◌++◌, take, drop, length}
 use Rattle.wast_base.specs.Filling.{filled, wanted}
-use Rattle.wast_deinline.specs.Referring.{wants_id, with_id}
+use Rattle.wast_deinline.specs.Referring.{wants_id, with_item_id}
 use Rattle.wast_deinline.proofs.references.name_items.Given as goal
 
 abbrev pub invariant-loop-i : goal.invariant-loop-i
 invariant-loop-i l = record {
   len : length l.fields ≡ length l.fn.fields;
-  fields : take l.i l.fields ++ filled wants_id with_id l.gensym (drop l.i l.fields) ≡ filled wants_id with_id l.fn.gensym l.fn.fields;
+  fields : take l.i l.fields ++ filled wants_id with_item_id l.gensym (drop l.i l.fields) ≡ filled wants_id with_item_id l.fn.gensym l.fn.fields;
   counted : l.gensym + wanted wants_id (drop l.i l.fields) ≡ l.fn.gensym + wanted wants_id l.fn.fields;
   rising : l.fn.gensym ≤ l.gensym;
 }

@@ -2,7 +2,7 @@ use Rattle.std.specs.Prelude.{⊤, ◌≤◌, ◌^◌}
 use Rattle.std.proofs.Common.{◌≡◌, ◌∷◌, [], ◌∙◌, ◌++◌, ap, sym, subst, length, None}
 use Rattle.std.proofs.lemmas.Result.{err_from_is_err_and}
 use Rattle.wast_base.specs.Faults.{told}
-use Rattle.wast_tree.specs.Occurrences.{Body, outside, in_type_use, matched, in_locals, in_func_kind, declared}
+use Rattle.wast_tree.specs.Occurrences.{InOrder, outside, in_type_use, matched, in_locals, in_func_kind, declared}
 use Rattle.wast_resolve.specs.Tree.field
 use Rattle.wast_resolve.specs.Demands.{first_unmet, Answers, use_demands, local_counts_in, HasMany}
 use Rattle.wast_resolve.specs.Resolved.{resolved_func_kind}
@@ -18,7 +18,7 @@ returns-in_err-walk_type_use c =
     let f = c.args.func.now in
     let s = scope_of c.args.names.now in
     let e = told c.in_err-walk_type_use.field-0.0 in
-    let first = outside (in_type_use f.ty) ++ Body (matched f.ty) ∷ [] in
+    let first = outside (in_type_use f.ty) ++ InOrder (matched f.ty) ∷ [] in
     let kind = outside (in_locals f.kind) ++ in_func_kind f.ty.inline f.kind in
     let p = err_from_is_err_and c.from_residual.result c.from_residual.ensures.1 in
     rw (p.1, p.2) (subst (λ ds. Answers ⊤ (HasMany (local_counts_in (field.Func f))) e (first_unmet ds)) (sym (func_demands s f))
@@ -29,7 +29,7 @@ returns-in_err-walk_kind c =
     let f = c.args.func.now in
     let s = scope_of c.args.names.now in
     let e = told c.in_err-walk_kind.field-0.0 in
-    let first = outside (in_type_use f.ty) ++ Body (matched f.ty) ∷ [] in
+    let first = outside (in_type_use f.ty) ++ InOrder (matched f.ty) ∷ [] in
     let kind = outside (in_locals f.kind) ++ in_func_kind f.ty.inline f.kind in
     let p = err_from_is_err_and c.from_residual-in_err-walk_kind.result c.from_residual-in_err-walk_kind.ensures.1 in
     let inline = ap (λ u. u.inline) c.in_ok-walk_type_use.ensures.1 in
@@ -43,7 +43,7 @@ pub returns : goal.returns
 returns c =
     let f = c.args.func.now in
     let s = scope_of c.args.names.now in
-    let first = outside (in_type_use f.ty) ++ Body (matched f.ty) ∷ [] in
+    let first = outside (in_type_use f.ty) ++ InOrder (matched f.ty) ∷ [] in
     let kind = outside (in_locals f.kind) ++ in_func_kind f.ty.inline f.kind in
     let inline = ap (λ u. u.inline) c.in_ok-walk_type_use.ensures.1 in
     let stays = ap (λ i. in_func_kind i f.kind) inline ∙ kind_stays s.known f.ty.inline f.kind in
