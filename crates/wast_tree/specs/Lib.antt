@@ -5,6 +5,7 @@ pub mod Generations
 pub mod Imports
 pub mod Items
 pub mod Known
+pub mod Makers
 pub mod Occurrences
 pub mod Private
 pub mod WorkedModules

@@ -2,7 +2,6 @@
 use Rattle.std.specs.Prelude.{ℕ, nat_lt, Bool, true, false, not, ◌&&◌, ◌==◌, is_none, length, List, Option, Some, None}
 use Rattle.std.specs.List.{list_all}
 use Rattle.wast_tree.specs.Tree.{Id, Index, NameAnnotation, HeapType, ValType, StorageType, StructField, FunctionType, TypeUse, InnerTypeKind, TypeDef, AbstractHeapType, RefType, Local, Instruction, Expression, FuncKind, Func, TableType, GlobalType, TagType, ItemKind, ImportItems, TableKind, MemoryKind, GlobalKind, Global, ElemKind, ElemPayload, Elem, DataKind, ModuleField}
-use Rattle.wast_tree.specs.Tree.index
 use Rattle.wast_tree.specs.Tree.heap
 use Rattle.wast_tree.specs.Tree.value
 use Rattle.wast_tree.specs.Tree.storage

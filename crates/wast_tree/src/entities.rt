@@ -1,5 +1,7 @@
 //! The types of tables, memories, globals and tags.
 
+ghost use Rattle.std.specs.Prelude.{◌≡◌, None, false};
+
 use crate::types::{FunctionType, RefType, TypeUse, ValType};
 
 /// The size of a table or a memory: a minimum, and a maximum where one is written (text format, limits).
@@ -13,6 +15,19 @@ pub struct Limits {
     pub max: Option<u64>,
 }
 
+impl Limits {
+    /// Limits of 32 bits (text format, limits). It takes no memory.
+    pub fn new(min: u64, max: Option<u64>) -> Limits
+        ensures { result ≡ record { is64 = false; min = min; max = max } }
+    {
+        Limits {
+            is64: false,
+            min,
+            max,
+        }
+    }
+}
+
 /// A table type: `1 2 funcref` (text format, table types).
 #[derive(Clone, Copy, Debug, PartialEq, Eq)]
 pub struct TableType<'a> {
@@ -22,6 +37,19 @@ pub struct TableType<'a> {
     pub elem: RefType<'a>,
     /// Whether it is `shared`.
     pub shared: bool,
+}
+
+impl<'a> TableType<'a> {
+    /// The type of a table that is not shared (text format, table types). It takes no memory.
+    pub fn new(limits: Limits, elem: RefType<'a>) -> TableType<'a>
+        ensures { result ≡ record { limits = limits; elem = elem.entry; shared = false } }
+    {
+        TableType {
+            limits,
+            elem,
+            shared: false,
+        }
+    }
 }
 
 /// A memory type: `1 2` (text format, memory types).
@@ -35,6 +63,19 @@ pub struct MemoryType {
     pub page_size_log2: Option<u32>,
 }
 
+impl MemoryType {
+    /// The type of a memory that is not shared, with pages of 65,536 bytes (text format, memory types). It takes no memory.
+    pub fn new(limits: Limits) -> MemoryType
+        ensures { result ≡ record { limits = limits; shared = false; page_size_log2 = None } }
+    {
+        MemoryType {
+            limits,
+            shared: false,
+            page_size_log2: None,
+        }
+    }
+}
+
 /// A global type: `(mut i32)` (text format, global types).
 #[derive(Clone, Copy, Debug, PartialEq, Eq)]
 pub struct GlobalType<'a> {
@@ -44,6 +85,20 @@ pub struct GlobalType<'a> {
     pub mutable: bool,
     /// Whether it is `shared`.
     pub shared: bool,
+}
+
+impl<'a> GlobalType<'a> {
+    /// The type of a global that is not shared, and whether it can be changed (text format, global types). It takes no
+    /// memory.
+    pub fn new(ty: ValType<'a>, mutable: bool) -> GlobalType<'a>
+        ensures { result ≡ record { ty = ty.entry; mutable = mutable; shared = false } }
+    {
+        GlobalType {
+            ty,
+            mutable,
+            shared: false,
+        }
+    }
 }
 
 /// A tag type (text format, tag types).

@@ -1,13 +1,18 @@
 //! The fields of a module in the text format.
 
-ghost use Rattle.std.specs.Prelude.{◌≡◌};
+ghost use Rattle.std.specs.Prelude.{◌≡◌, [], Some, None};
 ghost use Rattle.wast_tree.specs.Occurrences.{exported_space};
+ghost use Rattle.wast_tree.specs.Tree.func;
+ghost use Rattle.wast_tree.specs.Tree.table;
+ghost use Rattle.wast_tree.specs.Tree.memory;
+ghost use Rattle.wast_tree.specs.Tree.global;
 
 use crate::entities::{GlobalType, MemoryType, TableType, TagType};
 use crate::imports::Imports;
-use crate::instrs::Expression;
+use crate::instrs::{Expression, Instruction};
 use crate::segments::{Data, DataVal, Elem, ElemPayload};
 use crate::types::{FunctionType, Rec, RefType, Type, TypeUse, ValType};
+use std::alloc;
 use wast_base::{Id, Index, NameAnnotation, Seq, Space, Span};
 
 /// A field of a module (text format, modules).
@@ -46,6 +51,17 @@ pub struct InlineExport<'a> {
     pub names: Seq<&'a str>,
 }
 
+impl<'a> InlineExport<'a> {
+    /// No names (text format, exports). It takes no memory.
+    pub fn none(alloc: alloc::Global) -> InlineExport<'a>
+        ensures { result ≡ record { names = [] } }
+    {
+        InlineExport {
+            names: Seq::new(alloc),
+        }
+    }
+}
+
 /// Where a field imports its item from: `(import "a" "b")` within the field (text format, imports: abbreviations).
 #[derive(Clone, Copy, Debug, PartialEq, Eq)]
 pub struct InlineImport<'a> {
@@ -70,6 +86,33 @@ pub struct Func<'a> {
     pub kind: FuncKind<'a>,
     /// Its type.
     pub ty: TypeUse<'a, FunctionType<'a>>,
+}
+
+impl<'a> Func<'a> {
+    /// `(func $f ..)` at a place, with its type use, locals and body, without a name annotation and exports in place (text
+    /// format, functions). It takes no memory.
+    pub fn new(
+        alloc: alloc::Global,
+        span: Span,
+        id: Option<Id<'a>>,
+        ty: TypeUse<'a, FunctionType<'a>>,
+        locals: Seq<Local<'a>>,
+        instrs: Seq<Instruction<'a>>,
+    ) -> Func<'a>
+        ensures { result ≡ record { span = span; id = id.entry; name = None; exports = record { names = [] }; kind = func.Inline locals.entry (record { instrs = instrs.entry; branch_hints = [] }); ty = ty.entry } }
+    {
+        Func {
+            span,
+            id,
+            name: None,
+            exports: InlineExport::none(alloc),
+            kind: FuncKind::Inline {
+                locals,
+                expression: Expression::new(alloc, instrs),
+            },
+            ty,
+        }
+    }
 }
 
 /// What a function is made of (text format, functions).
@@ -110,6 +153,25 @@ pub struct Table<'a> {
     pub exports: InlineExport<'a>,
     /// What it is made of.
     pub kind: TableKind<'a>,
+}
+
+impl<'a> Table<'a> {
+    /// `(table $t ..)` at a place, without a name annotation, exports in place and a value at first (text format, tables). It
+    /// takes no memory.
+    pub fn new(alloc: alloc::Global, span: Span, id: Option<Id<'a>>, ty: TableType<'a>) -> Table<'a>
+        ensures { result ≡ record { span = span; id = id.entry; name = None; exports = record { names = [] }; kind = table.Normal ty.entry None } }
+    {
+        Table {
+            span,
+            id,
+            name: None,
+            exports: InlineExport::none(alloc),
+            kind: TableKind::Normal {
+                ty,
+                init_expr: None,
+            },
+        }
+    }
 }
 
 /// What a table is made of (text format, tables).
@@ -157,6 +219,22 @@ pub struct Memory<'a> {
     pub kind: MemoryKind<'a>,
 }
 
+impl<'a> Memory<'a> {
+    /// `(memory $m ..)` at a place, without a name annotation and exports in place (text format, memories). It takes no
+    /// memory.
+    pub fn new(alloc: alloc::Global, span: Span, id: Option<Id<'a>>, ty: MemoryType) -> Memory<'a>
+        ensures { result ≡ record { span = span; id = id.entry; name = None; exports = record { names = [] }; kind = memory.Normal ty } }
+    {
+        Memory {
+            span,
+            id,
+            name: None,
+            exports: InlineExport::none(alloc),
+            kind: MemoryKind::Normal(ty),
+        }
+    }
+}
+
 /// What a memory is made of (text format, memories).
 #[derive(Debug, Drop)]
 pub enum MemoryKind<'a> {
@@ -195,6 +273,29 @@ pub struct Global<'a> {
     pub ty: GlobalType<'a>,
     /// What it is made of.
     pub kind: GlobalKind<'a>,
+}
+
+impl<'a> Global<'a> {
+    /// `(global $g ..)` at a place, with its value at first, without a name annotation and exports in place (text format,
+    /// globals). It takes no memory.
+    pub fn new(
+        alloc: alloc::Global,
+        span: Span,
+        id: Option<Id<'a>>,
+        ty: GlobalType<'a>,
+        init: Expression<'a>,
+    ) -> Global<'a>
+        ensures { result ≡ record { span = span; id = id.entry; name = None; exports = record { names = [] }; ty = ty.entry; kind = global.Inline init.entry } }
+    {
+        Global {
+            span,
+            id,
+            name: None,
+            exports: InlineExport::none(alloc),
+            ty,
+            kind: GlobalKind::Inline(init),
+        }
+    }
 }
 
 /// What a global is made of (text format, globals).
@@ -275,7 +376,16 @@ pub struct Export<'a> {
     pub item: Index<'a>,
 }
 
-/// Drops a list of fields, and gives its memory back.
-pub fn discard_fields(fields: Seq<ModuleField<'_>>) {
-    drop(fields);
+impl<'a> Export<'a> {
+    /// `(export "a" ..)` at a place (text format, exports). It takes no memory.
+    pub fn new(span: Span, name: &'a str, kind: ExportKind, item: Index<'a>) -> Export<'a>
+        ensures { result ≡ record { span = span; name = name.entry; kind = kind; item = item.entry } }
+    {
+        Export {
+            span,
+            name,
+            kind,
+            item,
+        }
+    }
 }

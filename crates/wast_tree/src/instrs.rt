@@ -46,6 +46,16 @@ pub struct Expression<'a> {
 }
 
 impl<'a> Expression<'a> {
+    /// An expression of these instructions, without branch hints (text format, expressions). It takes no memory.
+    pub fn new(alloc: Global, instrs: Seq<Instruction<'a>>) -> Expression<'a>
+        ensures { result ≡ record { instrs = instrs.entry; branch_hints = [] } }
+    {
+        Expression {
+            instrs,
+            branch_hints: Seq::new(alloc),
+        }
+    }
+
     /// An expression of one instruction, without branch hints (text format, expressions). It takes memory for the
     /// instruction. The only error is E12, where that is refused; then the instruction is dropped.
     pub fn one<'e>(alloc: Global, instruction: Instruction<'a>) -> Result<Expression<'a>, Error<'e>>
@@ -54,20 +64,6 @@ impl<'a> Expression<'a> {
     {
         let mut instrs = Seq::new(alloc);
         instrs.push(instruction)?;
-        let branch_hints = Seq::new(alloc);
-        Ok(Expression {
-            instrs,
-            branch_hints,
-        })
+        Ok(Expression::new(alloc, instrs))
     }
-}
-
-/// Drops an instruction, and gives its memory back.
-pub fn discard_instruction(instruction: Instruction<'_>) {
-    drop(instruction);
-}
-
-/// Drops an expression, and gives its memory back.
-pub fn discard_expression(expression: Expression<'_>) {
-    drop(expression);
 }

@@ -14,6 +14,8 @@ mod fields;
 mod generations;
 mod imports;
 mod instrs;
+mod makers;
+mod moves;
 mod segments;
 mod types;
 mod visits;
@@ -23,11 +25,18 @@ pub use check::well_formed;
 pub use entities::{GlobalType, Limits, MemoryType, TableType, TagType};
 pub use fields::{
     Export, ExportKind, Func, FuncKind, Global, GlobalKind, InlineExport, InlineImport, Local,
-    Memory, MemoryKind, ModuleField, Table, TableKind, Tag, TagKind, discard_fields,
+    Memory, MemoryKind, ModuleField, Table, TableKind, Tag, TagKind,
 };
 pub use generations::gensym_bound;
 pub use imports::{ImportItems, Imports, ItemKind, ItemSig};
-pub use instrs::{BranchHint, Expression, Instruction, discard_expression, discard_instruction};
+pub use instrs::{BranchHint, Expression, Instruction};
+pub use makers::Maker;
+pub use moves::{
+    discard_data, discard_elem_payload, discard_exports, discard_expression, discard_field,
+    discard_fields, discard_func, discard_func_kind, discard_function_type, discard_instruction,
+    discard_item_kind, discard_tag_type, discard_type, discard_type_use, fields_with_capacity,
+    push_field, take_field,
+};
 pub use segments::{Data, DataKind, DataVal, Elem, ElemKind, ElemPayload};
 pub use types::{
     AbstractHeapType, ArrayType, FunctionType, HeapType, InnerTypeKind, Rec, RefType, StorageType,

@@ -1,5 +1,11 @@
 //! Types of the text format.
 
+ghost use Rattle.std.specs.Prelude.{◌≡◌, [], Some, None, true, false};
+ghost use Rattle.wast_tree.specs.Tree.heap;
+ghost use Rattle.wast_tree.specs.Tree.abstract;
+ghost use Rattle.wast_tree.specs.Tree.inner;
+
+use std::alloc::Global;
 use wast_base::{Id, Index, NameAnnotation, Seq, Span};
 
 /// A value type (text format, value types).
@@ -26,6 +32,32 @@ pub struct RefType<'a> {
     pub nullable: bool,
     /// What it refers to.
     pub heap: HeapType<'a>,
+}
+
+impl<'a> RefType<'a> {
+    /// `funcref` (text format, reference types). It takes no memory.
+    pub fn funcref() -> RefType<'a>
+        ensures { result ≡ record { nullable = true; heap = heap.Abstract false abstract.Func } }
+    {
+        RefType::nullable_of(AbstractHeapType::Func)
+    }
+
+    /// `externref` (text format, reference types). It takes no memory.
+    pub fn externref() -> RefType<'a>
+        ensures { result ≡ record { nullable = true; heap = heap.Abstract false abstract.Extern } }
+    {
+        RefType::nullable_of(AbstractHeapType::Extern)
+    }
+
+    /// `(ref null ..)` of a type that no module defines and that is not shared.
+    fn nullable_of(ty: AbstractHeapType) -> RefType<'a>
+        ensures { result ≡ record { nullable = true; heap = heap.Abstract false ty } }
+    {
+        RefType {
+            nullable: true,
+            heap: HeapType::Abstract { shared: false, ty },
+        }
+    }
 }
 
 /// What a reference refers to (text format, heap types).
@@ -120,6 +152,25 @@ pub struct FunctionType<'a> {
     pub results: Seq<ValType<'a>>,
 }
 
+impl<'a> FunctionType<'a> {
+    /// `(func)`: neither parameters nor results (text format, composite types). It takes no memory.
+    pub fn empty(alloc: Global) -> FunctionType<'a>
+        ensures { result ≡ record { params = []; results = [] } }
+    {
+        FunctionType::new(Seq::new(alloc), Seq::new(alloc))
+    }
+
+    /// `(func (param ..) (result ..))` (text format, composite types). It takes no memory.
+    pub fn new(
+        params: Seq<(Option<Id<'a>>, Option<NameAnnotation<'a>>, ValType<'a>)>,
+        results: Seq<ValType<'a>>,
+    ) -> FunctionType<'a>
+        ensures { result ≡ record { params = params.entry; results = results.entry } }
+    {
+        FunctionType { params, results }
+    }
+}
+
 /// A type use: the index of a type, a type that is written out in place, or both (text format, type uses).
 #[derive(Debug, Drop)]
 pub struct TypeUse<'a, T> {
@@ -127,6 +178,38 @@ pub struct TypeUse<'a, T> {
     pub index: Option<Index<'a>>,
     /// The type that is written out in place.
     pub inline: Option<T>,
+}
+
+impl<'a> TypeUse<'a, FunctionType<'a>> {
+    /// Neither an index nor an inline type: that of `(func)` (text format, type uses). It takes no memory.
+    pub fn none() -> TypeUse<'a, FunctionType<'a>>
+        ensures { result ≡ record { index = None; inline = None } }
+    {
+        TypeUse {
+            index: None,
+            inline: None,
+        }
+    }
+
+    /// `(type $t)` (text format, type uses). It takes no memory.
+    pub fn of(index: Index<'a>) -> TypeUse<'a, FunctionType<'a>>
+        ensures { result ≡ record { index = Some index.entry; inline = None } }
+    {
+        TypeUse {
+            index: Some(index),
+            inline: None,
+        }
+    }
+
+    /// A type that is written out in place (text format, type uses: abbreviations). It takes no memory.
+    pub fn inline(ty: FunctionType<'a>) -> TypeUse<'a, FunctionType<'a>>
+        ensures { result ≡ record { index = None; inline = Some ty.entry } }
+    {
+        TypeUse {
+            index: None,
+            inline: Some(ty),
+        }
+    }
 }
 
 /// A composite type (text format, composite types).
@@ -157,6 +240,22 @@ pub struct TypeDef<'a> {
     pub final_type: Option<bool>,
 }
 
+impl<'a> TypeDef<'a> {
+    /// What `(type (func ..))` defines: a final function type without parents (text format, types). It takes no memory.
+    pub fn func(alloc: Global, ty: FunctionType<'a>) -> TypeDef<'a>
+        ensures { result ≡ record { kind = inner.Func ty.entry; shared = false; parents = []; descriptor = None; describes = None; final_type = None } }
+    {
+        TypeDef {
+            kind: InnerTypeKind::Func(ty),
+            shared: false,
+            parents: Seq::new(alloc),
+            descriptor: None,
+            describes: None,
+            final_type: None,
+        }
+    }
+}
+
 /// A type definition: `(type $t (func ..))` (text format, types).
 #[derive(Debug, Drop)]
 pub struct Type<'a> {
@@ -168,6 +267,20 @@ pub struct Type<'a> {
     pub name: Option<NameAnnotation<'a>>,
     /// What it is defined as.
     pub def: TypeDef<'a>,
+}
+
+impl<'a> Type<'a> {
+    /// `(type $t ..)` at a place, without a name annotation (text format, types). It takes no memory.
+    pub fn new(span: Span, id: Option<Id<'a>>, def: TypeDef<'a>) -> Type<'a>
+        ensures { result ≡ record { span = span; id = id.entry; name = None; def = def.entry } }
+    {
+        Type {
+            span,
+            id,
+            name: None,
+            def,
+        }
+    }
 }
 
 /// Types that may refer to each other: `(rec (type ..) ..)` (text format, recursive types).

@@ -1,0 +1,190 @@
+//! A maker of the lists that a tree holds.
+
+ghost use Rattle.std.specs.Prelude.{◌≡◌, [], ◌∷◌, ◌++◌, true, false, IfOk, IfErr};
+ghost use Rattle.wast_base.specs.Faults.{out_of_memory};
+ghost use Rattle.wast_tree.specs.Makers.{Makes};
+
+use crate::fields::{Local, ModuleField};
+use crate::imports::ItemSig;
+use crate::instrs::{Expression, Instruction};
+use crate::moves::discard_fields;
+use crate::segments::DataVal;
+use crate::types::{StructField, Type, ValType};
+use std::alloc::Global;
+use std::marker::Model;
+use wast_base::{Error, Fault, Id, Index, NameAnnotation, Seq};
+
+/// Makes the lists of a tree, element after element, and keeps a refusal of memory until [`Maker::finish`] tells it: so
+/// code that makes a tree has no error to pass on, and nothing to drop.
+///
+/// Contracts see whether memory was refused. Each call but [`Maker::new`], [`Maker::is_refused`] and [`Maker::finish`] may
+/// take memory for the list that it makes; where that is refused, the list lacks what was to be put there, and `finish`
+/// answers E12.
+#[derive(Drop)]
+pub struct Maker {
+    alloc: Global,
+    refused: bool,
+}
+
+impl Model for Maker {
+    ghost use Rattle.std.specs.Prelude.{Bool};
+    ghost use Rattle.std.specs.Coded.{coded_bool};
+
+    ghost Value = { Bool };
+
+    ghost coded = { coded_bool };
+
+    ghost view = { λ m. m.refused };
+}
+
+impl Maker {
+    /// A maker that was refused nothing yet. It takes no memory; `alloc` is what the other calls will ask.
+    pub fn new(alloc: Global) -> Maker
+        ensures { result ≡ false }
+    {
+        Maker {
+            alloc,
+            refused: false,
+        }
+    }
+
+    /// Whether memory was refused.
+    pub fn is_refused(&self) -> bool
+        ensures { result ≡ self.now }
+    {
+        self.refused
+    }
+
+    /// Puts a field at the end of a list (text format, modules).
+    pub fn push_field<'a>(&mut self, fields: &mut Seq<ModuleField<'a>>, field: ModuleField<'a>)
+        ensures { Makes self.old self.new (fields.new ≡ fields.old ++ field.entry ∷ []) }
+    {
+        if fields.push(field).is_err() {
+            self.refused = true;
+        }
+    }
+
+    /// Puts an instruction at the end of a list (text format, expressions).
+    pub fn push_instruction<'a>(
+        &mut self,
+        instrs: &mut Seq<Instruction<'a>>,
+        instruction: Instruction<'a>,
+    )
+        ensures { Makes self.old self.new (instrs.new ≡ instrs.old ++ instruction.entry ∷ []) }
+    {
+        if instrs.push(instruction).is_err() {
+            self.refused = true;
+        }
+    }
+
+    /// Puts a type at the end of those of a group (text format, recursive types).
+    pub fn push_type<'a>(&mut self, types: &mut Seq<Type<'a>>, ty: Type<'a>)
+        ensures { Makes self.old self.new (types.new ≡ types.old ++ ty.entry ∷ []) }
+    {
+        if types.push(ty).is_err() {
+            self.refused = true;
+        }
+    }
+
+    /// Puts an expression at the end of the elements of a segment (text format, element segments).
+    pub fn push_expression<'a>(
+        &mut self,
+        exprs: &mut Seq<Expression<'a>>,
+        expression: Expression<'a>,
+    )
+        ensures { Makes self.old self.new (exprs.new ≡ exprs.old ++ expression.entry ∷ []) }
+    {
+        if exprs.push(expression).is_err() {
+            self.refused = true;
+        }
+    }
+
+    /// Puts a piece at the end of the bytes of a data segment (text format, data segments).
+    pub fn push_data<'a>(&mut self, pieces: &mut Seq<DataVal<'a>>, piece: DataVal<'a>)
+        ensures { Makes self.old self.new (pieces.new ≡ pieces.old ++ piece.entry ∷ []) }
+    {
+        if pieces.push(piece).is_err() {
+            self.refused = true;
+        }
+    }
+
+    /// An expression of one instruction, without branch hints (text format, expressions).
+    pub fn one_instruction<'a>(&mut self, instruction: Instruction<'a>) -> Expression<'a>
+        ensures { Makes self.old self.new (result ≡ record { instrs = instruction.entry ∷ []; branch_hints = [] }) }
+    {
+        let mut instrs = Seq::new(self.alloc);
+        self.push_instruction(&mut instrs, instruction);
+        Expression::new(self.alloc, instrs)
+    }
+
+    /// Types of values, as the results of a function (text format, composite types).
+    pub fn values<'a>(&mut self, values: &[ValType<'a>]) -> Seq<ValType<'a>>
+        ensures { Makes self.old self.new (result ≡ values.now) }
+    {
+        copied(self, values)
+    }
+
+    /// Parameters of a function: the id, name annotation and type of each (text format, composite types).
+    pub fn params<'a>(
+        &mut self,
+        params: &[(Option<Id<'a>>, Option<NameAnnotation<'a>>, ValType<'a>)],
+    ) -> Seq<(Option<Id<'a>>, Option<NameAnnotation<'a>>, ValType<'a>)>
+        ensures { Makes self.old self.new (result ≡ params.now) }
+    {
+        copied(self, params)
+    }
+
+    /// Locals of a function (text format, functions).
+    pub fn locals<'a>(&mut self, locals: &[Local<'a>]) -> Seq<Local<'a>>
+        ensures { Makes self.old self.new (result ≡ locals.now) }
+    {
+        copied(self, locals)
+    }
+
+    /// Fields of a struct (text format, composite types).
+    pub fn struct_fields<'a>(&mut self, fields: &[StructField<'a>]) -> Seq<StructField<'a>>
+        ensures { Makes self.old self.new (result ≡ fields.now) }
+    {
+        copied(self, fields)
+    }
+
+    /// Indices, as the parents of a type or the functions of an element segment (text format, indices).
+    pub fn indices<'a>(&mut self, indices: &[Index<'a>]) -> Seq<Index<'a>>
+        ensures { Makes self.old self.new (result ≡ indices.now) }
+    {
+        copied(self, indices)
+    }
+
+    /// Names, as those under which a field is exported in place (text format, exports).
+    pub fn names<'a>(&mut self, names: &[&'a str]) -> Seq<&'a str>
+        ensures { Makes self.old self.new (result ≡ names.now) }
+    {
+        copied(self, names)
+    }
+
+    /// The fields of a module, where no memory was refused. Else the error is E12, and the fields are dropped.
+    pub fn finish<'a, 'e>(
+        self,
+        fields: Seq<ModuleField<'a>>,
+    ) -> Result<Seq<ModuleField<'a>>, Error<'e>>
+        ensures fields { IfOk result (λ made. (self ≡ false) × (made ≡ fields.entry)) }
+        ensures refusal { IfErr result (λ e. (self ≡ true) × (e ≡ out_of_memory)) }
+    {
+        if self.refused {
+            discard_fields(fields);
+            return Err(Error::refusal(Fault::Memory));
+        }
+        Ok(fields)
+    }
+}
+
+/// A list of the same elements.
+fn copied<T: Copy + Drop>(maker: &mut Maker, items: &[T]) -> Seq<T>
+    ensures { Makes maker.old maker.new (result ≡ items.now) }
+{
+    let mut list = Vec::new(maker.alloc);
+    if list.extend_from_slice(items).is_err() {
+        maker.refused = true;
+    }
+    Seq::from_vec(list)
+}

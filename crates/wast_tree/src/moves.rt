@@ -1,0 +1,119 @@
+//! Parts of a tree are handed on, or let go. A function that lets a tree go proves what dropping it does, so crates above
+//! call these, which are proved once.
+
+ghost use Rattle.std.specs.Prelude.{◌≡◌, [], ◌∷◌, ◌++◌, IfOk, OnOk, OnErr, IfErr};
+ghost use Rattle.wast_base.specs.Faults.{out_of_memory};
+ghost use Rattle.wast_tree.specs.Tree.field;
+ghost use Rattle.wast_tree.specs.Tree.index;
+
+use crate::entities::TagType;
+use crate::fields::{Func, FuncKind, InlineExport, ModuleField};
+use crate::imports::ItemKind;
+use crate::instrs::{Expression, Instruction};
+use crate::segments::{DataVal, ElemPayload};
+use crate::types::{FunctionType, Type, TypeUse};
+use std::alloc::Global;
+use wast_base::{Error, Index, Seq, Span};
+
+/// Puts a field at the end of a list. It may take memory. The only error is E12, where that is refused; then the list stays
+/// as it was, and the field is dropped.
+pub fn push_field<'a, 'e>(
+    fields: &mut Seq<ModuleField<'a>>,
+    field: ModuleField<'a>,
+) -> Result<(), Error<'e>>
+    ensures pushed { OnOk result (fields.new ≡ fields.old ++ field.entry ∷ []) }
+    ensures unchanged { OnErr result (fields.new ≡ fields.old) }
+    ensures refusal { IfErr result (λ e. e ≡ out_of_memory) }
+{
+    fields.push(field)?;
+    Ok(())
+}
+
+/// No fields, with room for so many. It takes memory for these. The only error is E12, where that is refused.
+pub fn fields_with_capacity<'a, 'e>(
+    alloc: Global,
+    capacity: usize,
+) -> Result<Seq<ModuleField<'a>>, Error<'e>>
+    ensures list { IfOk result (λ fields. fields ≡ []) }
+    ensures refusal { IfErr result (λ e. e ≡ out_of_memory) }
+{
+    Ok(Seq::from_vec(Vec::with_capacity(alloc, capacity)?))
+}
+
+/// The field that stands in a place, where a `start` of number 0 stays. It takes no memory.
+pub fn take_field<'a>(place: &mut ModuleField<'a>) -> ModuleField<'a>
+    ensures taken { result ≡ place.old }
+    ensures left { place.new ≡ field.Start (index.Num 0 (record { offset = 0 })) }
+{
+    std::mem::replace(place, ModuleField::Start(Index::Num(0, Span { offset: 0 })))
+}
+
+/// Drops a list of fields, and gives its memory back.
+pub fn discard_fields(fields: Seq<ModuleField<'_>>) {
+    drop(fields);
+}
+
+/// Drops a field, and gives its memory back.
+pub fn discard_field(field: ModuleField<'_>) {
+    drop(field);
+}
+
+/// Drops a function, and gives its memory back.
+pub fn discard_func(func: Func<'_>) {
+    drop(func);
+}
+
+/// Drops what a function is made of, and gives its memory back.
+pub fn discard_func_kind(kind: FuncKind<'_>) {
+    drop(kind);
+}
+
+/// Drops an imported item's kind, and gives its memory back.
+pub fn discard_item_kind(kind: ItemKind<'_>) {
+    drop(kind);
+}
+
+/// Drops the type of a tag, and gives its memory back.
+pub fn discard_tag_type(ty: TagType<'_>) {
+    drop(ty);
+}
+
+/// Drops an instruction, and gives its memory back.
+pub fn discard_instruction(instruction: Instruction<'_>) {
+    drop(instruction);
+}
+
+/// Drops an expression, and gives its memory back.
+pub fn discard_expression(expression: Expression<'_>) {
+    drop(expression);
+}
+
+/// Drops the names under which a field is exported in place, and gives their memory back.
+pub fn discard_exports(exports: InlineExport<'_>) {
+    drop(exports);
+}
+
+/// Drops a type use, and gives its memory back.
+pub fn discard_type_use<'a>(ty: TypeUse<'a, FunctionType<'a>>) {
+    drop(ty);
+}
+
+/// Drops a function type, and gives its memory back.
+pub fn discard_function_type(ty: FunctionType<'_>) {
+    drop(ty);
+}
+
+/// Drops a type, and gives its memory back.
+pub fn discard_type(ty: Type<'_>) {
+    drop(ty);
+}
+
+/// Drops the elements of a segment, and gives their memory back.
+pub fn discard_elem_payload(payload: ElemPayload<'_>) {
+    drop(payload);
+}
+
+/// Drops the bytes of a data segment, and gives their memory back.
+pub fn discard_data(bytes: Seq<DataVal<'_>>) {
+    drop(bytes);
+}
