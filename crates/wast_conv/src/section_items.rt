@@ -19,6 +19,9 @@ use wasm_out::{Build, ExportSection, FunctionSection, TypeSection};
 use wast_tree::{Error, Export, FunctionType, Rec, Type, TypeUse};
 
 /// An item of a section.
+///
+/// Each call needs a resolved item of a form that the encoder covers. All items are so in the fields that
+/// `Module::resolve` of `wast_core` leaves where it refuses nothing: its clause `at_rest` tells it.
 pub trait SectionItem {
     /// The section that holds such items.
     type Section: Build;

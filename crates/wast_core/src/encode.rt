@@ -103,8 +103,9 @@ impl EncodeOptions {
 
     /// Appends the bytes of a resolved text module to a sink (binary format, modules). It takes no memory of its own.
     ///
-    /// It needs a text module as [`Module::resolve`] leaves it: nothing stands in place in it, its indices are numbers, and
-    /// each type use has one. E11 comes exactly where a form is not covered. Else the errors are the sink's refusal, where
+    /// It needs a text module at rest: nothing stands in place in it, its indices are numbers, and each type use has one. A
+    /// text module that [`Module::resolve`] did not refuse is so, as its clause `at_rest` tells. E11 comes exactly where a
+    /// form is not covered. Else the errors are the sink's refusal, where
     /// all the bytes do not fit, and E10, where a count, length or position is 2^32 or more. Then the sink stays as it was.
     pub fn put_module<'e, S: Sink>(&self, module: &Module, out: &mut S) -> Result<(), Error<'e>>
         requires { IsEncodable «module».now.kind }

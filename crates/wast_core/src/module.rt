@@ -88,6 +88,10 @@ impl<'a> Module<'a> {
     /// would pass the greatest u64, E12 where memory is refused. The module keeps a refusal, and answers it from then on;
     /// the counter then stands where it stood or higher. A binary module stays as it is, and binds no names; for it, and for
     /// a refused module, the counter stays. Span, id and name stay.
+    ///
+    /// A module that is not refused is at rest afterwards (clause `at_rest`): each of its fields, and what stands in these,
+    /// is what [`SectionItem`](crate::SectionItem), [`conv`](crate::conv) and
+    /// [`EncodeOptions::put_module`](crate::EncodeOptions::put_module) need. So this call is the test of their needs.
     pub fn resolve(&mut self, alloc: Global, gensym: &mut Gensym) -> Result<Names<'a>, Error<'a>>
         requires { IsReady self.old gensym.old }
         ensures answer { Resolves self.old.kind gensym.old result self.new.kind gensym.new }
