@@ -1,17 +1,17 @@
-//! Where fields of a few kinds stand, found and joined.
+//! That a stretch is no longer than its fields ask, which no contract says.
 
 use crate::{FieldKind, Reach, Reaches};
-use wast_tree::{Export, ExportKind, Index, ModuleField, Span};
+use wast_tree::{Export, ExportKind, Index, Maker, ModuleField, Seq, Span, discard_fields};
 
-fn start(n: u32) -> ModuleField<'static> {
-    ModuleField::Start(Index::Num(n, Span { offset: 0 }))
+fn start<'a>() -> ModuleField<'a> {
+    ModuleField::Start(Index::Num(1, Span { offset: 0 }))
 }
 
-fn export(name: &'static str) -> ModuleField<'static> {
+fn export<'a>() -> ModuleField<'a> {
     let span = Span { offset: 0 };
     ModuleField::Export(Export {
         span,
-        name,
+        name: "a",
         kind: ExportKind::Func,
         item: Index::Num(0, span),
     })
@@ -23,18 +23,20 @@ fn is(reach: Reach, first: usize, end: usize) -> bool {
 
 #[test]
 fn the_fields_of_a_kind_stand_in_its_reach(rt: HostRuntime) {
-    let fields = [
-        export("a"),
-        start(1),
-        export("b"),
-        start(2),
-        export("c"),
-        export("d"),
-    ];
-    let reaches = Reaches::of(&fields);
+    let mut maker = Maker::new(rt.alloc());
+    let mut fields = Seq::new(rt.alloc());
+    maker.push_field(&mut fields, export());
+    maker.push_field(&mut fields, start());
+    maker.push_field(&mut fields, export());
+    maker.push_field(&mut fields, start());
+    maker.push_field(&mut fields, export());
+    maker.push_field(&mut fields, export());
+    let reaches = Reaches::of(fields.as_slice());
+    discard_fields(fields);
     let starts = reaches.of_kind(FieldKind::Start);
     let exports = reaches.of_kind(FieldKind::Export);
     let tags = reaches.of_kind(FieldKind::Tag);
+    assert!(rt; !maker.is_refused());
     assert!(rt; is(starts, 1, 4) && is(exports, 0, 6) && is(tags, 0, 0));
     assert!(rt; is(starts.joined(exports), 0, 6));
     assert!(rt; is(starts.joined(tags), 1, 4) && is(tags.joined(starts), 1, 4));
