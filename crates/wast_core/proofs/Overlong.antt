@@ -92,7 +92,7 @@ stays_long fields h =
     let xs = written_out fields in
     let types = map unnamed_type (implied xs) in
     each_long (resolved_field (known (items (by_positions fields)))) (numbered_long (by_positions fields)) (by_positions fields)
-    ∙ (each_long (bound_field (positioned.by_position xs)) (bound_long (positioned.by_position xs)) (completed xs) ∙ (list_any-append is_long xs types ∙ first_true (any_long xs) (any_long types) (after_long [] fields h)))
+    ∙ (each_long (bound_field (positioned.position_for xs)) (bound_long (positioned.position_for xs)) (completed xs) ∙ (list_any-append is_long xs types ∙ first_true (any_long xs) (any_long types) (after_long [] fields h)))
 
 -- But where all is in range, there is none.
 not_long : (x : ModuleField) → All InRangeDataEntry (entries_in Data x) → is_long x ≡ false
