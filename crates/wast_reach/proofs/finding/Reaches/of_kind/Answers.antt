@@ -1,6 +1,3 @@
-use Rattle.std.proofs.Common.{◌∙◌, ap, sym}
-use Rattle.wast_reach.specs.Kinds.{is_of}
-use Rattle.wast_reach.specs.Reaches.{is_reach}
 use Rattle.wast_reach.proofs.Found.{found_for}
 use Rattle.wast_reach.proofs.finding.Reaches.of_kind.Goals as goal
 
