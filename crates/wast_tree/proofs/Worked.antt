@@ -1,6 +1,6 @@
 -- What the definitions say of worked modules, computed.
 use Rattle.std.proofs.Common.{refl}
-use Rattle.wast_tree.specs.Private.Examples.{SameIds, StandsInRow27, StandsInFilledMemory, StandsEverywhere, StandsInPlace, KnownInRows, WellFormedRows, SettledIndices, UnsettledIndices, WellFormedFuncs, WellFormedTypes, WellFormedSegments, WellFormedEntities, WellFormedInPlace, WrittenOutFields, GenerationsOfRows}
+use Rattle.wast_tree.specs.Private.Examples.{SameIds, StandsInRow27, StandsInFilledMemory, StandsEverywhere, StandsInPlace, StandsInSegments, KnownInRows, WellFormedRows, SettledIndices, UnsettledIndices, WellFormedFuncs, WellFormedTypes, WellFormedSegments, WellFormedEntities, WellFormedInPlace, WrittenOutFields, GenerationsOfRows}
 
 pub same_ids : SameIds
 same_ids a b = (refl, refl, refl, refl, refl, refl, refl, refl)
@@ -16,6 +16,9 @@ stands_everywhere a = (refl, refl)
 
 pub stands_in_place : StandsInPlace
 stands_in_place a = (refl, refl, refl, refl)
+
+pub stands_in_segments : StandsInSegments
+stands_in_segments = (refl, refl, refl)
 
 pub known_in_rows : KnownInRows
 known_in_rows a b c d e f = (refl, refl, refl, refl, refl, refl, refl, refl)

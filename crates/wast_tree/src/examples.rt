@@ -1,6 +1,6 @@
 //! Worked modules, of which the definitions compute what they say.
 
-ghost use Rattle.wast_tree.specs.Private.Examples.{SameIds, StandsInRow27, StandsInFilledMemory, StandsEverywhere, StandsInPlace, KnownInRows, WellFormedRows, SettledIndices, UnsettledIndices, WellFormedFuncs, WellFormedTypes, WellFormedSegments, WellFormedEntities, WellFormedInPlace, WrittenOutFields, GenerationsOfRows};
+ghost use Rattle.wast_tree.specs.Private.Examples.{SameIds, StandsInRow27, StandsInFilledMemory, StandsEverywhere, StandsInPlace, StandsInSegments, KnownInRows, WellFormedRows, SettledIndices, UnsettledIndices, WellFormedFuncs, WellFormedTypes, WellFormedSegments, WellFormedEntities, WellFormedInPlace, WrittenOutFields, GenerationsOfRows};
 
 /// Which ids and indices are the same.
 #[tactic(auto, using(crate::proofs::Worked::same_ids))]
@@ -9,12 +9,13 @@ pub(crate) fn same_ids()
 {}
 
 /// What stands in small modules, in which order, and what they make known.
-#[tactic(auto, using(crate::proofs::Worked::stands_in_row27, crate::proofs::Worked::stands_in_filled_memory, crate::proofs::Worked::stands_everywhere, crate::proofs::Worked::stands_in_place, crate::proofs::Worked::known_in_rows))]
+#[tactic(auto, using(crate::proofs::Worked::stands_in_row27, crate::proofs::Worked::stands_in_filled_memory, crate::proofs::Worked::stands_everywhere, crate::proofs::Worked::stands_in_place, crate::proofs::Worked::stands_in_segments, crate::proofs::Worked::known_in_rows))]
 pub(crate) fn occurrences()
     ensures row27 { StandsInRow27 }
     ensures filled_memory { StandsInFilledMemory }
     ensures everywhere { StandsEverywhere }
     ensures in_place { StandsInPlace }
+    ensures segments { StandsInSegments }
     ensures known { KnownInRows }
 {}
 

@@ -318,6 +318,41 @@ StandsInPlace = (a : Address) →
     ∷ [])
     × (in_module (memory_in_place a None ∷ []) ≡ [])
 
+-- `(elem (table ..) (offset global.get ..) (ref null ..) ref.func ..)`: its table, its offset, and then what it holds,
+-- expressions before their type. `(table 1 (ref null ..) ref.func ..)` and `(global (ref null ..) global.get ..)`: the
+-- type, and then the value at first.
+abbrev pub StandsInSegments : Type 0
+StandsInSegments =
+    (in_module (field.Elem (record {
+      span = place 1;
+      id = None;
+      name = None;
+      kind = elem.Active (Some (made_index 1)) (body_of (instr.global_get (made_index 2) ∷ []));
+      payload = payload.Exprs (record { nullable = true; heap = heap.Concrete (made_index 4) }) (body_of (instr.ref_func (made_index 3) ∷ []) ∷ []);
+    }) ∷ [])
+    ≡ Outside (Wants space.Table (made_index 1))
+    ∷ InOrder (Named (Wants space.Global (made_index 2)) ∷ [])
+    ∷ InOrder (Named (Wants space.Func (made_index 3)) ∷ [])
+    ∷ Outside (Wants space.Ty (made_index 4))
+    ∷ [])
+    × (in_module (field.Table (record {
+      span = place 1;
+      id = None;
+      name = None;
+      exports = record { names = [] };
+      kind = table.Normal (record plain_table_type { elem = record { nullable = true; heap = heap.Concrete (made_index 1) } }) (Some (body_of (instr.ref_func (made_index 2) ∷ [])));
+    }) ∷ [])
+    ≡ Outside (Wants space.Ty (made_index 1)) ∷ InOrder (Named (Wants space.Func (made_index 2)) ∷ []) ∷ [])
+    × (in_module (field.Global (record {
+      span = place 1;
+      id = None;
+      name = None;
+      exports = record { names = [] };
+      ty = record plain_global_type { ty = ref_to (made_index 1) };
+      kind = global.Inline (body_of (instr.global_get (made_index 2) ∷ []));
+    }) ∷ [])
+    ≡ Outside (Wants space.Ty (made_index 1)) ∷ InOrder (Named (Wants space.Global (made_index 2)) ∷ []) ∷ [])
+
 -- Elements in place may be of any type that is not shared; the page of bytes in place has a size below 2 to the 64.
 abbrev pub WellFormedInPlace : Type 0
 WellFormedInPlace = (a : Address) →
