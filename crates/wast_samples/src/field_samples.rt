@@ -1,70 +1,17 @@
 //! The fields of the worked rows about imports, tables, memories, globals, tags, start, elements and data.
 
-ghost use Rattle.std.specs.Prelude.{◌≡◌, IfErr};
-ghost use Rattle.wast_base.specs.Faults.{out_of_memory};
-
-use crate::lists::{one, two, with};
-use crate::samples::{at, func, id};
+use crate::samples::{at, func, id, one, three, two};
 use crate::type_samples::taking;
 use std::alloc::Global;
 use wast_tree::{
-    AbstractHeapType, Data, DataKind, DataVal, Elem, ElemKind, ElemPayload, Error, Expression,
-    FunctionType, GlobalKind, GlobalType, HeapType, Id, Imports, Index, InlineExport, Instruction,
-    ItemKind, ItemSig, Limits, Memory, MemoryKind, MemoryType, ModuleField, RefType, Seq, Table,
-    TableKind, TableType, Tag, TagKind, TagType, TypeUse, ValType,
+    Data, DataKind, DataVal, Elem, ElemKind, ElemPayload, GlobalType, Id, Imports, Index,
+    InlineExport, Instruction, ItemKind, ItemSig, Limits, Maker, Memory, MemoryType, ModuleField,
+    RefType, Seq, Table, TableType, Tag, TagKind, TagType, TypeUse, ValType,
 };
-
-/// No names of exports in place.
-pub(crate) fn no_exports<'a>(alloc: Global) -> InlineExport<'a> {
-    InlineExport {
-        names: Seq::new(alloc),
-    }
-}
-
-/// A type use without an index.
-pub(crate) fn using<'a>(inline: Option<FunctionType<'a>>) -> TypeUse<'a, FunctionType<'a>> {
-    TypeUse {
-        index: None,
-        inline,
-    }
-}
-
-/// `funcref`
-pub(crate) fn funcref<'a>() -> RefType<'a> {
-    RefType {
-        nullable: true,
-        heap: HeapType::Abstract {
-            shared: false,
-            ty: AbstractHeapType::Func,
-        },
-    }
-}
-
-/// A minimum, and a maximum where one is written, of 32 bits.
-pub(crate) fn limits(min: u64, max: Option<u64>) -> Limits {
-    Limits {
-        is64: false,
-        min,
-        max,
-    }
-}
 
 /// `(table 1 funcref)`
 fn one_function_table<'a>() -> TableType<'a> {
-    TableType {
-        limits: limits(1, None),
-        elem: funcref(),
-        shared: false,
-    }
-}
-
-/// `(memory ..)`, neither shared nor with a page exponent.
-pub(crate) fn memory_of(limits: Limits) -> MemoryType {
-    MemoryType {
-        limits,
-        shared: false,
-        page_size_log2: None,
-    }
+    TableType::new(Limits::new(1, None), RefType::funcref())
 }
 
 /// `(import ..)` at a place, and its item at a place.
@@ -85,15 +32,9 @@ fn import<'a>(
     ModuleField::Import(Imports::single(at(offset), module, name, sig))
 }
 
-/// `(memory ..)` at a place.
-fn memory<'a>(alloc: Global, offset: usize, ty: MemoryType) -> ModuleField<'a> {
-    ModuleField::Memory(Memory {
-        span: at(offset),
-        id: None,
-        name: None,
-        exports: no_exports(alloc),
-        kind: MemoryKind::Normal(ty),
-    })
+/// `(memory ..)` at the beginning of a module.
+fn memory<'a>(alloc: Global, ty: MemoryType) -> ModuleField<'a> {
+    ModuleField::Memory(Memory::new(alloc, at(9), None, ty))
 }
 
 /// `(elem ..)` at a place.
@@ -110,179 +51,143 @@ fn elem<'a>(offset: usize, kind: ElemKind<'a>, payload: ElemPayload<'a>) -> Modu
 /// `(data ..)` of one piece, at a place.
 fn data<'a>(
     alloc: Global,
+    maker: &mut Maker,
     offset: usize,
     kind: DataKind<'a>,
     bytes: &'a [u8],
-) -> Result<ModuleField<'a>, Error<'a>>
-    ensures { IfErr result (λ e. e ≡ out_of_memory) }
-{
-    let pieces = one(alloc, DataVal::String(bytes))?;
-    Ok(ModuleField::Data(Data {
+) -> ModuleField<'a> {
+    let mut pieces = Seq::new(alloc);
+    maker.push_data(&mut pieces, DataVal::String(bytes));
+    ModuleField::Data(Data {
         span: at(offset),
         id: None,
         name: None,
         kind,
         bytes: pieces,
-    }))
+    })
+}
+
+/// `(import "" "" (func))` at a place, and its item at a place.
+fn imported_function<'a>(offset: usize, sig_offset: usize) -> ModuleField<'a> {
+    let kind = ItemKind::Func(TypeUse::none());
+    import(offset, "", "", sig_offset, None, kind)
 }
 
 /// `(module (func) (import "" "" (func)))`
-pub(crate) fn import_after_a_function<'a>(alloc: Global) -> Result<Seq<ModuleField<'a>>, Error<'a>>
-    ensures { IfErr result (λ e. e ≡ out_of_memory) }
-{
-    let kind = ItemKind::Func(using(None));
-    two(
-        alloc,
-        func(alloc, None, 9, None, Seq::new(alloc)),
-        import(16, "", "", 30, None, kind),
-    )
+pub(crate) fn import_after_a_function<'a>(
+    alloc: Global,
+    maker: &mut Maker,
+) -> Seq<ModuleField<'a>> {
+    let function = func(alloc, None, 9, TypeUse::none());
+    two(alloc, maker, function, imported_function(16, 30))
 }
 
 /// `(module (start $x) (func $a) (func $a))`
 pub(crate) fn unknown_start_before_a_clash<'a>(
     alloc: Global,
-) -> Result<Seq<ModuleField<'a>>, Error<'a>>
-    ensures { IfErr result (λ e. e ≡ out_of_memory) }
-{
-    with(
-        two(
-            alloc,
-            ModuleField::Start(Index::Id(id("x", 15))),
-            func(alloc, Some(id("a", 25)), 20, None, Seq::new(alloc)),
-        )?,
-        func(alloc, Some(id("a", 35)), 30, None, Seq::new(alloc)),
+    maker: &mut Maker,
+) -> Seq<ModuleField<'a>> {
+    three(
+        alloc,
+        maker,
+        ModuleField::Start(Index::Id(id("x", 15))),
+        func(alloc, Some(id("a", 25)), 20, TypeUse::none()),
+        func(alloc, Some(id("a", 35)), 30, TypeUse::none()),
     )
 }
 
 /// `(module (tag) (import "" "" (func)))`
-pub(crate) fn import_after_a_tag<'a>(alloc: Global) -> Result<Seq<ModuleField<'a>>, Error<'a>>
-    ensures { IfErr result (λ e. e ≡ out_of_memory) }
-{
+pub(crate) fn import_after_a_tag<'a>(alloc: Global, maker: &mut Maker) -> Seq<ModuleField<'a>> {
     let tag = ModuleField::Tag(Tag {
         span: at(9),
         id: None,
         name: None,
-        exports: no_exports(alloc),
-        ty: TagType::Exception(using(None)),
+        exports: InlineExport::none(alloc),
+        ty: TagType::Exception(TypeUse::none()),
         kind: TagKind::Inline,
     });
-    let kind = ItemKind::Func(using(None));
-    two(alloc, tag, import(15, "", "", 29, None, kind))
+    two(alloc, maker, tag, imported_function(15, 29))
 }
 
 /// `(module (import "m" "f" (func $f (param i32))) (start $f))`
-pub(crate) fn started_import<'a>(alloc: Global) -> Result<Seq<ModuleField<'a>>, Error<'a>>
-    ensures { IfErr result (λ e. e ≡ out_of_memory) }
-{
-    let ty = taking(alloc, None, ValType::I32)?;
-    let kind = ItemKind::Func(using(Some(ty)));
+pub(crate) fn started_import<'a>(alloc: Global, maker: &mut Maker) -> Seq<ModuleField<'a>> {
+    let ty = taking(alloc, maker, None, ValType::I32);
+    let kind = ItemKind::Func(TypeUse::inline(ty));
     two(
         alloc,
+        maker,
         import(9, "m", "f", 25, Some(id("f", 30)), kind),
         ModuleField::Start(Index::Id(id("f", 54))),
     )
 }
 
 /// `(module (import "e" "t" (table 1 funcref)) (import "e" "m" (memory 1 2)) (import "e" "g" (global i32)))`
-pub(crate) fn three_imports<'a>(alloc: Global) -> Result<Seq<ModuleField<'a>>, Error<'a>>
-    ensures { IfErr result (λ e. e ≡ out_of_memory) }
-{
+pub(crate) fn three_imports<'a>(alloc: Global, maker: &mut Maker) -> Seq<ModuleField<'a>> {
     let table = ItemKind::Table(one_function_table());
-    let memory = ItemKind::Memory(memory_of(limits(1, Some(2))));
-    let global = ItemKind::Global(GlobalType {
-        ty: ValType::I32,
-        mutable: false,
-        shared: false,
-    });
-    with(
-        two(
-            alloc,
-            import(9, "e", "t", 25, None, table),
-            import(44, "e", "m", 60, None, memory),
-        )?,
+    let memory = ItemKind::Memory(MemoryType::new(Limits::new(1, Some(2))));
+    let global = ItemKind::Global(GlobalType::new(ValType::I32, false));
+    three(
+        alloc,
+        maker,
+        import(9, "e", "t", 25, None, table),
+        import(44, "e", "m", 60, None, memory),
         import(74, "e", "g", 90, None, global),
     )
 }
 
 /// `(global $g (mut i64) (i64.const -1))`
-fn global_of_minus_one<'a>(alloc: Global) -> Result<ModuleField<'a>, Error<'a>>
-    ensures { IfErr result (λ e. e ≡ out_of_memory) }
-{
-    let value = Expression::one(alloc, Instruction::i64_const(-1))?;
-    Ok(ModuleField::Global(wast_tree::Global {
-        span: at(20),
-        id: Some(id("g", 27)),
-        name: None,
-        exports: no_exports(alloc),
-        ty: GlobalType {
-            ty: ValType::I64,
-            mutable: true,
-            shared: false,
-        },
-        kind: GlobalKind::Inline(value),
-    }))
+fn global_of_minus_one<'a>(alloc: Global, maker: &mut Maker) -> ModuleField<'a> {
+    let value = maker.one_instruction(Instruction::i64_const(-1));
+    let ty = GlobalType::new(ValType::I64, true);
+    let id = Some(id("g", 27));
+    ModuleField::Global(wast_tree::Global::new(alloc, at(20), id, ty, value))
 }
 
 /// `(data (i32.const 8) "yz")`
-fn data_at_eight<'a>(alloc: Global) -> Result<ModuleField<'a>, Error<'a>>
-    ensures { IfErr result (λ e. e ≡ out_of_memory) }
-{
+fn data_at_eight<'a>(alloc: Global, maker: &mut Maker) -> ModuleField<'a> {
     let active = DataKind::Active {
         memory: Index::Num(0, at(68)),
-        offset: Expression::one(alloc, Instruction::i32_const(8))?,
+        offset: maker.one_instruction(Instruction::i32_const(8)),
     };
-    data(alloc, 68, active, b"yz")
-}
-
-/// `(memory 1) (global $g (mut i64) (i64.const -1))`
-fn memory_and_global<'a>(alloc: Global) -> Result<Seq<ModuleField<'a>>, Error<'a>>
-    ensures { IfErr result (λ e. e ≡ out_of_memory) }
-{
-    let global = global_of_minus_one(alloc)?;
-    two(alloc, memory(alloc, 9, memory_of(limits(1, None))), global)
+    data(alloc, maker, 68, active, b"yz")
 }
 
 /// `(module (memory 1) (global $g (mut i64) (i64.const -1)) (data "x") (data (i32.const 8) "yz"))`
-pub(crate) fn memory_with_data<'a>(alloc: Global) -> Result<Seq<ModuleField<'a>>, Error<'a>>
-    ensures { IfErr result (λ e. e ≡ out_of_memory) }
-{
-    let fields = memory_and_global(alloc)?;
-    let fields = with(fields, data(alloc, 57, DataKind::Passive, b"x")?)?;
-    with(fields, data_at_eight(alloc)?)
+pub(crate) fn memory_with_data<'a>(alloc: Global, maker: &mut Maker) -> Seq<ModuleField<'a>> {
+    let global = global_of_minus_one(alloc, maker);
+    let passive = data(alloc, maker, 57, DataKind::Passive, b"x");
+    let active = data_at_eight(alloc, maker);
+    let memory = memory(alloc, MemoryType::new(Limits::new(1, None)));
+    let mut fields = three(alloc, maker, memory, global, passive);
+    maker.push_field(&mut fields, active);
+    fields
 }
 
 /// `(module (table 1 funcref) (elem declare func) (elem funcref (ref.null func)))`
-pub(crate) fn table_with_elements<'a>(alloc: Global) -> Result<Seq<ModuleField<'a>>, Error<'a>>
-    ensures { IfErr result (λ e. e ≡ out_of_memory) }
-{
-    let expression = Expression::one(alloc, Instruction::ref_null(funcref().heap))?;
-    let exprs = one(alloc, expression)?;
+pub(crate) fn table_with_elements<'a>(alloc: Global, maker: &mut Maker) -> Seq<ModuleField<'a>> {
+    let expression = maker.one_instruction(Instruction::ref_null(RefType::funcref().heap));
+    let mut exprs = Seq::new(alloc);
+    maker.push_expression(&mut exprs, expression);
     let null = ElemPayload::Exprs {
-        ty: funcref(),
+        ty: RefType::funcref(),
         exprs,
     };
-    let nothing = ElemPayload::Indices(Seq::new(alloc));
-    let table = ModuleField::Table(Table {
-        span: at(9),
-        id: None,
-        name: None,
-        exports: no_exports(alloc),
-        kind: TableKind::Normal {
-            ty: one_function_table(),
-            init_expr: None,
-        },
-    });
-    let declared = elem(27, ElemKind::Declared, nothing);
-    with(
-        two(alloc, table, declared)?,
+    let table = Table::new(alloc, at(9), None, one_function_table());
+    three(
+        alloc,
+        maker,
+        ModuleField::Table(table),
+        elem(
+            27,
+            ElemKind::Declared,
+            ElemPayload::Indices(Seq::new(alloc)),
+        ),
         elem(47, ElemKind::Passive, null),
     )
 }
 
 /// A shared memory of 64 bits, of one to two pages, whose size is 2 to the 0.
-pub(crate) fn wide_shared_memory<'a>(alloc: Global) -> Result<Seq<ModuleField<'a>>, Error<'a>>
-    ensures { IfErr result (λ e. e ≡ out_of_memory) }
-{
+pub(crate) fn wide_shared_memory<'a>(alloc: Global, maker: &mut Maker) -> Seq<ModuleField<'a>> {
     let ty = MemoryType {
         limits: Limits {
             is64: true,
@@ -292,5 +197,5 @@ pub(crate) fn wide_shared_memory<'a>(alloc: Global) -> Result<Seq<ModuleField<'a
         shared: true,
         page_size_log2: Some(0),
     };
-    one(alloc, memory(alloc, 9, ty))
+    one(alloc, maker, memory(alloc, ty))
 }

@@ -1,15 +1,11 @@
 //! The fields of the worked rows about exports, imports, elements and data in place.
 
-ghost use Rattle.std.specs.Prelude.{◌≡◌, IfErr};
-ghost use Rattle.wast_base.specs.Faults.{out_of_memory};
-
-use crate::field_samples::{funcref, limits, memory_of, no_exports, using};
-use crate::lists::{one, two};
-use crate::samples::{at, func, id};
+use crate::samples::{at, func, id, one, two};
 use std::alloc::Global;
 use wast_tree::{
-    DataVal, ElemPayload, Error, Func, FuncKind, Index, InlineExport, InlineImport, Memory,
-    MemoryKind, ModuleField, NameAnnotation, Seq, Table, TableKind,
+    DataVal, ElemPayload, Expression, Func, FuncKind, Index, InlineExport, InlineImport, Limits,
+    Maker, Memory, MemoryKind, MemoryType, ModuleField, NameAnnotation, RefType, Seq, Table,
+    TableKind, TypeUse,
 };
 
 /// Where `(import "a" "b")` in place is from.
@@ -39,86 +35,83 @@ fn memory_with<'a>(exports: InlineExport<'a>, bytes: Seq<DataVal<'a>>) -> Module
 }
 
 /// `(module (func (export "a")))`
-pub(crate) fn exported_function<'a>(alloc: Global) -> Result<Seq<ModuleField<'a>>, Error<'a>>
-    ensures { IfErr result (λ e. e ≡ out_of_memory) }
-{
-    let exports = InlineExport {
-        names: one(alloc, "a")?,
-    };
-    let mut field = func(alloc, None, 9, None, Seq::new(alloc));
-    if let ModuleField::Func(func) = &mut field {
-        func.exports = exports;
-    }
-    one(alloc, field)
+pub(crate) fn exported_function<'a>(alloc: Global, maker: &mut Maker) -> Seq<ModuleField<'a>> {
+    let names: [&'a str; 1] = ["a"];
+    let field = ModuleField::Func(Func {
+        span: at(9),
+        id: None,
+        name: None,
+        exports: InlineExport {
+            names: maker.names(&names),
+        },
+        kind: FuncKind::Inline {
+            locals: Seq::new(alloc),
+            expression: Expression::new(alloc, Seq::new(alloc)),
+        },
+        ty: TypeUse::none(),
+    });
+    one(alloc, maker, field)
 }
 
 /// `(module (memory (data "ab")))`
-pub(crate) fn memory_with_bytes<'a>(alloc: Global) -> Result<Seq<ModuleField<'a>>, Error<'a>>
-    ensures { IfErr result (λ e. e ≡ out_of_memory) }
-{
-    let bytes = one(alloc, DataVal::String(b"ab"))?;
-    one(alloc, memory_with(no_exports(alloc), bytes))
+pub(crate) fn memory_with_bytes<'a>(alloc: Global, maker: &mut Maker) -> Seq<ModuleField<'a>> {
+    let mut bytes = Seq::new(alloc);
+    maker.push_data(&mut bytes, DataVal::String(b"ab"));
+    one(alloc, maker, memory_with(InlineExport::none(alloc), bytes))
 }
 
 /// `(module (func $f) (table funcref (elem $f)))`
-pub(crate) fn table_of_a_function<'a>(alloc: Global) -> Result<Seq<ModuleField<'a>>, Error<'a>>
-    ensures { IfErr result (λ e. e ≡ out_of_memory) }
-{
-    let elements = one(alloc, Index::Id(id("f", 39)))?;
+pub(crate) fn table_of_a_function<'a>(alloc: Global, maker: &mut Maker) -> Seq<ModuleField<'a>> {
+    let elements = maker.indices(&[Index::Id(id("f", 39))]);
     let table = ModuleField::Table(Table {
         span: at(19),
         id: None,
         name: None,
-        exports: no_exports(alloc),
+        exports: InlineExport::none(alloc),
         kind: TableKind::Inline {
-            elem: funcref(),
+            elem: RefType::funcref(),
             is64: false,
             shared: false,
             payload: ElemPayload::Indices(elements),
         },
     });
-    let function = func(alloc, Some(id("f", 14)), 9, None, Seq::new(alloc));
-    two(alloc, function, table)
+    let function = func(alloc, Some(id("f", 14)), 9, TypeUse::none());
+    two(alloc, maker, function, table)
 }
 
 /// `(module (memory (@name "n") (import "a" "b") 1))`
-pub(crate) fn imported_memory<'a>(alloc: Global) -> Result<Seq<ModuleField<'a>>, Error<'a>>
-    ensures { IfErr result (λ e. e ≡ out_of_memory) }
-{
+pub(crate) fn imported_memory<'a>(alloc: Global, maker: &mut Maker) -> Seq<ModuleField<'a>> {
     let field = ModuleField::Memory(Memory {
         span: at(9),
         id: None,
         name: name(),
-        exports: no_exports(alloc),
+        exports: InlineExport::none(alloc),
         kind: MemoryKind::Import {
             import: A_AND_B,
-            ty: memory_of(limits(1, None)),
+            ty: MemoryType::new(Limits::new(1, None)),
         },
     });
-    one(alloc, field)
+    one(alloc, maker, field)
 }
 
 /// `(module (func (@name "n") (import "a" "b")))`
-pub(crate) fn imported_function<'a>(alloc: Global) -> Result<Seq<ModuleField<'a>>, Error<'a>>
-    ensures { IfErr result (λ e. e ≡ out_of_memory) }
-{
+pub(crate) fn imported_function<'a>(alloc: Global, maker: &mut Maker) -> Seq<ModuleField<'a>> {
     let field = ModuleField::Func(Func {
         span: at(9),
         id: None,
         name: name(),
-        exports: no_exports(alloc),
+        exports: InlineExport::none(alloc),
         kind: FuncKind::Import(A_AND_B, false),
-        ty: using(None),
+        ty: TypeUse::none(),
     });
-    one(alloc, field)
+    one(alloc, maker, field)
 }
 
 /// `(module (memory (export "a") (export "b") (data)))`
-pub(crate) fn exported_empty_memory<'a>(alloc: Global) -> Result<Seq<ModuleField<'a>>, Error<'a>>
-    ensures { IfErr result (λ e. e ≡ out_of_memory) }
-{
+pub(crate) fn exported_empty_memory<'a>(alloc: Global, maker: &mut Maker) -> Seq<ModuleField<'a>> {
+    let names: [&'a str; 2] = ["a", "b"];
     let exports = InlineExport {
-        names: two(alloc, "a", "b")?,
+        names: maker.names(&names),
     };
-    one(alloc, memory_with(exports, Seq::new(alloc)))
+    one(alloc, maker, memory_with(exports, Seq::new(alloc)))
 }

@@ -1,9 +1,11 @@
 //! The fields of worked modules, by number, with the places of their texts.
+//!
+//! A function named for a module gives its fields. Where the maker was refused memory, they are not all there; whoever made
+//! the maker asks it at the end.
 #![tactic(auto)]
 
 mod field_samples;
 mod inline_samples;
-mod lists;
 mod samples;
 mod type_samples;
 
