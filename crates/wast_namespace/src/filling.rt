@@ -44,8 +44,8 @@ impl<'a> Gathering<'a> {
 
     /// One more item, with the id that it bears.
     ///
-    /// It takes memory only where there are more ids than there was to be room for. Where memory is refused nothing
-    /// changes.
+    /// It needs fewer than 4,294,967,295 items, as [`is_full`](Gathering::is_full) tells. It takes memory only where there
+    /// are more ids than there was to be room for. Where memory is refused nothing changes.
     pub fn add(&mut self, id: Option<Id<'a>>) -> Result<(), AllocError>
         requires { length self.old + 1 < 2 ^ 32 }
         ensures ok { OnOk result (self.new ≡ self.old ++ name_if (marked id.entry) ∷ []) }

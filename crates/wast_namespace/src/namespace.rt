@@ -73,8 +73,9 @@ impl<'a> Namespace<'a> {
     /// The number of the next item, which is the count; the count rises by one, and the item's id, if it has one, gets
     /// this number.
     ///
-    /// It needs a count below 4,294,967,295. Where the id is there already, it answers E2 at the place of the new id,
-    /// still counts, and leaves the id at the new number. E12 comes only where there is an id, and changes nothing.
+    /// It needs a count below 4,294,967,295, as [`is_full`](Namespace::is_full) tells. Where the id is there already, it
+    /// answers E2 at the place of the new id, still counts, and leaves the id at the new number. E12 comes only where there
+    /// is an id, and changes nothing.
     ///
     /// A new name moves those that are greater, so that n names take time that grows with the square of n. The resolver
     /// fills its spaces at once.
@@ -97,7 +98,7 @@ impl<'a> Namespace<'a> {
 
     /// The number of the next item, which has no id and is the count; the count rises by one.
     ///
-    /// It needs a count below 4,294,967,295.
+    /// It needs a count below 4,294,967,295, as [`is_full`](Namespace::is_full) tells.
     pub fn alloc(&mut self) -> u32
         requires { self.old.count + 1 < 2 ^ 32 }
         ensures number { result ≡ self.old.count }
@@ -105,6 +106,13 @@ impl<'a> Namespace<'a> {
     {
         self.count += 1;
         self.count - 1
+    }
+
+    /// Whether the count is 4,294,967,295, so that no further item can be counted. It takes no memory.
+    pub fn is_full(&self) -> bool
+        ensures { IsTrue result ↔ (2 ^ 32 ≤ self.now.count + 1) }
+    {
+        self.count == u32::MAX
     }
 
     /// Gives an id this number; the count stays.
@@ -170,14 +178,6 @@ impl<'a> Namespace<'a> {
         ensures { entries_of result.now ≡ finmap.entries self.now.names }
     {
         &self.names
-    }
-
-    /// Whether the count is at its end, where no item can be registered.
-    #[cfg(test)]
-    pub(crate) fn is_full(&self) -> bool
-        ensures { IsTrue result ↔ (2 ^ 32 ≤ self.now.count + 1) }
-    {
-        self.count == u32::MAX
     }
 
     /// The number of an id, if the id is known; its place does not count. It takes no memory.
