@@ -9,3 +9,4 @@ pub mod WrittenItems
 pub mod WrittenAsks
 pub mod Below
 pub mod Settled
+pub mod Inexact

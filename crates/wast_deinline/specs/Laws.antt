@@ -1,9 +1,10 @@
 -- What holds of each list that is written out (text format: abbreviations).
-use Rattle.std.specs.Prelude.{◌≡◌, ℕ, ◌+◌, ◌<◌, true, List, IsTrue}
+use Rattle.std.specs.Prelude.{◌≡◌, ℕ, ◌+◌, ◌<◌, true, false, List, IsTrue}
 use Rattle.wast_tree.specs.Generations.{greatest_generation}
 use Rattle.wast_tree.specs.WellFormed.{are_plain, is_well_formed}
 use Rattle.wast_tree.specs.WrittenOut.{is_written_out}
 use Rattle.wast_deinline.specs.Tree.{ModuleField}
+use Rattle.wast_deinline.specs.Exact.{imports_exact}
 use Rattle.wast_deinline.specs.Written.{written_out_from, references_wanted, written_out}
 
 -- No abbreviation is left.
@@ -37,3 +38,7 @@ StaysBelow = (n : ℕ) (fields : List ModuleField) → greatest_generation field
 -- Well formed fields stay so.
 abbrev pub StaysWellFormed : Type 0
 StaysWellFormed = (n : ℕ) (fields : List ModuleField) → is_well_formed fields ≡ true → is_well_formed (written_out_from n fields) ≡ true
+
+-- In well formed fields no function that is imported in place is exact.
+abbrev pub WellFormedIsInexact : Type 0
+WellFormedIsInexact = (fields : List ModuleField) → is_well_formed fields ≡ true → imports_exact fields ≡ false

@@ -1,6 +1,7 @@
 -- What the contracts cite.
 pub mod Tree
 pub mod Segments
+pub mod Exact
 pub mod WriteOut
 pub mod Referring
 pub mod Written

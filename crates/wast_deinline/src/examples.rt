@@ -1,6 +1,6 @@
 //! Worked modules, of which the definitions compute what they say.
 
-ghost use Rattle.wast_deinline.specs.WorkedFields.{EmptyMemory, LongMemory, ImportedFuncs, TableOfTwo, GlobalAndTag};
+ghost use Rattle.wast_deinline.specs.WorkedFields.{EmptyMemory, LongMemory, ImportedFuncs, ExactImport, TableOfTwo, GlobalAndTag};
 
 /// A memory with two exports and no bytes in place: no page.
 #[tactic(auto, using(crate::proofs::Worked::empty_memory))]
@@ -18,6 +18,12 @@ pub(crate) fn long_memory()
 #[tactic(auto, using(crate::proofs::Worked::imported_funcs))]
 pub(crate) fn imported_funcs()
     ensures { ImportedFuncs }
+{}
+
+/// A function that is imported in place and exact, behind one that is not.
+#[tactic(auto, using(crate::proofs::Worked::exact_import))]
+pub(crate) fn exact_import()
+    ensures { ExactImport }
 {}
 
 /// A table with two elements in place.

@@ -1,13 +1,14 @@
 //! What holds of each list that is written out.
 
-ghost use Rattle.wast_deinline.specs.Laws.{NothingIsLeft, NothingIsLeftByPosition, StaysWritten, StaysByPosition, WantsNoReference, StaysPlain, StaysPlainByPosition, StaysBelow, StaysWellFormed};
+ghost use Rattle.wast_deinline.specs.Laws.{NothingIsLeft, NothingIsLeftByPosition, StaysWritten, StaysByPosition, WantsNoReference, StaysPlain, StaysPlainByPosition, StaysBelow, StaysWellFormed, WellFormedIsInexact};
 
 /// Laws of the list that is written out (text format: abbreviations), by ids and by positions: no abbreviation is left in
 /// it; a list without abbreviations stays as it is, and takes no id; forms that are covered stay so, and well formed fields
-/// well formed. Where the counter begins above the ids of the fields, each id is below the next one.
+/// well formed, and of these no function that is imported in place is exact. Where the counter begins above the ids of the
+/// fields, each id is below the next one.
 ///
 /// It does nothing: what it ensures holds for each list of fields and each counter.
-#[tactic(auto, using(crate::proofs::Left::nothing_is_left, crate::proofs::Left::nothing_is_left_by_position, crate::proofs::Staying::stays_written, crate::proofs::Staying::stays_by_position, crate::proofs::Staying::wants_no_reference, crate::proofs::Plain::stays_plain, crate::proofs::Plain::stays_plain_by_position, crate::proofs::Below::written_below, crate::proofs::Settled::written_well_formed))]
+#[tactic(auto, using(crate::proofs::Left::nothing_is_left, crate::proofs::Left::nothing_is_left_by_position, crate::proofs::Staying::stays_written, crate::proofs::Staying::stays_by_position, crate::proofs::Staying::wants_no_reference, crate::proofs::Plain::stays_plain, crate::proofs::Plain::stays_plain_by_position, crate::proofs::Below::written_below, crate::proofs::Settled::written_well_formed, crate::proofs::Inexact::well_formed_is_inexact))]
 pub fn written_laws()
     ensures left { NothingIsLeft }
     ensures left_by_position { NothingIsLeftByPosition }
@@ -18,4 +19,5 @@ pub fn written_laws()
     ensures plain_by_position { StaysPlainByPosition }
     ensures below { StaysBelow }
     ensures well_formed { StaysWellFormed }
+    ensures inexact { WellFormedIsInexact }
 {}

@@ -1,10 +1,14 @@
 //! Segments of what stands in place in a memory or a table, and how large that makes it.
 
-ghost use Rattle.std.specs.Prelude.{◌≡◌, ◌≤◌, ◌<◌, ◌+◌, ◌^◌, length, IsTrue, IfOk, IfErr};
+ghost use Rattle.std.specs.Prelude.{◌≡◌, ◌<◌, ◌^◌, length, Some, None, IsTrue, IfOk, IfErr};
 ghost use Rattle.std.specs.Int.{div_ceil};
 ghost use Rattle.wast_tree.specs.DataBytes.{all_bytes};
 ghost use Rattle.wast_base.specs.Faults.{too_large, out_of_memory};
-ghost use Rattle.wast_deinline.specs.Segments.{at_zero, element_count, page_count, filled_memory_type, filled_table_type, data_into, elem_into, are_too_many};
+ghost use Rattle.wast_deinline.specs.Tree.field;
+ghost use Rattle.wast_deinline.specs.Tree.data_kind;
+ghost use Rattle.wast_deinline.specs.Tree.elem as elem_kind;
+ghost use Rattle.wast_deinline.specs.Segments.{at_zero, element_count, page_count, filled_memory_type, filled_table_type, are_too_many};
+ghost use Rattle.wast_deinline.specs.Written.{IsRefused};
 
 use std::alloc::Global;
 use wast_tree::{
@@ -106,7 +110,7 @@ pub(crate) fn filled_table_type<'a>(
 }
 
 /// The offset 0, which is as wide as an index.
-fn at_zero<'a>(alloc: Global, is64: bool) -> Result<Expression<'a>, Error<'a>>
+pub(crate) fn at_zero<'a>(alloc: Global, is64: bool) -> Result<Expression<'a>, Error<'a>>
     ensures ok { IfOk result (λ e. e ≡ at_zero is64) }
     ensures refusal { IfErr result (λ e. e ≡ out_of_memory) }
 {
@@ -117,40 +121,51 @@ fn at_zero<'a>(alloc: Global, is64: bool) -> Result<Expression<'a>, Error<'a>>
     }
 }
 
+/// The type of a memory that holds these bytes at first, and the offset of their segment.
+pub(crate) fn filling<'a>(
+    alloc: Global,
+    is64: bool,
+    pieces: &[DataVal<'_>],
+    page_size_log2: Option<u32>,
+) -> Result<(MemoryType, Expression<'a>), Error<'a>>
+    ensures ok { IfOk result (λ f. (f.0 ≡ filled_memory_type is64 pieces.now page_size_log2) × (f.1 ≡ at_zero is64)) }
+    ensures refusal { IfErr result (λ e. IsRefused (are_too_many pieces.now) e) }
+{
+    let ty = filled_memory_type(is64, pieces, page_size_log2)?;
+    match at_zero(alloc, is64) {
+        Ok(offset) => Ok((ty, offset)),
+        Err(e) => Err(e),
+    }
+}
+
 /// The segment of the bytes of a memory.
 pub(crate) fn data_into<'a>(
-    alloc: Global,
     span: Span,
     memory: Index<'a>,
-    is64: bool,
+    offset: Expression<'a>,
     bytes: Seq<DataVal<'a>>,
-) -> Result<ModuleField<'a>, Error<'a>>
-    ensures ok { IfOk result (λ f. f ≡ data_into span memory.entry is64 bytes.entry) }
-    ensures refusal { IfErr result (λ e. e ≡ out_of_memory) }
+) -> ModuleField<'a>
+    ensures { result ≡ field.Data (record { span = span; id = None; name = None; kind = data_kind.Active memory.entry offset.entry; bytes = bytes.entry }) }
 {
-    let offset = at_zero(alloc, is64)?;
-    Ok(ModuleField::Data(Data {
+    ModuleField::Data(Data {
         span,
         id: None,
         name: None,
         kind: DataKind::Active { memory, offset },
         bytes,
-    }))
+    })
 }
 
 /// The segment of the elements of a table.
 pub(crate) fn elem_into<'a>(
-    alloc: Global,
     span: Span,
     table: Index<'a>,
-    is64: bool,
+    offset: Expression<'a>,
     payload: ElemPayload<'a>,
-) -> Result<ModuleField<'a>, Error<'a>>
-    ensures ok { IfOk result (λ f. f ≡ elem_into span table.entry is64 payload.entry) }
-    ensures refusal { IfErr result (λ e. e ≡ out_of_memory) }
+) -> ModuleField<'a>
+    ensures { result ≡ field.Elem (record { span = span; id = None; name = None; kind = elem_kind.Active (Some table.entry) offset.entry; payload = payload.entry }) }
 {
-    let offset = at_zero(alloc, is64)?;
-    Ok(ModuleField::Elem(Elem {
+    ModuleField::Elem(Elem {
         span,
         id: None,
         name: None,
@@ -159,5 +174,5 @@ pub(crate) fn elem_into<'a>(
             offset,
         },
         payload,
-    }))
+    })
 }

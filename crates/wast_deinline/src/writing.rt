@@ -1,22 +1,27 @@
 //! Fields are written out: the exports, the segment and the rest of each.
 
-ghost use Rattle.std.specs.Prelude.{◌≡◌, ◌≤◌, ◌+◌, ◌++◌, ◌∷◌, [], flat_map, IfOk, IfErr, OnOk, ◌-◌, ◌^◌, min, length};
+ghost use Rattle.std.specs.Prelude.{◌≡◌, ◌≤◌, ◌+◌, ◌++◌, ◌∷◌, [], flat_map, false, IsTrue, IsOk, IfOk, IfErr, OnOk, ◌-◌, ◌^◌, min, length};
 ghost use Rattle.std.specs.List.{list_any};
-ghost use Rattle.wast_base.specs.Faults.{too_large, out_of_memory};
+ghost use Rattle.wast_base.specs.Faults.{out_of_memory};
+ghost use Rattle.wast_tree.specs.WrittenOut.{is_written_out};
 ghost use Rattle.wast_deinline.specs.Tree.field;
-ghost use Rattle.wast_deinline.specs.Tree.kind as item_kind;
-ghost use Rattle.wast_deinline.specs.Segments.{overflows};
-ghost use Rattle.wast_deinline.specs.WriteOut.{no_exports, exports_of, import_of, func_alone, global_alone, tag_alone, write_out};
+ghost use Rattle.wast_deinline.specs.Tree.table as table_kind;
+ghost use Rattle.wast_deinline.specs.Tree.memory as memory_kind;
+ghost use Rattle.wast_deinline.specs.Exact.{imports_exact};
+ghost use Rattle.wast_deinline.specs.Segments.{overflows_kind, overflows};
+ghost use Rattle.wast_deinline.specs.WriteOut.{no_exports, exports_of, import_of, data_in, elem_in, func_alone, table_alone, memory_alone, global_alone, tag_alone, write_out};
 ghost use Rattle.wast_deinline.specs.Referring.{by_id};
 ghost use Rattle.wast_deinline.specs.Written.{written_out_from, references_wanted, IsRefused, CannotBeWritten};
 
 use crate::references::{by_id, has_bytes, has_elements, name_items};
-use crate::segments::{data_into, elem_into, filled_memory_type, filled_table_type};
+use crate::segments::{at_zero, data_into, elem_into, filled_table_type, filling};
 use std::alloc::Global;
 use wast_tree::{
-    Error, Export, ExportKind, Func, FuncKind, Gensym, GlobalKind, Id, ImportItems, Imports, Index,
-    InlineExport, InlineImport, ItemKind, ItemSig, Memory, MemoryKind, ModuleField, NameAnnotation,
-    Seq, Span, Table, TableKind, Tag, TagKind, discard_fields, is_written_out,
+    Error, Export, ExportKind, Expression, Func, FuncKind, Gensym, GlobalKind, Id, Imports, Index,
+    InlineExport, InlineImport, ItemKind, ItemSig, Memory, MemoryKind, MemoryType, ModuleField,
+    NameAnnotation, Seq, Span, Table, TableKind, TableType, Tag, TagKind, discard_data,
+    discard_elem_payload, discard_exports, discard_field, discard_fields, fields_with_capacity,
+    is_written_out, push_field, take_field,
 };
 
 /// Writes the abbreviations of fields out (text format: functions, tables, memories, globals, tags; abbreviations).
@@ -25,50 +30,82 @@ use wast_tree::{
 /// order; then the segment of the bytes or elements that stand in place, which begins at 0; and then the field alone, or
 /// its import where that stands in place. A memory with bytes in place has as many pages as hold them, and no more; a
 /// table as many elements. An item that is exported or filled so is referred to by its id, and given a generated one at
-/// the place of its field where it has none. All other fields stay. It takes any fields; the ids that it makes are new
-/// where the counter stands above [`wast_tree::gensym_bound`].
+/// the place of its field where it has none. All other fields stay. It needs that no function that is imported in place is
+/// exact, as [`imports_exact`](crate::deinline::imports_exact) tells; well formed fields are so. The ids that it makes are
+/// new where the counter stands above [`wast_tree::gensym_bound`].
 ///
-/// Where nothing stands in place, it gives the fields back as they are, without memory. Else it takes memory for the new
-/// list and for the offsets of segments. The error is E12 where memory was refused, and E10 only where the counter would
-/// pass the greatest `u64` or the bytes in place of a memory are 2^32 or more. On an error the fields are dropped, and the
-/// counter stands where it stood or higher.
+/// Where nothing stands in place, it gives the fields back as they are, and never an error. Else it takes memory for the
+/// new list and for the offsets of segments. The error is E12 where memory was refused, and E10 only where the counter
+/// would pass the greatest `u64` or the bytes in place of a memory are 2^32 or more. On an error the fields are dropped,
+/// and the counter stands where it stood or higher.
 pub fn run<'a>(
     alloc: Global,
     fields: Seq<ModuleField<'a>>,
     gensym: &mut Gensym,
 ) -> Result<Seq<ModuleField<'a>>, Error<'a>>
+    requires inexact { imports_exact fields ≡ false }
     ensures list { IfOk result (λ out. out ≡ written_out_from gensym.old fields.entry) }
     ensures counted { OnOk result (gensym.new ≡ gensym.old + references_wanted fields.entry) }
     ensures refusal { IfErr result (CannotBeWritten gensym.old fields.entry) }
+    ensures at_rest { IsTrue (is_written_out fields.entry) → IsOk result }
     ensures rising { gensym.old ≤ gensym.new }
 {
     if is_written_out(fields.as_slice()) {
         return Ok(fields);
     }
     let mut fields = fields;
-    match name_items(&mut fields, gensym) {
-        Ok(()) => write_fields(alloc, fields),
+    let written = written_fields(alloc, &mut fields, gensym);
+    discard_fields(fields);
+    written
+}
+
+/// The fields that stand for these. It takes these out of their places.
+fn written_fields<'a>(
+    alloc: Global,
+    fields: &mut Seq<ModuleField<'a>>,
+    gensym: &mut Gensym,
+) -> Result<Seq<ModuleField<'a>>, Error<'a>>
+    ensures list { IfOk result (λ out. out ≡ written_out_from gensym.old fields.old) }
+    ensures counted { OnOk result (gensym.new ≡ gensym.old + references_wanted fields.old) }
+    ensures refusal { IfErr result (CannotBeWritten gensym.old fields.old) }
+    ensures rising { gensym.old ≤ gensym.new }
+{
+    name_items(fields, gensym)?;
+    write_fields(alloc, fields)
+}
+
+/// The fields that stand for these, once each item that is referred to has an id. It takes these out of their places.
+fn write_fields<'a>(
+    alloc: Global,
+    fields: &mut Seq<ModuleField<'a>>,
+) -> Result<Seq<ModuleField<'a>>, Error<'a>>
+    ensures list { IfOk result (λ out. out ≡ flat_map (write_out by_id) fields.old) }
+    ensures refusal { IfErr result (λ e. IsRefused (list_any overflows fields.old) e) }
+{
+    let count = written_count(fields.as_slice());
+    let mut out = fields_with_capacity(alloc, count)?;
+    match write_each(alloc, fields, &mut out) {
+        Ok(()) => Ok(out),
         Err(e) => {
-            discard_fields(fields);
+            discard_fields(out);
             Err(e)
         }
     }
 }
 
-/// Writes fields out, one after the other.
-fn write_fields<'a>(
+/// Writes fields out, one after the other. It takes them out of their places.
+fn write_each<'a>(
     alloc: Global,
-    fields: Seq<ModuleField<'a>>,
-) -> Result<Seq<ModuleField<'a>>, Error<'a>>
-    ensures list { IfOk result (λ out. out ≡ flat_map (write_out by_id) fields.entry) }
-    ensures refusal { IfErr result (λ e. IsRefused (list_any overflows fields.entry) e) }
+    fields: &mut Seq<ModuleField<'a>>,
+    out: &mut Seq<ModuleField<'a>>,
+) -> Result<(), Error<'a>>
+    ensures list { OnOk result (out.new ≡ out.old ++ flat_map (write_out by_id) fields.old) }
+    ensures refusal { IfErr result (λ e. IsRefused (list_any overflows fields.old) e) }
 {
-    let count = written_count(fields.as_slice());
-    let mut out = Seq::from_vec(Vec::with_capacity(alloc, count)?);
-    for field in fields.into_iter() {
-        write_field(alloc, field, &mut out)?;
+    for i in 0..fields.len() {
+        write_field(alloc, take_field(fields.at_mut(i)), out)?;
     }
-    Ok(out)
+    Ok(())
 }
 
 /// How many fields there are once these are written out, or the greatest `usize`.
@@ -118,28 +155,37 @@ fn write_field<'a>(
     ensures refusal { IfErr result (λ e. IsRefused (overflows field.entry) e) }
 {
     match field {
-        ModuleField::Ty(ty) => keep(ModuleField::Ty(ty), out),
-        ModuleField::Rec(group) => keep(ModuleField::Rec(group), out),
-        ModuleField::Import(imports) => keep(ModuleField::Import(imports), out),
+        ModuleField::Ty(ty) => push_field(out, ModuleField::Ty(ty)),
+        ModuleField::Rec(group) => push_field(out, ModuleField::Rec(group)),
+        ModuleField::Import(imports) => push_field(out, ModuleField::Import(imports)),
         ModuleField::Func(func) => write_func(alloc, func, out),
         ModuleField::Table(table) => write_table(alloc, table, out),
         ModuleField::Memory(memory) => write_memory(alloc, memory, out),
         ModuleField::Global(global) => write_global(alloc, global, out),
-        ModuleField::Export(export) => keep(ModuleField::Export(export), out),
-        ModuleField::Start(index) => keep(ModuleField::Start(index), out),
-        ModuleField::Elem(elem) => keep(ModuleField::Elem(elem), out),
-        ModuleField::Data(data) => keep(ModuleField::Data(data), out),
+        ModuleField::Export(export) => push_field(out, ModuleField::Export(export)),
+        ModuleField::Start(index) => push_field(out, ModuleField::Start(index)),
+        ModuleField::Elem(elem) => push_field(out, ModuleField::Elem(elem)),
+        ModuleField::Data(data) => push_field(out, ModuleField::Data(data)),
         ModuleField::Tag(tag) => write_tag(alloc, tag, out),
     }
 }
 
-/// Puts a field that stays as it is.
-fn keep<'a>(field: ModuleField<'a>, out: &mut Seq<ModuleField<'a>>) -> Result<(), Error<'a>>
-    ensures list { OnOk result (out.new ≡ out.old ++ field.entry ∷ []) }
+/// Puts two fields, one behind the other.
+fn push_both<'a>(
+    out: &mut Seq<ModuleField<'a>>,
+    first: ModuleField<'a>,
+    second: ModuleField<'a>,
+) -> Result<(), Error<'a>>
+    ensures list { OnOk result (out.new ≡ out.old ++ first.entry ∷ (second.entry ∷ [])) }
     ensures refusal { IfErr result (λ e. e ≡ out_of_memory) }
 {
-    out.push(field)?;
-    Ok(())
+    match push_field(out, first) {
+        Ok(()) => push_field(out, second),
+        Err(e) => {
+            discard_field(second);
+            Err(e)
+        }
+    }
 }
 
 /// Writes an export for each name that stands in place.
@@ -154,23 +200,17 @@ fn write_exports<'a>(
     ensures refusal { IfErr result (λ e. e ≡ out_of_memory) }
 {
     for name in exports.names.as_slice() {
-        out.push(ModuleField::Export(Export {
-            span,
-            name: *name,
-            kind,
-            item,
-        }))?;
+        push_field(
+            out,
+            ModuleField::Export(Export {
+                span,
+                name: *name,
+                kind,
+                item,
+            }),
+        )?;
     }
     Ok(())
-}
-
-/// Nothing is exported in place.
-fn no_exports<'a>(alloc: Global) -> InlineExport<'a>
-    ensures { result ≡ no_exports }
-{
-    InlineExport {
-        names: Seq::new(alloc),
-    }
 }
 
 /// The import of an item that stands in place.
@@ -200,17 +240,18 @@ fn func_alone<'a>(alloc: Global, func: Func<'a>) -> ModuleField<'a>
         span,
         id,
         name,
-        exports: _,
+        exports,
         kind,
         ty,
     } = func;
+    discard_exports(exports);
     match kind {
         FuncKind::Import(source, _) => import_of(span, id, name, source, ItemKind::Func(ty)),
         FuncKind::Inline { locals, expression } => ModuleField::Func(Func {
             span,
             id,
             name,
-            exports: no_exports(alloc),
+            exports: InlineExport::none(alloc),
             kind: FuncKind::Inline { locals, expression },
             ty,
         }),
@@ -227,8 +268,13 @@ fn write_func<'a>(
     ensures refusal { IfErr result (λ e. e ≡ out_of_memory) }
 {
     let item = by_id(func.span, func.id);
-    write_exports(&func.exports, func.span, ExportKind::Func, item, out)?;
-    keep(func_alone(alloc, func), out)
+    match write_exports(&func.exports, func.span, ExportKind::Func, item, out) {
+        Ok(()) => push_field(out, func_alone(alloc, func)),
+        Err(e) => {
+            discard_field(ModuleField::Func(func));
+            Err(e)
+        }
+    }
 }
 
 /// A table that holds what its type says, without anything in place.
@@ -237,17 +283,62 @@ fn table_of<'a>(
     span: Span,
     id: Option<Id<'a>>,
     name: Option<NameAnnotation<'a>>,
-    kind: TableKind<'a>,
+    ty: TableType<'a>,
+    init_expr: Option<Expression<'a>>,
 ) -> ModuleField<'a>
-    ensures { result ≡ field.Table (record { span = span; id = id.entry; name = name.entry; exports = no_exports; kind = kind.entry }) }
+    ensures { result ≡ field.Table (record { span = span; id = id.entry; name = name.entry; exports = no_exports; kind = table_kind.Normal ty.entry init_expr.entry }) }
 {
     ModuleField::Table(Table {
         span,
         id,
         name,
-        exports: no_exports(alloc),
-        kind,
+        exports: InlineExport::none(alloc),
+        kind: TableKind::Normal { ty, init_expr },
     })
+}
+
+/// Writes the segment of a table, and the table without what stands in place, or its import.
+fn write_table_alone<'a>(
+    alloc: Global,
+    table: Table<'a>,
+    item: Index<'a>,
+    out: &mut Seq<ModuleField<'a>>,
+) -> Result<(), Error<'a>>
+    ensures list { OnOk result (out.new ≡ out.old ++ (elem_in table.entry.kind table.entry.span item.entry ++ table_alone table.entry table.entry.kind ∷ [])) }
+    ensures refusal { IfErr result (λ e. e ≡ out_of_memory) }
+{
+    let Table {
+        span,
+        id,
+        name,
+        exports,
+        kind,
+    } = table;
+    discard_exports(exports);
+    match kind {
+        TableKind::Import { import, ty } => {
+            push_field(out, import_of(span, id, None, import, ItemKind::Table(ty)))
+        }
+        TableKind::Normal { ty, init_expr } => {
+            push_field(out, table_of(alloc, span, id, name, ty, init_expr))
+        }
+        TableKind::Inline {
+            elem,
+            is64,
+            shared,
+            payload,
+        } => match at_zero(alloc, is64) {
+            Ok(offset) => {
+                let ty = filled_table_type(elem, is64, shared, &payload);
+                let filled = table_of(alloc, span, id, name, ty, None);
+                push_both(out, elem_into(span, item, offset, payload), filled)
+            }
+            Err(e) => {
+                discard_elem_payload(payload);
+                Err(e)
+            }
+        },
+    }
 }
 
 /// Writes a table out.
@@ -259,57 +350,73 @@ fn write_table<'a>(
     ensures list { OnOk result (out.new ≡ out.old ++ write_out by_id (field.Table table.entry)) }
     ensures refusal { IfErr result (λ e. e ≡ out_of_memory) }
 {
-    let Table {
-        span,
-        id,
-        name,
-        exports,
-        kind,
-    } = table;
-    let item = by_id(span, id);
-    write_exports(&exports, span, ExportKind::Table, item, out)?;
-    match kind {
-        TableKind::Import { import, ty } => {
-            keep(import_of(span, id, None, import, ItemKind::Table(ty)), out)
-        }
-        TableKind::Normal { ty, init_expr } => {
-            let kind = TableKind::Normal { ty, init_expr };
-            keep(table_of(alloc, span, id, name, kind), out)
-        }
-        TableKind::Inline {
-            elem,
-            is64,
-            shared,
-            payload,
-        } => {
-            let ty = filled_table_type(elem, is64, shared, &payload);
-            keep(elem_into(alloc, span, item, is64, payload)?, out)?;
-            let filled = TableKind::Normal {
-                ty,
-                init_expr: None,
-            };
-            keep(table_of(alloc, span, id, name, filled), out)
+    let item = by_id(table.span, table.id);
+    match write_exports(&table.exports, table.span, ExportKind::Table, item, out) {
+        Ok(()) => write_table_alone(alloc, table, item, out),
+        Err(e) => {
+            discard_field(ModuleField::Table(table));
+            Err(e)
         }
     }
 }
 
-/// A memory that holds what its type says, without anything in place.
+/// A memory of a type, without anything in place.
 fn memory_of<'a>(
     alloc: Global,
     span: Span,
     id: Option<Id<'a>>,
     name: Option<NameAnnotation<'a>>,
-    kind: MemoryKind<'a>,
+    ty: MemoryType,
 ) -> ModuleField<'a>
-    ensures { result ≡ field.Memory (record { span = span; id = id.entry; name = name.entry; exports = no_exports; kind = kind.entry }) }
+    ensures { result ≡ field.Memory (record { span = span; id = id.entry; name = name.entry; exports = no_exports; kind = memory_kind.Normal ty }) }
 {
     ModuleField::Memory(Memory {
         span,
         id,
         name,
-        exports: no_exports(alloc),
-        kind,
+        exports: InlineExport::none(alloc),
+        kind: MemoryKind::Normal(ty),
     })
+}
+
+/// Writes the segment of a memory, and the memory without what stands in place, or its import.
+fn write_memory_alone<'a>(
+    alloc: Global,
+    memory: Memory<'a>,
+    item: Index<'a>,
+    out: &mut Seq<ModuleField<'a>>,
+) -> Result<(), Error<'a>>
+    ensures list { OnOk result (out.new ≡ out.old ++ (data_in memory.entry.kind memory.entry.span item.entry ++ memory_alone memory.entry memory.entry.kind ∷ [])) }
+    ensures refusal { IfErr result (λ e. IsRefused (overflows_kind memory.entry.kind) e) }
+{
+    let Memory {
+        span,
+        id,
+        name,
+        exports,
+        kind,
+    } = memory;
+    discard_exports(exports);
+    match kind {
+        MemoryKind::Import { import, ty } => {
+            push_field(out, import_of(span, id, None, import, ItemKind::Memory(ty)))
+        }
+        MemoryKind::Normal(ty) => push_field(out, memory_of(alloc, span, id, name, ty)),
+        MemoryKind::Inline {
+            is64,
+            bytes,
+            page_size_log2,
+        } => match filling(alloc, is64, bytes.as_slice(), page_size_log2) {
+            Ok((ty, offset)) => {
+                let filled = memory_of(alloc, span, id, name, ty);
+                push_both(out, data_into(span, item, offset, bytes), filled)
+            }
+            Err(e) => {
+                discard_data(bytes);
+                Err(e)
+            }
+        },
+    }
 }
 
 /// Writes a memory out.
@@ -321,34 +428,12 @@ fn write_memory<'a>(
     ensures list { OnOk result (out.new ≡ out.old ++ write_out by_id (field.Memory memory.entry)) }
     ensures refusal { IfErr result (λ e. IsRefused (overflows (field.Memory memory.entry)) e) }
 {
-    let Memory {
-        span,
-        id,
-        name,
-        exports,
-        kind,
-    } = memory;
-    let item = by_id(span, id);
-    write_exports(&exports, span, ExportKind::Memory, item, out)?;
-    match kind {
-        MemoryKind::Import { import, ty } => {
-            keep(import_of(span, id, None, import, ItemKind::Memory(ty)), out)
-        }
-        MemoryKind::Normal(ty) => {
-            keep(
-                memory_of(alloc, span, id, name, MemoryKind::Normal(ty)),
-                out,
-            )
-        }
-        MemoryKind::Inline {
-            is64,
-            bytes,
-            page_size_log2,
-        } => {
-            let ty = filled_memory_type(is64, bytes.as_slice(), page_size_log2)?;
-            keep(data_into(alloc, span, item, is64, bytes)?, out)?;
-            let filled = MemoryKind::Normal(ty);
-            keep(memory_of(alloc, span, id, name, filled), out)
+    let item = by_id(memory.span, memory.id);
+    match write_exports(&memory.exports, memory.span, ExportKind::Memory, item, out) {
+        Ok(()) => write_memory_alone(alloc, memory, item, out),
+        Err(e) => {
+            discard_field(ModuleField::Memory(memory));
+            Err(e)
         }
     }
 }
@@ -361,17 +446,18 @@ fn global_alone<'a>(alloc: Global, global: wast_tree::Global<'a>) -> ModuleField
         span,
         id,
         name,
-        exports: _,
+        exports,
         ty,
         kind,
     } = global;
+    discard_exports(exports);
     match kind {
         GlobalKind::Import(source) => import_of(span, id, None, source, ItemKind::Global(ty)),
         GlobalKind::Inline(expression) => ModuleField::Global(wast_tree::Global {
             span,
             id,
             name,
-            exports: no_exports(alloc),
+            exports: InlineExport::none(alloc),
             ty,
             kind: GlobalKind::Inline(expression),
         }),
@@ -388,24 +474,36 @@ fn write_global<'a>(
     ensures refusal { IfErr result (λ e. e ≡ out_of_memory) }
 {
     let item = by_id(global.span, global.id);
-    write_exports(&global.exports, global.span, ExportKind::Global, item, out)?;
-    keep(global_alone(alloc, global), out)
+    match write_exports(&global.exports, global.span, ExportKind::Global, item, out) {
+        Ok(()) => push_field(out, global_alone(alloc, global)),
+        Err(e) => {
+            discard_field(ModuleField::Global(global));
+            Err(e)
+        }
+    }
 }
 
 /// A tag without what stands in place, or its import.
 fn tag_alone<'a>(alloc: Global, tag: Tag<'a>) -> ModuleField<'a>
     ensures { result ≡ tag_alone tag.entry tag.entry.kind }
 {
-    match tag.kind {
-        TagKind::Import(source) => {
-            import_of(tag.span, tag.id, None, source, ItemKind::Tag(tag.ty))
-        }
+    let Tag {
+        span,
+        id,
+        name,
+        exports,
+        ty,
+        kind,
+    } = tag;
+    discard_exports(exports);
+    match kind {
+        TagKind::Import(source) => import_of(span, id, None, source, ItemKind::Tag(ty)),
         TagKind::Inline => ModuleField::Tag(Tag {
-            span: tag.span,
-            id: tag.id,
-            name: tag.name,
-            exports: no_exports(alloc),
-            ty: tag.ty,
+            span,
+            id,
+            name,
+            exports: InlineExport::none(alloc),
+            ty,
             kind: TagKind::Inline,
         }),
     }
@@ -421,6 +519,11 @@ fn write_tag<'a>(
     ensures refusal { IfErr result (λ e. e ≡ out_of_memory) }
 {
     let item = by_id(tag.span, tag.id);
-    write_exports(&tag.exports, tag.span, ExportKind::Tag, item, out)?;
-    keep(tag_alone(alloc, tag), out)
+    match write_exports(&tag.exports, tag.span, ExportKind::Tag, item, out) {
+        Ok(()) => push_field(out, tag_alone(alloc, tag)),
+        Err(e) => {
+            discard_field(ModuleField::Tag(tag));
+            Err(e)
+        }
+    }
 }

@@ -1,11 +1,7 @@
 use Rattle.std.proofs.Common.{sym, ap, ◌∙◌, arith}
 use Rattle.wast_tree.specs.WrittenOut.{is_written_out}
 use Rattle.wast_deinline.proofs.Staying.{stays_written, wants_no_reference}
-use Rattle.wast_deinline.proofs.Referable.{refused}
 use Rattle.wast_deinline.proofs.writing.run.Goals as goal
-
-pub returns-in-Ok-clause-refusal : goal.returns-in-Ok-clause-refusal
-returns-in-Ok-clause-refusal c = refused c.args.gensym.now c.args.fields c.name_items.new.fields c.write_fields.result (c.in-Ok.ensures.fields) c.write_fields.ensures.refusal
 
 -- where nothing stands in place
 pub returns-then-is_written_out-clause-list : goal.returns-then-is_written_out-clause-list
