@@ -1,11 +1,16 @@
-//! Tests of `wast_core`, `wast_resolve` and `wast_rows` over the worked rows, as their callers use them.
+//! Tests of `wast_conv`, `wast_core`, `wast_resolve` and `wast_rows`, as their callers use them: each call that takes memory
+//! has its answer where there is enough, and runs on streams that fail end as they are told to.
 #![tactic(auto)]
 
+#[cfg(test)]
+mod conversions;
+#[cfg(test)]
+mod items;
 #[cfg(test)]
 mod made;
 #[cfg(test)]
 mod modules;
 #[cfg(test)]
-mod resolving;
+mod refusals;
 #[cfg(test)]
 mod runs;

@@ -1,72 +1,16 @@
-//! Modules, types and functions that are no worked rows.
+//! What the tests make modules of.
 
 ghost use Rattle.std.specs.Prelude.{◌≡◌, IsTrue};
-ghost use Rattle.wast_tree.specs.Occurrences.{in_def};
-ghost use Rattle.wast_resolve.specs.Resolved.{is_resolved};
-ghost use Rattle.wast_conv.specs.Encodable.{is_encodable_def};
+ghost use Rattle.wast_core.specs.Modules.{is_well_formed, generation_bound};
 
 use std::alloc::Global;
+use std::process::Abort;
 use wast_core::{Module, ModuleKind};
-use wast_tree::{
-    Expression, Func, FuncKind, FunctionType, Id, Index, InlineExport, InnerTypeKind, ModuleField,
-    Seq, Span, Type, TypeDef, TypeUse,
-};
+use wast_rows::sample;
+use wast_tree::{Error, Span};
 
 pub(crate) fn at(offset: usize) -> Span {
     Span { offset }
-}
-
-/// What `(func)` defines.
-pub(crate) fn plain_type<'a>(alloc: Global) -> TypeDef<'a>
-    ensures encodable { IsTrue (is_encodable_def result) }
-    ensures resolved { IsTrue (is_resolved (in_def result)) }
-{
-    TypeDef {
-        kind: InnerTypeKind::Func(FunctionType {
-            params: Seq::new(alloc),
-            results: Seq::new(alloc),
-        }),
-        shared: false,
-        parents: Seq::new(alloc),
-        descriptor: None,
-        describes: None,
-        final_type: None,
-    }
-}
-
-/// `(type ..)` at a place.
-pub(crate) fn type_at<'a>(id: Option<Id<'a>>, offset: usize, def: TypeDef<'a>) -> Type<'a>
-    ensures { result.def ≡ def.entry }
-{
-    Type {
-        span: at(offset),
-        id,
-        name: None,
-        def,
-    }
-}
-
-/// `(func (type ..))` at a place, without id, locals and instructions.
-pub(crate) fn func(alloc: Global, offset: usize, ty: Index<'_>) -> ModuleField<'_> {
-    ModuleField::Func(Func {
-        span: at(offset),
-        id: None,
-        name: None,
-        exports: InlineExport {
-            names: Seq::new(alloc),
-        },
-        kind: FuncKind::Inline {
-            locals: Seq::new(alloc),
-            expression: Expression {
-                instrs: Seq::new(alloc),
-                branch_hints: Seq::new(alloc),
-            },
-        },
-        ty: TypeUse {
-            index: Some(ty),
-            inline: None,
-        },
-    })
 }
 
 /// A module without id.
@@ -77,4 +21,34 @@ pub(crate) fn module(kind: ModuleKind<'_>) -> Module<'_> {
         name: None,
         kind,
     }
+}
+
+// The module, where it can be encoded with a counter at 1.
+pub(crate) fn ready<'a>(rt: &impl Abort, module: Module<'a>) -> Module<'a>
+    ensures well_formed { IsTrue (is_well_formed result) }
+    ensures bound { generation_bound result ≡ 0 }
+{
+    assert!(rt; module.well_formed());
+    assert!(rt; module.gensym_bound() == 0);
+    module
+}
+
+pub(crate) fn row<'a>(rt: &impl Abort, alloc: Global, n: u32) -> Module<'a>
+    ensures well_formed { IsTrue (is_well_formed result) }
+    ensures bound { generation_bound result ≡ 0 }
+{
+    let made = sample(alloc, n).expect(rt, "there is such a row");
+    ready(rt, made.expect(rt, "memory"))
+}
+
+/// The answer is these bytes, written in hex.
+pub(crate) fn has_bytes(
+    rt: &impl Abort,
+    alloc: Global,
+    answer: Result<Vec<u8>, Error<'_>>,
+    bytes: &str,
+) {
+    let answer = answer.expect(rt, "memory");
+    let text = hex::encode(alloc, answer.as_slice()).expect(rt, "memory");
+    assert!(rt; text.as_str() == bytes, "{text}");
 }

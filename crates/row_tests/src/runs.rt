@@ -1,147 +1,16 @@
-//! Runs over worked and other rows, from input that ends or fails and to output that takes all or fails.
+//! Runs over rows that are no worked ones, from input that ends or fails and to output that takes all or fails. What is told
+//! of the worked rows stands beside the program `wastrow`.
 
-use crate::made::{at, module, plain_type, type_at};
+use crate::made::{at, module};
 use std::alloc::Global;
 use std::io;
 use std::io::{Read, Write};
 use std::test::Fail;
 use wast_core::{Module, ModuleKind};
-use wast_rows::{RunError, run, sample};
-use wast_tree::{Error, Fault, Gensym, Id, ModuleField, Seq};
-
-const FIRST_ROW: &str = "0061736d01000000\n";
-
-pub(crate) const BYTES_OF_2: &str = "0061736d01000000010401600000030201000a040102000b";
-
-pub(crate) const BYTES_OF_4: &str =
-    "0061736d0100000001040160000003020100070501016100000a040102000b";
-
-pub(crate) const BYTES_OF_24: &str = "0061736d01000000030201050a040102000b";
-
-pub(crate) const BYTES_OF_27: &str =
-    "0061736d0100000001040160000003020100070501016100000a0601040010000b0011046e616d65010401000166040401000174";
-
-fn answers(alloc: Global, mut input: &[u8]) -> Result<Vec<u8>, RunError> {
-    let mut output = Vec::new(alloc);
-    run(alloc, &mut input, &mut output, |n| sample(alloc, n))?;
-    Ok(output)
-}
-
-#[test]
-fn rows_have_their_lines(rt: HostRuntime) -> Result<(), Fail> {
-    let output = answers(rt.alloc(), b"1\n2\n3\n24\n27\n31\n32\n")?;
-    let want = format!(in rt.alloc();
-        "{FIRST_ROW}{BYTES_OF_2}\n{BYTES_OF_2}000b046e616d65010401000166\n{BYTES_OF_24}\n{BYTES_OF_27}\nfault at 43: unknown func: failed to find name `$g`\nfault at 31: duplicate type identifier\n"
-    )?;
-    assert_eq!(rt; output.as_slice(), want.as_bytes());
-    Ok(())
-}
-
-#[test]
-fn rows_of_types_have_their_lines(rt: HostRuntime) -> Result<(), Fail> {
-    let output = answers(rt.alloc(), b"8\n33\n36\n37\n")?;
-    let want = concat!(
-        "0061736d010000000109024e01600000600000030201010a040102000b\n",
-        "0061736d01000000010401600000030201000a08010602027f017e0b\n",
-        "0061736d01000000010c0250006000004f0100600000000b046e616d65040401000161\n",
-        "0061736d010000000106015000600000030201000a040102000b\n",
-    );
-    assert_eq!(rt; output.as_slice(), want.as_bytes());
-    Ok(())
-}
-
-#[test]
-fn rows_of_type_uses_have_their_lines(rt: HostRuntime) -> Result<(), Fail> {
-    let output = answers(rt.alloc(), b"7\n14\n17\n22\n23\n65\n")?;
-    let want = concat!(
-        "0061736d010000000106016000027f7e030201000a05010300000b000b046e616d65040401000174\n",
-        "fault at 49: inline function type doesn't match type reference\n",
-        "fault at 36: duplicate local identifier\n",
-        "fault at 20: unknown type: type index out of bounds\n",
-        "fault at 36: invalid type: not a function type\n",
-        "0061736d01000000010e0360000060016400006001640000030201020a040102000b000b046e616d65040401000161\n",
-    );
-    assert_eq!(rt; output.as_slice(), want.as_bytes());
-    Ok(())
-}
-
-#[test]
-fn rows_of_inner_names_have_their_lines(rt: HostRuntime) -> Result<(), Fail> {
-    let output = answers(rt.alloc(), b"34\n35\n")?;
-    let want = concat!(
-        "0061736d010000000105015f017f010013046e616d650404010001730a06010001000179\n",
-        "0061736d0100000001050160017f00030201000a06010401017e0b0015046e616d65020601000101016c0c06010001000170\n",
-    );
-    assert_eq!(rt; output.as_slice(), want.as_bytes());
-    Ok(())
-}
-
-#[test]
-fn rows_of_imports_have_their_lines(rt: HostRuntime) -> Result<(), Fail> {
-    let output = answers(rt.alloc(), b"12\n13\n21\n30\n38\n")?;
-    let want = concat!(
-        "fault at 16: import after function\n",
-        "fault at 35: duplicate func identifier\n",
-        "fault at 15: import after tag\n",
-        "0061736d0100000001050160017f00020701016d01660000080100000b046e616d65010401000166\n",
-        "0061736d0100000002180301650174017000010165016d0201010201650167037f00\n",
-    );
-    assert_eq!(rt; output.as_slice(), want.as_bytes());
-    Ok(())
-}
-
-#[test]
-fn rows_of_definitions_have_their_lines(rt: HostRuntime) -> Result<(), Fail> {
-    let output = answers(rt.alloc(), b"39\n40\n41\n")?;
-    let want = concat!(
-        "0061736d0100000005030100010606017e01427f0b0b0b020101780041080b02797a000b046e616d65070401000167\n",
-        "0061736d01000000040401700001090a02030000057001d0700b\n",
-        "0061736d010000000505010f010200\n",
-    );
-    assert_eq!(rt; output.as_slice(), want.as_bytes());
-    Ok(())
-}
-
-#[test]
-fn rows_of_what_stands_in_place_have_their_lines(rt: HostRuntime) -> Result<(), Fail> {
-    let output = answers(rt.alloc(), b"4\n5\n6\n42\n43\n44\n")?;
-    let want = concat!(
-        "0061736d0100000001040160000003020100070501016100000a040102000b\n",
-        "0061736d010000000504010101010b08010041000b026162\n",
-        "0061736d010000000104016000000302010004050170010101090901020041000b0001000a040102000b000b046e616d65010401000166\n",
-        "0061736d0100000002080101610162020001\n",
-        "0061736d01000000010401600000020701016101620000000b046e616d6501040100016e\n",
-        "0061736d0100000005040101000007090201610200016202000b06010041000b00\n",
-    );
-    assert_eq!(rt; output.as_slice(), want.as_bytes());
-    Ok(())
-}
-
-#[test]
-fn each_line_has_its_answer(rt: HostRuntime) -> Result<(), Fail> {
-    let none = "no row\n";
-    let row_and_none = "0061736d01000000\nno row\n";
-    for (input, want) in [
-        (&b""[..], ""),
-        (&b"\n"[..], none),
-        (&b"01"[..], none),
-        (&b"+1"[..], none),
-        (&b" 1"[..], none),
-        (&b"1\r\n"[..], none),
-        (&b"4294967296"[..], none),
-        (&b"0"[..], none),
-        (&b"9"[..], none),
-        (&b"20"[..], none),
-        (&b"\xff\xfe"[..], none),
-        (&b"1"[..], FIRST_ROW),
-        (&b"1\n"[..], FIRST_ROW),
-        (&b"1\n\n"[..], row_and_none),
-    ] {
-        let output = answers(rt.alloc(), input)?;
-        assert_eq!(rt; output.as_slice(), want.as_bytes(), "at {input:?}");
-    }
-    Ok(())
-}
+use wast_rows::{RunError, run};
+use wast_tree::{
+    Error, Fault, FunctionType, Gensym, Id, InnerTypeKind, Maker, ModuleField, Seq, Type, TypeDef,
+};
 
 // A module of one type, which is ill formed where it is shared.
 fn type_module<'a>(
@@ -149,11 +18,21 @@ fn type_module<'a>(
     id: Option<Id<'a>>,
     shared: bool,
 ) -> Result<Module<'a>, Error<'a>> {
+    let mut maker = Maker::new(alloc);
     let mut fields = Seq::new(alloc);
-    let mut def = plain_type(alloc);
-    def.shared = shared;
-    fields.push(ModuleField::Ty(type_at(id, 9, def)))?;
-    Ok(module(ModuleKind::Text(fields)))
+    let def = TypeDef {
+        kind: InnerTypeKind::Func(FunctionType::empty(alloc)),
+        shared,
+        parents: Seq::new(alloc),
+        descriptor: None,
+        describes: None,
+        final_type: None,
+    };
+    maker.push_field(&mut fields, ModuleField::Ty(Type::new(at(9), id, def)));
+    match maker.finish(fields) {
+        Ok(fields) => Ok(module(ModuleKind::Text(fields))),
+        Err(refused) => Err(refused),
+    }
 }
 
 fn generated_module<'a>(alloc: Global) -> Result<Module<'a>, Error<'a>> {

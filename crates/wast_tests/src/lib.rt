@@ -1,8 +1,7 @@
-//! Tests of `wast_tree`, `wast_deinline`, `wast_expand` and `wast_resolve`, as their callers use them.
+//! Tests of `wast_tree`, `wast_expand` and `wast_resolve`: calls that take memory have their answers where there is enough,
+//! and traits are used through their bounds.
 #![tactic(auto)]
 
-#[cfg(test)]
-mod deinline;
 #[cfg(test)]
 mod expand;
 #[cfg(test)]
