@@ -1,9 +1,10 @@
-//! The bytes of bodies, sections and modules of worked examples.
+//! The bytes of a module that has each kind of sections.
 
 ghost use Rattle.std.specs.Prelude.{◌≡◌, IfOk, OnOk, IsTrue};
 ghost use Rattle.std.specs.List.{list_all};
-ghost use Rattle.wasm_ops.specs.Covered.{is_covered_heap_type, is_covered_val_type};
+ghost use Rattle.wasm_ops.specs.Covered.{is_covered_heap_type, is_covered_ref_type, is_covered_sub_type, is_covered_val_type};
 ghost use Rattle.wasm_ops.specs.declared.instrs.IndexOp.TheVariants as ops;
+ghost use Rattle.wasm_ops.specs.ConstantInstrs.{i32_const_instr, ref_null_instr};
 ghost use Rattle.wasm_ops.specs.IndexInstrs.{index_instr};
 ghost use Rattle.wasm_ops.specs.Table.{instr, IsInstr};
 ghost use Rattle.wasm_out.specs.Bodies.{SpellsBody};
@@ -11,13 +12,15 @@ ghost use Rattle.wasm_out.specs.Bodies.{SpellsBody};
 use std::alloc::Global;
 use std::process::Abort;
 use wasm_ops::{
-    AbstractHeapType, CompositeInnerType, CompositeType, Encode, ExportKind, FuncType, HeapType,
-    IndexOp, InstructionSink, Itself, Length, RefType, SubType, ValType,
+    AbstractHeapType, CompositeInnerType, CompositeType, ConstExpr, EntityType, ExportKind,
+    FuncType, GlobalType, HeapType, IndexOp, InstructionSink, MemoryType, RefType, SubType,
+    TableType, TagType, ValType,
 };
 use wasm_out::{
-    Build, CodeSection, CustomSection, ExportSection, Function, FunctionSection, IndirectNameMap,
-    Locals, Module, NameMap, NameSection, Section, StartSection, TypeSection, building_law,
-    part_spelling_law, reading_laws,
+    Build, CodeSection, CustomSection, DataCountSection, DataSection, ElementSection, Elements,
+    ExportSection, Function, FunctionSection, GlobalSection, ImportSection, IndirectNameMap,
+    MemorySection, Module, NameMap, NameSection, StartSection, TableSection, TagSection,
+    TypeSection, building_law, part_spelling_law, reading_laws,
 };
 use wast_base::{Error, Seq};
 
@@ -43,8 +46,65 @@ fn calling<'e>(alloc: Global, types: &[ValType], index: u32) -> Result<Function,
     Ok(function)
 }
 
-/// The final type of functions without parameters and results.
-fn plain(alloc: Global) -> SubType {
+/// A constant of 32 bits.
+fn i32_const<'e>(alloc: Global, value: i32) -> Result<Vec<u8>, Error<'e>>
+    ensures bytes { IfOk result (λ v. v.items ≡ instr (i32_const_instr value)) }
+    ensures in_range { OnOk result (IsInstr (i32_const_instr value)) }
+{
+    let mut bytes = Vec::new(alloc);
+    InstructionSink::new(&mut bytes).i32_const(value)?;
+    Ok(bytes)
+}
+
+/// The expression of a constant of 32 bits.
+fn number<'e>(alloc: Global, value: i32) -> Result<ConstExpr, Error<'e>> {
+    let bytes = i32_const(alloc, value)?;
+    Ok(ConstExpr::raw(bytes))
+}
+
+/// A null reference of a heap type.
+fn ref_null<'e>(alloc: Global, heap_type: HeapType) -> Result<Vec<u8>, Error<'e>>
+    requires { IsTrue (is_covered_heap_type heap_type) }
+    ensures bytes { IfOk result (λ v. v.items ≡ instr (ref_null_instr heap_type)) }
+    ensures in_range { OnOk result (IsInstr (ref_null_instr heap_type)) }
+{
+    let mut bytes = Vec::new(alloc);
+    InstructionSink::new(&mut bytes).ref_null(heap_type)?;
+    Ok(bytes)
+}
+
+/// The expression of a null reference of a heap type.
+fn null<'e>(alloc: Global, heap_type: HeapType) -> Result<ConstExpr, Error<'e>>
+    requires { IsTrue (is_covered_heap_type heap_type) }
+{
+    let bytes = ref_null(alloc, heap_type)?;
+    Ok(ConstExpr::raw(bytes))
+}
+
+/// The heap type of functions.
+fn func() -> HeapType
+    ensures { IsTrue (is_covered_heap_type result) }
+{
+    HeapType::Abstract {
+        shared: false,
+        ty: AbstractHeapType::Func,
+    }
+}
+
+/// Nullable references to functions.
+fn funcref() -> RefType
+    ensures { IsTrue (is_covered_ref_type result) }
+{
+    RefType {
+        nullable: true,
+        heap_type: func(),
+    }
+}
+
+/// A type of functions without parameters and results.
+fn plain(alloc: Global, is_final: bool) -> SubType
+    ensures { IsTrue (is_covered_sub_type result) }
+{
     let inner = CompositeInnerType::Func(FuncType {
         params: Seq::new(alloc),
         results: Seq::new(alloc),
@@ -56,222 +116,192 @@ fn plain(alloc: Global) -> SubType {
             descriptor: None,
             describes: None,
         },
-        is_final: true,
+        is_final,
         supertype_idxs: Seq::new(alloc),
     }
 }
 
-/// The section has this id, and these bytes behind its length.
-fn has_bytes<S: Section>(rt: &impl Abort, alloc: Global, section: &S, id: u8, payload: &[u8]) {
-    assert!(rt; section.id() == id, "for {payload:?}");
-    let mut out = Vec::new(alloc);
-    assert!(rt; section.append_to(&mut out).is_ok(), "for {payload:?}");
-    assert!(rt; out.as_slice() == payload, "for {payload:?}");
-}
-
-/// A type section with the plain type, and behind it a group of the plain type and one that is the same but open.
-fn types(rt: &impl Abort, alloc: Global) -> TypeSection {
+/// A type on its own, and a group of a final type and an open one.
+fn add_types(rt: &impl Abort, alloc: Global, whole: &mut Module) {
     let mut section = TypeSection::new(alloc);
-    let ty = plain(alloc);
-    assert!(rt; ty.is_covered());
-    assert!(rt; section.subtype(&ty).is_ok());
-    let open = SubType {
-        is_final: false,
-        ..plain(alloc)
+    assert!(rt; section.subtype(&plain(alloc, true)).is_ok());
+    let group = [plain(alloc, true), plain(alloc, false)];
+    assert!(rt; section.rec(&group).is_ok());
+    assert!(rt; whole.section(&section).is_ok());
+}
+
+/// A tag of the type at 0, imported as `m` `t`, and a function of that type.
+fn add_imports_and_functions(rt: &impl Abort, alloc: Global, whole: &mut Module) {
+    let mut imports = ImportSection::new(alloc);
+    let tag = EntityType::Tag(TagType { func_type_idx: 0 });
+    assert!(rt; imports.import("m", "t", &tag).is_ok());
+    assert!(rt; whole.section(&imports).is_ok());
+    let mut functions = FunctionSection::new(alloc);
+    assert!(rt; functions.function(0).is_ok());
+    assert!(rt; whole.section(&functions).is_ok());
+}
+
+/// A table of at least one function, and one of 64 bits of one to two, which are null.
+fn add_tables(rt: &impl Abort, alloc: Global, whole: &mut Module) {
+    let mut section = TableSection::new(alloc);
+    let ty = TableType {
+        element_type: funcref(),
+        minimum: 1,
+        maximum: None,
+        table64: false,
+        shared: false,
     };
-    assert!(rt; open.is_covered());
-    assert!(rt; section.rec(&[ty, open]).is_ok());
-    section
+    assert!(rt; section.table(&ty).is_ok());
+    let wide = TableType {
+        maximum: Some(2),
+        table64: true,
+        ..ty
+    };
+    let init = null(alloc, func()).expect(rt, "memory");
+    assert!(rt; init.is_covered() && section.table_with_init(&wide, &init).is_ok());
+    assert!(rt; whole.section(&section).is_ok());
 }
 
-/// A function section with a function of the type at 0.
-fn functions(rt: &impl Abort, alloc: Global) -> FunctionSection {
-    let mut section = FunctionSection::new(alloc);
-    assert!(rt; section.function(0).is_ok());
-    section
+/// A shared memory of one to two pages of one byte, and a tag of the type at 0.
+fn add_memory_and_tag(rt: &impl Abort, alloc: Global, whole: &mut Module) {
+    let mut memories = MemorySection::new(alloc);
+    let ty = MemoryType {
+        minimum: 1,
+        maximum: Some(2),
+        memory64: false,
+        shared: true,
+        page_size_log2: Some(0),
+    };
+    assert!(rt; memories.memory(&ty).is_ok());
+    assert!(rt; whole.section(&memories).is_ok());
+    let mut tags = TagSection::new(alloc);
+    assert!(rt; tags.tag(&TagType { func_type_idx: 0 }).is_ok());
+    assert!(rt; whole.section(&tags).is_ok());
 }
 
-/// An export section with the function at 0, as `a`.
-fn exports(rt: &impl Abort, alloc: Global) -> ExportSection {
-    let mut section = ExportSection::new(alloc);
-    assert!(rt; section.export("a", ExportKind::Func, 0).is_ok());
-    section
+/// A variable that is -1, the function at 0 as `a`, and that it runs first.
+fn add_global_export_and_start(rt: &impl Abort, alloc: Global, whole: &mut Module) {
+    let mut globals = GlobalSection::new(alloc);
+    let ty = GlobalType {
+        val_type: ValType::I32,
+        mutable: true,
+        shared: false,
+    };
+    let init = number(alloc, -1).expect(rt, "memory");
+    assert!(rt; globals.global(&ty, &init).is_ok());
+    assert!(rt; whole.section(&globals).is_ok());
+    let mut exports = ExportSection::new(alloc);
+    assert!(rt; exports.export("a", ExportKind::Func, 0).is_ok());
+    assert!(rt; whole.section(&exports).is_ok());
+    assert!(rt; whole.section(&StartSection { function_index: 0 }).is_ok());
 }
 
-/// A code section with a body that has these locals and calls the function at an index.
-fn code(rt: &impl Abort, alloc: Global, types: &[ValType], index: u32) -> CodeSection
-    requires { IsTrue (list_all is_covered_val_type types.now) }
-{
-    let body = calling(alloc, types, index).expect(rt, "memory");
+/// The function at 0 to be copied, a null reference in the table at 1, and the function at 0 to be referred to.
+fn add_elements(rt: &impl Abort, alloc: Global, whole: &mut Module) {
+    let functions = Elements::Functions(vec![in alloc; 0].expect(rt, "memory"));
+    let mut values = Vec::new(alloc);
+    assert!(rt;
+        values
+            .push(null(alloc, func()).expect(rt, "memory"))
+            .is_ok()
+    );
+    let expressions = Elements::Expressions(funcref(), values);
+    let offset = number(alloc, 1).expect(rt, "memory");
+    let mut section = ElementSection::new(alloc);
+    assert!(rt; section.passive(&functions).is_ok());
+    assert!(rt; section.active(Some(1), &offset, &expressions).is_ok());
+    assert!(rt; section.declared(&functions).is_ok());
+    assert!(rt; whole.section(&section).is_ok());
+}
+
+/// The number of the data segments, and a body of three locals and a call.
+fn add_code(rt: &impl Abort, alloc: Global, whole: &mut Module) {
+    assert!(rt; whole.section(&DataCountSection { count: 2 }).is_ok());
+    let types = [ValType::I32, ValType::I32, ValType::I64];
+    let body = calling(alloc, &types, 0).expect(rt, "memory");
     let mut section = CodeSection::new(alloc);
     assert!(rt; section.function(&body).is_ok());
-    section
+    assert!(rt; body.byte_len() == 8 && section.byte_len() == 9);
+    assert!(rt; whole.section(&section).is_ok());
 }
 
-/// A map with one name.
-fn map(rt: &impl Abort, alloc: Global, index: u32, text: &str) -> NameMap {
-    let mut names = NameMap::new(alloc);
-    assert!(rt; names.append(index, text).is_ok());
-    names
+/// Bytes to be copied, and bytes in the first memory; and a custom section.
+fn add_data_and_custom(rt: &impl Abort, alloc: Global, whole: &mut Module) {
+    let offset = number(alloc, 1).expect(rt, "memory");
+    let mut section = DataSection::new(alloc);
+    assert!(rt; section.passive(b"x").is_ok());
+    assert!(rt; section.active(0, &offset, b"yz").is_ok());
+    assert!(rt; whole.section(&section).is_ok());
+    let bytes = vec![in alloc; 9, 8].expect(rt, "memory");
+    assert!(rt; whole.section(&CustomSection { name: "c", bytes }).is_ok());
 }
 
-/// A map of maps that has at 3 the name `x` at 2.
-fn maps(rt: &impl Abort, alloc: Global) -> IndirectNameMap {
-    let mut names = IndirectNameMap::new(alloc);
-    assert!(rt; names.append(3, &map(rt, alloc, 2, "x")).is_ok());
-    names
+/// The name of the module, and the names of what stands before the globals.
+fn add_names(rt: &impl Abort, names: &mut NameSection, map: &NameMap, maps: &IndirectNameMap) {
+    assert!(rt; names.module("m").is_ok());
+    assert!(rt; names.functions(map).is_ok());
+    assert!(rt; names.locals(maps).is_ok());
+    assert!(rt; names.labels(maps).is_ok());
+    assert!(rt; names.types(map).is_ok());
+    assert!(rt; names.tables(map).is_ok());
+    assert!(rt; names.memories(map).is_ok());
 }
 
-/// A name section with the function `f` and the type `t`.
+/// The names of globals, and of what stands behind them.
+fn add_more_names(rt: &impl Abort, names: &mut NameSection, map: &NameMap, maps: &IndirectNameMap) {
+    assert!(rt; names.globals(map).is_ok());
+    assert!(rt; names.elements(map).is_ok());
+    assert!(rt; names.data_segments(map).is_ok());
+    assert!(rt; names.fields(maps).is_ok());
+    assert!(rt; names.tags(map).is_ok());
+    assert!(rt; names.parameters(maps).is_ok());
+    assert!(rt; names.tag_parameters(maps).is_ok());
+}
+
+/// A name section with each subsection: by index the name `x` at 2, and at 3 the map of it.
 fn names(rt: &impl Abort, alloc: Global) -> NameSection {
-    let mut section = NameSection::new(alloc);
-    assert!(rt; section.functions(&map(rt, alloc, 0, "f")).is_ok());
-    assert!(rt; section.types(&map(rt, alloc, 0, "t")).is_ok());
-    section
+    let mut map = NameMap::new(alloc);
+    assert!(rt; map.append(2, "x").is_ok());
+    let mut maps = IndirectNameMap::new(alloc);
+    assert!(rt; maps.append(3, &map).is_ok());
+    let mut names = NameSection::new(alloc);
+    add_names(rt, &mut names, &map, &maps);
+    add_more_names(rt, &mut names, &map, &maps);
+    names
 }
 
 #[test]
-fn sections_have_the_bytes_of_a_module(rt: HostRuntime) {
+fn each_section_has_its_bytes(rt: HostRuntime) {
     let alloc = rt.alloc();
     let mut whole = Module::new(alloc).expect(&rt, "memory");
-    assert!(rt; whole.section(&types(&rt, alloc)).is_ok());
-    assert!(rt; whole.section(&functions(&rt, alloc)).is_ok());
-    assert!(rt; whole.section(&exports(&rt, alloc)).is_ok());
-    assert!(rt; whole.section(&code(&rt, alloc, &[], 0)).is_ok());
+    add_types(&rt, alloc, &mut whole);
+    add_imports_and_functions(&rt, alloc, &mut whole);
+    add_tables(&rt, alloc, &mut whole);
+    add_memory_and_tag(&rt, alloc, &mut whole);
+    add_global_export_and_start(&rt, alloc, &mut whole);
+    add_elements(&rt, alloc, &mut whole);
+    add_code(&rt, alloc, &mut whole);
+    add_data_and_custom(&rt, alloc, &mut whole);
     assert!(rt; whole.section(&names(&rt, alloc)).is_ok());
-    let bytes = [
-        0x00, 0x61, 0x73, 0x6d, 0x01, 0x00, 0x00, 0x00, 0x01, 0x0e, 0x02, 0x60, 0x00, 0x00, 0x4e,
-        0x02, 0x60, 0x00, 0x00, 0x50, 0x00, 0x60, 0x00, 0x00, 0x03, 0x02, 0x01, 0x00, 0x07, 0x05,
-        0x01, 0x01, 0x61, 0x00, 0x00, 0x0a, 0x06, 0x01, 0x04, 0x00, 0x10, 0x00, 0x0b, 0x00, 0x11,
-        0x04, 0x6e, 0x61, 0x6d, 0x65, 0x01, 0x04, 0x01, 0x00, 0x01, 0x66, 0x04, 0x04, 0x01, 0x00,
-        0x01, 0x74,
-    ];
-    assert!(rt; whole.finish().as_slice() == bytes.as_slice());
-}
-
-/// A nullable reference.
-fn reference(heap_type: HeapType) -> ValType
-    ensures { is_covered_val_type result ≡ is_covered_heap_type heap_type }
-{
-    ValType::Ref(RefType {
-        nullable: true,
-        heap_type,
-    })
+    let expected =
+        b"\x00\x61\x73\x6d\x01\x00\x00\x00\x01\x0e\x02\x60\x00\x00\x4e\x02\x60\x00\x00\x50\x00\x60\x00\x00\
+        \x02\x08\x01\x01\x6d\x01\x74\x04\x00\x00\x03\x02\x01\x00\x04\x0d\x02\x70\x00\x01\x40\x00\x70\x05\
+        \x01\x02\xd0\x70\x0b\x05\x05\x01\x0b\x01\x02\x00\x0d\x03\x01\x00\x00\x06\x06\x01\x7f\x01\x41\x7f\
+        \x0b\x07\x05\x01\x01\x61\x00\x00\x08\x01\x00\x09\x13\x03\x01\x00\x01\x00\x06\x01\x41\x01\x0b\x70\
+        \x01\xd0\x70\x0b\x03\x00\x01\x00\x0c\x01\x02\x0a\x0a\x01\x08\x02\x02\x7f\x01\x7e\x10\x00\x0b\x0b\
+        \x0b\x02\x01\x01\x78\x00\x41\x01\x0b\x02\x79\x7a\x00\x04\x01\x63\x09\x08\x00\x61\x04\x6e\x61\x6d\
+        \x65\x00\x02\x01\x6d\x01\x04\x01\x02\x01\x78\x02\x06\x01\x03\x01\x02\x01\x78\x03\x06\x01\x03\x01\
+        \x02\x01\x78\x04\x04\x01\x02\x01\x78\x05\x04\x01\x02\x01\x78\x06\x04\x01\x02\x01\x78\x07\x04\x01\
+        \x02\x01\x78\x08\x04\x01\x02\x01\x78\x09\x04\x01\x02\x01\x78\x0a\x06\x01\x03\x01\x02\x01\x78\x0b\
+        \x04\x01\x02\x01\x78\x0c\x06\x01\x03\x01\x02\x01\x78\x0d\x06\x01\x03\x01\x02\x01\x78";
+    assert!(rt; whole.finish().as_slice() == expected.as_slice());
 }
 
 #[test]
-fn locals_are_runs_of_equal_types(rt: HostRuntime) {
+fn what_is_new_is_empty(rt: HostRuntime) {
     let alloc = rt.alloc();
-    let func = HeapType::Abstract {
-        shared: false,
-        ty: AbstractHeapType::Func,
-    };
-    let types = [
-        ValType::I32,
-        ValType::I32,
-        ValType::I64,
-        ValType::I32,
-        reference(func),
-        reference(func),
-        reference(HeapType::Concrete(2)),
-        reference(HeapType::Concrete(3)),
-    ];
-    let bytes = [
-        0x01, 0x13, 0x06, 0x02, 0x7f, 0x01, 0x7e, 0x01, 0x7f, 0x02, 0x70, 0x01, 0x63, 0x02, 0x01,
-        0x63, 0x03, 0x10, 0xac, 0x02, 0x0b,
-    ];
-    has_bytes(&rt, alloc, &code(&rt, alloc, &types, 300), 10, &bytes);
-}
-
-/// These locals have these bytes, and their number.
-fn has_locals(rt: &impl Abort, alloc: Global, types: &[ValType], bytes: &[u8])
-    requires { IsTrue (list_all is_covered_val_type types.now) }
-{
-    let locals = Locals(types, Itself);
-    let mut length = Length::new();
-    assert!(rt; locals.encode(&mut length).is_ok(), "for {bytes:?}");
-    assert!(rt; length.count() == bytes.len() as u64, "for {bytes:?}");
-    let mut out = Vec::new(alloc);
-    assert!(rt; locals.encode(&mut out).is_ok(), "for {bytes:?}");
-    assert!(rt; out.as_slice() == bytes, "for {bytes:?}");
-}
-
-#[test]
-fn locals_are_written_into_any_sink(rt: HostRuntime) {
-    let alloc = rt.alloc();
-    let mixed = [ValType::I32, ValType::I32, ValType::I64];
-    has_locals(&rt, alloc, &[], &[0x00]);
-    has_locals(&rt, alloc, &mixed, &[0x02, 0x02, 0x7f, 0x01, 0x7e]);
-    has_locals(&rt, alloc, &[ValType::I32; 128], &[0x01, 0x80, 0x01, 0x7f]);
-}
-
-#[test]
-fn start_and_custom_sections_have_their_bytes(rt: HostRuntime) {
-    let alloc = rt.alloc();
-    let start = StartSection { function_index: 7 };
-    has_bytes(&rt, alloc, &start, 8, &[0x07]);
-    let custom = CustomSection {
-        name: "c",
-        bytes: vec![in alloc; 9, 8].expect(&rt, "memory"),
-    };
-    has_bytes(&rt, alloc, &custom, 0, &[0x01, 0x63, 9, 8]);
-}
-
-#[test]
-fn subsections_of_name_maps_have_their_ids(rt: HostRuntime) {
-    let alloc = rt.alloc();
-    let map = map(&rt, alloc, 2, "x");
-    let mut names = NameSection::new(alloc);
-    assert!(rt; names.module("m").is_ok());
-    assert!(rt; names.tables(&map).is_ok());
-    assert!(rt; names.memories(&map).is_ok());
-    assert!(rt; names.globals(&map).is_ok());
-    assert!(rt; names.elements(&map).is_ok());
-    assert!(rt; names.data_segments(&map).is_ok());
-    assert!(rt; names.tags(&map).is_ok());
-    let bytes = [
-        4, 0x6e, 0x61, 0x6d, 0x65, 0, 2, 1, 0x6d, 5, 4, 1, 2, 1, 0x78, 6, 4, 1, 2, 1, 0x78, 7, 4,
-        1, 2, 1, 0x78, 8, 4, 1, 2, 1, 0x78, 9, 4, 1, 2, 1, 0x78, 11, 4, 1, 2, 1, 0x78,
-    ];
-    has_bytes(&rt, alloc, &names, 0, &bytes);
-}
-
-#[test]
-fn subsections_of_maps_of_name_maps_have_their_ids(rt: HostRuntime) {
-    let alloc = rt.alloc();
-    let maps = maps(&rt, alloc);
-    let mut names = NameSection::new(alloc);
-    assert!(rt; names.locals(&maps).is_ok());
-    assert!(rt; names.labels(&maps).is_ok());
-    assert!(rt; names.fields(&maps).is_ok());
-    assert!(rt; names.parameters(&maps).is_ok());
-    assert!(rt; names.tag_parameters(&maps).is_ok());
-    let bytes = [
-        4, 0x6e, 0x61, 0x6d, 0x65, 2, 6, 1, 3, 1, 2, 1, 0x78, 3, 6, 1, 3, 1, 2, 1, 0x78, 10, 6, 1,
-        3, 1, 2, 1, 0x78, 12, 6, 1, 3, 1, 2, 1, 0x78, 13, 6, 1, 3, 1, 2, 1, 0x78,
-    ];
-    has_bytes(&rt, alloc, &names, 0, &bytes);
-}
-
-#[test]
-fn what_was_filled_is_not_empty(rt: HostRuntime) {
-    let alloc = rt.alloc();
-    assert!(rt; TypeSection::new(alloc).is_empty() && !types(&rt, alloc).is_empty());
-    assert!(rt; NameMap::new(alloc).is_empty() && !map(&rt, alloc, 2, "x").is_empty());
-    assert!(rt; IndirectNameMap::new(alloc).is_empty() && !maps(&rt, alloc).is_empty());
-    assert!(rt; NameSection::new(alloc).is_empty() && !names(&rt, alloc).is_empty());
-}
-
-#[test]
-fn bodies_tell_their_lengths(rt: HostRuntime) {
-    let alloc = rt.alloc();
-    let body = calling(alloc, &[], 0).expect(&rt, "memory");
-    assert!(rt; body.byte_len() == 4);
-    assert!(rt; code(&rt, alloc, &[], 0).byte_len() == 5);
-}
-
-#[test]
-fn the_laws_can_be_called() {
+    assert!(rt; TypeSection::new(alloc).is_empty() && NameSection::new(alloc).is_empty());
+    assert!(rt; NameMap::new(alloc).is_empty() && IndirectNameMap::new(alloc).is_empty());
     building_law();
     part_spelling_law();
     reading_laws();
