@@ -1,0 +1,14 @@
+//! A test: a run over an input that asks for each worked row, and has lines that are the number of none.
+#![tactic(auto)]
+
+use std::process::ExitCode;
+use wast_rows::{run, sample};
+
+fn main(rt: HostRuntime) -> ExitCode {
+    let alloc = rt.alloc();
+    let mut input = rt.stdin();
+    match run(alloc, &mut input, &mut rt.stdout(), |n| sample(alloc, n)) {
+        Ok(()) => ExitCode::SUCCESS,
+        Err(_) => ExitCode::FAILURE,
+    }
+}
