@@ -11,7 +11,7 @@ use crate::leb128::{unsigned_bytes, width};
 use std::marker::Model;
 use wast_base::{Error, Fault};
 
-/// Why nothing was appended. It takes one byte, so that each write can answer it; `?` makes an [`Error`] of it.
+/// Why nothing was appended. It is small, so that each write can answer it; `?` makes an [`Error`] of it.
 #[derive(Clone, Copy, Debug, PartialEq, Eq)]
 pub enum Refusal {
     /// E10: a number, count or length is out of range, or the bytes are more than a [`Length`] counts or a room holds.
@@ -65,7 +65,7 @@ pub trait Sink {
         requires { size ≤ rules.size_of self.old }
         ensures { rules.is_cut self.old size self.new };
 
-    /// Appends bytes, as [`Sink::put`] does. It refuses only where so many do not fit; then nothing was appended.
+    /// Appends bytes, as [`Sink::put`] does, and tells a refusal itself.
     fn push_bytes(&mut self, bytes: &[u8]) -> Result<(), Refusal>
         ensures { Writes rules (Unit {0}) self.old self.new bytes.now result }
     {
