@@ -3,9 +3,9 @@
 use std::alloc::Global;
 use std::process::Abort;
 use wast_tree::{
-    DataVal, Expression, Imports, Index, Instruction, ItemKind, ItemSig, Maker, ModuleField, Seq,
-    Span, TypeUse, discard_data, discard_expression, discard_field, discard_fields,
-    fields_with_capacity, push_field,
+    DataVal, Expression, ImportItems, Imports, Index, Instruction, ItemKind, ItemSig, Maker,
+    ModuleField, Seq, Span, TypeUse, discard_data, discard_expression, discard_field,
+    discard_fields, fields_with_capacity, push_field,
 };
 
 fn at(offset: usize) -> Span {
@@ -23,20 +23,19 @@ fn import<'a>() -> Imports<'a> {
     Imports::single(at(0), "m", "n", sig)
 }
 
-/// There is one signature, and it stands at that place.
-fn has_one_signature(rt: &impl Abort, alloc: Global, imports: &Imports<'_>, offset: usize) {
-    let sigs = imports.item_sigs(alloc).expect(rt, "memory");
-    assert!(rt; sigs.len() == 1 && sigs.as_slice()[0].span == at(offset));
-    assert!(rt; imports.unique_sigs() == 1);
+/// How many signatures there are.
+fn sig_count(rt: &impl Abort, alloc: Global, imports: &Imports<'_>) -> usize {
+    imports.item_sigs(alloc).expect(rt, "memory").len()
 }
 
 #[test]
 fn an_import_has_one_signature(rt: HostRuntime) {
     let mut imports = import();
-    has_one_signature(&rt, rt.alloc(), &imports, 5);
+    assert!(rt; sig_count(&rt, rt.alloc(), &imports) == 1);
     assert!(rt; imports.unique_sigs() == 1);
     imports.unique_sig_mut(0).span = at(6);
-    has_one_signature(&rt, rt.alloc(), &imports, 6);
+    let ImportItems::Single { sig, .. } = &imports.items;
+    assert!(rt; sig.span == at(6));
     discard_field(ModuleField::Import(imports));
 }
 
