@@ -14,7 +14,7 @@ use Rattle.wasm_ops.specs.ConstantInstrs.{i32_const_instr, ref_null_instr}
 use Rattle.wasm_ops.specs.IndexInstrs.{index_instr}
 use Rattle.wasm_out.specs.Bodies.{locals}
 use Rattle.wasm_out.specs.Parts.{Types, Imports, Functions, Tables, Memories, Tags, Globals, Exports, Code, Single, Custom, Listed, Part, part}
-use Rattle.wasm_out.specs.Reads.{header}
+use Rattle.wasm_out.specs.Reads.{header, Reads}
 
 -- runs of locals: two of i32, one of i64
 abbrev pub RunsOfLocals : Type 0
@@ -72,3 +72,12 @@ item_bytes = 0x02 ∷ 0x08 ∷ 0x01 ∷ 0x01 ∷ 0x6d ∷ 0x01 ∷ 0x74 ∷ 0x04
 
 abbrev pub ItemsSpelled : Type 0
 ItemsSpelled = flat_map part worked_items ≡ item_bytes
+
+-- a memory of 64 bits whose minimum has ten bytes: it is 2 ^ 64, which is out of range
+abbrev pub wide_bytes : List ℕ
+wide_bytes = 0x00 ∷ 0x61 ∷ 0x73 ∷ 0x6d ∷ 0x01 ∷ 0x00 ∷ 0x00 ∷ 0x00
+    ∷ 0x05 ∷ 0x0c ∷ 0x01 ∷ 0x04 ∷ 0x80 ∷ 0x80 ∷ 0x80 ∷ 0x80 ∷ 0x80 ∷ 0x80 ∷ 0x80 ∷ 0x80 ∷ 0x80 ∷ 0x02 ∷ []
+
+-- they are read as no module
+abbrev pub IsNoModule : Type 0
+IsNoModule = (parts : List Part) → Reads wide_bytes parts → ⊥
