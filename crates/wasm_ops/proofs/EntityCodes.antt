@@ -79,7 +79,7 @@ limits_code = record {
 
 pub table_type_code : IsCode TableType IsSpellableTableType table_type
 table_type_code =
-    code_within (λ t p. (((both_true (not t.shared) (is_covered_ref_type t.element_type) p.0).1, p.1), tt))
+    code_within (λ t p. (((both_true (not t.shared) (is_covered_ref_type t.element_type) p.0).1, p.1.0), tt))
     (code_by (λ (t : TableType). (t.element_type, ((t.shared, t.table64), (t.minimum, (t.maximum, None))))) (λ p. record { element_type = p.0; minimum = p.1.1.0; maximum = p.1.1.1.0; table64 = p.1.0.1; shared = p.1.0.0 }) (λ t. refl) (pair_code ref_type_code limits_code))
 
 -- no table type begins with 0x40
@@ -87,12 +87,15 @@ pub table_front : (t : TableType) (r : List ℕ) → IsSpellableTableType t → 
 table_front t r p =
     let sized = limits t.shared t.table64 t.minimum t.maximum None in
     let both = both_true (not t.shared) (is_covered_ref_type t.element_type) p.0 in
-    subst (λ l. 0x63 ≤ front l) (sym (append_assoc (ref_type t.element_type) sized r)) (ref_front t.element_type (sized ++ r) (both.1, p.1)).0
+    subst (λ l. 0x63 ≤ front l) (sym (append_assoc (ref_type t.element_type) sized r)) (ref_front t.element_type (sized ++ r) (both.1, p.1.0)).0
+
+-- whatever their numbers are
+pub any_memory_code : IsCode MemoryType Any memory_type
+any_memory_code =
+    (code_by (λ (m : MemoryType). ((m.shared, m.memory64), (m.minimum, (m.maximum, m.page_size_log2)))) (λ l. record { minimum = l.1.0; maximum = l.1.1.0; memory64 = l.0.1; shared = l.0.0; page_size_log2 = l.1.1.1 }) (λ m. refl) limits_code)
 
 pub memory_type_code : IsCode MemoryType IsSpellableMemoryType memory_type
-memory_type_code =
-    code_within (λ m p. tt)
-    (code_by (λ (m : MemoryType). ((m.shared, m.memory64), (m.minimum, (m.maximum, m.page_size_log2)))) (λ l. record { minimum = l.1.0; maximum = l.1.1.0; memory64 = l.0.1; shared = l.0.0; page_size_log2 = l.1.1.1 }) (λ m. refl) limits_code)
+memory_type_code = code_within (λ m p. tt) any_memory_code
 
 -- a global that is covered is the type of its value, and whether it can be changed
 abbrev unshared : ValType × Bool → GlobalType

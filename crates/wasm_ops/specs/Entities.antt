@@ -4,7 +4,7 @@ use Rattle.std.specs.List.{flat_map}
 use Rattle.std.specs.Option.{option_to_list}
 use Rattle.wasm_ops.specs.Covered.{Spellable, is_covered_ref_type, is_covered_val_type}
 use Rattle.wasm_ops.specs.Leb128.{unsigned}
-use Rattle.wasm_ops.specs.Spelling.{InRangeU32, ref_type, InRangeRefType, val_type, InRangeValType, mutability}
+use Rattle.wasm_ops.specs.Spelling.{InRangeU32, InRangeU64, ref_type, InRangeRefType, val_type, InRangeValType, mutability}
 use Rattle.wasm_ops.specs.declared.entities.TableType.{TableType}
 use Rattle.wasm_ops.specs.declared.entities.MemoryType.{MemoryType}
 use Rattle.wasm_ops.specs.declared.entities.GlobalType.{GlobalType}
@@ -26,12 +26,17 @@ limits_flags maximum shared wide page = bit maximum + 2 * bit shared + 4 * bit w
 abbrev pub if_there : Option ℕ → List ℕ
 if_there n = flat_map unsigned (option_to_list n)
 
-abbrev pub InRangeIfThere : Option ℕ → Type 0
-InRangeIfThere n = All InRangeU32 (option_to_list n)
+-- a number that is there is in range
+abbrev pub InRangeIfThere : (ℕ → Type 0) → Option ℕ → Type 0
+InRangeIfThere InRange n = All InRange (option_to_list n)
 
 -- whether it is shared, whether indices have 64 bits, the minimum, the maximum, the exponent of the page size
 abbrev pub limits : Bool → Bool → ℕ → Option ℕ → Option ℕ → List ℕ
 limits shared wide minimum maximum page = limits_flags (is_some maximum) shared wide (is_some page) ∷ (unsigned minimum ++ (if_there maximum ++ if_there page))
+
+-- the minimum and the maximum are numbers of 64 bits, and the exponent is one of 32
+abbrev pub InRangeLimits : ℕ → Option ℕ → Option ℕ → Type 0
+InRangeLimits minimum maximum page = InRangeU64 minimum × (InRangeIfThere InRangeU64 maximum × InRangeIfThere InRangeU32 page)
 
 -- ---- spellings, and numbers in range
 
@@ -39,13 +44,13 @@ abbrev pub table_type : TableType → List ℕ
 table_type t = ref_type t.element_type ++ limits t.shared t.table64 t.minimum t.maximum None
 
 abbrev pub InRangeTableType : TableType → Type 0
-InRangeTableType t = InRangeRefType t.element_type
+InRangeTableType t = InRangeRefType t.element_type × InRangeLimits t.minimum t.maximum None
 
 abbrev pub memory_type : MemoryType → List ℕ
 memory_type m = limits m.shared m.memory64 m.minimum m.maximum m.page_size_log2
 
 abbrev pub InRangeMemoryType : MemoryType → Type 0
-InRangeMemoryType m = InRangeIfThere m.page_size_log2
+InRangeMemoryType m = InRangeLimits m.minimum m.maximum m.page_size_log2
 
 abbrev pub global_type : GlobalType → List ℕ
 global_type g = val_type g.val_type ++ mutability g.mutable ∷ []

@@ -31,6 +31,10 @@ Any x = Unit {0}
 abbrev pub InRangeU32 : ℕ → Type 0
 InRangeU32 n = n < 2 ^ 32
 
+-- a number of 64 bits
+abbrev pub InRangeU64 : ℕ → Type 0
+InRangeU64 n = n < 2 ^ 64
+
 -- a count, and so many items
 abbrev pub vec : {A : Type 0} → (A → List ℕ) → List A → List ℕ
 vec item xs = unsigned (length xs) ++ flat_map item xs

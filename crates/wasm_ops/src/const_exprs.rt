@@ -9,7 +9,7 @@ use crate::sink::{Refusal, Sink};
 use std::marker::Model;
 
 /// The instructions of a constant expression, without the `0b` that ends it (binary format, expressions). Contracts see
-/// it as the bytes of its instructions.
+/// it as the bytes of its instructions, which spell a list of them.
 #[derive(Debug, Drop)]
 pub struct ConstExpr {
     bytes: Vec<u8>,
@@ -17,10 +17,13 @@ pub struct ConstExpr {
 
 impl Model for ConstExpr {
     ghost use Rattle.std.specs.Prelude.{ℕ, List};
+    ghost use Rattle.wasm_ops.specs.Table.{SpellsInstrs};
 
     ghost Value = { List ℕ };
 
     ghost view = { λ e. e.bytes.items };
+
+    ghost invariant = { λ e. SpellsInstrs e.bytes.items };
 }
 
 impl ConstExpr {
@@ -31,6 +34,15 @@ impl ConstExpr {
         ensures { result ≡ bytes.items }
     {
         ConstExpr { bytes }
+    }
+
+    /// Whether the encoder covers it. It covers each one, since the bytes spell instructions.
+    pub fn is_covered(&self) -> bool
+        ensures value { result ≡ true }
+        ensures spelled { SpellsInstrs self.now }
+    {
+        let _ = &self.bytes;
+        true // since each spelled instruction is covered
     }
 }
 

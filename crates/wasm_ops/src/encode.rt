@@ -6,7 +6,7 @@ ghost use Rattle.std.specs.Option.{option_to_list};
 ghost use Rattle.wasm_ops.specs.Leb128.{unsigned};
 ghost use Rattle.wasm_ops.specs.Sinks.{Writes, Puts};
 ghost use Rattle.wasm_ops.specs.declared.sink.Refusal.TheVariants as refusal;
-ghost use Rattle.wasm_ops.specs.Spelling.{Any, InRangeU32, vec, InRangeVec, sized, InRangeSized, name, InRangeName};
+ghost use Rattle.wasm_ops.specs.Spelling.{Any, InRangeU32, InRangeU64, vec, InRangeVec, sized, InRangeSized, name, InRangeName};
 
 use crate::sink::{Length, Refusal, Sink};
 use wast_base::Error;
@@ -61,7 +61,7 @@ impl Encode for u32 {
 impl Encode for u64 {
     ghost spelling = { unsigned };
 
-    ghost in_range = { Any };
+    ghost in_range = { InRangeU64 };
 
     ghost is_ready = { λ _. true };
 

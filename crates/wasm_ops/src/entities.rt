@@ -1,7 +1,7 @@
 //! The types of tables, memories, globals and tags, and of what is imported.
 
 ghost use Rattle.std.specs.Prelude.{◌≡◌, true};
-ghost use Rattle.wasm_ops.specs.Entities.{limits_flags, limits, InRangeIfThere, table_type, InRangeTableType, is_covered_table_type, memory_type, InRangeMemoryType, is_covered_memory_type, global_type, InRangeGlobalType, is_covered_global_type, tag_type, InRangeTagType, is_covered_tag_type, entity_type, InRangeEntityType, is_covered_entity_type};
+ghost use Rattle.wasm_ops.specs.Entities.{limits_flags, limits, InRangeLimits, table_type, InRangeTableType, is_covered_table_type, memory_type, InRangeMemoryType, is_covered_memory_type, global_type, InRangeGlobalType, is_covered_global_type, tag_type, InRangeTagType, is_covered_tag_type, entity_type, InRangeEntityType, is_covered_entity_type};
 
 use crate::encode::Encode;
 use crate::ref_types::RefType;
@@ -28,7 +28,7 @@ struct Limits {
 impl Encode for Limits {
     ghost spelling = { λ l. limits l.shared l.wide l.minimum l.maximum l.page_size_log2 };
 
-    ghost in_range = { λ l. InRangeIfThere l.page_size_log2 };
+    ghost in_range = { λ l. InRangeLimits l.minimum l.maximum l.page_size_log2 };
 
     ghost is_ready = { λ _. true };
 

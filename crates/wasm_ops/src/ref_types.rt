@@ -1,6 +1,6 @@
 //! Reference types, and the heap types that they refer to.
 
-ghost use Rattle.std.specs.Prelude.{◌≡◌};
+ghost use Rattle.std.specs.Prelude.{◌≡◌, true};
 ghost use Rattle.wasm_ops.specs.Covered.{is_covered_heap_type, is_covered_ref_type};
 ghost use Rattle.wasm_ops.specs.Spelling.{heap_type, InRangeHeapType, is_short, ref_type, InRangeRefType};
 
@@ -35,6 +35,15 @@ pub enum AbstractHeapType {
     None = 0x71,
     /// `i31`
     I31 = 0x6c,
+}
+
+impl AbstractHeapType {
+    /// Whether the encoder covers it. It covers each one.
+    pub fn is_covered(self) -> bool
+        ensures { result ≡ true }
+    {
+        true // since no abstract heap type is a form that is not covered
+    }
 }
 
 /// What a reference leads to (binary format, heap types).

@@ -94,6 +94,10 @@ fn push_long(room: &mut Room, n: u64) -> Result<(), Refusal>
 impl Sink for Room {
     ghost rules = { rooms.rules };
 
+    fn put<'e>(&mut self, bytes: &[u8]) -> Result<(), Error<'e>> {
+        Ok(self.push_bytes(bytes)?)
+    }
+
     fn push_bytes(&mut self, bytes: &[u8]) -> Result<(), Refusal> {
         if self.left < bytes.len() {
             return Err(Refusal::TooLarge);
@@ -119,10 +123,6 @@ impl Sink for Room {
             ]);
         }
         push_long(self, n)
-    }
-
-    fn skip(&mut self, _count: u64) -> bool {
-        false
     }
 
     fn size(&self) -> u64 {

@@ -3,7 +3,8 @@
 ghost use Rattle.std.specs.Prelude.{◌≡◌, ◌≤◌, ◌<◌, ◌+◌, ◌^◌, ℕ, List, ◌++◌, take, length};
 ghost use Rattle.wasm_ops.specs.Leb128.{unsigned};
 ghost use Rattle.wasm_ops.specs.SinkLaws as laws;
-ghost use Rattle.wasm_ops.specs.Sinks.{SinkRules, Writes, Puts, Skips, AppendLaws};
+ghost use Rattle.wasm_ops.specs.Sinks.{SinkRules, Writes, Puts, Skips, AppendLaws, refused_as};
+ghost use Rattle.wasm_ops.specs.declared.sink.Refusal.{Refusal};
 ghost use Rattle.wasm_ops.specs.declared.sink.Refusal.TheVariants as refusal;
 
 use crate::leb128::{unsigned_bytes, width};
@@ -33,26 +34,27 @@ impl From<Refusal> for Error<'_> {
     }
 }
 
+/// The refusal that an error tells: the one that `?` makes this error of.
+fn refusal_of(error: &Error) -> Refusal
+    ensures { (r : Refusal) → error.now ≡ refused_as r → result ≡ r }
+{
+    match error.number() {
+        12 => Refusal::Memory,
+        _ => Refusal::TooLarge,
+    }
+}
+
 /// Takes bytes at its end. Sizes and counts are numbers of bytes.
 ///
-/// A writer appends all that it writes, or leaves the sink as it was.
+/// A writer appends all that it writes, or leaves the sink as it was. Who implements it says how bytes are put, how many
+/// there are, and how they are cut off; the other calls stand over these, and may be written anew to be faster.
 pub trait Sink {
     /// What it holds, how many bytes fit, and the refusal where they do not.
     ghost rules: { SinkRules Self };
 
-    /// Appends bytes. It refuses only where so many do not fit; then nothing was appended.
-    fn push_bytes(&mut self, bytes: &[u8]) -> Result<(), Refusal>
-        ensures { Writes rules (Unit {0}) self.old self.new bytes.now result };
-
-    /// Appends the bytes of an unsigned number, the shortest (binary format, integers: `u64`). It refuses only where so
-    /// many do not fit; then nothing was appended.
-    fn push_number(&mut self, n: u64) -> Result<(), Refusal>
-        ensures { Writes rules (Unit {0}) self.old self.new (unsigned n) result };
-
-    /// Takes a count of bytes without the bytes. `true` says that the sink now stands as if any bytes of that count had
-    /// been appended; `false` says that it took none, and stays as it was.
-    fn skip(&mut self, count: u64) -> bool
-        ensures { Skips rules self.old self.new count result };
+    /// Appends bytes. The only error is the sink's refusal, where so many do not fit; then nothing was appended.
+    fn put<'e>(&mut self, bytes: &[u8]) -> Result<(), Error<'e>>
+        ensures { Puts rules (Unit {0}) self.old self.new bytes.now result };
 
     /// How many bytes stand in the sink.
     fn size(&self) -> u64
@@ -63,12 +65,32 @@ pub trait Sink {
         requires { size ≤ rules.size_of self.old }
         ensures { rules.is_cut self.old size self.new };
 
-    /// Appends bytes, as [`Sink::push_bytes`]. The only error is the sink's refusal, where so many do not fit; then
-    /// nothing was appended.
-    fn put<'e>(&mut self, bytes: &[u8]) -> Result<(), Error<'e>>
-        ensures { Puts rules (Unit {0}) self.old self.new bytes.now result }
+    /// Appends bytes, as [`Sink::put`] does, and tells a refusal itself.
+    fn push_bytes(&mut self, bytes: &[u8]) -> Result<(), Refusal>
+        ensures { Writes rules (Unit {0}) self.old self.new bytes.now result }
     {
-        Ok(self.push_bytes(bytes)?)
+        match self.put(bytes) {
+            Ok(()) => Ok(()),
+            Err(error) => Err(refusal_of(&error)),
+        }
+    }
+
+    /// Appends the bytes of an unsigned number, the shortest (binary format, integers: `u64`). It refuses only where so
+    /// many do not fit; then nothing was appended.
+    fn push_number(&mut self, n: u64) -> Result<(), Refusal>
+        ensures { Writes rules (Unit {0}) self.old self.new (unsigned n) result }
+    {
+        let (bytes, len) = unsigned_bytes(n);
+        self.push_bytes(&bytes[..len])
+    }
+
+    /// Takes a count of bytes without the bytes. `true` says that the sink now stands as if any bytes of that count had
+    /// been appended; `false` says that it took none, and stays as it was. A sink that keeps its bytes says `false`.
+    fn skip(&mut self, count: u64) -> bool
+        ensures { Skips rules self.old self.new count result }
+    {
+        let _ = count;
+        false
     }
 
     /// What was appended can be joined and cut back.
@@ -85,20 +107,15 @@ impl Sink for Vec<u8> {
       refusal = refusal.Memory;
     } };
 
+    fn put<'e>(&mut self, bytes: &[u8]) -> Result<(), Error<'e>> {
+        Ok(self.push_bytes(bytes)?)
+    }
+
     fn push_bytes(&mut self, bytes: &[u8]) -> Result<(), Refusal> {
         match self.extend_from_slice(bytes) {
             Ok(()) => Ok(()),
             Err(_) => Err(Refusal::Memory),
         }
-    }
-
-    fn push_number(&mut self, n: u64) -> Result<(), Refusal> {
-        let (bytes, len) = unsigned_bytes(n);
-        self.push_bytes(&bytes[..len])
-    }
-
-    fn skip(&mut self, _count: u64) -> bool {
-        false
     }
 
     fn size(&self) -> u64 {
@@ -159,6 +176,10 @@ impl Sink for Length {
       is_cut = λ a n b. b ≡ n;
       refusal = refusal.TooLarge;
     } };
+
+    fn put<'e>(&mut self, bytes: &[u8]) -> Result<(), Error<'e>> {
+        Ok(self.push_bytes(bytes)?)
+    }
 
     fn push_bytes(&mut self, bytes: &[u8]) -> Result<(), Refusal> {
         let Some(count) = self.count.checked_add(bytes.len() as u64) else {

@@ -4,5 +4,6 @@ pub mod LocalRuns
 pub mod PartCodes
 pub mod SameTypes
 pub mod SegmentCodes
+pub mod TooWide
 pub mod Worked
 pub mod WrittenLists

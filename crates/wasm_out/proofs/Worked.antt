@@ -1,7 +1,7 @@
 -- The worked examples, computed.
 use Rattle.std.proofs.Common.{refl}
 use Rattle.wasm_ops.specs.Leb128.{unsigned, unsigned_in, signed, signed_in}
-use Rattle.wasm_out.specs.WorkedBytes.{RunsOfLocals, Spelled, ItemsSpelled}
+use Rattle.wasm_out.specs.WorkedBytes.{RunsOfLocals, Spelled, ItemsSpelled, SegmentsSpelled}
 
 pub runs_of_locals : RunsOfLocals
 unfolding unsigned unsigned_in
@@ -14,3 +14,7 @@ worked_module = refl
 pub worked_items : ItemsSpelled
 unfolding unsigned unsigned_in signed signed_in
 worked_items = refl
+
+pub worked_segments : SegmentsSpelled
+unfolding unsigned unsigned_in signed signed_in
+worked_segments = refl

@@ -1,9 +1,8 @@
 -- Segments of elements as the code has them: where they stand, and the bytes of their lists.
-use Rattle.std.specs.Prelude.{ℕ, Bool, true, List, [], ◌∷◌, ◌++◌, length, All, IsTrue}
+use Rattle.std.specs.Prelude.{ℕ, Bool, true, List, [], ◌∷◌, ◌++◌, length, IsTrue}
 use Rattle.wasm_ops.specs.Covered.{is_covered_ref_type}
 use Rattle.wasm_ops.specs.Leb128.{unsigned}
 use Rattle.wasm_ops.specs.Spelling.{InRangeU32, vec, InRangeVec, InRangeRefType}
-use Rattle.wasm_ops.specs.Table.{SpellsInstrs}
 use Rattle.wasm_out.specs.declared.elements.ElementKind.{ElementKind}
 use Rattle.wasm_out.specs.declared.elements.ElementKind.TheVariants as kind
 use Rattle.wasm_out.specs.declared.elements.SegmentMode.{SegmentMode}
@@ -52,7 +51,7 @@ abbrev pub InRangeElements : Elements → Type 0
 InRangeElements (elements.Functions functions) = InRangeVec InRangeU32 functions.items
 InRangeElements (elements.Expressions ty expressions) = InRangeRefType ty × InRangeU32 (length expressions.items)
 
--- the type of the expressions is covered, and they spell instructions
+-- the type of the expressions is covered
 abbrev pub AreElements : Elements → Type 0
 AreElements (elements.Functions functions) = Unit {0}
-AreElements (elements.Expressions ty expressions) = IsTrue (is_covered_ref_type ty) × All SpellsInstrs expressions.items
+AreElements (elements.Expressions ty expressions) = IsTrue (is_covered_ref_type ty)

@@ -1,5 +1,5 @@
 -- Worked examples with their bytes, which the definitions compute (worked_bytes.rt).
-use Rattle.std.specs.Prelude.{◌≡◌, ℕ, negsuc, true, false, List, [], ◌∷◌, ◌++◌, Some, None, codes}
+use Rattle.std.specs.Prelude.{◌≡◌, ℕ, pos, negsuc, true, false, List, [], ◌∷◌, ◌++◌, Some, None, codes}
 use Rattle.std.specs.List.{flat_map}
 use Rattle.wasm_ops.specs.declared.entities.EntityType.TheVariants as entity
 use Rattle.wasm_ops.specs.declared.ref_types.AbstractHeapType.TheVariants as heaps
@@ -12,9 +12,12 @@ use Rattle.wasm_ops.specs.declared.types.CompositeInnerType.TheVariants as inner
 use Rattle.wasm_ops.specs.declared.instrs.IndexOp.TheVariants as op
 use Rattle.wasm_ops.specs.ConstantInstrs.{i32_const_instr, ref_null_instr}
 use Rattle.wasm_ops.specs.IndexInstrs.{index_instr}
+use Rattle.wasm_ops.specs.Table.{Instr}
 use Rattle.wasm_out.specs.Bodies.{locals}
-use Rattle.wasm_out.specs.Parts.{Types, Imports, Functions, Tables, Memories, Tags, Globals, Exports, Code, Single, Custom, Listed, Part, part}
-use Rattle.wasm_out.specs.Reads.{header}
+use Rattle.wasm_out.specs.DataSegments.{Kept, Placed}
+use Rattle.wasm_out.specs.ElementSegments.{ElementItems, Indices, Expressions, Passive, Declared, Active}
+use Rattle.wasm_out.specs.Parts.{Types, Imports, Functions, Tables, Memories, Tags, Globals, Exports, Elements, Code, Data, Single, Custom, Listed, Part, part}
+use Rattle.wasm_out.specs.Reads.{header, Reads}
 
 -- runs of locals: two of i32, one of i64
 abbrev pub RunsOfLocals : Type 0
@@ -72,3 +75,69 @@ item_bytes = 0x02 ∷ 0x08 ∷ 0x01 ∷ 0x01 ∷ 0x6d ∷ 0x01 ∷ 0x74 ∷ 0x04
 
 abbrev pub ItemsSpelled : Type 0
 ItemsSpelled = flat_map part worked_items ≡ item_bytes
+
+-- what the offsets and the expressions of the segments are: (i32.const 1), (ref.func 2), (ref.null extern)
+abbrev one_const : List Instr
+one_const = i32_const_instr (pos 1) ∷ []
+
+abbrev second_func : List Instr
+second_func = index_instr op.RefFunc 2 ∷ []
+
+abbrev extern_heap : HeapType
+extern_heap = heap.Abstract false heaps.Extern
+
+abbrev functions : ElementItems
+functions = Indices (0 ∷ 1 ∷ [])
+
+-- segments of functions 0 and 1, and of one expression: in the first table, passive, in table 3, declared
+abbrev pub worked_segments : List Part
+worked_segments =
+    record {
+      kind = Listed Elements;
+      items =
+          record { mode = Active None one_const; items = functions }
+          ∷ record { mode = Passive; items = functions }
+          ∷ record { mode = Active (Some 3) one_const; items = functions }
+          ∷ record { mode = Declared; items = functions }
+          ∷ record { mode = Active None one_const; items = Expressions funcref (second_func ∷ []) }
+          ∷ record { mode = Passive; items = Expressions (record { nullable = true; heap_type = extern_heap }) ((ref_null_instr extern_heap ∷ []) ∷ []) }
+          ∷ record { mode = Active (Some 3) one_const; items = Expressions funcref (second_func ∷ []) }
+          ∷ record { mode = Declared; items = Expressions (record { nullable = false; heap_type = func_heap }) (second_func ∷ []) }
+          ∷ [];
+    }
+    ∷ record {
+      kind = Listed Data;
+      items =
+          record { mode = Placed 0 one_const; bytes = codes "ab" }
+          ∷ record { mode = Kept; bytes = codes "x" }
+          ∷ record { mode = Placed 1 one_const; bytes = codes "z" }
+          ∷ [];
+    }
+    ∷ []
+
+abbrev pub segments_in_bytes : List ℕ
+segments_in_bytes = 0x09 ∷ 0x3a ∷ 0x08
+    ∷ 0x00 ∷ 0x41 ∷ 0x01 ∷ 0x0b ∷ 0x02 ∷ 0x00 ∷ 0x01
+    ∷ 0x01 ∷ 0x00 ∷ 0x02 ∷ 0x00 ∷ 0x01
+    ∷ 0x02 ∷ 0x03 ∷ 0x41 ∷ 0x01 ∷ 0x0b ∷ 0x00 ∷ 0x02 ∷ 0x00 ∷ 0x01
+    ∷ 0x03 ∷ 0x00 ∷ 0x02 ∷ 0x00 ∷ 0x01
+    ∷ 0x04 ∷ 0x41 ∷ 0x01 ∷ 0x0b ∷ 0x01 ∷ 0xd2 ∷ 0x02 ∷ 0x0b
+    ∷ 0x05 ∷ 0x6f ∷ 0x01 ∷ 0xd0 ∷ 0x6f ∷ 0x0b
+    ∷ 0x06 ∷ 0x03 ∷ 0x41 ∷ 0x01 ∷ 0x0b ∷ 0x70 ∷ 0x01 ∷ 0xd2 ∷ 0x02 ∷ 0x0b
+    ∷ 0x07 ∷ 0x64 ∷ 0x70 ∷ 0x01 ∷ 0xd2 ∷ 0x02 ∷ 0x0b
+    ∷ 0x0b ∷ 0x12 ∷ 0x03
+    ∷ 0x00 ∷ 0x41 ∷ 0x01 ∷ 0x0b ∷ 0x02 ∷ 0x61 ∷ 0x62
+    ∷ 0x01 ∷ 0x01 ∷ 0x78
+    ∷ 0x02 ∷ 0x01 ∷ 0x41 ∷ 0x01 ∷ 0x0b ∷ 0x01 ∷ 0x7a ∷ []
+
+abbrev pub SegmentsSpelled : Type 0
+SegmentsSpelled = flat_map part worked_segments ≡ segments_in_bytes
+
+-- a memory of 64 bits whose minimum has ten bytes: it is 2 ^ 64, which is out of range
+abbrev pub wide_bytes : List ℕ
+wide_bytes = 0x00 ∷ 0x61 ∷ 0x73 ∷ 0x6d ∷ 0x01 ∷ 0x00 ∷ 0x00 ∷ 0x00
+    ∷ 0x05 ∷ 0x0c ∷ 0x01 ∷ 0x04 ∷ 0x80 ∷ 0x80 ∷ 0x80 ∷ 0x80 ∷ 0x80 ∷ 0x80 ∷ 0x80 ∷ 0x80 ∷ 0x80 ∷ 0x02 ∷ []
+
+-- they are read as no module
+abbrev pub IsNoModule : Type 0
+IsNoModule = (parts : List Part) → Reads wide_bytes parts → ⊥

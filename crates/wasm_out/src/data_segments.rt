@@ -3,7 +3,6 @@
 ghost use Rattle.std.specs.Prelude.{◌≡◌, ◌&&◌, ◌+◌, length, IsTrue};
 ghost use Rattle.wasm_ops.specs.Sinks.{Writes};
 ghost use Rattle.wasm_ops.specs.Spelling.{InRangeU32, InRangeSized};
-ghost use Rattle.wasm_ops.specs.Table.{SpellsInstrs};
 ghost use Rattle.wasm_out.specs.Built.{Adds};
 ghost use Rattle.wasm_out.specs.BuiltData.{data_in, InRangeDataIn, is_ready_data};
 ghost use Rattle.wasm_out.specs.BuiltElements.{ended};
@@ -95,7 +94,7 @@ impl DataSection {
         })
     }
 
-    /// Adds bytes that stand in a memory from an offset on; the first memory is not written. It needs a spelled offset.
+    /// Adds bytes that stand in a memory from an offset on; the first memory is not written.
     ///
     /// E10 comes only where there would be 2^32 segments, or where there are 2^32 bytes or more; E12 where memory is
     /// refused. Then the section stays as it was.
@@ -105,7 +104,6 @@ impl DataSection {
         offset: &ConstExpr,
         bytes: &[u8],
     ) -> Result<(), Error<'e>>
-        requires { SpellsInstrs offset.now }
         ensures { Adds (InRangeU32 (self.old.count + 1) × InRangeU32 (length bytes.now)) self.old self.new
             (placed_bytes memory (ended offset.now) bytes.now) result }
     {

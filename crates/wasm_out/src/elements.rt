@@ -4,7 +4,6 @@ ghost use Rattle.std.specs.Prelude.{◌≡◌, ◌&&◌, ◌+◌, IsTrue};
 ghost use Rattle.wasm_ops.specs.Covered.{is_covered_ref_type};
 ghost use Rattle.wasm_ops.specs.Sinks.{Writes};
 ghost use Rattle.wasm_ops.specs.Spelling.{InRangeU32, InRangeRefType};
-ghost use Rattle.wasm_ops.specs.Table.{SpellsInstrs};
 ghost use Rattle.wasm_out.specs.Built.{Adds};
 ghost use Rattle.wasm_out.specs.BuiltElements.{segment_bytes, InRangeMode, is_ready_mode, is_form, ended, kind_in, listed_in, InRangeElements, AreElements};
 ghost use Rattle.wasm_out.specs.ElementSegments.{InRangeTable, InRangeElementKind, is_covered_element_kind, passive_bytes, declared_bytes, active_bytes, has_active_form};
@@ -152,8 +151,8 @@ impl ElementSection {
         self.add(SegmentMode::Declared, elements)
     }
 
-    /// Adds a segment that fills a table from an offset on: without a table, the first. It needs a spelled offset, and
-    /// expressions of a covered type, which without a table is `funcref`.
+    /// Adds a segment that fills a table from an offset on: without a table, the first. It needs expressions of a
+    /// covered type, which without a table is `funcref`.
     ///
     /// E10 comes only where there would be 2^32 segments, or where there are 2^32 elements or more; E12 where memory is
     /// refused. Then the section stays as it was.
@@ -163,7 +162,6 @@ impl ElementSection {
         offset: &ConstExpr,
         elements: &Elements,
     ) -> Result<(), Error<'e>>
-        requires offset { SpellsInstrs offset.now }
         requires elements { AreElements elements.now }
         requires form { IsTrue (has_active_form table (kind_in elements.now)) }
         ensures { Adds (InRangeU32 (self.old.count + 1) × (InRangeTable table × InRangeElements elements.now))

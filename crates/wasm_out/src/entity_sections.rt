@@ -3,7 +3,6 @@
 ghost use Rattle.std.specs.Prelude.{◌≡◌, ◌+◌, ◌∷◌, ◌++◌, [], IsTrue};
 ghost use Rattle.wasm_ops.specs.Entities.{table_type, InRangeTableType, is_covered_table_type, memory_type, InRangeMemoryType, is_covered_memory_type, global_type, InRangeGlobalType, is_covered_global_type, tag_type, InRangeTagType, is_covered_tag_type, is_covered_entity_type};
 ghost use Rattle.wasm_ops.specs.Spelling.{InRangeU32};
-ghost use Rattle.wasm_ops.specs.Table.{SpellsInstrs};
 ghost use Rattle.wasm_out.specs.Built.{Adds};
 ghost use Rattle.wasm_out.specs.Parts.{section_id, import_entry, InRangeImport};
 ghost use Rattle.wasm_out.specs.Parts as parts;
@@ -70,13 +69,11 @@ impl TableSection {
         self.items.push(ty)
     }
 
-    /// Adds a table whose elements are at first what an expression gives. It needs a covered type and a spelled list of
-    /// instructions.
+    /// Adds a table whose elements are at first what an expression gives. It needs a covered type.
     ///
     /// E10 comes only where there would be 2^32 tables, E12 where memory is refused. Then the section stays as it was.
     pub fn table_with_init<'e>(&mut self, ty: &TableType, init: &ConstExpr) -> Result<(), Error<'e>>
-        requires covered { IsTrue (is_covered_table_type ty.now) }
-        requires spelled { SpellsInstrs init.now }
+        requires { IsTrue (is_covered_table_type ty.now) }
         ensures { Adds (InRangeU32 (self.old.count + 1) × InRangeTableType ty.now) self.old self.new
             (0x40 ∷ 0x00 ∷ (table_type ty.now ++ (init.now ++ 0x0b ∷ []))) result }
     {
@@ -157,13 +154,11 @@ impl ListKind for Globals {
 pub type GlobalSection = ListSection<Globals>;
 
 impl GlobalSection {
-    /// Adds a global that is at first what an expression gives. It needs a covered type and a spelled list of
-    /// instructions.
+    /// Adds a global that is at first what an expression gives. It needs a covered type.
     ///
     /// E10 comes only where there would be 2^32 globals, E12 where memory is refused. Then the section stays as it was.
     pub fn global<'e>(&mut self, ty: &GlobalType, init: &ConstExpr) -> Result<(), Error<'e>>
-        requires covered { IsTrue (is_covered_global_type ty.now) }
-        requires spelled { SpellsInstrs init.now }
+        requires { IsTrue (is_covered_global_type ty.now) }
         ensures { Adds (InRangeU32 (self.old.count + 1) × InRangeGlobalType ty.now) self.old self.new
             (global_type ty.now ++ (init.now ++ 0x0b ∷ [])) result }
     {

@@ -1,6 +1,6 @@
 //! Worked examples with their bytes, which the definitions compute.
 
-ghost use Rattle.wasm_out.specs.WorkedBytes.{RunsOfLocals, Spelled, ItemsSpelled};
+ghost use Rattle.wasm_out.specs.WorkedBytes.{RunsOfLocals, Spelled, ItemsSpelled, SegmentsSpelled, IsNoModule};
 
 /// Locals are spelled by runs of one type.
 pub(crate) fn runs_of_locals()
@@ -15,4 +15,14 @@ pub(crate) fn worked_module()
 /// An import, two tables, a memory, a tag and a global have the bytes of the worked sections.
 pub(crate) fn worked_items()
     ensures { ItemsSpelled }
+{}
+
+/// Segments of elements and of data have the bytes of each of their forms.
+pub(crate) fn worked_segments()
+    ensures { SegmentsSpelled }
+{}
+
+/// A memory whose minimum is 2^64, in ten bytes, is read as no module.
+pub(crate) fn too_wide_a_number()
+    ensures { IsNoModule }
 {}

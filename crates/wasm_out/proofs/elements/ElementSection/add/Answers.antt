@@ -14,4 +14,4 @@ pub push-requires-in-Expressions : goal.push-requires-in-Expressions
 push-requires-in-Expressions c =
     let form = subst (λ e. IsTrue (is_form c.args.mode (kind_in e))) c.in-Expressions.is c.requires.form in
     let are = subst AreElements c.in-Expressions.is c.requires.elements in
-    segment_ready c.args.mode (kinds.Expressions c.in-Expressions.ty) c.deref-in-Expressions.result.now form are.0
+    segment_ready c.args.mode (kinds.Expressions c.in-Expressions.ty) c.deref-in-Expressions.result.now form are
