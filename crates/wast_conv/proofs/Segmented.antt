@@ -43,7 +43,7 @@ are_payload ty xs es r v covered is same made =
     let counted : length (map meaning.expression es) ≡ length v.items = length-map es meaning.expression ∙ sym (ap length value ∙ length-map es (λ e. instrs (meaning.expression e))) in record {
       kind = ap kinds.Expressions is;
       list = ap (vec ended) value ∙ sym (vec_mapped ended (λ e. instrs (meaning.expression e)) es) ∙ vec_mapped expression meaning.expression es;
-      ready = (rw is (heap_covered ty.heap covered), made.spelled);
+      ready = rw is (heap_covered ty.heap covered);
       in_range = λ h. (subst InRangeRefType is h.0, (subst InRangeU32 (sym counted) h.1, All-map InRangeExpression meaning.expression es (subst (All (λ e. InRangeExpression (meaning.expression e))) same made.in_range)));
       built = λ h. (subst InRangeRefType (sym is) h.0, subst InRangeU32 counted h.1.0);
     }

@@ -1,7 +1,7 @@
 -- Segments as the code hands them to sections.
 use Rattle.std.specs.Prelude.{◌≡◌, ℕ, List, map, All}
 use Rattle.wasm_ops.specs.ConstExprs.{InRangeExpression}
-use Rattle.wasm_ops.specs.Table.{Instr, instrs, SpellsInstrs}
+use Rattle.wasm_ops.specs.Table.{Instr, instrs}
 use Rattle.wasm_out.specs.declared.elements.Elements.{Elements}
 use Rattle.wasm_out.specs.BuiltElements.{kind_in, listed_in, InRangeElements, AreElements}
 use Rattle.wasm_out.specs.DataSegments.{DataMode, Kept, Placed}
@@ -14,11 +14,10 @@ use Rattle.wast_conv.specs.Tree.{Expression, ElemPayload}
 use Rattle.wast_conv.specs.FieldEntries.{element_items}
 use Rattle.wast_conv.specs.Values.{expression}
 
--- constant expressions, each with its instructions in range and spelled
+-- constant expressions, each with its instructions in range
 pub record AreExpressions (es : List Expression) (made : List (List ℕ)) : Type 0 where
   pub value : made ≡ map (λ e. instrs (expression e)) es
   pub in_range : All (λ e. InRangeExpression (expression e)) es
-  pub spelled : All SpellsInstrs made
 
 -- the elements are those of the payload: of their kind, with their bytes, and in range where they are
 pub record ArePayload (p : ElemPayload) (e : Elements) : Type 0 where

@@ -6,7 +6,7 @@ ghost use Rattle.wast_base.specs.Ids.{is_number};
 ghost use Rattle.wast_base.specs.Faults.{out_of_memory};
 ghost use Rattle.wast_tree.specs.Occurrences.{in_heap, in_ref, in_val, in_storage, in_array, in_struct, in_signature, in_inner, in_def, in_type};
 ghost use Rattle.wasm_ops.specs.ConstExprs.{InRangeExpression};
-ghost use Rattle.wasm_ops.specs.Table.{instr, instrs, InRangeInstr, SpellsInstrs};
+ghost use Rattle.wasm_ops.specs.Table.{instr, instrs, InRangeInstr};
 ghost use Rattle.wasm_out.specs.Built.{IsRefused};
 ghost use Rattle.wast_resolve.specs.Resolved.{is_resolved};
 ghost use Rattle.wast_conv.specs.Encodable.{is_number_if, is_encodable_instr, is_encodable_expression};
@@ -320,7 +320,6 @@ fn instrs_bytes<'e>(alloc: Global, instructions: &[Instruction]) -> Result<Vec<u
 pub fn const_expr<'e>(alloc: Global, expression: &Expression) -> Result<ConstExpr, Error<'e>>
     requires { IsTrue (is_encodable_expression expression.now) }
     ensures value { IfOk result (λ made. (made ≡ instrs (meaning.expression expression.now)) × InRangeExpression (meaning.expression expression.now)) }
-    ensures spelled { IfOk result (λ made. SpellsInstrs made) }
     ensures refusal { IfErr result (IsRefused (InRangeExpression (meaning.expression expression.now))) }
 {
     let bytes = instrs_bytes(alloc, expression.instrs.as_slice())?;

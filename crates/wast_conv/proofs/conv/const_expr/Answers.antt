@@ -1,7 +1,7 @@
-use Rattle.std.proofs.Common.{◌≡◌, ◌∙◌, ap, sym, subst}
+use Rattle.std.proofs.Common.{◌≡◌, ◌∙◌, ap, subst}
 use Rattle.std.specs.List.{All, flat_map, list_all}
 use Rattle.std.proofs.lemmas.Result.{err_from_is_err_and}
-use Rattle.wasm_ops.specs.Table.{instr, InRangeInstr, SpellsInstrs}
+use Rattle.wasm_ops.specs.Table.{instr, InRangeInstr}
 use Rattle.wasm_out.specs.Built.{IsRefused}
 use Rattle.wast_conv.specs.Encodable.{is_encodable_instr}
 use Rattle.wast_conv.specs.Meaning as meaning
@@ -21,6 +21,3 @@ returns-clause-value c =
     let bytes = c.in_ok-bytes.bytes.items in
     let made = expression_made c.args.expression.now.instrs bytes (subst (λ is. (bytes ≡ flat_map (λ i. instr (meaning.instr i)) is) × All (λ i. InRangeInstr (meaning.instr i)) is) c.as_slice.ensures c.in_ok-bytes.ensures.value) in
     (c.raw.ensures ∙ made.0, made.1)
-
-pub returns-clause-spelled : goal.returns-clause-spelled
-returns-clause-spelled c = subst SpellsInstrs (sym c.raw.ensures) (spells_expression c.as_slice.result.now c.in_ok-bytes.bytes.items (ap (list_all is_encodable_instr) c.as_slice.ensures ∙ c.requires) c.in_ok-bytes.ensures.value)
