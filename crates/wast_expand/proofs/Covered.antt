@@ -1,5 +1,5 @@
 -- Each signature that is needed has its type.
-use Rattle.std.proofs.Common.{◌≡◌, ℕ, ◌+◌, Bool, true, false, cond, ◌||◌, ◌&&◌, List, [], ◌∷◌, ◌++◌, map, append-nil, Option, Some, None, is_some, refl, sym, ap, ◌∙◌}
+use Rattle.std.proofs.Common.{◌≡◌, ℕ, ◌+◌, Bool, true, false, not, cond, ◌||◌, ◌&&◌, List, [], ◌∷◌, ◌++◌, map, append-nil, Option, Some, None, is_some, refl, sym, ap, ◌∙◌}
 use mathlib.Core.Path.{fun_ext}
 use Rattle.std.proofs.Math.Bool.{or_assoc}
 use Rattle.std.specs.Cmp.{first_so, second_so}
@@ -16,11 +16,11 @@ use Rattle.wast_expand.specs.Tree.field
 use Rattle.wast_expand.specs.Signatures.{Signature, same_signature}
 use Rattle.wast_expand.specs.SignatureLaws.{signatures_equiv}
 use Rattle.wast_expand.specs.NeedingUses.{inline_signature, needed_without, needed_by_use, needed_by_instr, needed_by_kind, needed_by_tag_type, needed_by_item_kind, needed_by_import, needed_by_field, needed}
-use Rattle.wast_expand.specs.ImpliedTypes.{written, is_among, first_new, implied}
+use Rattle.wast_expand.specs.ImpliedTypes.{written, is_among, first_new, implied, are_distinct}
 use Rattle.wast_base.specs.Filling.{filled, wanted}
 use Rattle.wast_expand.specs.Expanders.{LookUp, index_of}
 use Rattle.wast_expand.specs.Expanded.{lacks_id, with_type_id, implied_types, typed, bindings_in, bindings, bound_index, bound_instr, bound_kind, bound_tag_type, bound_item_kind, bound_import_items, bound_field}
-use Rattle.wast_expand.specs.Laws.{UsesAreBound, ImpliedAreNew}
+use Rattle.wast_expand.specs.Laws.{UsesAreBound, ImpliedAreNew, ImpliedAreDistinct}
 use Rattle.wast_expand.proofs.Adding.{lookup-append, known_after}
 use Rattle.wast_expand.proofs.Expanding.{needed_filled, written_known}
 
@@ -61,6 +61,31 @@ none_known known (s ∷ ss) = new_case (known s) known s ss refl (none_known kno
 
 pub implied_are_new : ImpliedAreNew
 implied_are_new fields = none_known (is_among (written fields)) (needed fields)
+
+-- each is new once
+any_second : (p q : Signature → Bool) (ss : List Signature) → list_any (λ t. p t || q t) ss ≡ false → list_any q ss ≡ false
+any_second p q [] h = refl
+any_second p q (s ∷ ss) h = second_case (p s) (q s) (list_any (λ t. p t || q t) ss) (list_any q ss) (any_second p q ss) h
+  where
+    second_case : (a b c d : Bool) → (c ≡ false → d ≡ false) → ((a || b) || c) ≡ false → (b || d) ≡ false
+    second_case true b c d f h = absurd cc
+    second_case false true c d f h = absurd cc
+    second_case false false c d f h = f h
+
+all_distinct : (known : Signature → Bool) (ss : List Signature) → are_distinct (first_new known ss) ≡ true
+all_distinct known [] = refl
+all_distinct known (s ∷ ss) =
+    let new : List Signature = first_new (λ t. known t || same_signature t s) ss in
+    new_case (known s) known s ss (all_distinct known ss) (any_second known (λ t. same_signature t s) new (none_known (λ t. known t || same_signature t s) ss)) (all_distinct (λ t. known t || same_signature t s) ss)
+  where
+    new_case : (b : Bool) (known : Signature → Bool) (s : Signature) (ss : List Signature) → are_distinct (first_new known ss) ≡ true
+        → list_any (λ t. same_signature t s) (first_new (λ t. known t || same_signature t s) ss) ≡ false → are_distinct (first_new (λ t. known t || same_signature t s) ss) ≡ true
+        → are_distinct (cond b (first_new known ss) (s ∷ first_new (λ t. known t || same_signature t s) ss)) ≡ true
+    new_case true known s ss p q r = p
+    new_case false known s ss p q r = ap (λ b. not b && are_distinct (first_new (λ t. known t || same_signature t s) ss)) q ∙ r
+
+pub implied_are_distinct : ImpliedAreDistinct
+implied_are_distinct fields = all_distinct (is_among (written fields)) (needed fields)
 
 -- what is found among all types
 known_typed : (n : ℕ) (fields : List ModuleField) (s : Signature) → is_some (index_of (bindings (typed n fields)) s) ≡ (is_among (written fields) s || is_among (implied fields) s)

@@ -1,9 +1,12 @@
 -- What the definitions say of worked modules, computed.
 use Rattle.std.proofs.Common.{refl}
-use Rattle.wast_expand.specs.WorkedExpansions.{SameSignatures, SameReferences, Row2, Row7, Row8, Row23, Row37, Several, AfterStruct, ByIdAndNumber, FirstOfTwo, UsesInOrder}
+use Rattle.wast_expand.specs.WorkedExpansions.{SameSignatures, DistinctSignatures, SameReferences, Row2, Row7, Row8, Row23, Row37, Several, AfterStruct, ByIdAndNumber, FirstOfTwo, UsesInOrder}
 
 pub same_signatures : SameSignatures
 same_signatures = (refl, refl, refl, refl, refl)
+
+pub distinct_signatures : DistinctSignatures
+distinct_signatures = (refl, refl)
 
 pub same_references : SameReferences
 same_references a b = (refl, refl, refl, refl, refl, refl, refl, refl, refl, refl, refl)

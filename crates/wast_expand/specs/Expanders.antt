@@ -1,5 +1,5 @@
 -- What signatures are bound to. An `Expander` is seen as such a list, in any order.
-use Rattle.std.specs.Prelude.{◌≡◌, List, Option}
+use Rattle.std.specs.Prelude.{◌≡◌, List, Option, Some}
 use Rattle.std.specs.Option.{option_or}
 use Rattle.std.specs.Map.{lookup}
 use Rattle.wast_expand.specs.Tree.{Index}
@@ -23,3 +23,7 @@ with_more find more s = option_or (find s) (index_of more s)
 
 abbrev pub Extends : BoundSignatures → BoundSignatures → BoundSignatures → Type 0
 Extends old new more = (s : Signature) → index_of new s ≡ with_more (index_of old) more s
+
+-- what is bound stays so
+abbrev pub Keeps : BoundSignatures → BoundSignatures → Type 0
+Keeps old new = (s : Signature) (i : Index) → index_of old s ≡ Some i → index_of new s ≡ Some i

@@ -1,5 +1,5 @@
 -- The types that no text defines, but that type uses need (text format, type uses: abbreviations).
-use Rattle.std.specs.Prelude.{Bool, ◌||◌, if◌then◌else◌, List, [], ◌∷◌, flat_map}
+use Rattle.std.specs.Prelude.{Bool, true, not, ◌&&◌, ◌||◌, if◌then◌else◌, List, [], ◌∷◌, flat_map}
 use Rattle.std.specs.List.{list_any}
 use Rattle.wast_expand.specs.Tree.{InnerTypeKind, ModuleField}
 use Rattle.wast_expand.specs.Tree.inner
@@ -43,3 +43,8 @@ first_new known (s ∷ ss) = if known s then first_new known ss else (s ∷ firs
 -- The signatures of the implied types: needed, and not written.
 abbrev pub implied : List ModuleField → List Signature
 implied fields = first_new (is_among (written fields)) (needed fields)
+
+-- whether none has the signature of one before it
+abbrev pub are_distinct : List Signature → Bool
+are_distinct [] = true
+are_distinct (s ∷ ss) = not (list_any (λ t. same_signature t s) ss) && are_distinct ss

@@ -1,11 +1,11 @@
 -- What holds of each list that is expanded (text format, type uses: abbreviations).
-use Rattle.std.specs.Prelude.{◌≡◌, ℕ, false, List, [], flat_map}
+use Rattle.std.specs.Prelude.{◌≡◌, ℕ, false, List, [], flat_map, IsTrue}
 use Rattle.std.specs.List.{list_any}
 use Rattle.wast_tree.specs.WrittenOut.{is_written_out}
 use Rattle.wast_expand.specs.Tree.{ModuleField}
 use Rattle.wast_expand.specs.Signatures.{Signature}
 use Rattle.wast_expand.specs.NeedingUses.{needed}
-use Rattle.wast_expand.specs.ImpliedTypes.{written, is_among, implied}
+use Rattle.wast_expand.specs.ImpliedTypes.{written, is_among, implied, are_distinct}
 use Rattle.wast_expand.specs.TypeSpace.{types_in, type_space, index_for, type_ids, id_at}
 use Rattle.wast_expand.specs.Expanders.{index_of}
 use Rattle.wast_expand.specs.Expanded.{typed, bindings, expanded, ids_wanted}
@@ -25,6 +25,10 @@ TakesTheTypeAtItsIndex = (n : ℕ) (fields : List ModuleField) (s : Signature) �
 -- No implied type has the signature of a written one.
 abbrev pub ImpliedAreNew : Type 0
 ImpliedAreNew = (fields : List ModuleField) → list_any (is_among (written fields)) (implied fields) ≡ false
+
+-- No implied type has the signature of another implied type.
+abbrev pub ImpliedAreDistinct : Type 0
+ImpliedAreDistinct = (fields : List ModuleField) → IsTrue (are_distinct (implied fields))
 
 -- An expanded list stays as it is, from any counter, and takes no id.
 abbrev pub StaysExpanded : Type 0

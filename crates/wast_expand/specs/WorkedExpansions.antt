@@ -16,7 +16,7 @@ use Rattle.wast_base.specs.Ids.{generated}
 use Rattle.wast_tree.specs.WorkedModules.{Address, text, place, id_at, by_id, by_number, plain_def, plain_type}
 use Rattle.wast_expand.specs.Signatures.{Signature, empty_signature, same_value, same_signature}
 use Rattle.wast_expand.specs.NeedingUses.{needed}
-use Rattle.wast_expand.specs.ImpliedTypes.{implied}
+use Rattle.wast_expand.specs.ImpliedTypes.{implied, are_distinct}
 use Rattle.wast_expand.specs.TypeSpace.{index_for}
 use Rattle.wast_expand.specs.Expanded.{unnamed_type, implied_type, expanded, ids_wanted}
 use Rattle.wast_expand.specs.Completed.{completed}
@@ -67,6 +67,12 @@ SameSignatures =
     × (same_signature (value.I32 ∷ [], []) (value.I64 ∷ [], []) ≡ false)
     × (same_signature (value.F32 ∷ value.F64 ∷ [], []) (value.F64 ∷ value.F32 ∷ [], []) ≡ false)
     × (same_signature ([], value.I32 ∷ []) ([], []) ≡ false)
+
+-- Signatures are distinct where none comes again.
+abbrev pub DistinctSignatures : Type 0
+DistinctSignatures =
+    (are_distinct (empty_signature ∷ (value.I32 ∷ [], []) ∷ ([], value.I32 ∷ []) ∷ []) ≡ true)
+    × (are_distinct (empty_signature ∷ (value.I32 ∷ [], []) ∷ empty_signature ∷ []) ≡ false)
 
 -- Equal ids are equal wherever they stand, and a number is no id. Whether it is nullable or shared counts, and what it is.
 abbrev pub SameReferences : Type 0

@@ -17,6 +17,7 @@ use std::alloc::Global;
 use wast_tree::{
     Error, Expression, Func, FuncKind, FunctionType, Gensym, ImportItems, Imports, Index,
     Instruction, ItemKind, ItemSig, ModuleField, Seq, Span, Tag, TagType, Type, TypeUse,
+    push_field,
 };
 
 /// A part of the tree in which type uses may stand.
@@ -378,12 +379,7 @@ fn add_type<'a>(
     let span = Span { offset: 0 };
     let id = gensym.generate(span)?;
     let def = key.to_def(alloc, span, false)?;
-    implied.push(ModuleField::Ty(Type {
-        span,
-        id: Some(id),
-        name: None,
-        def,
-    }))?;
+    push_field(implied, ModuleField::Ty(Type::new(span, Some(id), def)))?;
     cx.put(key, Index::Id(id))?;
     Ok(Index::Id(id))
 }

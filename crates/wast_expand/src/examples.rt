@@ -1,11 +1,17 @@
 //! Worked modules, of which the definitions compute what they say.
 
-ghost use Rattle.wast_expand.specs.WorkedExpansions.{SameSignatures, SameReferences, Row2, Row7, Row8, Row23, Row37, Several, AfterStruct, ByIdAndNumber, FirstOfTwo, UsesInOrder};
+ghost use Rattle.wast_expand.specs.WorkedExpansions.{SameSignatures, DistinctSignatures, SameReferences, Row2, Row7, Row8, Row23, Row37, Several, AfterStruct, ByIdAndNumber, FirstOfTwo, UsesInOrder};
 
 /// Which signatures are equal as they are written.
 #[tactic(auto, using(crate::proofs::Worked::same_signatures))]
 pub(crate) fn same_signatures()
     ensures { SameSignatures }
+{}
+
+/// Signatures of which none comes again, and of which one does.
+#[tactic(auto, using(crate::proofs::Worked::distinct_signatures))]
+pub(crate) fn distinct_signatures()
+    ensures { DistinctSignatures }
 {}
 
 /// Which reference types are equal as they are written.

@@ -10,7 +10,10 @@ use crate::binding::bind_each;
 use crate::expanders::Expander;
 use crate::keys::TypeReference;
 use std::alloc::Global;
-use wast_tree::{Error, Gensym, Id, Index, InnerTypeKind, ModuleField, Seq, discard_fields};
+use wast_tree::{
+    Error, Gensym, Id, Index, InnerTypeKind, ModuleField, Seq, discard_fields, push_field,
+    take_field,
+};
 
 /// Binds each type use that has no index to the first type that has its signature as it is written (text format, type
 /// uses: abbreviations).
@@ -58,9 +61,16 @@ fn expand_fields<'a>(
     let mut cx = Expander::new(alloc);
     bind_types(alloc, fields.as_slice(), &mut cx)?;
     let mut implied = Seq::new(alloc);
-    bind_each(fields, alloc, &mut cx, &mut implied, gensym)?;
-    append(fields, implied)?;
-    Ok(())
+    match bind_each(fields, alloc, &mut cx, &mut implied, gensym) {
+        Ok(()) => {
+            append(fields, implied)?;
+            Ok(())
+        }
+        Err(e) => {
+            discard_fields(implied);
+            Err(e)
+        }
+    }
 }
 
 /// Gives each type an id.
@@ -174,8 +184,22 @@ fn append<'a>(
     ensures ok { OnOk result (fields.new ≡ fields.old ++ more.entry) }
     ensures refusal { IfErr result (λ e. e ≡ out_of_memory) }
 {
-    for field in more.into_iter() {
-        fields.push(field)?;
+    let mut more = more;
+    let appended = push_each(fields, &mut more);
+    discard_fields(more);
+    appended
+}
+
+/// Puts more fields at the end. It takes them out of their places.
+fn push_each<'a>(
+    fields: &mut Seq<ModuleField<'a>>,
+    more: &mut Seq<ModuleField<'a>>,
+) -> Result<(), Error<'a>>
+    ensures ok { OnOk result (fields.new ≡ fields.old ++ more.old) }
+    ensures refusal { IfErr result (λ e. e ≡ out_of_memory) }
+{
+    for i in 0..more.len() {
+        push_field(fields, take_field(more.at_mut(i)))?;
     }
     Ok(())
 }

@@ -6,7 +6,7 @@ ghost use Rattle.wast_base.specs.Faults.{out_of_memory};
 ghost use Rattle.wast_expand.specs.Signatures.{Signature, type_of_param, same_signature, signature_of, empty_signature};
 ghost use Rattle.wast_expand.specs.SignatureLaws.{signatures_equiv, signature_fed, signatures_alike};
 ghost use Rattle.wast_expand.specs.Expanded.{nameless, def_of};
-ghost use Rattle.wast_expand.specs.Expanders.{index_of, Extends};
+ghost use Rattle.wast_expand.specs.Expanders.{index_of, Extends, Keeps};
 
 use crate::expanders::Expander;
 use std::alloc::Global;
@@ -72,9 +72,11 @@ pub trait TypeReference<'a> {
         ensures key { IfOk result (λ k. Self.Key.signature k ≡ signature self.now) }
         ensures refusal { IfErr result (λ e. e ≡ out_of_memory) };
 
-    /// Binds the type uses within it; its signature stays. It may take memory; where that is refused it answers E12.
+    /// Binds the type uses within it; its signature stays, and what is bound stays so. It may take memory; where that is
+    /// refused it answers E12.
     fn expand(&mut self, cx: &mut Expander<'a>) -> Result<(), Error<'a>>
         ensures stays { signature self.new ≡ signature self.old }
+        ensures keeps { Keeps cx.old cx.new }
         ensures refusal { IfErr result (λ e. e ≡ out_of_memory) };
 }
 
@@ -127,6 +129,7 @@ impl<'a> TypeReference<'a> for FunctionType<'a> {
     /// No type use is within it, and nothing changes. It takes no memory.
     fn expand(&mut self, _cx: &mut Expander<'a>) -> Result<(), Error<'a>>
         ensures stays { signature_of self.new ≡ signature_of self.old }
+        ensures keeps { Keeps _cx.old _cx.new }
         ensures unchanged { self.new ≡ self.old }
         ensures binds_nothing { _cx.new ≡ _cx.old }
         ensures refusal { IfErr result (λ e. e ≡ out_of_memory) }
