@@ -7,7 +7,8 @@ ghost use Rattle.wast_tree.specs.WellFormed.{is_well_formed};
 ghost use Rattle.wast_expand.specs.NeedingUses.{needed};
 ghost use Rattle.wast_resolve.specs.Demands.{first_unmet, name_demands, IsUnnumbered};
 ghost use Rattle.wast_resolve.specs.Resolved.{resolved};
-ghost use Rattle.wast_resolve.specs.Resolvers.{known_of};
+ghost use Rattle.wast_resolve.specs.Resolvers.{known_of, scope_of};
+ghost use Rattle.wast_resolve.specs.Scopes.{scope};
 
 use crate::func_types::func_types;
 use crate::resolver::Resolver;
@@ -19,7 +20,7 @@ use wast_tree::{Error, ModuleField, Seq, discard_fields};
 /// Numbers the items of the fields, and replaces each id where an index is wanted by its number, at the id's place (text
 /// format, indices).
 ///
-/// It gives the fields and what their ids denote. It needs well formed fields, as [`wast_tree::well_formed`] tells, and an
+/// It gives the fields, and what their ids denote and which function types they have. It needs well formed fields, as [`wast_tree::well_formed`] tells, and an
 /// index in each type use, as [`wast_expand::types::expand`] gives it. The error is the first demand that is not met: in
 /// the order of the fields E2 at the second bearer of an id in a space, and directly after a type E3 at the second bearer
 /// of an id among the fields of its struct; after all of these, field by field, E4 at an id that denotes nothing; E6, E5 or
@@ -35,6 +36,7 @@ pub fn resolve<'a>(
     ensures met { OnOk result (first_unmet (name_demands fields.entry) ≡ None) }
     ensures list { IfOk result (λ r. r.0 ≡ resolved fields.entry) }
     ensures names { IfOk result (λ r. known_of r.1 ≡ known (items fields.entry)) }
+    ensures scope { IfOk result (λ r. scope_of r.1 ≡ scope fields.entry) }
     ensures refusal { IfErr result (IsUnnumbered fields.entry) }
 {
     let mut fields = fields;
@@ -55,6 +57,7 @@ fn resolve_fields<'a>(
     ensures met { OnOk result (first_unmet (name_demands fields.old) ≡ None) }
     ensures list { OnOk result (fields.new ≡ resolved fields.old) }
     ensures names { IfOk result (λ r. known_of r ≡ known (items fields.old)) }
+    ensures scope { IfOk result (λ r. scope_of r ≡ scope fields.old) }
     ensures refusal { IfErr result (IsUnnumbered fields.old) }
 {
     let types = func_types(alloc, fields.as_slice())?;
