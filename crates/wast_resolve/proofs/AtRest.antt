@@ -289,7 +289,7 @@ module _ (k : Known) where
   plain_fields [] = refl
   plain_fields (f ∷ fs) = ap (λ b. b && are_plain (map (resolved_field k) fs)) (plain_field f) ∙ ap (λ b. is_plain_field f && b) (plain_fields fs)
 
-  items_stay : (fields : List ModuleField) → items (map (resolved_field k) fields) ≡ items fields
+  pub items_stay : (fields : List ModuleField) → items (map (resolved_field k) fields) ≡ items fields
   items_stay [] = refl
   items_stay (f ∷ fs) = ap (λ zs. zs ++ items (map (resolved_field k) fs)) (same_items f) ∙ ap (λ zs. items_in f ++ zs) (items_stay fs)
 

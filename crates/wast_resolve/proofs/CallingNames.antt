@@ -67,6 +67,15 @@ module _ {C : Type 0} (known_by : C → Known) where
       second_fails (type_demand k) (i ∷ []) is ⊥ ⊥ (told e) (denoted_met k i n h.1.number) (subst (λ c. Answers ⊥ ⊥ (told e) (first_unmet (flat_map (type_demand (known_by c)) is))) h.0 (first_unknown t))
   first_unknown {a} {e = e} (refused {i = i} {is = is} h) = first_fails (type_demand (known_by a)) (i ∷ []) is ⊥ ⊥ (told e) h.1.refusal
 
+  -- and the resolver stays
+  kept : {a b : C} {is js : List Index} {result : Result (Unit {0}) Error} → Calls (LooksTypesUp known_by) a is b js result → b ≡ a
+  kept none_left = refl
+  kept (answered h t) = kept t ∙ h.0
+  kept (refused h) = h.0
+
+  pub calls_kept : {a b : C} {xs ys : List Ask} {result : Result (Unit {0}) Error} → CallsOn (LooksTypesUp known_by) a xs b ys result → CallsOn (LooksTypesUp known_by) a xs a ys result
+  calls_kept {a = a} {xs = xs} {ys = ys} {result = result} c = subst (λ b. CallsOn (LooksTypesUp known_by) a xs b ys result) (kept c.calls) c
+
   -- so they walk over a part of a type
   pub calls_walk : {T : Type 0} {asks : T → List Ask} {changed : (Index → Index) → T → T} {a b : C} {x y : T} (result : Result (Unit {0}) Error) → IsTypePart asks changed
       → CallsOn (LooksTypesUp known_by) a (asks x) b (asks y) result → changed blank y ≡ changed blank x → Walks ⊥ ⊥ (ask_demands (known_by a) (asks x)) (changed (numbered_at (known_by a) space.Ty) x) y result

@@ -10,8 +10,9 @@ use Rattle.wast_tree.specs.Visits.{Tells, Visits}
 use Rattle.wast_resolve.specs.Tree.{Space}
 use Rattle.wast_resolve.specs.Gathers.{Stops, Gathers, GathersItem, gathered_of}
 
-pub stops_more : (t : Told) (n m : ℕ) → n ≤ m → Stops t n → Stops t m
-stops_more t n m le h = grind (arith)
+-- what begins earlier and ends later stops for the same reason
+pub stops_more : (t : Told) (a b n m : ℕ) → b ≤ a → n ≤ m → Stops t a n → Stops t b m
+stops_more t a b n m early late h = grind (arith)
 
 gathers_none : (r : Result (List (Option Name)) Error) → Gathers r [] r
 gathers_none (Ok names) = sym (append-nil names)
@@ -24,10 +25,11 @@ pub gathers_both : (r s t : Result (List (Option Name)) Error) (xs ys : List (Op
 gathers_both (Err e) (Err d) t xs ys h k = k ∙ h
 gathers_both (Err e) (Ok s) t xs ys h k = cc
 gathers_both (Ok r) (Ok s) (Ok t) xs ys h k = k ∙ (ap (λ z. z ++ ys) h ∙ append_assoc r xs ys)
-gathers_both (Ok r) (Ok s) (Err e) xs ys h k = subst (λ z. Stops (told e) (length z)) (ap (λ z. z ++ ys) h ∙ append_assoc r xs ys) k
+gathers_both (Ok r) (Ok s) (Err e) xs ys h k =
+    stops_more (told e) (length s) (length r) (length (s ++ ys)) (length (r ++ (xs ++ ys))) (omega (arith, ap length h, length-append r xs)) (omega (arith, ap length (ap (λ z. z ++ ys) h ∙ append_assoc r xs ys))) k
 gathers_both (Ok r) (Err e) (Ok t) xs ys h k = cc
 gathers_both (Ok r) (Err e) (Err d) xs ys h k =
-    subst (λ (z : Result (List (Option Name)) Error). Gathers (Ok r) (xs ++ ys) z) (sym k) (stops_more (told e) (length (r ++ xs)) (length (r ++ (xs ++ ys))) (longer r xs ys) h)
+    subst (λ (z : Result (List (Option Name)) Error). Gathers (Ok r) (xs ++ ys) z) (sym k) (stops_more (told e) (length r) (length r) (length (r ++ xs)) (length (r ++ (xs ++ ys))) (omega arith) (longer r xs ys) h)
 
 gathered_each : {V : Type 0} (slots : V → List (Result (List (Option Name)) Error)) (a b : V) (xs : List Item) → Tells (λ old x new. GathersItem (slots old) x (slots new)) a xs b → length (slots a) ≡ 8
     → (length (slots b) ≡ 8) × ((s : Space) → Gathers (gathered_of (slots a) s) (names_in s xs) (gathered_of (slots b) s))

@@ -1,5 +1,5 @@
 -- The names of parameters and locals, one after the other, and the first that is there already.
-use Rattle.std.proofs.Common.{◌≡◌, ℕ, zero, suc, ◌+◌, ◌<◌, ◌≤◌, ◌^◌, Bool, true, false, List, [], ◌∷◌, ◌++◌, map, length, get_or, drop, length-append, append_assoc, Option, Some, None, refl, sym, ap, ◌∙◌, subst, arith}
+use Rattle.std.proofs.Common.{◌≡◌, ℕ, zero, suc, ◌+◌, ◌<◌, ◌≤◌, ◌^◌, Bool, true, false, List, [], ◌∷◌, ◌++◌, map, length, get_or, drop, length-append, length-drop, append_assoc, Option, Some, None, refl, sym, ap, ◌∙◌, subst, arith}
 use Rattle.std.specs.Prelude.{⊤, not, cond, codes, slice_index_or}
 use Rattle.std.proofs.Math.Seq.{get_or-append_seam, take-append_seam, drop-cons}
 use Rattle.std.proofs.lemmas.List.{map-append, length-map}
@@ -94,17 +94,14 @@ module _ (c : Scope) where
   pub first_name : (ms : List (Option Mark)) (p : ℕ) → IsFirstClash (names ms) p → first_unmet (step_demands c start (declares ms)) ≡ said_of (slice_index_or ms p None)
   first_name ms p h = let at : p ≡ 0 + p = omega arith in first_after [] ms p (subst (λ q. IsFirstClash (names ms) q) at h)
 
--- what stopped the gathering of names is an answer
-pub stops_names : (t : Told) (o : Option (Cause × Span)) (n m : ℕ) → n ≡ m → Stops t n → Answers ⊤ (2 ^ 32 ≤ m) t o
-stops_names t o n m is h = grind (arith, is)
-
 -- the names of a list, at its item at i
-pub stops_at : {T : Type 0} (f : T → Option Name) (t : Told) (a all : List (Option Name)) (xs : List T) (i : ℕ) (x : T) (o : Option Name) → i < length xs → x ≡ get_or xs i x → o ≡ f x
-    → a ++ map f (drop i xs) ≡ all → Stops t (length (a ++ o ∷ [])) → Stops t (length all)
-stops_at f t a all xs i x o lt is same whole h =
+pub stops_at : {T : Type 0} (f : T → Option Name) (t : Told) (a begun : List (Option Name)) (xs : List T) (i : ℕ) (x : T) (o : Option Name) → i < length xs → x ≡ get_or xs i x → o ≡ f x
+    → a ++ map f (drop i xs) ≡ begun ++ map f xs → Stops t (length a) (length (a ++ o ∷ [])) → Stops t (length begun) (length (begun ++ map f xs))
+stops_at f t a begun xs i x o lt is same whole h =
     let rest : map f (drop i xs) ≡ f x ∷ map f (drop (suc i) xs) = ap (map f) (drop-cons xs i x lt ∙ ap (λ y. y ∷ drop (suc i) xs) (sym is)) in
     let long = ap length (ap (λ ns. a ++ ns) (sym rest) ∙ whole) in
-    stops_more t (length (a ++ o ∷ [])) (length all) (omega (arith, long, length-append a (o ∷ []), length-append a (f x ∷ map f (drop (suc i) xs)))) h
+    let early : length begun ≤ length a = omega (arith, ap length whole, length-append a (map f (drop i xs)), length-append begun (map f xs), length-map (drop i xs) f, length-map xs f, length-drop i xs) in
+    stops_more t (length a) (length begun) (length (a ++ o ∷ [])) (length (begun ++ map f xs)) early (omega (arith, long, length-append a (o ∷ []), length-append a (f x ∷ map f (drop (suc i) xs)))) h
 
 -- steps and names of what is declared
 pub each_step : {X : Type 0} (h : X → Option Mark) (zs : List X) → map (λ x. Declares (h x)) zs ≡ declares (map h zs)

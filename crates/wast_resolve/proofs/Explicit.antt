@@ -1,6 +1,8 @@
 -- What is so of the list in which nothing is left out: it is the expanded list of what is written out.
 use Rattle.std.proofs.Common.{◌≡◌, ℕ, ◌+◌, ◌<◌, List, None, ap, ◌∙◌, arith}
 use Rattle.wast_tree.specs.Generations.{greatest_generation}
+use Rattle.wast_tree.specs.Items.{items}
+use Rattle.wast_tree.specs.Known.{known}
 use Rattle.wast_deinline.specs.Written.{written_out_from, references_wanted}
 use Rattle.wast_deinline.proofs.Left.{nothing_is_left}
 use Rattle.wast_deinline.proofs.Below.{written_below}
@@ -9,8 +11,9 @@ use Rattle.wast_expand.specs.Expanded.{ids_wanted}
 use Rattle.wast_expand.specs.Completed.{completed}
 use Rattle.wast_resolve.specs.Tree.{ModuleField}
 use Rattle.wast_resolve.specs.Demands.{first_unmet, demands}
-use Rattle.wast_resolve.specs.Explicit.{explicit, ids_filled}
-use Rattle.wast_resolve.specs.Laws.{SameAnswer, SameCounts, ExplicitStaysWellFormed, NoIdIsLeft, FinishedStaysWellFormed, SamePositions, FinishedIsBelow, UsesHaveIndices, FinishedIsWrittenOut}
+use Rattle.wast_resolve.specs.Explicit.{explicit, explicit_from, ids_filled}
+use Rattle.wast_resolve.specs.Laws.{SameAnswer, SameCounts, ExplicitStaysWellFormed, NoIdIsLeft, FinishedStaysWellFormed, SamePositions, FinishedIsBelow, UsesHaveIndices, FinishedIsWrittenOut, ItemsStay}
+use Rattle.wast_resolve.proofs.AtRest.{items_stay}
 use Rattle.wast_resolve.proofs.Composed.{same_answer, same_counts, expanded_well_formed, all_are_numbers, numbered_well_formed, numbered_below}
 use Rattle.wast_resolve.proofs.Indexed.{numbered_indexed}
 use Rattle.wast_resolve.proofs.InPlace.{numbered_written_out}
@@ -66,3 +69,6 @@ finished_indexed n fields = numbered_indexed (next n fields) (written_out_from n
 
 pub finished_written_out : FinishedIsWrittenOut
 finished_written_out n fields = numbered_written_out (next n fields) (written_out_from n fields) ∙ nothing_is_left n fields
+
+pub finished_items : ItemsStay
+finished_items n fields = let all = explicit_from n fields in items_stay (known (items all)) all

@@ -1,21 +1,18 @@
 -- What numbering the expanded list answers is what resolving the fields answers.
-use Rattle.std.proofs.Common.{◌≡◌, ℕ, ◌+◌, ◌<◌, ◌≤◌, ◌^◌, ◌⊎◌, true, List, [], None, inl, inr, sym, ap, ◌∙◌, subst, arith}
+use Rattle.std.proofs.Common.{◌≡◌, ℕ, ◌+◌, ◌<◌, ◌≤◌, ◌^◌, ◌⊎◌, List, None, inl, inr, sym, ap, ◌∙◌, subst, arith}
 use Rattle.std.specs.Prelude.{⊤, Contains}
 use Rattle.wast_base.specs.Faults.{told, too_large, out_of_memory}
 use Rattle.wast_base.specs.declared.faults.Error.{Error}
 use Rattle.wast_base.specs.Filling.{RunsOut}
 use Rattle.wast_tree.specs.Generations.{greatest_generation}
-use Rattle.wast_tree.specs.WellFormed.{is_well_formed}
 use Rattle.wast_deinline.specs.Written.{written_out_from, references_wanted, CannotBeWritten}
-use Rattle.wast_expand.specs.NeedingUses.{needed}
 use Rattle.wast_expand.specs.Expanded.{expanded, ids_wanted}
 use Rattle.wast_expand.specs.Completed.{completed}
-use Rattle.wast_expand.proofs.Covered.{uses_are_bound}
 use Rattle.wast_resolve.specs.Tree.{ModuleField}
 use Rattle.wast_resolve.specs.Explicit.{explicit, explicit_from}
 use Rattle.wast_resolve.specs.Demands.{first_unmet, Answers, order_demands, name_demands, demands, counts, IsCrowded, IsTooLarge, IsUnnumbered, IsUnresolved}
 use Rattle.wast_resolve.proofs.Composed.{same_names, same_counts}
-use Rattle.wast_resolve.proofs.Explicit.{next, wants_as_many, still_above, unmet_alike, explicit_well_formed}
+use Rattle.wast_resolve.proofs.Explicit.{next, wants_as_many, still_above, unmet_alike}
 use Rattle.wast_resolve.proofs.OrderKept.{completed_orders}
 use Rattle.wast_resolve.proofs.Unmet.{first_unmet-append, answers_more, answers_first, answers_after}
 use Rattle.wast_resolve.proofs.WrittenAlike.{written_counts}
@@ -61,12 +58,6 @@ module _ (n : ℕ) (fields : List ModuleField) (above : greatest_generation fiel
 
   -- xs is the expanded list
   module _ (xs : List ModuleField) (expands : xs ≡ explicit_from n fields) where
-    pub indexed_still : needed xs ≡ []
-    indexed_still = ap needed expands ∙ uses_are_bound (next n fields) rest
-
-    pub well_formed_still : is_well_formed fields ≡ true → is_well_formed xs ≡ true
-    well_formed_still h = ap is_well_formed expands ∙ explicit_well_formed n fields above h
-
     same_unmet : first_unmet (name_demands xs) ≡ first_unmet (name_demands (completed rest))
     same_unmet = ap (λ (ys : List ModuleField). first_unmet (name_demands ys)) expands ∙ same_names (next n fields) rest (still_above n fields above)
 

@@ -119,15 +119,15 @@ crowded fields n c le = (n, (c, le))
 among_items : (fields : List ModuleField) (n : ℕ) → Contains (item_counts (items fields)) n → Contains (counts fields) n
 among_items fields n c = Contains-append_left (item_counts (items fields)) (local_counts fields) n c
 
-stops_one : (t : Told) (fields : List ModuleField) (o : Option (Cause × Span)) (n : ℕ) → Contains (counts fields) n → Stops t n → Answers ⊤ (IsCrowded fields) t o
-stops_one t fields o n c h = grind (arith, crowded)
+stops_one : (t : Told) (fields : List ModuleField) (o : Option (Cause × Span)) (begun n : ℕ) → Contains (counts fields) n → Stops t begun n → Answers ⊤ (IsCrowded fields) t o
+stops_one t fields o begun n c h = grind (arith, crowded)
 
 -- what stopped one space is an answer for all
-pub stops_all : (t : Told) (fields : List ModuleField) (s : Space) (o : Option (Cause × Span)) → Stops t (length (names_in s (items fields))) → Answers ⊤ (IsCrowded fields) t o
+pub stops_all : (t : Told) (fields : List ModuleField) (s : Space) (o : Option (Cause × Span)) → Stops t 0 (length (names_in s (items fields))) → Answers ⊤ (IsCrowded fields) t o
 stops_all t fields s o h =
     let xs = items fields in
     let n = length (names_in s xs) in
-    stops_one t fields o n (among_items fields n (Contains-append_left (space_counts xs) (field_counts xs) n (counted_space (λ s. length (names_in s xs)) s))) h
+    stops_one t fields o 0 n (among_items fields n (Contains-append_left (space_counts xs) (field_counts xs) n (counted_space (λ s. length (names_in s xs)) s))) h
 
 many_after : (many : Type 0) (before xs : List Item) → ((n : ℕ) → Contains (field_counts (before ++ xs)) n → 2 ^ 32 ≤ n → many) → AreMany many xs
 many_after many before [] h = tt

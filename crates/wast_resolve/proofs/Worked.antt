@@ -2,6 +2,7 @@
 use Rattle.std.proofs.Common.{refl}
 use Rattle.wast_resolve.specs.WorkedAnswers.{Row27, Row31, Row32, Row2, Row7, Row8, Row24, TwoFunctions, ClashOfTypes, FieldsOfOneStruct, FieldsOfTwoStructs, ClashesInOrder, Row14, Row22, Row23, UnknownNames, MatchedByNumber, Row17}
 use Rattle.wast_resolve.specs.WorkedImports.{Row12, Row13, Row21, BehindAMemory, ImportsInOrder, ImportedTwice, UnknownStart}
+use Rattle.wast_resolve.specs.WorkedUnknowns.{UnknownInSegments, UnknownInTables, UnknownInGlobals}
 
 pub row27 : Row27
 row27 a b c d e f = (refl, refl, refl)
@@ -77,3 +78,12 @@ unknown_start a = refl
 
 pub row13 : Row13
 row13 a b c = refl
+
+pub unknown_in_segments : UnknownInSegments
+unknown_in_segments a b c = (refl, refl, refl)
+
+pub unknown_in_tables : UnknownInTables
+unknown_in_tables a b = (refl, refl)
+
+pub unknown_in_globals : UnknownInGlobals
+unknown_in_globals a b = (refl, refl)

@@ -1,5 +1,5 @@
 -- What gathering the items of each space gives: their names, or why it stopped.
-use Rattle.std.specs.Prelude.{◌≡◌, ⊤, ℕ, ◌≤◌, ◌^◌, List, [], ◌++◌, length, slice_index_or, Option, Result, Ok, Err}
+use Rattle.std.specs.Prelude.{◌≡◌, ℕ, ◌+◌, ◌<◌, ◌≤◌, ◌^◌, List, [], ◌++◌, length, slice_index_or, Option, Result, Ok, Err}
 use Rattle.wast_base.specs.declared.faults.Error.{Error}
 use Rattle.wast_base.specs.Ids.{Name}
 use Rattle.wast_base.specs.Faults.{Told, At, Nowhere, Memory, TooLarge, told}
@@ -8,18 +8,19 @@ use Rattle.wast_tree.specs.Items.{Item}
 use Rattle.wast_tree.specs.Known.{name_in}
 use Rattle.wast_resolve.specs.Tree.{Space}
 
--- memory was refused, or there are so many items that some number is 2^32 or more
-abbrev pub Stops : Told → ℕ → Type 0
-Stops (Nowhere Memory) n = ⊤
-Stops (Nowhere TooLarge) n = 2 ^ 32 ≤ n
-Stops (Nowhere fault) n = ⊥
-Stops (At fault place) n = ⊥
+-- Why it stops that begins behind so many items, and has so many at its end: memory was refused, and one more item could
+-- be counted; or there are so many that some number is 2^32 or more.
+abbrev pub Stops : Told → (begun all : ℕ) → Type 0
+Stops (Nowhere Memory) begun all = begun + 1 < 2 ^ 32
+Stops (Nowhere TooLarge) begun all = 2 ^ 32 ≤ all
+Stops (Nowhere fault) begun all = ⊥
+Stops (At fault place) begun all = ⊥
 
 -- more names, after those that were gathered
 abbrev pub Gathers : Result (List (Option Name)) Error → List (Option Name) → Result (List (Option Name)) Error → Type 0
 Gathers (Err e) more new = new ≡ Err e
 Gathers (Ok names) more (Ok new) = new ≡ names ++ more
-Gathers (Ok names) more (Err e) = Stops (told e) (length (names ++ more))
+Gathers (Ok names) more (Err e) = Stops (told e) (length names) (length (names ++ more))
 
 -- what was gathered of a space, where that of each stands at its rank
 abbrev pub gathered_of : List (Result (List (Option Name)) Error) → Space → Result (List (Option Name)) Error

@@ -2,6 +2,7 @@
 -- the resolver of a module resolves.
 use Rattle.std.specs.Prelude.{◌≡◌, ℕ, ◌+◌, ◌<◌, true, [], None, map, List, Result, IsTrue}
 use Rattle.std.specs.Borrow.{Bor}
+use Rattle.wast_tree.specs.Items.{items}
 use Rattle.wast_tree.specs.Occurrences.{Ask, asked, in_module}
 use Rattle.wast_tree.specs.WellFormed.{are_settled, is_well_formed}
 use Rattle.wast_tree.specs.WrittenOut.{is_written_out}
@@ -55,6 +56,10 @@ UsesHaveIndices = (n : ℕ) (fields : List ModuleField) → needed (finished n f
 -- No abbreviation is left.
 abbrev pub FinishedIsWrittenOut : Type 0
 FinishedIsWrittenOut = (n : ℕ) (fields : List ModuleField) → IsTrue (is_written_out (finished n fields))
+
+-- Its items are those of the list in which nothing is left out: what the names know is what its items make known.
+abbrev pub ItemsStay : Type 0
+ItemsStay = (n : ℕ) (fields : List ModuleField) → items (finished n fields) ≡ items (explicit_from n fields)
 
 -- By the resolver of a module, the calls on the indices of a part of a type succeed where each of its demands is met, and
 -- then it has its numbers; the error is the first unmet demand.

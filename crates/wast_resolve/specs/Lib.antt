@@ -18,3 +18,4 @@ pub mod TwoSteps
 pub mod Walking
 pub mod WorkedAnswers
 pub mod WorkedImports
+pub mod WorkedUnknowns

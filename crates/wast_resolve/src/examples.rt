@@ -2,6 +2,7 @@
 
 ghost use Rattle.wast_resolve.specs.WorkedAnswers.{Row27, Row31, Row32, Row2, Row7, Row8, Row24, TwoFunctions, ClashOfTypes, FieldsOfOneStruct, FieldsOfTwoStructs, ClashesInOrder, Row14, Row22, Row23, UnknownNames, MatchedByNumber, Row17};
 ghost use Rattle.wast_resolve.specs.WorkedImports.{Row12, Row13, Row21, BehindAMemory, ImportsInOrder, ImportedTwice, UnknownStart};
+ghost use Rattle.wast_resolve.specs.WorkedUnknowns.{UnknownInSegments, UnknownInTables, UnknownInGlobals};
 
 /// A type, a function that calls itself and its export: each index becomes 0, at the place of its id.
 #[tactic(auto, using(crate::proofs::Worked::row27))]
@@ -86,4 +87,13 @@ pub(crate) fn imports_in_order()
 pub(crate) fn unknown_start()
     ensures unknown { UnknownStart }
     ensures clash { Row13 }
+{}
+
+/// Fields in which several names are not there: E4 at the first in the order of a segment's table, offset and functions, of
+/// a table's type and first value, and of a global's type and value.
+#[tactic(auto, using(crate::proofs::Worked::unknown_in_segments, crate::proofs::Worked::unknown_in_tables, crate::proofs::Worked::unknown_in_globals))]
+pub(crate) fn unknown_names_in_order()
+    ensures segments { UnknownInSegments }
+    ensures tables { UnknownInTables }
+    ensures globals { UnknownInGlobals }
 {}

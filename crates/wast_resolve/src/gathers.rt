@@ -61,7 +61,7 @@ fn add_to<'a>(gathered: &mut Result<Gathering<'a>, Error<'a>>, id: Option<Id<'a>
     }
 }
 
-/// One more item: E10 where there would be 2^32, E12 where memory is refused.
+/// One more item: E10 where there would be 2^32, and else E12 where memory is refused.
 fn add<'a>(gathering: &mut Gathering<'a>, id: Option<Id<'a>>) -> Result<(), Error<'a>>
     ensures { Gathers (Ok gathering.old) (name_if (marked id.entry) ∷ []) (with_gathered result gathering.new) }
 {

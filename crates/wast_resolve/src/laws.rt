@@ -2,14 +2,14 @@
 
 ghost use Rattle.wast_tree.specs.Occurrences.{in_heap, in_ref, in_val, in_storage, in_signature, in_def, in_type};
 ghost use Rattle.wast_resolve.specs.Resolved.{changed_heap, changed_ref, changed_val, changed_storage, changed_signature, changed_def, changed_type};
-ghost use Rattle.wast_resolve.specs.Laws.{ByResolver, NeedsOfResolver, SameAnswer, SameCounts, ExplicitStaysWellFormed, NoIdIsLeft, FinishedStaysWellFormed, SamePositions, FinishedIsBelow, UsesHaveIndices, FinishedIsWrittenOut};
+ghost use Rattle.wast_resolve.specs.Laws.{ByResolver, NeedsOfResolver, SameAnswer, SameCounts, ExplicitStaysWellFormed, NoIdIsLeft, FinishedStaysWellFormed, SamePositions, FinishedIsBelow, UsesHaveIndices, FinishedIsWrittenOut, ItemsStay};
 
 /// Where the counter begins above the ids of the fields, the ids that are filled in change no answer and no count, and
 /// well formed fields stay well formed. In the resolved list of fields whose demands are met no id is left where an index
 /// is wanted, each type use has an index, it is well formed if they are, and each generation in it is below that of the
-/// next id; it is written out; and it is the list by positions, generated ids and places of type uses aside. It does
-/// nothing.
-#[tactic(auto, using(crate::proofs::Explicit::explicit_answer, crate::proofs::Explicit::explicit_counts, crate::proofs::Explicit::explicit_well_formed, crate::proofs::Explicit::finished_numbered, crate::proofs::Explicit::finished_well_formed, crate::proofs::Explicit::finished_by_position, crate::proofs::Explicit::finished_below, crate::proofs::Explicit::finished_indexed, crate::proofs::Explicit::finished_written_out))]
+/// next id; it is written out; and it is the list by positions, generated ids and places of type uses aside. Its items are
+/// those of the list in which nothing is left out, whatever is met. It does nothing.
+#[tactic(auto, using(crate::proofs::Explicit::explicit_answer, crate::proofs::Explicit::explicit_counts, crate::proofs::Explicit::explicit_well_formed, crate::proofs::Explicit::finished_numbered, crate::proofs::Explicit::finished_well_formed, crate::proofs::Explicit::finished_by_position, crate::proofs::Explicit::finished_below, crate::proofs::Explicit::finished_indexed, crate::proofs::Explicit::finished_written_out, crate::proofs::Explicit::finished_items))]
 pub fn resolved_laws()
     ensures answer { SameAnswer }
     ensures counts { SameCounts }
@@ -20,6 +20,7 @@ pub fn resolved_laws()
     ensures generations { FinishedIsBelow }
     ensures indices { UsesHaveIndices }
     ensures written_out { FinishedIsWrittenOut }
+    ensures items { ItemsStay }
 {}
 
 /// What the functions over [`ResolveCoreType`](crate::ResolveCoreType) promise of a type is, by the resolver of a module,

@@ -57,7 +57,7 @@ fn first_clash<'a>(
     locals: &[Local<'a>],
 ) -> Result<Option<u32>, Error<'a>>
     ensures found { IfOk result (HasFirstClash (names (marks (λ p. marked p.0) (λ l. marked l.id) params.now locals.now))) }
-    ensures stops { IfErr result (λ e. Stops (told e) (length (marks (λ p. marked p.0) (λ l. marked l.id) params.now locals.now))) }
+    ensures stops { IfErr result (λ e. Stops (told e) 0 (length (marks (λ p. marked p.0) (λ l. marked l.id) params.now locals.now))) }
 {
     let gathering = gather_locals(alloc, params, locals)?;
     Ok(gathering.first_clash())

@@ -12,11 +12,13 @@ ghost use Rattle.wast_resolve.specs.Scopes.{Scope};
 ghost use Rattle.wast_resolve.specs.Matches.{same_type, matches};
 ghost use Rattle.wast_resolve.specs.Demands.{Demand, first_unmet, ask_demands, match_demands, Answers};
 ghost use Rattle.wast_namespace.specs.Outcomes.{Outcome};
-ghost use Rattle.wast_resolve.specs.Resolved.{resolved_signature};
+ghost use Rattle.wast_resolve.specs.Resolved.{changed_signature, resolved_signature};
+ghost use Rattle.wast_resolve.specs.LookUps.{LooksTypesUp};
+ghost use Rattle.wast_resolve.specs.CoreTypes.{CallsOn, blank};
 ghost use Rattle.wast_resolve.specs.Resolvers.{known_of, scope_of};
 
+use crate::core_types::resolve_type_func;
 use crate::resolver::Resolver;
-use crate::walks::Walk;
 use wast_expand::FuncKey;
 use wast_tree::{Error, FunctionType, HeapType, Id, Index, NameAnnotation, RefType, ValType};
 
@@ -110,6 +112,9 @@ pub trait TypeReference<'a> {
     /// What is asked in it.
     ghost asks: { Self → List Ask };
 
+    /// It, with each index changed.
+    ghost changed: { (Index → Index) → Self → Self };
+
     /// It, with each index numbered.
     ghost numbered: { Known → Self → Self };
 
@@ -126,18 +131,24 @@ pub trait TypeReference<'a> {
         ensures answer { Outcome ⊥ ⊥ (first_unmet (matched (scope_of cx.now) idx.now self.old)) result }
         ensures unchanged { self.new ≡ self.old };
 
-    /// Replaces each id of a type in it by its number, at the id's place: of the parameters, and then of the results.
+    /// Replaces each id of a type in it by its number, at the id's place: of the parameters, and then of the results, as
+    /// [`resolve_type_func`](crate::resolve_type_func) does over the resolver.
     ///
-    /// It needs that a generated id is known. The error is E4 at the first id that is not known. It takes no memory.
+    /// It needs that a generated id is known. The error is E4 at the first id that is not known: what stands before it has
+    /// its numbers then, and it and what stands behind it stay. It takes no memory.
     fn resolve(&mut self, cx: &Resolver<'a>) -> Result<(), Error<'a>>
         requires { IsTrue (are_settled (known_of cx.now) (asks self.old)) }
         ensures met { OnOk result (first_unmet (ask_demands (known_of cx.now) (asks self.old)) ≡ None) }
         ensures becomes { OnOk result (self.new ≡ numbered (known_of cx.now) self.old) }
-        ensures refusal { IfErr result (λ e. Answers ⊥ ⊥ (told e) (first_unmet (ask_demands (known_of cx.now) (asks self.old)))) };
+        ensures refusal { IfErr result (λ e. Answers ⊥ ⊥ (told e) (first_unmet (ask_demands (known_of cx.now) (asks self.old)))) }
+        ensures calls { CallsOn (LooksTypesUp (λ names. known_of names.now)) cx.entry (asks self.old) cx.entry (asks self.new) result }
+        ensures rest { changed blank self.new ≡ changed blank self.old };
 }
 
 impl<'a> TypeReference<'a> for FunctionType<'a> {
     ghost asks = { in_signature };
+
+    ghost changed = { changed_signature };
 
     ghost numbered = { resolved_signature };
 
@@ -148,7 +159,8 @@ impl<'a> TypeReference<'a> for FunctionType<'a> {
     }
 
     fn resolve(&mut self, cx: &Resolver<'a>) -> Result<(), Error<'a>> {
-        self.walk(cx)?;
+        let mut resolver = cx;
+        resolve_type_func(&mut resolver, self)?;
         Ok(())
     }
 }

@@ -1,13 +1,12 @@
 //! The two passes over the fields of a module: the items of all fields are numbered, and then each index becomes its number.
 
-ghost use Rattle.std.specs.Prelude.{◌≡◌, [], None, IsTrue, IfOk, IfErr, OnOk};
+ghost use Rattle.std.specs.Prelude.{◌≡◌, None, IfOk, IfErr, OnOk};
 ghost use Rattle.wast_tree.specs.Items.{items};
 ghost use Rattle.wast_tree.specs.Known.{known};
-ghost use Rattle.wast_tree.specs.WellFormed.{is_well_formed};
-ghost use Rattle.wast_expand.specs.NeedingUses.{needed};
 ghost use Rattle.wast_resolve.specs.Demands.{first_unmet, name_demands, IsUnnumbered};
 ghost use Rattle.wast_resolve.specs.Resolved.{resolved};
-ghost use Rattle.wast_resolve.specs.Resolvers.{known_of};
+ghost use Rattle.wast_resolve.specs.Resolvers.{known_of, scope_of};
+ghost use Rattle.wast_resolve.specs.Scopes.{scope};
 
 use crate::func_types::func_types;
 use crate::resolver::Resolver;
@@ -19,22 +18,22 @@ use wast_tree::{Error, ModuleField, Seq, discard_fields};
 /// Numbers the items of the fields, and replaces each id where an index is wanted by its number, at the id's place (text
 /// format, indices).
 ///
-/// It gives the fields and what their ids denote. It needs well formed fields, as [`wast_tree::well_formed`] tells, and an
-/// index in each type use, as [`wast_expand::types::expand`] gives it. The error is the first demand that is not met: in
-/// the order of the fields E2 at the second bearer of an id in a space, and directly after a type E3 at the second bearer
-/// of an id among the fields of its struct; after all of these, field by field, E4 at an id that denotes nothing; E6, E5 or
-/// E7 at an index whose type is not the inline type beside it; and E2 at the second of two parameters and locals of one id.
-/// It is E12 where memory was refused, and E10 only where some space has 2^32 or more items, or some struct as many fields,
-/// or where a function declares as many parameters and locals. On an error the fields are dropped.
+/// It gives the fields, and what their ids denote and which function types they have. It needs nothing of the fields: what
+/// stands in place stays there, and a type use without an index has none afterwards ([`wast_expand::types::expand`] gives
+/// each one an index). The error is the first demand that is not met: in the order of the fields E2 at the second bearer of
+/// an id in a space, and directly after a type E3 at the second bearer of an id among the fields of its struct; after all of
+/// these, field by field, E4 at an id that denotes nothing; E6, E5 or E7 at an index whose type is not the inline type
+/// beside it; and E2 at the second of two parameters and locals of one id. It is E12 where memory was refused, and E10 only
+/// where some space has 2^32 or more items, or some struct as many fields, or where a function declares as many parameters
+/// and locals. On an error the fields are dropped.
 pub fn resolve<'a>(
     alloc: Global,
     fields: Seq<ModuleField<'a>>,
 ) -> Result<(Seq<ModuleField<'a>>, Resolver<'a>), Error<'a>>
-    requires well_formed { IsTrue (is_well_formed fields) }
-    requires indexed { needed fields ≡ [] }
     ensures met { OnOk result (first_unmet (name_demands fields.entry) ≡ None) }
     ensures list { IfOk result (λ r. r.0 ≡ resolved fields.entry) }
     ensures names { IfOk result (λ r. known_of r.1 ≡ known (items fields.entry)) }
+    ensures scope { IfOk result (λ r. scope_of r.1 ≡ scope fields.entry) }
     ensures refusal { IfErr result (IsUnnumbered fields.entry) }
 {
     let mut fields = fields;
@@ -55,6 +54,7 @@ fn resolve_fields<'a>(
     ensures met { OnOk result (first_unmet (name_demands fields.old) ≡ None) }
     ensures list { OnOk result (fields.new ≡ resolved fields.old) }
     ensures names { IfOk result (λ r. known_of r ≡ known (items fields.old)) }
+    ensures scope { IfOk result (λ r. scope_of r ≡ scope fields.old) }
     ensures refusal { IfErr result (IsUnnumbered fields.old) }
 {
     let types = func_types(alloc, fields.as_slice())?;

@@ -18,6 +18,7 @@ use crate::passes;
 use crate::resolver::Resolver;
 use std::alloc::Global;
 use std::marker::Model;
+use wast_deinline::written_laws;
 use wast_expand::{deinline, types};
 use wast_tree::{Error, Gensym, Index, ModuleField, Seq, Space};
 
@@ -138,6 +139,8 @@ pub fn resolve<'a>(
     ensures counter { OnOk result (gensym.new ≡ gensym.old + ids_filled fields.entry) }
     ensures rising { gensym.old ≤ gensym.new }
 {
+    // of well formed fields none is exact where it is imported in place
+    written_laws();
     let fields = deinline::run(alloc, fields, gensym)?;
     let fields = in_order(fields)?;
     let fields = types::expand(alloc, fields, gensym)?;

@@ -23,7 +23,7 @@ fn try_space<'a>(
     gathered: Result<Gathering<'a>, Error<'a>>,
 ) -> Result<(Namespace<'a>, Option<u32>), Error<'a>>
     ensures tried { (names : List (Maybe Name)) → Gathers (Ok []) names gathered.entry → IfOk result (λ r. IsTried names r.0 r.1) }
-    ensures stops { (names : List (Maybe Name)) → Gathers (Ok []) names gathered.entry → IfErr result (λ e. Stops (told e) (length names)) }
+    ensures stops { (names : List (Maybe Name)) → Gathers (Ok []) names gathered.entry → IfErr result (λ e. Stops (told e) 0 (length names)) }
 {
     match gathered?.filled(alloc)? {
         Ok(names) => Ok((names, None)),

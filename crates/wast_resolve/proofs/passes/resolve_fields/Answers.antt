@@ -43,3 +43,9 @@ returns-clause-list c =
 pub returns-clause-names : goal.returns-clause-names
 returns-clause-names c =
     ap known_of c.with_types-names.ensures ∙ items_known c.args.fields.now c.as_slice-2.result.now c.as_slice-2.ensures (known_of c.in_ok-spaces.spaces) c.in_ok-spaces.ensures.names
+
+pub returns-clause-scope : goal.returns-clause-scope
+returns-clause-scope c =
+    let fs = c.args.fields.now in
+    let known = items_known fs c.as_slice-2.result.now c.as_slice-2.ensures (known_of c.in_ok-spaces.spaces) c.in_ok-spaces.ensures.names in
+    scope_known fs c.in_ok-spaces.spaces c.with_types-names.result c.in_ok-types.types.items known (c.in_ok-types.ensures.types ∙ ap signatures c.as_slice.ensures) c.with_types-names.ensures

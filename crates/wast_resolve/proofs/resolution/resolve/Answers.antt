@@ -10,14 +10,8 @@ use Rattle.wast_resolve.specs.Tree.{ModuleField}
 use Rattle.wast_resolve.specs.Demands.{order_demands}
 use Rattle.wast_resolve.specs.Resolved.{resolved}
 use Rattle.wast_resolve.proofs.Explicit.{wants_as_many}
-use Rattle.wast_resolve.proofs.Resolving.{expands_all, unordered_still, unexpanded_still, indexed_still, well_formed_still, met_still, unnumbered_still}
+use Rattle.wast_resolve.proofs.Resolving.{expands_all, unordered_still, unexpanded_still, met_still, unnumbered_still}
 use Rattle.wast_resolve.proofs.resolution.resolve.Goals as goal
-
-pub resolve-requires-clause-well_formed : goal.resolve-requires-clause-well_formed
-resolve-requires-clause-well_formed c = well_formed_still c.args.gensym.now c.args.fields c.requires.above c.in_ok-fields-3.fields (expands_all c.args.gensym.now c.args.fields c.in_ok-fields.ensures.list c.in_ok-fields.ensures.counted c.in_ok-fields-2.ensures.list c.in_ok-fields-3.ensures.list) c.requires.well_formed
-
-pub resolve-requires-clause-indexed : goal.resolve-requires-clause-indexed
-resolve-requires-clause-indexed c = indexed_still c.args.gensym.now c.args.fields c.requires.above c.in_ok-fields-3.fields (expands_all c.args.gensym.now c.args.fields c.in_ok-fields.ensures.list c.in_ok-fields.ensures.counted c.in_ok-fields-2.ensures.list c.in_ok-fields-3.ensures.list)
 
 pub returns-in_err-fields-2-clause-refusal : goal.returns-in_err-fields-2-clause-refusal
 returns-in_err-fields-2-clause-refusal c =
