@@ -1,16 +1,17 @@
 //! Conversions of parts of the tree, and their values.
 
-ghost use Rattle.std.specs.Prelude.{◌≡◌, IsTrue};
-ghost use Rattle.wast_conv.specs.Encodable.{is_encodable_signature, is_encodable_struct, is_encodable_type_use};
+ghost use Rattle.std.specs.Prelude.{◌≡◌, IsTrue, IfOk};
+ghost use Rattle.wast_conv.specs.Encodable.{is_encodable_expression, is_encodable_signature, is_encodable_struct, is_encodable_type_use};
 
 use crate::made::at;
 use std::alloc::Global;
-use wasm_ops::EntityType;
+use wasm_ops::{Encode, EntityType};
 use wast_core::conv;
 use wast_tree::{
-    FunctionType, GlobalType, HeapType, Index, InnerTypeKind, ItemKind, Limits, MemoryType,
-    RefType, Seq, StorageType, StructField, StructType, TableType, TagType, Type, TypeDef, TypeUse,
-    ValType, discard_item_kind, discard_tag_type, discard_type,
+    Error, Expression, FunctionType, GlobalType, HeapType, Index, InnerTypeKind, Instruction,
+    ItemKind, Limits, MemoryType, RefType, Seq, StorageType, StructField, StructType, TableType,
+    TagType, Type, TypeDef, TypeUse, ValType, discard_expression, discard_item_kind,
+    discard_tag_type, discard_type,
 };
 
 /// What a composite type defines: final, without parents.
@@ -165,4 +166,22 @@ fn types_of_functions_and_tags_are_converted(rt: HostRuntime) {
     let kind = ItemKind::Tag(TagType::Exception(third()));
     assert!(rt; conv::entity_type(&kind) == EntityType::Tag(tag_type));
     discard_item_kind(kind);
+}
+
+/// `i32.const 8`
+fn eight<'a>(alloc: Global) -> Result<Expression<'a>, Error<'a>>
+    ensures { IfOk result (λ e. IsTrue (is_encodable_expression e)) }
+{
+    Expression::one(alloc, Instruction::i32_const(8))
+}
+
+#[test]
+fn constant_expressions_are_converted(rt: HostRuntime) {
+    let alloc = rt.alloc();
+    let given = eight(alloc).expect(&rt, "memory");
+    let expression = conv::const_expr(alloc, &given).expect(&rt, "memory");
+    let mut bytes = Vec::new(alloc);
+    assert!(rt; expression.encode(&mut bytes).is_ok());
+    assert!(rt; bytes.as_slice() == [0x41, 8, 0x0b].as_slice());
+    discard_expression(given);
 }
