@@ -121,6 +121,14 @@ fn a_type_is_matched_by_the_types_of_a_module(rt: HostRuntime) {
             "type {number}"
         );
     }
+    discard_function_type(function);
+}
+
+#[test]
+fn a_type_without_indices_is_resolved(rt: HostRuntime) {
+    let alloc = rt.alloc();
+    let cx = resolver(&rt, alloc);
+    let mut function = FunctionType::empty(alloc);
     assert!(rt; names::TypeReference::resolve(&mut function, &cx) == Ok(()));
     assert!(rt; function.params.is_empty() && function.results.is_empty());
     discard_function_type(function);
