@@ -1,7 +1,7 @@
 //! Conversions of parts of the tree, and their values.
 
 ghost use Rattle.std.specs.Prelude.{◌≡◌, IsTrue, IfOk};
-ghost use Rattle.wast_conv.specs.Encodable.{is_encodable_expression, is_encodable_signature, is_encodable_struct, is_encodable_type_use};
+ghost use Rattle.wast_conv.specs.Encodable.{is_encodable_expression, is_encodable_struct, is_encodable_type_use};
 
 use crate::made::at;
 use std::alloc::Global;
@@ -28,16 +28,6 @@ fn def_of<'a>(alloc: Global, kind: InnerTypeKind<'a>) -> TypeDef<'a>
     }
 }
 
-/// `(func)`
-fn signature<'a>(alloc: Global) -> FunctionType<'a>
-    ensures { IsTrue (is_encodable_signature result) }
-{
-    FunctionType {
-        params: Seq::new(alloc),
-        results: Seq::new(alloc),
-    }
-}
-
 fn let_go<'a>(alloc: Global, kind: InnerTypeKind<'a>) {
     discard_type(Type {
         span: at(0),
@@ -50,7 +40,7 @@ fn let_go<'a>(alloc: Global, kind: InnerTypeKind<'a>) {
 #[test]
 fn function_types_are_converted(rt: HostRuntime) {
     let alloc = rt.alloc();
-    let given = signature(alloc);
+    let given = FunctionType::empty(alloc);
     let function = conv::func_type(alloc, &given).expect(&rt, "memory");
     assert!(rt; function.params.is_empty() && function.results.is_empty());
     let_go(alloc, InnerTypeKind::Func(given));
