@@ -1,7 +1,7 @@
 //! Conversions of parts of the tree, and their values.
 
 ghost use Rattle.std.specs.Prelude.{◌≡◌, IsTrue, IfOk};
-ghost use Rattle.wast_conv.specs.Encodable.{is_encodable_expression, is_encodable_struct, is_encodable_type_use};
+ghost use Rattle.wast_conv.specs.Encodable.{is_encodable_expression, is_encodable_type_use};
 
 use crate::made::at;
 use std::alloc::Global;

@@ -1,16 +1,14 @@
 -- A test that each item of a list passes.
-use Rattle.std.proofs.Common.{◌≡◌, ℕ, ◌<◌, Bool, true, false, ◌&&◌, List, [], ◌∷◌, ◌++◌, length, get_or, take, drop, take-append-drop, refl, sym, ap, ◌∙◌}
+use Rattle.std.proofs.Common.{◌≡◌, ℕ, ◌<◌, Bool, true, false, ◌&&◌, List, [], ◌∷◌, ◌++◌, map, length, get_or, take, drop, take-append-drop, refl, sym, ap, ◌∙◌}
 use Rattle.std.specs.List.{list_all, flat_map}
 use Rattle.std.proofs.lemmas.List.Folds.{list_all_at, list_all-append}
-use Rattle.wast_base.specs.Ids.{is_number}
-use Rattle.wast_tree.specs.Occurrences.{Ask, in_index}
-use Rattle.wast_conv.specs.Tree.{Index, Space}
-use Rattle.wast_conv.specs.Tree.index
-use Rattle.wast_resolve.specs.Resolved.{is_numbered, is_resolved}
 
 pub both_pass : (a b : Bool) → (a && b) ≡ true → (a ≡ true) × (b ≡ true)
 both_pass true b h = (refl, h)
 both_pass false b h = cc
+
+pub both_true : (a b : Bool) → a ≡ true → b ≡ true → (a && b) ≡ true
+both_true a b p q = ap (λ x. x && b) p ∙ q
 
 pub item_passes : {A : Type 0} (p : A → Bool) (xs : List A) (i : ℕ) (d : A) → i < length xs → list_all p xs ≡ true → p (get_or xs i d) ≡ true
 item_passes p xs i d lt h = by_test (p (get_or xs i d)) (λ e. list_all_at p xs i d lt e) h
@@ -28,20 +26,35 @@ pub all_pass : {A : Type 0} (p : A → Bool) (xs : List A) → ((x : A) → p x 
 all_pass p [] h = refl
 all_pass p (x ∷ xs) h = ap (λ b. b && list_all p xs) (h x) ∙ all_pass p xs h
 
--- indices in which no id is left are numbers
-pub index_is_number : (s : Space) (x : Index) → is_resolved (in_index s x) ≡ is_number x
-index_is_number s (index.Num n span) = refl
-index_is_number s (index.Id id) = refl
-
-pub same_each : {A : Type 0} (p q : A → Bool) → ((x : A) → p x ≡ q x) → (xs : List A) → list_all p xs ≡ list_all q xs
-same_each p q h [] = refl
-same_each p q h (x ∷ xs) = ap (λ b. b && list_all p xs) (h x) ∙ ap (λ b. q x && b) (same_each p q h xs)
-
-pub numbers_only : (s : Space) (xs : List Index) (rest : List Ask) → is_resolved (flat_map (in_index s) xs ++ rest) ≡ true → list_all is_number xs ≡ true
-numbers_only s xs rest h =
-    let first = (both_pass _ _ (sym (list_all-append is_numbered (flat_map (in_index s) xs) rest) ∙ h)).0 in
-    sym (same_each (λ x. is_resolved (in_index s x)) is_number (index_is_number s) xs) ∙ (sym (each_passes is_numbered (in_index s) xs) ∙ first)
+-- where each part gives one
+pub each_of_one : {A B : Type 0} (p : B → Bool) (f : A → B) (xs : List A) → list_all p (flat_map (λ x. f x ∷ []) xs) ≡ list_all (λ x. p (f x)) xs
+each_of_one p f [] = refl
+each_of_one p f (x ∷ xs) = ap (λ b. p (f x) && b) (each_of_one p f xs)
 
 -- the first of a list pass where all do
 pub first_pass : {A : Type 0} (p : A → Bool) (xs : List A) (i : ℕ) → list_all p xs ≡ true → list_all p (take i xs) ≡ true
 first_pass p xs i h = (both_pass _ _ (sym (list_all-append p (take i xs) (drop i xs)) ∙ ap (list_all p) (take-append-drop i xs) ∙ h)).0
+
+-- both of two joined lists pass
+pub both_lists : {A : Type 0} (p : A → Bool) (xs ys : List A) → list_all p (xs ++ ys) ≡ true → (list_all p xs ≡ true) × (list_all p ys ≡ true)
+both_lists p xs ys h = both_pass (list_all p xs) (list_all p ys) (sym (list_all-append p xs ys) ∙ h)
+
+-- what one test and another tell of each item, a third tells
+pub each_by : {A : Type 0} (p q r : A → Bool) → ((x : A) → p x ≡ true → q x ≡ true → r x ≡ true)
+    → (xs : List A) → list_all p xs ≡ true → list_all q xs ≡ true → list_all r xs ≡ true
+each_by p q r h [] a b = refl
+each_by p q r h (x ∷ xs) a b =
+    let c = both_pass (p x) (list_all p xs) a in
+    let d = both_pass (q x) (list_all q xs) b in
+    both_true (r x) (list_all r xs) (h x c.0 d.0) (each_by p q r h xs c.1 d.1)
+
+pub each_then : {A : Type 0} (p r : A → Bool) → ((x : A) → p x ≡ true → r x ≡ true) → (xs : List A) → list_all p xs ≡ true → list_all r xs ≡ true
+each_then p r h xs a = each_by p p r (λ x e f. h x e) xs a a
+
+-- what the items become passes
+pub each_becomes : {A B : Type 0} (p : A → Bool) (f : A → B) (q : B → Bool) → ((x : A) → p x ≡ true → q (f x) ≡ true)
+    → (xs : List A) → list_all p xs ≡ true → list_all q (map f xs) ≡ true
+each_becomes p f q h [] e = refl
+each_becomes p f q h (x ∷ xs) e =
+    let c = both_pass (p x) (list_all p xs) e in
+    both_true (q (f x)) (list_all q (map f xs)) (h x c.0) (each_becomes p f q h xs c.1)

@@ -1,15 +1,13 @@
 -- Instructions that the encoder takes are spelled as rows of the table that it covers.
 use native.Mathlib.Omega.{arith}
-use Rattle.std.proofs.Common.{◌≡◌, ℕ, true, List, [], ◌∷◌, ◌++◌, map, Result, subst, inl, inr, sym, ap, ◌∙◌}
+use Rattle.std.proofs.Common.{◌≡◌, ℕ, true, List, [], ◌∷◌, ◌++◌, map, Result, subst, inl, inr, refl, sym, ap, ◌∙◌}
 use Rattle.std.specs.Prelude.{All}
 use Rattle.std.specs.List.{flat_map, list_all}
 use Rattle.std.proofs.lemmas.List.Elements.{All-map}
 use Rattle.std.proofs.lemmas.List.Folds.{flat_map-map}
-use Rattle.wast_tree.specs.Occurrences.{in_heap}
-use Rattle.wast_tree.proofs.Visiting.{asked_steps}
-use Rattle.wasm_ops.specs.Covered.{is_covered_heap_type}
+use Rattle.wast_tree.specs.Sites.{in_heap}
 use Rattle.wast_base.specs.declared.faults.Error.{Error}
-use Rattle.wasm_ops.specs.ConstExprs.{expression, InRangeExpression}
+use Rattle.wasm_ops.specs.ConstExprs.{expression, is_covered_expression, InRangeExpression}
 use Rattle.wasm_ops.specs.declared.sink.Refusal.{Refusal}
 use Rattle.wasm_ops.specs.Sinks.{SinkRules, Writes}
 use Rattle.wasm_ops.specs.Table.{instr, instrs, is_covered_instr, HasRow, InRangeInstr, SpellsInstrs, kinds_of, table}
@@ -17,13 +15,13 @@ use Rattle.wasm_ops.proofs.Everywhere.{all_each, all_unmap}
 use Rattle.wasm_ops.proofs.ExpressionCodes.{is_expression}
 use Rattle.wasm_ops.proofs.Sinking.{written_as}
 use Rattle.wasm_out.specs.Built.{IsRefused}
-use Rattle.wast_resolve.specs.Resolved.{is_resolved}
-use Rattle.wast_conv.specs.Tree.{HeapType, Instruction}
+use Rattle.wast_conv.specs.Tree.{Instruction, Expression}
 use Rattle.wast_conv.specs.Tree.instr as instruction
-use Rattle.wast_conv.specs.Encodable.{is_encodable_instr}
+use Rattle.wast_conv.specs.Encodable.{is_encodable_instr, is_encodable_expression}
 use Rattle.wast_conv.specs.Meaning as meaning
-use Rattle.wast_conv.proofs.EachPasses.{both_pass}
-use Rattle.wast_conv.proofs.TypesReady.{list_covered}
+use Rattle.wast_conv.proofs.EachPasses.{both_true, each_becomes}
+use Rattle.wast_conv.proofs.Standing.{asking_passes, ready_instrs}
+use Rattle.wast_conv.proofs.TypesReady.{heap_covered}
 
 -- each instruction is a row of the table
 instr_row : (i : Instruction) → HasRow (meaning.instr i)
@@ -34,8 +32,15 @@ pub instrs_rows : (is : List Instruction) → All HasRow (map meaning.instr is)
 instrs_rows is = All-map HasRow meaning.instr is (all_each (λ i. HasRow (meaning.instr i)) instr_row is)
 
 -- those that the encoder takes are covered
+instr_covered : (i : Instruction) → is_encodable_instr i ≡ true → is_covered_instr (meaning.instr i) ≡ true
+instr_covered (instruction.ref_null h) e = both_true _ true (heap_covered h (sym (asking_passes (in_heap h)) ∙ e)) refl
+instr_covered i e = refl
+
 pub instrs_covered : (is : List Instruction) → list_all is_encodable_instr is ≡ true → list_all is_covered_instr (map meaning.instr is) ≡ true
-instrs_covered is h = list_covered is_encodable_instr meaning.instr is_covered_instr (λ i e. (both_pass _ _ e).0) is h
+instrs_covered is h = each_becomes is_encodable_instr meaning.instr is_covered_instr instr_covered is h
+
+pub expression_covered : (e : Expression) → is_encodable_expression e ≡ true → is_covered_expression (meaning.expression e) ≡ true
+expression_covered e h = instrs_covered e.instrs (ready_instrs e h)
 
 -- the bytes of a constant expression
 pub spells_expression : (is : List Instruction) (bytes : List ℕ) → list_all is_encodable_instr is ≡ true → (bytes ≡ flat_map (λ i. instr (meaning.instr i)) is) × All (λ i. InRangeInstr (meaning.instr i)) is → SpellsInstrs bytes
@@ -60,10 +65,3 @@ expression_written rules a b xs is r e p =
     (λ h. All-map InRangeInstr meaning.instr is (subst (All (λ i. InRangeInstr (meaning.instr i))) e h.0))
     (λ h. (subst (All (λ i. InRangeInstr (meaning.instr i))) (sym e) (all_unmap InRangeInstr meaning.instr is h), tt))
     (ap (λ ys. flat_map (λ i. instr (meaning.instr i)) ys ++ 0x0b ∷ []) e ∙ ap (λ (bytes : List ℕ). bytes ++ 0x0b ∷ []) (sym (flat_map-map instr meaning.instr is))) p
-
--- the heap type of a null reference
-pub null_resolved : (h : HeapType) → is_encodable_instr (instruction.ref_null h) ≡ true → is_resolved (in_heap h) ≡ true
-null_resolved h e = ap is_resolved (sym (asked_steps (in_heap h))) ∙ (both_pass _ _ e).1
-
-pub null_covered : (h : HeapType) → is_encodable_instr (instruction.ref_null h) ≡ true → is_covered_heap_type (meaning.heap_type h) ≡ true
-null_covered h e = (both_pass _ _ (both_pass _ _ e).0).0

@@ -1,4 +1,6 @@
 pub mod EachPasses
+pub mod Standing
+pub mod Ready
 pub mod TypesReady
 pub mod EntitiesReady
 pub mod Expressions

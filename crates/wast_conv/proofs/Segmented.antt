@@ -7,7 +7,8 @@ use Rattle.std.proofs.lemmas.Grind.{common_steps}
 use Rattle.std.proofs.lemmas.List.{length-map}
 use Rattle.std.proofs.lemmas.List.Elements.{All-map}
 use Rattle.wast_base.specs.declared.faults.Error.{Error}
-use Rattle.wast_tree.specs.WellFormed as tree
+use Rattle.wast_tree.specs.Clauses as tree
+use Rattle.wast_tree.specs.Sites.{in_ref}
 use Rattle.wasm_ops.specs.ConstExprs.{expression, InRangeExpression}
 use Rattle.wasm_ops.specs.Spelling.{InRangeU32, vec, InRangeRefType}
 use Rattle.wasm_ops.specs.declared.sink.Refusal.{Refusal}
@@ -29,7 +30,7 @@ use Rattle.wast_conv.specs.Tree.{Expression, HeapType, AbstractHeapType, ElemKin
 use Rattle.wast_conv.specs.Tree.heap
 use Rattle.wast_conv.specs.Tree.elem
 use Rattle.wast_conv.specs.Tree.payload
-use Rattle.wast_conv.specs.Encodable.{is_encodable_heap}
+use Rattle.wast_conv.specs.Encodable.{are_encodable}
 use Rattle.wast_conv.specs.Segments.{AreExpressions, ArePayload, seen_mode}
 use Rattle.wast_conv.specs.Meaning as meaning
 use Rattle.wast_conv.proofs.Spelled.{vec_mapped}
@@ -37,7 +38,7 @@ use Rattle.wast_conv.proofs.TypesReady.{heap_covered}
 
 -- ---- elements
 
-pub are_payload : (ty : types.RefType) (xs es : List Expression) (r : RefType) (v : Vec (List ℕ)) → is_encodable_heap ty.heap ≡ true → r ≡ meaning.ref_type ty → xs ≡ es → AreExpressions xs v.items → ArePayload (payload.Exprs ty es) (elements.Expressions r v)
+pub are_payload : (ty : types.RefType) (xs es : List Expression) (r : RefType) (v : Vec (List ℕ)) → are_encodable (in_ref ty) ≡ true → r ≡ meaning.ref_type ty → xs ≡ es → AreExpressions xs v.items → ArePayload (payload.Exprs ty es) (elements.Expressions r v)
 are_payload ty xs es r v covered is same made =
     let value : v.items ≡ map (λ e. instrs (meaning.expression e)) es = made.value ∙ ap (map (λ e. instrs (meaning.expression e))) same in
     let counted : length (map meaning.expression es) ≡ length v.items = length-map es meaning.expression ∙ sym (ap length value ∙ length-map es (λ e. instrs (meaning.expression e))) in record {

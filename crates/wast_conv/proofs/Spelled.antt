@@ -9,13 +9,13 @@ use Rattle.wasm_ops.specs.declared.sink.Refusal.{Refusal}
 use Rattle.wasm_ops.specs.Leb128.{unsigned}
 use Rattle.wasm_ops.specs.Sinks.{SinkRules, Writes}
 use Rattle.wasm_ops.specs.declared.types.ValType as ops
-use Rattle.wast_tree.specs.WellFormed.{is_final}
 use Rattle.wasm_ops.specs.Spelling.{InRangeU32, vec, InRangeVec, val_type, InRangeValType, func_type, InRangeFuncType, composite_inner_type, InRangeCompositeInnerType, sub_bytes, sub_type, InRangeSubType}
 use Rattle.wasm_ops.specs.Table.{instr, InRangeInstr}
 use Rattle.wasm_ops.proofs.Everywhere.{all_unmap}
 use Rattle.wasm_ops.proofs.Sinking.{written_as}
 use Rattle.wasm_out.specs.Bodies.{locals, content, InRangeContent}
 use Rattle.wast_conv.specs.Tree.{Id, Index, NameAnnotation, ValType, FunctionType, TypeDef, Local, Instruction}
+use Rattle.wast_conv.specs.Values.{is_final}
 use Rattle.wast_conv.specs.Meaning as meaning
 
 -- a list, and the list of what its items become

@@ -1,8 +1,8 @@
 -- What an entry of a section holds.
 use Rattle.std.specs.Prelude.{Bool}
-use Rattle.std.specs.List.{list_all}
+use Rattle.wast_tree.specs.Sites.{in_rec}
 use Rattle.wasm_out.specs.Parts.{TypeEntry, Single}
-use Rattle.wast_conv.specs.Encodable.{is_encodable_type}
+use Rattle.wast_conv.specs.Encodable.{are_encodable, is_encodable_type}
 use Rattle.wast_conv.specs.Meaning as meaning
 use Rattle.wast_conv.specs.declared.section_items.RecOrType.{RecOrType}
 use Rattle.wast_conv.specs.declared.section_items.RecOrType.TheVariants as entry
@@ -13,4 +13,4 @@ entry_of (entry.Rec r) = meaning.group_of r.now
 
 abbrev pub is_encodable_entry : RecOrType → Bool
 is_encodable_entry (entry.Ty t) = is_encodable_type t.now
-is_encodable_entry (entry.Rec r) = list_all is_encodable_type r.now.types
+is_encodable_entry (entry.Rec r) = are_encodable (in_rec r.now)

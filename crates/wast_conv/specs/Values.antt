@@ -1,6 +1,5 @@
 -- Parts of the tree as values of the binary format, with their numbers (binary format: types, instructions).
-use Rattle.std.specs.Prelude.{ℕ, List, [], map, unwrap_or, option_map}
-use Rattle.wast_tree.specs.WellFormed.{is_final}
+use Rattle.std.specs.Prelude.{ℕ, Bool, true, List, [], map, Option, Some, None, unwrap_or, option_map}
 use Rattle.wast_conv.specs.Tree as tree
 use Rattle.wast_conv.specs.Tree.{Index, StructField, FunctionType, TypeUse, InnerTypeKind, TypeDef, ItemKind, Instruction, Expression, Local, FuncKind}
 use Rattle.wast_conv.specs.Tree.index
@@ -101,6 +100,11 @@ abbrev pub inner_type : InnerTypeKind → CompositeInnerType
 inner_type (inner.Func t) = composite.Func (func_type t)
 inner_type (inner.Struct t) = composite.Struct (struct_type t)
 inner_type (inner.Array t) = composite.Array (array_type t)
+
+-- a type is final where it says nothing
+abbrev pub is_final : Option Bool → Bool
+is_final None = true
+is_final (Some final) = final
 
 abbrev pub sub_type : TypeDef → SubType
 sub_type d = record {

@@ -4,11 +4,11 @@ ghost use Rattle.std.specs.Prelude.{◌≡◌, Bool, true, map, option_map, IfOk
 ghost use Rattle.std.specs.List.{All, flat_map, list_all};
 ghost use Rattle.wast_base.specs.Ids.{is_number};
 ghost use Rattle.wast_base.specs.Faults.{out_of_memory};
-ghost use Rattle.wast_tree.specs.Occurrences.{in_heap, in_ref, in_val, in_storage, in_array, in_struct, in_signature, in_inner, in_def, in_type};
+ghost use Rattle.wast_tree.specs.Sites.{in_heap, in_ref, in_val, in_param, in_storage, in_struct_field, in_array, in_struct, in_signature, in_inner, in_def, in_type};
+ghost use Rattle.wast_tree.specs.Resolved.{are_numbered};
 ghost use Rattle.wasm_ops.specs.ConstExprs.{InRangeExpression};
 ghost use Rattle.wasm_ops.specs.Table.{instr, instrs, InRangeInstr};
 ghost use Rattle.wasm_out.specs.Built.{IsRefused};
-ghost use Rattle.wast_resolve.specs.Resolved.{is_resolved};
 ghost use Rattle.wast_conv.specs.Encodable.{is_number_if, is_encodable_instr, is_encodable_expression};
 ghost use Rattle.wast_conv.specs.Meaning as meaning;
 
@@ -98,7 +98,7 @@ fn abstract_type(ty: wast_tree::AbstractHeapType) -> wasm_ops::AbstractHeapType
 
 /// What a reference refers to (binary format, heap types). It needs a resolved index.
 pub fn heap_type(ty: &wast_tree::HeapType) -> wasm_ops::HeapType
-    requires { IsTrue (is_resolved (in_heap ty.now)) }
+    requires { IsTrue (are_numbered (in_heap ty.now)) }
     ensures { result ≡ meaning.heap_type ty.now }
 {
     match ty {
@@ -112,7 +112,7 @@ pub fn heap_type(ty: &wast_tree::HeapType) -> wasm_ops::HeapType
 
 /// A reference type (binary format, reference types). It needs a resolved index.
 pub fn ref_type(ty: &wast_tree::RefType) -> wasm_ops::RefType
-    requires { IsTrue (is_resolved (in_ref ty.now)) }
+    requires { IsTrue (are_numbered (in_ref ty.now)) }
     ensures { result ≡ meaning.ref_type ty.now }
 {
     wasm_ops::RefType {
@@ -123,7 +123,7 @@ pub fn ref_type(ty: &wast_tree::RefType) -> wasm_ops::RefType
 
 /// A value type (binary format, value types). It needs a resolved index.
 pub fn val_type(ty: &wast_tree::ValType) -> wasm_ops::ValType
-    requires { IsTrue (is_resolved (in_val ty.now)) }
+    requires { IsTrue (are_numbered (in_val ty.now)) }
     ensures { result ≡ meaning.val_type ty.now }
 {
     match ty {
@@ -138,7 +138,7 @@ pub fn val_type(ty: &wast_tree::ValType) -> wasm_ops::ValType
 
 /// What a field of a struct or an element of an array holds (binary format, composite types). It needs a resolved index.
 pub fn storage_type(ty: &wast_tree::StorageType) -> wasm_ops::StorageType
-    requires { IsTrue (is_resolved (in_storage ty.now)) }
+    requires { IsTrue (are_numbered (in_storage ty.now)) }
     ensures { result ≡ meaning.storage_type ty.now }
 {
     match ty {
@@ -150,7 +150,7 @@ pub fn storage_type(ty: &wast_tree::StorageType) -> wasm_ops::StorageType
 
 /// A field of a struct (binary format, composite types). It needs a resolved index.
 pub fn field_type(field: &wast_tree::StructField) -> wasm_ops::FieldType
-    requires { IsTrue (is_resolved (in_storage field.now.ty)) }
+    requires { IsTrue (are_numbered (in_struct_field field.now)) }
     ensures { result ≡ meaning.field_type field.now }
 {
     wasm_ops::FieldType {
@@ -161,7 +161,7 @@ pub fn field_type(field: &wast_tree::StructField) -> wasm_ops::FieldType
 
 /// An array type (binary format, composite types). It needs a resolved index.
 pub fn array_type(ty: &wast_tree::ArrayType) -> wasm_ops::ArrayType
-    requires { IsTrue (is_resolved (in_array ty.now)) }
+    requires { IsTrue (are_numbered (in_array ty.now)) }
     ensures { result ≡ meaning.array_type ty.now }
 {
     wasm_ops::ArrayType(wasm_ops::FieldType {
@@ -175,7 +175,7 @@ impl Convert for wast_tree::ValType<'_> {
 
     ghost becomes = { meaning.val_type };
 
-    ghost is_ready = { λ t. is_resolved (in_val t) };
+    ghost is_ready = { λ t. are_numbered (in_val t) };
 
     fn convert(&self) -> wasm_ops::ValType {
         val_type(self)
@@ -192,7 +192,7 @@ impl<'a> Convert
 
     ghost becomes = { λ p. meaning.val_type p.2 };
 
-    ghost is_ready = { λ p. is_resolved (in_val p.2) };
+    ghost is_ready = { λ p. are_numbered (in_param p) };
 
     fn convert(&self) -> wasm_ops::ValType {
         val_type(&self.2)
@@ -204,7 +204,7 @@ impl Convert for wast_tree::StructField<'_> {
 
     ghost becomes = { meaning.field_type };
 
-    ghost is_ready = { λ f. is_resolved (in_storage f.ty) };
+    ghost is_ready = { λ f. are_numbered (in_struct_field f) };
 
     fn convert(&self) -> wasm_ops::FieldType {
         field_type(self)
@@ -214,7 +214,7 @@ impl Convert for wast_tree::StructField<'_> {
 /// A function type: the types of its parameters and results (binary format, composite types). It needs resolved indices.
 /// The only error is out of memory.
 pub fn func_type<'e>(alloc: Global, ty: &FunctionType) -> Result<FuncType, Error<'e>>
-    requires { IsTrue (is_resolved (in_signature ty.now)) }
+    requires { IsTrue (are_numbered (in_signature ty.now)) }
     ensures value { IfOk result (λ made. made ≡ meaning.func_type ty.now) }
     ensures refusal { IfErr result (λ e. e ≡ out_of_memory) }
 {
@@ -225,7 +225,7 @@ pub fn func_type<'e>(alloc: Global, ty: &FunctionType) -> Result<FuncType, Error
 
 /// A struct type: its fields (binary format, composite types). It needs resolved indices. The only error is out of memory.
 pub fn struct_type<'e>(alloc: Global, ty: &wast_tree::StructType) -> Result<StructType, Error<'e>>
-    requires { IsTrue (is_resolved (in_struct ty.now)) }
+    requires { IsTrue (are_numbered (in_struct ty.now)) }
     ensures value { IfOk result (λ made. made ≡ meaning.struct_type ty.now) }
     ensures refusal { IfErr result (λ e. e ≡ out_of_memory) }
 {
@@ -234,7 +234,7 @@ pub fn struct_type<'e>(alloc: Global, ty: &wast_tree::StructType) -> Result<Stru
 }
 
 fn inner_type<'e>(alloc: Global, kind: &InnerTypeKind) -> Result<CompositeInnerType, Error<'e>>
-    requires { IsTrue (is_resolved (in_inner kind.now)) }
+    requires { IsTrue (are_numbered (in_inner kind.now)) }
     ensures value { IfOk result (λ made. made ≡ meaning.inner_type kind.now) }
     ensures refusal { IfErr result (λ e. e ≡ out_of_memory) }
 {
@@ -258,7 +258,7 @@ pub(crate) fn optional_index(optional: &Option<Index>) -> Option<u32>
 /// What a type is defined as: a composite type, and how it stands to other types (binary format, recursive types). It
 /// needs resolved indices. The only error is out of memory.
 pub fn sub_type<'e>(alloc: Global, ty: &TypeDef) -> Result<SubType, Error<'e>>
-    requires { IsTrue (is_resolved (in_def ty.now)) }
+    requires { IsTrue (are_numbered (in_def ty.now)) }
     ensures value { IfOk result (λ made. made ≡ meaning.sub_type ty.now) }
     ensures refusal { IfErr result (λ e. e ≡ out_of_memory) }
 {
@@ -278,7 +278,7 @@ pub fn sub_type<'e>(alloc: Global, ty: &TypeDef) -> Result<SubType, Error<'e>>
 
 /// Each type of a group. The only error is out of memory.
 pub(crate) fn group<'e>(alloc: Global, types: &[Type]) -> Result<Seq<SubType>, Error<'e>>
-    requires { IsTrue (list_all (λ t. is_resolved (in_type t)) types.now) }
+    requires { IsTrue (list_all (λ t. are_numbered (in_type t)) types.now) }
     ensures value { IfOk result (λ made. made ≡ map (λ t. meaning.sub_type t.def) types.now) }
     ensures refusal { IfErr result (λ e. e ≡ out_of_memory) }
 {
@@ -313,8 +313,8 @@ fn instrs_bytes<'e>(alloc: Global, instructions: &[Instruction]) -> Result<Vec<u
     Ok(bytes)
 }
 
-/// A constant expression: its instructions as bytes (binary format, expressions). It needs instructions that the encoder
-/// covers, with resolved indices. Sections take the expression that it gives.
+/// A constant expression: its instructions as bytes (binary format, expressions). It needs a supported one, with
+/// resolved indices. Sections take the expression that it gives.
 ///
 /// E12 comes where memory is refused. E10 comes only where a number of an instruction is out of range.
 pub fn const_expr<'e>(alloc: Global, expression: &Expression) -> Result<ConstExpr, Error<'e>>

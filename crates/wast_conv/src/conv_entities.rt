@@ -1,9 +1,9 @@
 //! Types of tables, memories, globals, tags and imported items as values of the binary format.
 
 ghost use Rattle.std.specs.Prelude.{◌≡◌, IsTrue};
-ghost use Rattle.wast_tree.specs.Occurrences.{in_table_type, in_global_type};
-ghost use Rattle.wast_resolve.specs.Resolved.{is_resolved};
-ghost use Rattle.wast_conv.specs.Encodable.{is_encodable_type_use, is_encodable_tag_type, is_bound_kind};
+ghost use Rattle.wast_tree.specs.Sites.{in_table_type, in_global_type, in_use, in_tag_type, in_item_kind};
+ghost use Rattle.wast_tree.specs.Resolved.{are_numbered};
+ghost use Rattle.wast_conv.specs.Encodable.{are_resolved};
 ghost use Rattle.wast_conv.specs.Meaning as meaning;
 
 use crate::conv::{index, ref_type, val_type};
@@ -12,7 +12,7 @@ use wast_tree::{FunctionType, ItemKind, TypeUse};
 
 /// A table type (binary format, table types). It needs a resolved index.
 pub fn table_type(ty: &wast_tree::TableType) -> wasm_ops::TableType
-    requires { IsTrue (is_resolved (in_table_type ty.now)) }
+    requires { IsTrue (are_numbered (in_table_type ty.now)) }
     ensures { result ≡ meaning.table_type ty.now }
 {
     wasm_ops::TableType {
@@ -39,7 +39,7 @@ pub fn memory_type(ty: &wast_tree::MemoryType) -> wasm_ops::MemoryType
 
 /// A global type (binary format, global types). It needs a resolved index.
 pub fn global_type(ty: &wast_tree::GlobalType) -> wasm_ops::GlobalType
-    requires { IsTrue (is_resolved (in_global_type ty.now)) }
+    requires { IsTrue (are_numbered (in_global_type ty.now)) }
     ensures { result ≡ meaning.global_type ty.now }
 {
     wasm_ops::GlobalType {
@@ -51,7 +51,7 @@ pub fn global_type(ty: &wast_tree::GlobalType) -> wasm_ops::GlobalType
 
 /// The index of a type use.
 pub(crate) fn type_index(type_use: &TypeUse<FunctionType>) -> u32
-    requires { IsTrue (is_encodable_type_use type_use.now) }
+    requires { IsTrue (are_resolved (in_use type_use.now)) }
     ensures { result ≡ meaning.type_index type_use.now }
 {
     match &type_use.index {
@@ -62,7 +62,7 @@ pub(crate) fn type_index(type_use: &TypeUse<FunctionType>) -> u32
 
 /// A tag type (binary format, tag types). It needs a type use that has an index, and resolved indices.
 pub fn tag_type(ty: &wast_tree::TagType) -> wasm_ops::TagType
-    requires { IsTrue (is_encodable_tag_type ty.now) }
+    requires { IsTrue (are_resolved (in_tag_type ty.now)) }
     ensures { result ≡ meaning.tag_type ty.now }
 {
     match ty {
@@ -74,7 +74,7 @@ pub fn tag_type(ty: &wast_tree::TagType) -> wasm_ops::TagType
 
 /// The type of an imported item (binary format, external types). It needs resolved indices, and one in each type use.
 pub fn entity_type(kind: &ItemKind) -> EntityType
-    requires { IsTrue (is_bound_kind kind.now) }
+    requires { IsTrue (are_resolved (in_item_kind kind.now)) }
     ensures { result ≡ meaning.entity_type kind.now }
 {
     match kind {

@@ -6,7 +6,8 @@ ghost use Rattle.wasm_ops.specs.Entities.{InRangeMemoryType, InRangeTagType};
 ghost use Rattle.wasm_ops.specs.Spelling.{InRangeU32};
 ghost use Rattle.wasm_out.specs.Built.{Adds};
 ghost use Rattle.wasm_out.specs.Parts.{import_entry, InRangeImport, table_entry, InRangeTable, global_entry, InRangeGlobal};
-ghost use Rattle.wast_conv.specs.Encodable.{is_encodable_expression, is_encodable_expression_if, is_encodable_import, is_encodable_table_type, is_encodable_table, is_encodable_memory, is_encodable_global_type, is_encodable_global, is_encodable_tag};
+ghost use Rattle.wast_tree.specs.Sites.{if_there, in_table_type, in_global_type, in_constant};
+ghost use Rattle.wast_conv.specs.Encodable.{are_encodable, encodable, is_encodable_expression, is_encodable_import, is_encodable_table, is_encodable_memory, is_encodable_global, is_encodable_tag};
 ghost use Rattle.wast_conv.specs.Meaning as meaning;
 
 use crate::conv;
@@ -29,6 +30,7 @@ impl SectionItem for Imports<'_> {
 
     ghost is_encodable = { is_encodable_import };
 
+    #[tactic(auto, using(crate::proofs::Ready::sites_resolved))]
     fn encode<'e>(&self, _alloc: Global, section: &mut ImportSection) -> Result<(), Error<'e>> {
         match &self.items {
             ImportItems::Single { module, name, sig } => {
@@ -49,8 +51,8 @@ fn add_table<'e>(
     ty: &TableType,
     init: &Option<Expression>,
 ) -> Result<(), Error<'e>>
-    requires ty { IsTrue (is_encodable_table_type ty.now) }
-    requires init { IsTrue (is_encodable_expression_if init.now) }
+    requires ty { IsTrue (are_encodable (in_table_type ty.now)) }
+    requires init { IsTrue (encodable (if_there in_constant init.now)) }
     ensures { Adds (InRangeU32 (section.old.count + 1) × InRangeTable (record { ty = meaning.table_type ty.now; init = option_map meaning.expression init.now })) section.old section.new (table_entry (record { ty = meaning.table_type ty.now; init = option_map meaning.expression init.now })) result }
 {
     let ty = conv::table_type(ty);
@@ -109,7 +111,7 @@ fn add_global<'e>(
     ty: &GlobalType,
     init: &Expression,
 ) -> Result<(), Error<'e>>
-    requires ty { IsTrue (is_encodable_global_type ty.now) }
+    requires ty { IsTrue (are_encodable (in_global_type ty.now)) }
     requires init { IsTrue (is_encodable_expression init.now) }
     ensures { Adds (InRangeU32 (section.old.count + 1) × InRangeGlobal (record { ty = meaning.global_type ty.now; init = meaning.expression init.now })) section.old section.new (global_entry (record { ty = meaning.global_type ty.now; init = meaning.expression init.now })) result }
 {
@@ -146,6 +148,7 @@ impl SectionItem for Tag<'_> {
 
     ghost is_encodable = { is_encodable_tag };
 
+    #[tactic(auto, using(crate::proofs::Ready::sites_resolved))]
     fn encode<'e>(&self, _alloc: Global, section: &mut TagSection) -> Result<(), Error<'e>> {
         section.tag(&conv::tag_type(&self.ty))
     }

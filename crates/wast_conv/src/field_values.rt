@@ -6,7 +6,8 @@ ghost use Rattle.wasm_ops.specs.Entities as entities;
 ghost use Rattle.wasm_ops.specs.Entities.{InRangeMemoryType, InRangeTagType};
 ghost use Rattle.wasm_ops.specs.Sinks.{Writes};
 ghost use Rattle.wasm_out.specs.Parts.{import_entry, InRangeImport, table_entry, InRangeTable, global_entry, InRangeGlobal};
-ghost use Rattle.wast_conv.specs.Encodable.{is_encodable_expression, is_encodable_expression_if, is_encodable_item_kind, is_encodable_import, is_encodable_table_type, is_encodable_table, is_encodable_memory, is_encodable_global_type, is_encodable_global, is_encodable_tag};
+ghost use Rattle.wast_tree.specs.Sites.{if_there, in_table_type, in_global_type, in_item_kind, in_constant};
+ghost use Rattle.wast_conv.specs.Encodable.{are_encodable, encodable, is_encodable_expression, is_encodable_import, is_encodable_table, is_encodable_memory, is_encodable_global, is_encodable_tag};
 ghost use Rattle.wast_conv.specs.Meaning as meaning;
 
 use crate::conv;
@@ -31,13 +32,14 @@ impl Spell<Expression<'_>> for Resolved {
 }
 
 /// An import of one item.
+#[tactic(auto, using(crate::proofs::Ready::sites_resolved))]
 fn put_import<S: Sink>(
     source: &str,
     name: &str,
     kind: &ItemKind,
     out: &mut S,
 ) -> Result<(), Refusal>
-    requires { IsTrue (is_encodable_item_kind kind.now) }
+    requires { IsTrue (encodable (in_item_kind kind.now)) }
     ensures { Writes S.rules (InRangeImport (record { «module» = source.now; name = name.now; entity = meaning.entity_type kind.now })) out.old out.new (import_entry (record { «module» = source.now; name = name.now; entity = meaning.entity_type kind.now })) result }
 {
     (Name(source), (Name(name), conv::entity_type(kind))).encode(out)
@@ -60,8 +62,8 @@ impl Spell<Imports<'_>> for Resolved {
 
 /// A table, with what each element is at first where that is written.
 fn put_table<S: Sink>(ty: &TableType, init: &Option<Expression>, out: &mut S) -> Result<(), Refusal>
-    requires ty { IsTrue (is_encodable_table_type ty.now) }
-    requires init { IsTrue (is_encodable_expression_if init.now) }
+    requires ty { IsTrue (are_encodable (in_table_type ty.now)) }
+    requires init { IsTrue (encodable (if_there in_constant init.now)) }
     ensures { Writes S.rules (InRangeTable (record { ty = meaning.table_type ty.now; init = option_map meaning.expression init.now })) out.old out.new (table_entry (record { ty = meaning.table_type ty.now; init = option_map meaning.expression init.now })) result }
 {
     let ty = conv::table_type(ty);
@@ -105,7 +107,7 @@ impl Spell<Memory<'_>> for Resolved {
 
 /// A global, with its value at first.
 fn put_global<S: Sink>(ty: &GlobalType, init: &Expression, out: &mut S) -> Result<(), Refusal>
-    requires ty { IsTrue (is_encodable_global_type ty.now) }
+    requires ty { IsTrue (are_encodable (in_global_type ty.now)) }
     requires init { IsTrue (is_encodable_expression init.now) }
     ensures { Writes S.rules (InRangeGlobal (record { ty = meaning.global_type ty.now; init = meaning.expression init.now })) out.old out.new (global_entry (record { ty = meaning.global_type ty.now; init = meaning.expression init.now })) result }
 {
@@ -136,6 +138,7 @@ impl Spell<Tag<'_>> for Resolved {
 
     ghost is_ready = { λ _ t. is_encodable_tag t };
 
+    #[tactic(auto, using(crate::proofs::Ready::sites_resolved))]
     fn spell<S: Sink>(&self, tag: &Tag, out: &mut S) -> Result<(), Refusal> {
         conv::tag_type(&tag.ty).encode(out)
     }

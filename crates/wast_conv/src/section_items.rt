@@ -20,7 +20,7 @@ use wast_tree::{Error, Export, FunctionType, Rec, Type, TypeUse};
 
 /// An item of a section.
 ///
-/// Each call needs a resolved item of a form that the encoder covers. All items are so in the fields that
+/// Each call needs a resolved item of a supported form. All items are so in the fields that
 /// `Module::resolve` of `wast_core` leaves where it refuses nothing: its clause `at_rest` tells it.
 pub trait SectionItem {
     /// The section that holds such items.
@@ -32,11 +32,11 @@ pub trait SectionItem {
     /// The numbers, counts and lengths in its spelling are in range.
     ghost in_range: { Self → Type 0 };
 
-    /// It is resolved, and of a form that the encoder covers.
+    /// It is resolved, and of a supported form.
     ghost is_encodable: { Self → Bool };
 
     /// Appends the item's spelling to the section, and adds one to the count of its items. It needs a resolved item of
-    /// a form that the encoder covers.
+    /// a supported form.
     ///
     /// E10 comes only where there would be 2^32 items, or where a count or length in the item is 2^32 or more; E12
     /// where memory is refused. Then the section stays as it was.
@@ -44,7 +44,7 @@ pub trait SectionItem {
         requires { IsTrue (is_encodable self.now) }
         ensures { Adds (InRangeU32 ((Self.Section.built section.old).count + 1) × in_range self.now) (Self.Section.built section.old) (Self.Section.built section.new) (spelling self.now) result };
 
-    /// Appends the item's spelling to a sink. It needs a resolved item of a form that the encoder covers.
+    /// Appends the item's spelling to a sink. It needs a resolved item of a supported form.
     ///
     /// The errors are the sink's refusal, where it has no room, and E10, where a count or length in the item is 2^32 or
     /// more; then the sink stays as it was.

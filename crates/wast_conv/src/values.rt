@@ -3,11 +3,10 @@
 ghost use Rattle.std.specs.Prelude.{◌≡◌, true, IsTrue};
 ghost use Rattle.std.specs.List.{list_all};
 ghost use Rattle.wast_base.specs.Ids.{is_number};
-ghost use Rattle.wast_tree.specs.Occurrences.{in_heap};
+ghost use Rattle.wast_tree.specs.Sites.{in_heap, in_val, in_param, in_signature, in_struct_field, in_struct, in_array, in_inner, in_def, in_local};
 ghost use Rattle.wasm_ops.specs.declared.instrs.IndexOp.TheVariants.{Call};
 ghost use Rattle.wasm_ops.specs.declared.types.CompositeInnerType.TheVariants as composite;
 ghost use Rattle.wasm_ops.specs.ConstantInstrs.{ref_null_instr};
-ghost use Rattle.wasm_ops.specs.Covered.{is_covered_heap_type};
 ghost use Rattle.wasm_ops.specs.IndexInstrs.{index_instr};
 ghost use Rattle.wasm_ops.specs.Leb128.{unsigned};
 ghost use Rattle.wasm_ops.specs.Sinks.{Writes};
@@ -16,8 +15,7 @@ ghost use Rattle.wasm_ops.specs.Spelling.{InRangeU32, InRangeValType, InRangeFie
 ghost use Rattle.wasm_ops.specs.Table.{instr, InRangeInstr};
 ghost use Rattle.wasm_out.specs.Bodies.{content, InRangeContent};
 ghost use Rattle.wasm_out.specs.Parts.{export_entry, InRangeExport};
-ghost use Rattle.wast_resolve.specs.Resolved.{is_resolved};
-ghost use Rattle.wast_conv.specs.Encodable.{is_encodable_val, is_encodable_param, is_encodable_signature, is_encodable_struct_field, is_encodable_struct, is_encodable_array, is_encodable_inner, is_encodable_def, is_encodable_type, is_encodable_type_use, is_encodable_instr, is_encodable_local, is_encodable_kind};
+ghost use Rattle.wast_conv.specs.Encodable.{are_encodable, is_encodable_type, is_encodable_type_use, is_encodable_instr, is_encodable_kind};
 ghost use Rattle.wast_conv.specs.Meaning as meaning;
 
 use crate::conv;
@@ -32,8 +30,8 @@ use wast_tree::{
     Local, NameAnnotation, StructField, StructType, Type, TypeDef, TypeUse, ValType,
 };
 
-/// The way to spell parts of a resolved tree: by the numbers of their indices (binary format). It needs parts that the
-/// encoder covers, with resolved indices.
+/// The way to spell parts of a resolved tree: by the numbers of their indices (binary format). It needs supported
+/// parts, with resolved indices.
 #[derive(Clone, Copy)]
 pub struct Resolved;
 
@@ -56,7 +54,7 @@ impl Spell<ValType<'_>> for Resolved {
 
     ghost in_range = { λ _ t. InRangeValType (meaning.val_type t) };
 
-    ghost is_ready = { λ _ t. is_encodable_val t };
+    ghost is_ready = { λ _ t. are_encodable (in_val t) };
 
     fn spell<S: Sink>(&self, ty: &ValType, out: &mut S) -> Result<(), Refusal> {
         conv::val_type(ty).encode(out)
@@ -69,7 +67,7 @@ impl<'a> Spell<(Option<Id<'a>>, Option<NameAnnotation<'a>>, ValType<'a>)> for Re
 
     ghost in_range = { λ _ p. InRangeValType (meaning.val_type p.2) };
 
-    ghost is_ready = { λ _ p. is_encodable_param p };
+    ghost is_ready = { λ _ p. are_encodable (in_param p) };
 
     fn spell<S: Sink>(
         &self,
@@ -86,7 +84,7 @@ impl Spell<FunctionType<'_>> for Resolved {
 
     ghost in_range = { λ _ t. InRangeFuncType (meaning.func_type t) };
 
-    ghost is_ready = { λ _ t. is_encodable_signature t };
+    ghost is_ready = { λ _ t. are_encodable (in_signature t) };
 
     fn spell<S: Sink>(&self, ty: &FunctionType, out: &mut S) -> Result<(), Refusal> {
         let params = Counted(ty.params.as_slice(), Resolved);
@@ -101,7 +99,7 @@ impl Spell<StructField<'_>> for Resolved {
 
     ghost in_range = { λ _ f. InRangeFieldType (meaning.field_type f) };
 
-    ghost is_ready = { λ _ f. is_encodable_struct_field f };
+    ghost is_ready = { λ _ f. are_encodable (in_struct_field f) };
 
     fn spell<S: Sink>(&self, field: &StructField, out: &mut S) -> Result<(), Refusal> {
         conv::field_type(field).encode(out)
@@ -114,7 +112,7 @@ impl Spell<StructType<'_>> for Resolved {
 
     ghost in_range = { λ _ t. InRangeStructType (meaning.struct_type t) };
 
-    ghost is_ready = { λ _ t. is_encodable_struct t };
+    ghost is_ready = { λ _ t. are_encodable (in_struct t) };
 
     fn spell<S: Sink>(&self, ty: &StructType, out: &mut S) -> Result<(), Refusal> {
         (0x5fu8, Counted(ty.fields.as_slice(), Resolved)).encode(out)
@@ -127,7 +125,7 @@ impl Spell<ArrayType<'_>> for Resolved {
 
     ghost in_range = { λ _ t. InRangeArrayType (meaning.array_type t) };
 
-    ghost is_ready = { λ _ t. is_encodable_array t };
+    ghost is_ready = { λ _ t. are_encodable (in_array t) };
 
     fn spell<S: Sink>(&self, ty: &ArrayType, out: &mut S) -> Result<(), Refusal> {
         conv::array_type(ty).encode(out)
@@ -140,7 +138,7 @@ impl Spell<InnerTypeKind<'_>> for Resolved {
 
     ghost in_range = { λ _ k. InRangeCompositeInnerType (meaning.inner_type k) };
 
-    ghost is_ready = { λ _ k. is_encodable_inner k };
+    ghost is_ready = { λ _ k. are_encodable (in_inner k) };
 
     fn spell<S: Sink>(&self, kind: &InnerTypeKind, out: &mut S) -> Result<(), Refusal> {
         match kind {
@@ -158,7 +156,7 @@ impl Spell<TypeDef<'_>> for Resolved {
 
     ghost in_range = { λ _ d. InRangeSubType (meaning.sub_type d) };
 
-    ghost is_ready = { λ _ d. is_encodable_def d };
+    ghost is_ready = { λ _ d. are_encodable (in_def d) };
 
     fn spell<S: Sink>(&self, def: &TypeDef, out: &mut S) -> Result<(), Refusal> {
         let parents = Counted(def.parents.as_slice(), Resolved);
@@ -213,8 +211,7 @@ fn put_index<S: Sink>(op: IndexOp, index: &Index, out: &mut S) -> Result<(), Ref
 
 /// A null reference of a heap type.
 fn put_null<S: Sink>(ty: &HeapType, out: &mut S) -> Result<(), Refusal>
-    requires resolved { IsTrue (is_resolved (in_heap ty.now)) }
-    requires covered { IsTrue (is_covered_heap_type (meaning.heap_type ty.now)) }
+    requires { IsTrue (are_encodable (in_heap ty.now)) }
     ensures { Writes S.rules (InRangeInstr (ref_null_instr (meaning.heap_type ty.now))) out.old out.new (instr (ref_null_instr (meaning.heap_type ty.now))) result }
 {
     RefNull(conv::heap_type(ty)).encode(out)
@@ -245,7 +242,7 @@ impl Spell<Instruction<'_>> for Resolved {
 impl LocalType<Local<'_>> for Resolved {
     ghost ty = { λ _ l. meaning.val_type l.ty };
 
-    ghost is_ready = { λ _ l. is_encodable_local l };
+    ghost is_ready = { λ _ l. are_encodable (in_local l) };
 
     fn local_type(&self, local: &Local) -> wasm_ops::ValType {
         conv::val_type(&local.ty)
@@ -258,7 +255,7 @@ fn put_content<S: Sink>(
     instructions: &[Instruction],
     out: &mut S,
 ) -> Result<(), Refusal>
-    requires locals { IsTrue (list_all is_encodable_local locals.now) }
+    requires locals { IsTrue (list_all (λ l. are_encodable (in_local l)) locals.now) }
     requires instrs { IsTrue (list_all is_encodable_instr instructions.now) }
     ensures { Writes S.rules (InRangeContent (meaning.body_of locals.now instructions.now)) out.old out.new (content (meaning.body_of locals.now instructions.now)) result }
 {

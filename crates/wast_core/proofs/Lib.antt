@@ -1,8 +1,8 @@
+pub mod Stripping
 pub mod ByPosition
 pub mod Encoded
 pub mod EncodedFields
 pub mod Readings
-pub mod FieldsReady
 pub mod StrippedNames
 pub mod Overlong
 pub mod Putting

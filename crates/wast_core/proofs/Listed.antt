@@ -77,8 +77,3 @@ listed_written rules k fields first a b id n size r e same x some p =
 pub counted_in_range : (k : SectionKind) (es : List (Entry k)) → All InRangePart (listed k es) → InRangeU32 (length es)
 counted_in_range k [] h = omega arith
 counted_in_range k (x ∷ xs) h = (All-head InRangePart (record { kind = Listed k; items = x ∷ xs }) [] h).1.0
-
--- as many as are there
-pub counted_as : {A B : Type 0} (f : A → B) (o : Option A) → length (option_to_list o) ≡ length (option_to_list (option_map f o))
-counted_as f None = refl
-counted_as f (Some x) = refl

@@ -3,7 +3,7 @@ use Rattle.std.proofs.Common.{◌≡◌, ◌==◌, ℕ, true, List, length}
 use Rattle.std.proofs.lemmas.Bool.{eqb-true}
 use Rattle.wasm_out.specs.Parts.{SectionKind, Types, Imports, Functions, Tables, Memories, Tags, Globals, Exports, Elements, Code, Data}
 use Rattle.wast_core.specs.Tree.{ModuleField}
-use Rattle.wast_conv.specs.Encodable.{are_encodable}
+use Rattle.wast_conv.specs.Encodable.{is_encodable}
 use Rattle.wast_core.specs.Extents.{payload_of, IsExtent, is_extent}
 use Rattle.wast_core.specs.Measured.{is_measured}
 use Rattle.wast_core.specs.Meaning.{entries}
@@ -37,7 +37,7 @@ pub record Extents (m : BinaryModule) : Type 0 where
 pub measured_extents : (m : BinaryModule) → is_measured m ≡ true → Extents m
 measured_extents m h =
     let fields = m.fields.now in
-    let of_reaches = both_pass (are_reaches fields m.reaches) _ (both_pass (are_encodable fields) _ h).1 in
+    let of_reaches = both_pass (are_reaches fields m.reaches) _ (both_pass (is_encodable fields) _ h).1 in
     let of_types = both_pass (is_extent Types fields m.types.count m.types.size) _ of_reaches.1 in
     let of_imports = both_pass (is_extent Imports fields m.imports.count m.imports.size) _ of_types.1 in
     let of_functions = both_pass (is_extent Functions fields m.functions.count m.functions.size) _ of_imports.1 in

@@ -13,17 +13,17 @@ use Rattle.wast_tree.specs.Known.{known}
 use Rattle.wasm_ops.proofs.Everywhere.{all_left, all_right}
 use Rattle.wasm_out.specs.DataSegments.{DataEntry, InRangeDataEntry}
 use Rattle.wasm_out.specs.Parts.{Data, InRangePart}
+use Rattle.wast_map.specs.Mapped.{Change, mapped}
 use Rattle.wast_deinline.specs.Segments.{are_too_many, overflows_kind, overflows}
 use Rattle.wast_deinline.specs.WriteOut.{exports_of, data_in, memory_alone, write_out}
 use Rattle.wast_deinline.specs.Referring.{by_position}
 use Rattle.wast_deinline.specs.Written.{written_after, written_out}
-use Rattle.wast_expand.specs.ImpliedTypes.{implied}
-use Rattle.wast_expand.specs.Expanders.{LookUp}
-use Rattle.wast_expand.specs.Expanded.{unnamed_type, bound_field}
-use Rattle.wast_expand.specs.Completed.{completed}
-use Rattle.wast_expand.specs.Positioned as positioned
+use Rattle.wast_types.specs.ImpliedTypes.{implied}
+use Rattle.wast_types.specs.Expanded.{unnamed_type, binding}
+use Rattle.wast_types.specs.Completed.{completed}
+use Rattle.wast_types.specs.Positioned.{position_for}
 use Rattle.wast_resolve.specs.Explicit.{by_positions}
-use Rattle.wast_resolve.specs.Resolved.{resolved_field, resolved}
+use Rattle.wast_resolve.specs.Resolved.{numbering, resolved}
 use Rattle.wast_core.specs.Tree.{Index, Memory, MemoryKind, ModuleField}
 use Rattle.wast_core.specs.Tree.space
 use Rattle.wast_core.specs.Tree.export
@@ -79,20 +79,20 @@ each_long : (f : ModuleField → ModuleField) → ((x : ModuleField) → is_long
 each_long f same [] = refl
 each_long f same (x ∷ xs) = ap (λ b. b || any_long (map f xs)) (same x) ∙ ap (λ b. is_long x || b) (each_long f same xs)
 
-bound_long : (find : LookUp) (x : ModuleField) → is_long (bound_field find x) ≡ is_long x
-bound_long find (field.Func f) = refl
-bound_long find x = refl
-
-numbered_long : (xs : List ModuleField) (x : ModuleField) → is_long (resolved_field (known (items xs)) x) ≡ is_long x
-numbered_long xs (field.Func f) = refl
-numbered_long xs x = refl
+mapped_long : (f : Change) (x : ModuleField) → is_long (mapped f x) ≡ is_long x
+mapped_long f (field.Data d) = refl
+mapped_long f x = refl
 
 stays_long : (fields : List ModuleField) → list_any overflows fields ≡ true → any_long (resolved (by_positions fields)) ≡ true
 stays_long fields h =
     let xs = written_out fields in
     let types = map unnamed_type (implied xs) in
-    each_long (resolved_field (known (items (by_positions fields)))) (numbered_long (by_positions fields)) (by_positions fields)
-    ∙ (each_long (bound_field (positioned.position_for xs)) (bound_long (positioned.position_for xs)) (completed xs) ∙ (list_any-append is_long xs types ∙ first_true (any_long xs) (any_long types) (after_long [] fields h)))
+    let all = by_positions fields in
+    let numbers = numbering (known (items all)) in
+    let bind = binding (position_for xs) in
+    each_long (mapped numbers) (mapped_long numbers) all
+    ∙ (each_long (mapped bind) (mapped_long bind) (completed xs)
+    ∙ (list_any-append is_long xs types ∙ first_true (any_long xs) (any_long types) (after_long [] fields h)))
 
 -- But where all is in range, there is none.
 not_long : (x : ModuleField) → All InRangeDataEntry (entries_in Data x) → is_long x ≡ false

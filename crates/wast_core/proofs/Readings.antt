@@ -6,10 +6,9 @@ use Rattle.std.specs.Str.{is_utf8}
 use Rattle.std.proofs.lemmas.List.Elements.{All-nil, All-map}
 use Rattle.std.proofs.lemmas.Str.{is_utf8-from_IsUtf8}
 use lib.Utf8.{encode}
-use Rattle.wasm_ops.specs.ConstExprs.{is_covered_expression}
-use Rattle.wasm_ops.specs.Entities.{is_covered_table_type, is_covered_global_type}
-use Rattle.wasm_ops.specs.Table.{is_covered_instr}
 use Rattle.wasm_ops.proofs.Everywhere.{all_each, all_one, all_both, all_tested, all_in_flat}
+use Rattle.wast_tree.specs.Sites.{if_there, in_rec, in_import, in_constant, in_func_kind, in_table_type, in_table_kind, in_global_type, in_global_kind, in_global}
+use Rattle.wast_tree.specs.WrittenOut.{is_written_func, is_written_table, is_written_global}
 use Rattle.wasm_out.specs.NameSubsections.{NameSubsection}
 use Rattle.wasm_out.specs.Parts.{SectionKind, Types, Imports, Functions, Tables, Memories, Tags, Globals, Exports, Elements, Code, Data, Single, Entry, Listed, InRangePart}
 use Rattle.wasm_out.specs.Readable.{is_covered_init, HasRowsInit, is_covered_entry, HasRows, HasUtf8Name, IsReadable, IsReadablePart}
@@ -25,7 +24,7 @@ use Rattle.wast_core.specs.Tree.field
 use Rattle.wast_core.specs.declared.slots.Slot.{Slot}
 use Rattle.wast_core.specs.declared.slots.Slot.TheVariants as slot
 use Rattle.wast_core.specs.Bounded.{bytes_of, InRangeSlot, InRangeModule}
-use Rattle.wast_conv.specs.Encodable.{is_encodable_type, is_encodable_type_use, is_encodable_local, is_encodable_expression, is_encodable_expression_if, is_encodable_kind, is_encodable_func, is_encodable_import_items, is_encodable_import, is_encodable_table_type, is_encodable_table_kind, is_encodable_table, is_encodable_global_type, is_encodable_global_kind, is_encodable_global, is_encodable_elem, is_encodable_data, is_encodable_field, are_encodable}
+use Rattle.wast_conv.specs.Encodable.{encodable, are_encodable, is_encodable_type, is_encodable_kind, is_encodable_import, is_encodable_table, is_encodable_global, is_encodable_elem, is_encodable_data, is_encodable_field, is_encodable}
 use Rattle.wast_conv.specs.FieldEntries.{imported, table_of, value_of}
 use Rattle.wast_core.specs.Meaning as meaning
 use Rattle.wast_core.specs.Meaning.{Contribution, of_type, of_rec, of_import, of_func, of_table, of_memory, of_global, of_export, of_start, of_elem, of_data, of_tag, of_kind, contributed, entries_in, entries, listed, start_part, starts_in, in_slot, parts}
@@ -33,11 +32,13 @@ use Rattle.wast_core.specs.Utf8Names.{HasUtf8Items, HasUtf8Names}
 use Rattle.wast_names.specs.NamesPayload.{name_subsections}
 use Rattle.wast_names.specs.NameSection.{names_part}
 use Rattle.wast_core.specs.Slots.{kind_of, order}
-use Rattle.wast_conv.proofs.EachPasses.{both_pass}
+use Rattle.wast_conv.proofs.EachPasses.{both_pass, both_true}
 use Rattle.wast_conv.proofs.EntitiesReady.{table_covered, global_covered, kind_covered}
-use Rattle.wast_conv.proofs.Expressions.{instrs_rows, instrs_covered}
+use Rattle.wast_conv.proofs.Expressions.{instrs_rows, instrs_covered, expression_covered}
+use Rattle.wast_conv.proofs.Ready.{type_ready, group_ready, import_ready, func_ready, table_ready, global_ready, elem_ready, data_ready}
 use Rattle.wast_conv.proofs.SegmentsReady.{elem_covered, mode_rows, items_rows, place_covered, place_rows}
-use Rattle.wast_conv.proofs.TypesReady.{both_true, def_covered, locals_covered, types_covered}
+use Rattle.wast_conv.proofs.Standing.{asked_then, constant_ready, body_parts}
+use Rattle.wast_conv.proofs.TypesReady.{def_covered, locals_covered, types_covered}
 
 -- ---- what an entry is read as
 
@@ -47,34 +48,35 @@ plain k e covered rows name = all_one (IsReadable k) e record { covered = covere
 nothing_more : (k : SectionKind) → All (IsReadable k) []
 nothing_more k = All-nil (IsReadable k)
 
-import_read : (i : ImportItems) → is_encodable_import_items i ≡ true → HasUtf8Items i → All (IsReadable Imports) (imported i ∷ [])
+import_read : (i : ImportItems) → encodable (in_import i) ≡ true → HasUtf8Items i → All (IsReadable Imports) (imported i ∷ [])
 import_read (import_items.Single source name sig) e h = plain Imports (imported (import_items.Single source name sig)) (kind_covered sig.kind e) tt h
 
-init_covered : (o : Option Expression) → is_encodable_expression_if o ≡ true → is_covered_init (option_map meaning.expression o) ≡ true
+init_covered : (o : Option Expression) → encodable (if_there in_constant o) ≡ true → is_covered_init (option_map meaning.expression o) ≡ true
 init_covered None e = refl
-init_covered (Some x) e = instrs_covered x.instrs e
+init_covered (Some x) e = expression_covered x (constant_ready x e)
 
 init_rows : (o : Option Expression) → HasRowsInit (option_map meaning.expression o)
 init_rows None = tt
 init_rows (Some x) = instrs_rows x.instrs
 
-table_read : (k : TableKind) → is_encodable_table_kind k ≡ true → All (IsReadable Tables) (table_of k ∷ [])
-table_read (table.Import import ty) e = absurd cc
-table_read (table.Inline ty is64 shared elements) e = absurd cc
-table_read (table.Normal ty init) e =
-    let both = both_pass (is_encodable_table_type ty) (is_encodable_expression_if init) e in
-    plain Tables (table_of (table.Normal ty init)) (both_true (is_covered_table_type (meaning.table_type ty)) (is_covered_init (option_map meaning.expression init)) (table_covered ty both.0) (init_covered init both.1)) (init_rows init) tt
+table_read : (k : TableKind) → encodable (in_table_kind k) ≡ true → is_written_table k ≡ true → All (IsReadable Tables) (table_of k ∷ [])
+table_read (table.Import import ty) e w = absurd cc
+table_read (table.Inline ty is64 shared elements) e w = absurd cc
+table_read (table.Normal ty init) e w =
+    let both = asked_then (in_table_type ty) (if_there in_constant init) e in
+    plain Tables (table_of (table.Normal ty init)) (both_true _ _ (table_covered ty both.0) (init_covered init both.1)) (init_rows init) tt
 
-global_read : (t : GlobalType) (k : GlobalKind) → is_encodable_global_type t ≡ true → is_encodable_global_kind k ≡ true → All (IsReadable Globals) (record { ty = meaning.global_type t; init = value_of k } ∷ [])
-global_read t (global.Import import) e f = absurd cc
-global_read t (global.Inline x) e f =
-    plain Globals (record { ty = meaning.global_type t; init = meaning.expression x }) (both_true (is_covered_global_type (meaning.global_type t)) (is_covered_expression (meaning.expression x)) (global_covered t e) (instrs_covered x.instrs f)) (instrs_rows x.instrs) tt
+global_read : (t : GlobalType) (k : GlobalKind) → are_encodable (in_global_type t) ≡ true → encodable (in_global_kind k) ≡ true → is_written_global k ≡ true
+    → All (IsReadable Globals) (record { ty = meaning.global_type t; init = value_of k } ∷ [])
+global_read t (global.Import import) e f w = absurd cc
+global_read t (global.Inline x) e f w =
+    plain Globals (record { ty = meaning.global_type t; init = meaning.expression x }) (both_true _ _ (global_covered t e) (expression_covered x (constant_ready x f))) (instrs_rows x.instrs) tt
 
-code_read : (k : FuncKind) → is_encodable_kind k ≡ true → All (IsReadable Code) (meaning.body k ∷ [])
-code_read (func.Import import exact) e = absurd cc
-code_read (func.Inline locals x) e =
-    let both = both_pass (list_all is_encodable_local locals) (is_encodable_expression x) e in
-    plain Code (meaning.body_of locals x.instrs) (both_true _ (list_all is_covered_instr (map meaning.instr x.instrs)) (locals_covered locals both.0) (instrs_covered x.instrs both.1)) (instrs_rows x.instrs) tt
+code_read : (k : FuncKind) → encodable (in_func_kind [] k) ≡ true → is_written_func k ≡ true → All (IsReadable Code) (meaning.body k ∷ [])
+code_read (func.Import import exact) e w = absurd cc
+code_read (func.Inline locals x) e w =
+    let both = body_parts [] locals x e in
+    plain Code (meaning.body_of locals x.instrs) (both_true _ _ (locals_covered locals both.0) (instrs_covered x.instrs both.1)) (instrs_rows x.instrs) tt
 
 elem_read : (x : Elem) → is_encodable_elem x ≡ true → All (IsReadable Elements) (meaning.element_entry x ∷ [])
 elem_read x e = plain Elements (meaning.element_entry x) (elem_covered x e) (mode_rows x.kind, items_rows x.payload) tt
@@ -91,21 +93,25 @@ type_readable : (t : ty.«Type») → is_encodable_type t ≡ true → AreReadab
 type_readable t e Types = plain Types (Single (meaning.sub_type t.def)) (def_covered t.def e) tt tt
 type_readable t e k = nothing_more k
 
-rec_readable : (r : Rec) → list_all is_encodable_type r.types ≡ true → AreReadable (of_rec r)
-rec_readable r e Types = plain Types (meaning.group_of r) (types_covered r.types e) tt tt
+rec_readable : (r : Rec) → are_encodable (in_rec r) ≡ true → AreReadable (of_rec r)
+rec_readable r e Types = plain Types (meaning.group_of r) (types_covered r e) tt tt
 rec_readable r e k = nothing_more k
 
 import_readable : (i : tree.Imports) → is_encodable_import i ≡ true → HasUtf8Items i.items → AreReadable (of_import i)
 import_readable i e h Imports = import_read i.items e h
 import_readable i e h k = nothing_more k
 
-func_readable : (f : Func) → is_encodable_func f ≡ true → AreReadable (of_func f)
+func_readable : (f : Func) → is_encodable_kind f.kind ≡ true → AreReadable (of_func f)
 func_readable f e Functions = plain Functions (meaning.type_index f.ty) refl tt tt
-func_readable f e Code = code_read f.kind (both_pass (is_encodable_type_use f.ty) (is_encodable_kind f.kind) e).1
+func_readable f e Code =
+    let both = both_pass (encodable (in_func_kind [] f.kind)) (is_written_func f.kind) e in
+    code_read f.kind both.0 both.1
 func_readable f e k = nothing_more k
 
 table_readable : (t : Table) → is_encodable_table t ≡ true → AreReadable (of_table t)
-table_readable t e Tables = table_read t.kind e
+table_readable t e Tables =
+    let both = both_pass (encodable (in_table_kind t.kind)) (is_written_table t.kind) e in
+    table_read t.kind both.0 both.1
 table_readable t e k = nothing_more k
 
 memory_readable : (m : Memory) → AreReadable (of_memory m)
@@ -114,8 +120,9 @@ memory_readable m k = nothing_more k
 
 global_readable : (g : Global) → is_encodable_global g ≡ true → AreReadable (of_global g)
 global_readable g e Globals =
-    let both = both_pass (is_encodable_global_type g.ty) (is_encodable_global_kind g.kind) e in
-    global_read g.ty g.kind both.0 both.1
+    let both = both_pass (encodable (in_global g)) (is_written_global g.kind) e in
+    let parts = asked_then (in_global_type g.ty) (in_global_kind g.kind) both.0 in
+    global_read g.ty g.kind parts.0 parts.1 both.1
 global_readable g e k = nothing_more k
 
 export_readable : (x : Export) → IsTrue (is_utf8 x.name.now) → AreReadable (of_export x)
@@ -139,20 +146,20 @@ tag_readable t Tags = plain Tags (meaning.tag_entry t) refl tt tt
 tag_readable t k = nothing_more k
 
 field_readable : (f : ModuleField) → IsTrue (is_encodable_field f) → HasUtf8Names f → AreReadable (contributed f)
-field_readable (field.Ty t) e h = type_readable t e
-field_readable (field.Rec r) e h = rec_readable r e
-field_readable (field.Import i) e h = import_readable i e h
-field_readable (field.Func f) e h = func_readable f e
-field_readable (field.Table t) e h = table_readable t e
+field_readable (field.Ty t) e h = type_readable t (type_ready t e)
+field_readable (field.Rec r) e h = rec_readable r (group_ready r e)
+field_readable (field.Import i) e h = import_readable i (import_ready i e) h
+field_readable (field.Func f) e h = func_readable f (func_ready f e).1
+field_readable (field.Table t) e h = table_readable t (table_ready t e)
 field_readable (field.Memory m) e h = memory_readable m
-field_readable (field.Global g) e h = global_readable g e
+field_readable (field.Global g) e h = global_readable g (global_ready g e)
 field_readable (field.Export x) e h = export_readable x h
 field_readable (field.Start i) e h = start_readable i
-field_readable (field.Elem x) e h = elem_readable x e
-field_readable (field.Data d) e h = data_readable d e
+field_readable (field.Elem x) e h = elem_readable x (elem_ready x e)
+field_readable (field.Data d) e h = data_readable d (data_ready d e)
 field_readable (field.Tag t) e h = tag_readable t
 
-entries_readable : (k : SectionKind) (fields : List ModuleField) → IsTrue (are_encodable fields) → All HasUtf8Names fields → All (IsReadable k) (entries k fields)
+entries_readable : (k : SectionKind) (fields : List ModuleField) → IsTrue (is_encodable fields) → All HasUtf8Names fields → All (IsReadable k) (entries k fields)
 entries_readable k fields e h = all_in_flat (IsReadable k) (entries_in k) fields
     (all_both (λ f. IsTrue (is_encodable_field f)) HasUtf8Names (λ f. All (IsReadable k) (entries_in k f)) (λ f p q. field_readable f p q k) fields (all_tested is_encodable_field fields e) h)
 
@@ -171,7 +178,7 @@ names_readable : (ss : List NameSubsection) → All IsReadablePart (names_part s
 names_readable [] = All-nil IsReadablePart
 names_readable (s ∷ ss) = all_one IsReadablePart _ name_is_text
 
-slot_readable : (name : Option (List ℕ)) (fields : List ModuleField) → IsTrue (are_encodable fields) → All HasUtf8Names fields → (s : Slot) → All IsReadablePart (in_slot name fields s)
+slot_readable : (name : Option (List ℕ)) (fields : List ModuleField) → IsTrue (is_encodable fields) → All HasUtf8Names fields → (s : Slot) → All IsReadablePart (in_slot name fields s)
 slot_readable name fields e h slot.BeforeFirst = All-nil IsReadablePart
 slot_readable name fields e h (slot.Before k) = All-nil IsReadablePart
 slot_readable name fields e h (slot.Section k) = listed_readable (kind_of k) (entries (kind_of k) fields) (entries_readable (kind_of k) fields e h)
@@ -184,7 +191,7 @@ slot_readable name fields e h (slot.After k) = All-nil IsReadablePart
 slot_readable name fields e h slot.AfterLast = All-nil IsReadablePart
 slot_readable name fields e h slot.Names = names_readable (name_subsections name fields)
 
-pub reads_module : (name : Option (List ℕ)) (fields : List ModuleField) (bytes : List ℕ) → IsTrue (are_encodable fields) → All HasUtf8Names fields → InRangeModule name fields → bytes ≡ bytes_of name fields → All (λ x. x < 256) bytes → Reads bytes (parts name fields)
+pub reads_module : (name : Option (List ℕ)) (fields : List ModuleField) (bytes : List ℕ) → IsTrue (is_encodable fields) → All HasUtf8Names fields → InRangeModule name fields → bytes ≡ bytes_of name fields → All (λ x. x < 256) bytes → Reads bytes (parts name fields)
 reads_module name fields bytes e h r is small = record {
   in_range = all_in_flat InRangePart (in_slot name fields) order (all_both (InRangeSlot name fields) (InRangeSlot name fields) (λ s. All InRangePart (in_slot name fields s)) (λ s p q. p.0) order r r);
   readable = all_in_flat IsReadablePart (in_slot name fields) order (all_each (λ s. All IsReadablePart (in_slot name fields s)) (slot_readable name fields e h) order);

@@ -1,7 +1,6 @@
 pub mod Slots
 pub mod Uncovered
 pub mod Bounded
-pub mod Contributing
 pub mod Headline
 pub mod Laws
 pub mod Meaning

@@ -1,7 +1,7 @@
 -- A module whose sections are measured, before it is written.
 use Rattle.std.specs.Prelude.{Bool, ◌&&◌}
 use Rattle.wasm_out.specs.Parts.{Types, Imports, Functions, Tables, Memories, Tags, Globals, Exports, Elements, Code, Data}
-use Rattle.wast_conv.specs.Encodable.{are_encodable}
+use Rattle.wast_conv.specs.Encodable.{is_encodable}
 use Rattle.wast_core.specs.Extents.{is_extent, is_names_size}
 use Rattle.wast_names.specs.Names.{text_seen}
 use Rattle.wast_reach.specs.Reaches.{are_reaches}
@@ -10,7 +10,7 @@ use Rattle.wast_core.specs.declared.sections.BinaryModule.{BinaryModule}
 -- the encoder takes its fields, those of each kind are found, and its extents are those of its sections
 abbrev pub is_measured : BinaryModule → Bool
 is_measured m =
-    are_encodable m.fields.now
+    is_encodable m.fields.now
     && (are_reaches m.fields.now m.reaches
     && (is_extent Types m.fields.now m.types.count m.types.size
     && (is_extent Imports m.fields.now m.imports.count m.imports.size

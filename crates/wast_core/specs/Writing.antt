@@ -1,31 +1,30 @@
 -- What encoding a module that is resolved gives, and what it appends to a sink.
-use Rattle.std.specs.Prelude.{◌≡◌, ◌⊎◌, ℕ, List, [], length, Option, Some, None, Result, Ok, Err, ◌&&◌, IsTrue}
+use Rattle.std.specs.Prelude.{◌≡◌, ◌⊎◌, ℕ, List, [], length, Option, Some, None, Result, Ok, Err, IsTrue}
 use Rattle.std.specs.Global.{Vec}
 use Rattle.wast_base.specs.declared.faults.Error.{Error}
 use Rattle.wast_base.specs.declared.faults.Fault.TheVariants as fault
 use Rattle.wast_base.specs.declared.faults.Form.{Form}
 use Rattle.wast_base.specs.Faults.{refused, too_large, out_of_memory}
-use Rattle.wast_tree.specs.WrittenOut.{is_written_out}
 use Rattle.wasm_ops.specs.Sinks.{SinkRules, refused_as}
 use Rattle.wasm_out.specs.Reads.{Reads}
 use Rattle.wast_core.specs.Tree.{ModuleField}
 use Rattle.wast_core.specs.declared.module.ModuleKind.{ModuleKind}
 use Rattle.wast_core.specs.declared.module.ModuleKind.TheVariants as kind
 use Rattle.wast_core.specs.Bounded.{bytes_of, InRangeModule, IsWritable}
-use Rattle.wast_conv.specs.Encodable.{are_encodable}
+use Rattle.wast_conv.specs.Encodable.{is_encodable}
 use Rattle.wast_core.specs.Headline.{IsUnwritten, joined}
 use Rattle.wast_core.specs.Meaning.{parts}
 use Rattle.wast_core.specs.Uncovered.{first, uncovered, IsCovered}
 
 -- a text module as a successful resolving leaves it
 abbrev pub IsEncodable : ModuleKind → Type 0
-IsEncodable (kind.Text fields) = IsTrue (is_written_out fields && are_encodable fields)
+IsEncodable (kind.Text fields) = IsTrue (is_encodable fields)
 IsEncodable (kind.Binary pieces) = ⊥
 IsEncodable (kind.Refused e) = ⊥
 
 -- a text module has to be so; of the others nothing is asked
 abbrev pub IsAtRest : ModuleKind → Type 0
-IsAtRest (kind.Text fields) = IsTrue (is_written_out fields && are_encodable fields)
+IsAtRest (kind.Text fields) = IsTrue (is_encodable fields)
 IsAtRest (kind.Binary pieces) = Unit {0}
 IsAtRest (kind.Refused e) = Unit {0}
 

@@ -5,7 +5,7 @@ ghost use Rattle.wast_base.specs.Faults.{out_of_memory};
 ghost use Rattle.wasm_out.specs.Built.{IsRefused};
 ghost use Rattle.wasm_out.specs.Reads.{Reads};
 ghost use Rattle.wast_core.specs.Bounded.{IsWritable};
-ghost use Rattle.wast_conv.specs.Encodable.{are_encodable};
+ghost use Rattle.wast_conv.specs.Encodable.{is_encodable};
 ghost use Rattle.wast_core.specs.Headline.{Encodes, joined, name_of_module};
 ghost use Rattle.wast_core.specs.Meaning.{parts};
 ghost use Rattle.wast_core.specs.Modules.{IsReady};
@@ -27,7 +27,7 @@ fn encode_fields<'e>(
     name: Option<&str>,
     fields: &[ModuleField],
 ) -> Result<Vec<u8>, Error<'e>>
-    requires { IsTrue (are_encodable fields.now) }
+    requires { IsTrue (is_encodable fields.now) }
     ensures bytes { IfOk result (λ v. Reads v.items (parts (text_seen name.entry) fields.now)) }
     ensures refusal { IfErr result (IsRefused (IsWritable (text_seen name.entry) fields.now)) }
 {

@@ -2,15 +2,13 @@
 
 ghost use Rattle.std.specs.Prelude.{◌≡◌, length, map, List, All, IfSome, IsNone, IsTrue, IfOk, IfErr};
 ghost use Rattle.std.specs.List.{flat_map};
-ghost use Rattle.std.specs.Option.{option_to_list};
 ghost use Rattle.wasm_ops.specs.Sinks.{Writes};
 ghost use Rattle.wasm_ops.specs.declared.sink.Refusal.TheVariants as refusal;
 ghost use Rattle.wasm_ops.specs.Spelling.{InRangeU32};
 ghost use Rattle.wasm_out.specs.Parts.{entry, InRangeEntry, part, InRangePart};
-ghost use Rattle.wast_conv.specs.Encodable.{is_encodable_field, are_encodable};
-ghost use Rattle.wast_core.specs.Contributing.{seen, AreReady};
+ghost use Rattle.wast_conv.specs.Encodable.{is_encodable_field, is_encodable};
 ghost use Rattle.wast_core.specs.Extents.{IsExtent};
-ghost use Rattle.wast_core.specs.Meaning.{nothing, of_kind, contributed, entries_in, entries, listed, start_part, starts_in};
+ghost use Rattle.wast_core.specs.Meaning.{entries_in, entries, listed, starts_in};
 ghost use Rattle.wast_names.specs.Names.{counted};
 ghost use Rattle.wast_core.specs.Putting.{puts};
 ghost use Rattle.wast_reach.specs.Reaches.{is_reach, are_reaches};
@@ -21,178 +19,112 @@ use crate::slots::SectionKind;
 use wasm_ops::{By, Each, Encode, Refusal, Sink, Spell, WithLength, length_of, width};
 use wast_conv::{RecOrType, Resolved, conv};
 use wast_reach::{FieldKind, Reach, Reaches};
-use wast_tree::{
-    Data, Elem, Export, FuncKind, FunctionType, Global, Imports, Index, Memory, ModuleField, Table,
-    Tag, TypeUse,
-};
+use wast_tree::ModuleField;
 
-/// What a field puts into the sections, at most one entry each.
-#[derive(Drop)]
-pub(crate) struct Contributed<'b, 'a> {
-    types: Option<RecOrType<'b, 'a>>,
-    imports: Option<By<'b, Imports<'a>, Resolved>>,
-    functions: Option<By<'b, TypeUse<'a, FunctionType<'a>>, Resolved>>,
-    tables: Option<By<'b, Table<'a>, Resolved>>,
-    memories: Option<By<'b, Memory<'a>, Resolved>>,
-    tags: Option<By<'b, Tag<'a>, Resolved>>,
-    globals: Option<By<'b, Global<'a>, Resolved>>,
-    exports: Option<By<'b, Export<'a>, Resolved>>,
-    starts: Option<By<'b, Index<'a>, Resolved>>,
-    elements: Option<By<'b, Elem<'a>, Resolved>>,
-    code: Option<WithLength<By<'b, FuncKind<'a>, Resolved>>>,
-    data: Option<By<'b, Data<'a>, Resolved>>,
-}
-
-/// One, where something is there.
-fn count_of<T>(entry: &Option<T>) -> u32
-    ensures { result ≡ length (option_to_list entry.now) }
+/// How many entries a field puts into the section of a kind: at most one.
+fn entries_of(kind: SectionKind, field: &ModuleField) -> u32
+    ensures { result ≡ length (entries_in (kind_of kind) field.now) }
 {
-    match entry {
-        Some(_) => 1,
-        None => 0,
+    match kind {
+        SectionKind::Types => match field {
+            ModuleField::Ty(_) => 1,
+            ModuleField::Rec(_) => 1,
+            _ => 0,
+        },
+        SectionKind::Imports => match field {
+            ModuleField::Import(_) => 1,
+            _ => 0,
+        },
+        SectionKind::Functions => match field {
+            ModuleField::Func(_) => 1,
+            _ => 0,
+        },
+        SectionKind::Tables => match field {
+            ModuleField::Table(_) => 1,
+            _ => 0,
+        },
+        SectionKind::Memories => match field {
+            ModuleField::Memory(_) => 1,
+            _ => 0,
+        },
+        SectionKind::Tags => match field {
+            ModuleField::Tag(_) => 1,
+            _ => 0,
+        },
+        SectionKind::Globals => match field {
+            ModuleField::Global(_) => 1,
+            _ => 0,
+        },
+        SectionKind::Exports => match field {
+            ModuleField::Export(_) => 1,
+            _ => 0,
+        },
+        SectionKind::Elements => match field {
+            ModuleField::Elem(_) => 1,
+            _ => 0,
+        },
+        SectionKind::Code => match field {
+            ModuleField::Func(_) => 1,
+            _ => 0,
+        },
+        SectionKind::Data => match field {
+            ModuleField::Data(_) => 1,
+            _ => 0,
+        },
     }
 }
 
-impl<'b, 'a> Contributed<'b, 'a> {
-    /// No entries.
-    fn nothing() -> Self
-        ensures same { seen result ≡ nothing }
-        ensures ready { AreReady result }
-    {
-        Contributed {
-            types: None,
-            imports: None,
-            functions: None,
-            tables: None,
-            memories: None,
-            tags: None,
-            globals: None,
-            exports: None,
-            starts: None,
-            elements: None,
-            code: None,
-            data: None,
-        }
-    }
-
-    /// What a field puts into the sections.
-    pub(crate) fn of(field: &'b ModuleField<'a>) -> Self
-        ensures same { seen result ≡ contributed field.now }
-        ensures ready { IsTrue (is_encodable_field field.now) → AreReady result }
-    {
-        let nothing = Contributed::nothing();
-        match field {
-            ModuleField::Ty(ty) => Contributed {
-                types: Some(RecOrType::Ty(ty)),
-                ..nothing
-            },
-            ModuleField::Rec(rec) => Contributed {
-                types: Some(RecOrType::Rec(rec)),
-                ..nothing
-            },
-            ModuleField::Import(imports) => Contributed {
-                imports: Some(By(imports, Resolved)),
-                ..nothing
-            },
-            ModuleField::Func(func) => Contributed {
-                functions: Some(By(&func.ty, Resolved)),
-                code: Some(WithLength(By(&func.kind, Resolved))),
-                ..nothing
-            },
-            ModuleField::Table(table) => Contributed {
-                tables: Some(By(table, Resolved)),
-                ..nothing
-            },
-            ModuleField::Memory(memory) => Contributed {
-                memories: Some(By(memory, Resolved)),
-                ..nothing
-            },
-            ModuleField::Global(global) => Contributed {
-                globals: Some(By(global, Resolved)),
-                ..nothing
-            },
-            ModuleField::Export(export) => Contributed {
-                exports: Some(By(export, Resolved)),
-                ..nothing
-            },
-            ModuleField::Start(func) => Contributed {
-                starts: Some(By(func, Resolved)),
-                ..nothing
-            },
-            ModuleField::Elem(elem) => Contributed {
-                elements: Some(By(elem, Resolved)),
-                ..nothing
-            },
-            ModuleField::Data(data) => Contributed {
-                data: Some(By(data, Resolved)),
-                ..nothing
-            },
-            ModuleField::Tag(tag) => Contributed {
-                tags: Some(By(tag, Resolved)),
-                ..nothing
-            },
-        }
-    }
-
-    /// How many entries it has for the section of a kind.
-    fn count(&self, kind: SectionKind) -> u32
-        ensures { result ≡ length (of_kind (kind_of kind) (seen self.now)) }
-    {
-        match kind {
-            SectionKind::Types => count_of(&self.types),
-            SectionKind::Imports => count_of(&self.imports),
-            SectionKind::Functions => count_of(&self.functions),
-            SectionKind::Tables => count_of(&self.tables),
-            SectionKind::Memories => count_of(&self.memories),
-            SectionKind::Tags => count_of(&self.tags),
-            SectionKind::Globals => count_of(&self.globals),
-            SectionKind::Exports => count_of(&self.exports),
-            SectionKind::Elements => count_of(&self.elements),
-            SectionKind::Code => count_of(&self.code),
-            SectionKind::Data => count_of(&self.data),
-        }
-    }
-
-    /// Appends the entry that it has for the section of a kind.
-    fn put<S: Sink>(&self, kind: SectionKind, out: &mut S) -> Result<(), Refusal>
-        requires { AreReady self.now }
-        ensures { Writes S.rules (All (InRangeEntry (kind_of kind)) (of_kind (kind_of kind) (seen self.now))) out.old out.new (flat_map (entry (kind_of kind)) (of_kind (kind_of kind) (seen self.now))) result }
-    {
-        match kind {
-            SectionKind::Types => self.types.encode(out),
-            SectionKind::Imports => self.imports.encode(out),
-            SectionKind::Functions => self.functions.encode(out),
-            SectionKind::Tables => self.tables.encode(out),
-            SectionKind::Memories => self.memories.encode(out),
-            SectionKind::Tags => self.tags.encode(out),
-            SectionKind::Globals => self.globals.encode(out),
-            SectionKind::Exports => self.exports.encode(out),
-            SectionKind::Elements => self.elements.encode(out),
-            SectionKind::Code => self.code.encode(out),
-            SectionKind::Data => self.data.encode(out),
-        }
-    }
-
-    /// Appends the start section that it has.
-    fn put_start<S: Sink>(&self, out: &mut S) -> Result<(), Refusal>
-        requires { AreReady self.now }
-        ensures { Writes S.rules (All InRangePart (map start_part (seen self.now).starts)) out.old out.new (flat_map part (map start_part (seen self.now).starts)) result }
-    {
-        match &self.starts {
-            None => Ok(()),
-            Some(func) => (8u8, WithLength(func)).encode(out),
-        }
-    }
-
-    /// How many bytes the start section has that it has.
-    fn start_size(&self) -> u64
-        requires { AreReady self.now }
-        ensures { result ≡ length (flat_map part (map start_part (seen self.now).starts)) }
-    {
-        match &self.starts {
-            None => 0,
-            Some(func) => 2 + width(u64::from(conv::index(func.0))),
-        }
+/// Appends the entry of a field to the section of a kind, where it has one.
+fn put_entry<S: Sink>(kind: SectionKind, field: &ModuleField, out: &mut S) -> Result<(), Refusal>
+    requires { IsTrue (is_encodable_field field.now) }
+    ensures { Writes S.rules (All (InRangeEntry (kind_of kind)) (entries_in (kind_of kind) field.now)) out.old out.new (flat_map (entry (kind_of kind)) (entries_in (kind_of kind) field.now)) result }
+{
+    match kind {
+        SectionKind::Types => match field {
+            ModuleField::Ty(ty) => RecOrType::Ty(ty).encode(out),
+            ModuleField::Rec(rec) => RecOrType::Rec(rec).encode(out),
+            _ => Ok(()),
+        },
+        SectionKind::Imports => match field {
+            ModuleField::Import(imports) => By(imports, Resolved).encode(out),
+            _ => Ok(()),
+        },
+        SectionKind::Functions => match field {
+            ModuleField::Func(func) => By(&func.ty, Resolved).encode(out),
+            _ => Ok(()),
+        },
+        SectionKind::Tables => match field {
+            ModuleField::Table(table) => By(table, Resolved).encode(out),
+            _ => Ok(()),
+        },
+        SectionKind::Memories => match field {
+            ModuleField::Memory(memory) => By(memory, Resolved).encode(out),
+            _ => Ok(()),
+        },
+        SectionKind::Tags => match field {
+            ModuleField::Tag(tag) => By(tag, Resolved).encode(out),
+            _ => Ok(()),
+        },
+        SectionKind::Globals => match field {
+            ModuleField::Global(global) => By(global, Resolved).encode(out),
+            _ => Ok(()),
+        },
+        SectionKind::Exports => match field {
+            ModuleField::Export(export) => By(export, Resolved).encode(out),
+            _ => Ok(()),
+        },
+        SectionKind::Elements => match field {
+            ModuleField::Elem(elem) => By(elem, Resolved).encode(out),
+            _ => Ok(()),
+        },
+        SectionKind::Code => match field {
+            ModuleField::Func(func) => WithLength(By(&func.kind, Resolved)).encode(out),
+            _ => Ok(()),
+        },
+        SectionKind::Data => match field {
+            ModuleField::Data(data) => By(data, Resolved).encode(out),
+            _ => Ok(()),
+        },
     }
 }
 
@@ -208,7 +140,7 @@ impl Spell<ModuleField<'_>> for EntriesOf {
     ghost is_ready = { λ _ f. is_encodable_field f };
 
     fn spell<S: Sink>(&self, field: &ModuleField, out: &mut S) -> Result<(), Refusal> {
-        Contributed::of(field).put(self.0, out)
+        put_entry(self.0, field, out)
     }
 }
 
@@ -219,7 +151,7 @@ fn count(kind: SectionKind, fields: &[ModuleField]) -> Option<u32>
 {
     let mut sum = 0u32;
     for field in fields {
-        let Some(next) = sum.checked_add(Contributed::of(field).count(kind)) else {
+        let Some(next) = sum.checked_add(entries_of(kind, field)) else {
             return None;
         };
         sum = next;
@@ -256,7 +188,7 @@ fn fields_of<'b, 'a>(
 ) -> &'b [ModuleField<'a>]
     requires { IsTrue (are_reaches fields.now reaches.now) }
     ensures same { entries (kind_of kind) result.now ≡ entries (kind_of kind) fields.now }
-    ensures ready { IsTrue (are_encodable fields.now) → IsTrue (are_encodable result.now) }
+    ensures ready { IsTrue (is_encodable fields.now) → IsTrue (is_encodable result.now) }
 {
     reach_of(kind, reaches).of(fields)
 }
@@ -268,7 +200,7 @@ pub(crate) fn start_fields<'b, 'a>(
 ) -> &'b [ModuleField<'a>]
     requires { IsTrue (are_reaches fields.now reaches.now) }
     ensures same { flat_map starts_in result.now ≡ flat_map starts_in fields.now }
-    ensures ready { IsTrue (are_encodable fields.now) → IsTrue (are_encodable result.now) }
+    ensures ready { IsTrue (is_encodable fields.now) → IsTrue (is_encodable result.now) }
 {
     reaches.of_kind(FieldKind::Start).of(fields)
 }
@@ -289,7 +221,7 @@ pub(crate) fn extent_of(
     fields: &[ModuleField],
     reaches: &Reaches,
 ) -> Result<Extent, Refusal>
-    requires ready { IsTrue (are_encodable fields.now) }
+    requires ready { IsTrue (is_encodable fields.now) }
     requires reaches { IsTrue (are_reaches fields.now reaches.now) }
     ensures ok { IfOk result (λ e. IsExtent (kind_of kind) fields.now e.count e.size) }
     ensures err { IfErr result (λ e. (e ≡ refusal.TooLarge) × (All InRangePart (listed (kind_of kind) (entries (kind_of kind) fields.now)) → ⊥)) }
@@ -313,7 +245,7 @@ pub(crate) fn put_section<S: Sink>(
     extent: Extent,
     out: &mut S,
 ) -> Result<(), Refusal>
-    requires ready { IsTrue (are_encodable fields.now) }
+    requires ready { IsTrue (is_encodable fields.now) }
     requires reaches { IsTrue (are_reaches fields.now reaches.now) }
     requires extent { IsExtent (kind_of kind) fields.now extent.count extent.size }
     ensures { Writes S.rules (All InRangePart (listed (kind_of kind) (entries (kind_of kind) fields.now))) out.old out.new (flat_map part (listed (kind_of kind) (entries (kind_of kind) fields.now))) result }
@@ -337,26 +269,40 @@ impl Spell<ModuleField<'_>> for StartOf {
     ghost is_ready = { λ _ f. is_encodable_field f };
 
     fn spell<S: Sink>(&self, field: &ModuleField, out: &mut S) -> Result<(), Refusal> {
-        Contributed::of(field).put_start(out)
+        match field {
+            ModuleField::Start(func) => (8u8, WithLength(By(func, Resolved))).encode(out),
+            _ => Ok(()),
+        }
     }
 }
 
 /// The start sections, one for each start field.
 pub(crate) fn put_starts<S: Sink>(fields: &[ModuleField], out: &mut S) -> Result<(), Refusal>
-    requires { IsTrue (are_encodable fields.now) }
+    requires { IsTrue (is_encodable fields.now) }
     ensures { Writes S.rules (All InRangePart (flat_map starts_in fields.now)) out.old out.new (flat_map part (flat_map starts_in fields.now)) result }
 {
     Each(fields, StartOf).encode(out)
 }
 
+/// How many bytes the start section of a field has, and 0 where it is no start field.
+fn start_size(field: &ModuleField) -> u64
+    requires { IsTrue (is_encodable_field field.now) }
+    ensures { result ≡ length (flat_map part (starts_in field.now)) }
+{
+    match field {
+        ModuleField::Start(func) => 2 + width(u64::from(conv::index(func))),
+        _ => 0,
+    }
+}
+
 /// How many bytes the start sections have, up to the greatest `u64`.
 pub(crate) fn starts_size(fields: &[ModuleField]) -> u64
-    requires { IsTrue (are_encodable fields.now) }
+    requires { IsTrue (is_encodable fields.now) }
     ensures { result ≡ counted (length (flat_map part (flat_map starts_in fields.now))) }
 {
     let mut sum = 0u64;
     for field in fields {
-        sum = sum.saturating_add(Contributed::of(field).start_size());
+        sum = sum.saturating_add(start_size(field));
     }
     sum
 }

@@ -5,7 +5,7 @@ ghost use Rattle.std.specs.List.{flat_map};
 ghost use Rattle.wasm_ops.specs.declared.sink.Refusal.TheVariants as refusal;
 ghost use Rattle.wasm_out.specs.Parts.{part, InRangePart};
 ghost use Rattle.wast_core.specs.Bounded.{bytes_of, InRangeSlot, InRangeModule};
-ghost use Rattle.wast_conv.specs.Encodable.{are_encodable};
+ghost use Rattle.wast_conv.specs.Encodable.{is_encodable};
 ghost use Rattle.wast_core.specs.Extents.{IsExtent, section_size};
 ghost use Rattle.wast_core.specs.Measured.{is_measured};
 ghost use Rattle.wast_core.specs.Meaning.{in_slot};
@@ -59,7 +59,7 @@ impl<'b, 'a> BinaryModule<'b, 'a> {
         name: Option<&'b str>,
         fields: &'b [ModuleField<'a>],
     ) -> Result<BinaryModule<'b, 'a>, Refusal>
-        requires { IsTrue (are_encodable fields.now) }
+        requires { IsTrue (is_encodable fields.now) }
         ensures ok { IfOk result (λ m. IsTrue (is_measured m) × (m.name ≡ name.entry) × (m.fields.now ≡ fields.now)) }
         ensures err { IfErr result (λ e. (e ≡ refusal.TooLarge) × (InRangeModule (text_seen name.entry) fields.now → ⊥)) }
     {

@@ -5,7 +5,7 @@ use Rattle.std.specs.List.{list_all}
 use Rattle.std.specs.Cmp.Derive.{both_true}
 use Rattle.std.proofs.lemmas.Bool.{and_parts, ltb-true, lt-ltb}
 use Rattle.wast_tree.specs.Items.{Item, item, items}
-use Rattle.wast_tree.specs.Occurrences.{Ask, Wants, in_module, asked}
+use Rattle.wast_tree.specs.Sites.{Ask, Wants, in_module, asked}
 use Rattle.wast_tree.specs.Generations.{greatest, generation_or_zero, generation_in, greatest_item, greatest_asked}
 use Rattle.wast_deinline.specs.Tree.{Span, Id, Space, ModuleField}
 use Rattle.wast_deinline.specs.Referring.{by_id}
@@ -53,11 +53,12 @@ written_below n fields above =
     (same_of_items (list_all (is_item_below m)) (λ s xs h. ap (λ b. b && list_all (is_item_below m) xs) (lt-ltb 0 m some)) (λ x xs ys e. ap (λ b. is_item_below m x && b) e) (referable n fields) ∙ given) in
     let of_asks : greatest_asked (asked (in_module (written_out_from n fields))) < m =
     greatest_below m generation_in (asked (in_module (written_out_from n fields))) some
-    (written_pass (is_ask_below m) (is_item_below m) (own_below m) n fields given (each_below m generation_in (asked (in_module fields)) (omega (arith, above)))) in
+    (written_pass (is_ask_below m) (lt-ltb 0 m some) (lt-ltb 0 m some) (is_item_below m) (own_below m) n fields given (each_below m generation_in (asked (in_module fields)) (omega (arith, above)))) in
     omega (arith, of_items, of_asks)
 
 -- By positions no other id is asked.
 pub written_out_below : (n : ℕ) (fields : List ModuleField) → greatest_asked (asked (in_module fields)) < n → greatest_asked (asked (in_module (written_out fields))) < n
 written_out_below n fields above =
     let some : 0 < n = omega (arith, above) in
-    greatest_below n generation_in (asked (in_module (written_out fields))) some (written_out_pass (is_ask_below n) (λ s m span. lt-ltb 0 n some) fields (each_below n generation_in (asked (in_module fields)) above))
+    greatest_below n generation_in (asked (in_module (written_out fields))) some
+    (written_out_pass (is_ask_below n) (lt-ltb 0 n some) (lt-ltb 0 n some) (λ s m span. lt-ltb 0 n some) fields (each_below n generation_in (asked (in_module fields)) above))

@@ -1,9 +1,9 @@
 pub mod Pages
 pub mod Referable
 pub mod BothPass
+pub mod Exported
 pub mod Left
 pub mod Staying
-pub mod Plain
 pub mod Worked
 pub mod WrittenItems
 pub mod WrittenAsks

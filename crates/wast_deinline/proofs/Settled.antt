@@ -8,8 +8,8 @@ use Rattle.wast_base.specs.Ids.{Name, Written, Generated, Mark, name_of, is_gene
 use Rattle.wast_base.specs.Spaces.{rank_of, same_space, name_if, is_called, is_borne}
 use Rattle.wast_tree.specs.Items.{Item, item, items}
 use Rattle.wast_tree.specs.Known.{Known, known, names_in}
-use Rattle.wast_tree.specs.Occurrences.{Ask, Wants, Bare, in_module, asked}
-use Rattle.wast_tree.specs.WellFormed.{is_settled, are_settled, has_settled_indices, are_plain}
+use Rattle.wast_tree.specs.Sites.{Ask, Wants, Bare, Clause, Supported, in_module, asked}
+use Rattle.wast_tree.specs.WellFormed.{is_kept, are_kept}
 use Rattle.wast_tree.proofs.Bearing.{borne_among, borne_by_both}
 use Rattle.wast_deinline.specs.Tree.{Span, Id, Space, ModuleField}
 use Rattle.wast_deinline.specs.Tree.index
@@ -17,7 +17,6 @@ use Rattle.wast_deinline.specs.Referring.{by_id}
 use Rattle.wast_deinline.specs.Written.{referable, written_out_from}
 use Rattle.wast_deinline.specs.Laws.{StaysWellFormed}
 use Rattle.wast_deinline.proofs.BothPass.{either_stays}
-use Rattle.wast_deinline.proofs.Plain.{stays_plain}
 use Rattle.wast_deinline.proofs.WrittenItems.{same_of_items, any_referable}
 use Rattle.wast_deinline.proofs.WrittenAsks.{written_pass}
 
@@ -34,7 +33,7 @@ module _ (k : Known) where
   abbrev is_settled_item : Item → Bool
   is_settled_item x = is_settled_id (k.number x.space) x.id
 
-  own_settled : (s : Space) (span : Span) (id : Option Id) → is_settled_item (item s id []) ≡ true → is_settled k (Wants s (by_id s span id)) ≡ true
+  own_settled : (s : Space) (span : Span) (id : Option Id) → is_settled_item (item s id []) ≡ true → is_kept k (Wants s (by_id s span id)) ≡ true
   own_settled s span None h = refl
   own_settled s span (Some id) h = h
 
@@ -52,19 +51,21 @@ module _ (k : Known) where
       both_true (one_settled x.space x.id x.fields xs knows)
       (all_settled xs (λ s q h. knows s q (borne_by_both s q (x ∷ []) xs ∙ (ap (λ b. is_borne q (names_in s (x ∷ [])) || b) h ∙ or-true (is_borne q (names_in s (x ∷ [])))))))
 
-  -- what was settled among items that are known
-  still_settled : (xs : List Item) → Knows k xs → (asks : List Ask) → are_settled (known xs) asks ≡ true → are_settled k asks ≡ true
-  still_settled xs knows [] h = refl
-  still_settled xs knows (a ∷ asks) h =
-      let parts = and_parts (is_settled (known xs) a) (are_settled (known xs) asks) h in
-      both_true (one a parts.0) (still_settled xs knows asks parts.1)
+  -- what was kept among items that are known
+  still_kept : (xs : List Item) → Knows k xs → (asks : List Ask) → are_kept (known xs) asks ≡ true → are_kept k asks ≡ true
+  still_kept xs knows [] h = refl
+  still_kept xs knows (a ∷ asks) h =
+      let parts = and_parts (is_kept (known xs) a) (are_kept (known xs) asks) h in
+      both_true (one a parts.0) (still_kept xs knows asks parts.1)
     where
-      one : (a : Ask) → is_settled (known xs) a ≡ true → is_settled k a ≡ true
+      one : (a : Ask) → is_kept (known xs) a ≡ true → is_kept k a ≡ true
       one (Wants s (index.Num m p)) h = refl
       one (Wants s (index.Id id)) h =
           let old = not (is_generated (name_of id)) in
           either_stays old (is_some ((known xs).number s (name_of id))) old (is_some (k.number s (name_of id))) (λ e. e) (knows s (name_of id)) h
       one (Bare m) h = refl
+      one (Clause n holds) h = h
+      one (Supported holds) h = h
 
 module _ (n : ℕ) (fields : List ModuleField) where
   abbrev new : Known
@@ -84,11 +85,8 @@ module _ (n : ℕ) (fields : List ModuleField) where
   knows_old s q h =
       knows_referable s q (borne_among s q (items (referable n fields)) ∙ any_referable (bears s q) (λ t. and-false (same_space s t)) n fields (sym (borne_among s q (items fields)) ∙ h))
 
-  has_settled : has_settled_indices fields ≡ true → has_settled_indices (written_out_from n fields) ≡ true
-  has_settled h =
-      written_pass (is_settled new) (is_settled_item new) (own_settled new) n fields (all_settled new (items (referable n fields)) knows_referable) (still_settled new (items fields) knows_old (asked (in_module fields)) h)
-
 pub written_well_formed : StaysWellFormed
 written_well_formed n fields h =
-    let parts = and_parts (has_settled_indices fields) (are_plain fields) h in
-    both_true (has_settled n fields parts.0) (stays_plain n fields parts.1)
+    let k : Known = new n fields in
+    written_pass (is_kept k) refl refl (is_settled_item k) (own_settled k) n fields (all_settled k (items (referable n fields)) (knows_referable n fields))
+    (still_kept k (items fields) (knows_old n fields) (asked (in_module fields)) h)

@@ -7,13 +7,11 @@ use Rattle.wast_tree.specs.Items.{Item, items_in}
 use Rattle.wast_tree.specs.WrittenOut.{exports_nothing, is_written_func, is_written_table, is_written_memory, is_written_global, is_written_tag, is_written_field, is_written_out}
 use Rattle.wast_base.specs.Filling.{one_if, given_if, filled, wanted}
 use Rattle.wast_deinline.specs.Tree.{Span, Index, InlineExport, Func, FuncKind, Table, TableKind, Memory, MemoryKind, Global, GlobalKind, Tag, TagKind, ExportKind, ModuleField}
-use Rattle.wast_deinline.specs.Tree.space
 use Rattle.wast_deinline.specs.Tree.func
 use Rattle.wast_deinline.specs.Tree.table
 use Rattle.wast_deinline.specs.Tree.memory
 use Rattle.wast_deinline.specs.Tree.global
 use Rattle.wast_deinline.specs.Tree.tag_kind
-use Rattle.wast_deinline.specs.Tree.export
 use Rattle.wast_deinline.specs.Tree.field
 use Rattle.wast_deinline.specs.Segments.{has_bytes, has_elements}
 use Rattle.wast_deinline.specs.WriteOut.{Reference, no_exports, exports_of, data_in, elem_in, func_alone, table_alone, memory_alone, global_alone, tag_alone, write_out}
@@ -64,21 +62,19 @@ nothing_before span k item exports alone whole none is =
 
 field_stays : (r : Reference) (x : ModuleField) → is_written_field x ≡ true → write_out r x ≡ x ∷ []
 field_stays r (field.Func f) h =
-    nothing_before f.span export.Func (r space.Func f.span f.id) f.exports (func_alone f f.kind ∷ []) (λ e. field.Func (record f { exports = e })) (first_is _ (is_written_func f.kind) h)
+    nothing_before _ _ _ f.exports _ (λ e. field.Func (record f { exports = e })) (first_is _ (is_written_func f.kind) h)
     (ap (λ x. x ∷ []) (func_stays f f.kind refl (second_is (exports_nothing f.exports) _ h)))
 field_stays r (field.Table t) h =
-    let item : Index = r space.Table t.span t.id in
-    nothing_before t.span export.Table item t.exports (elem_in t.kind t.span item ++ table_alone t t.kind ∷ []) (λ e. field.Table (record t { exports = e })) (first_is _ (is_written_table t.kind) h)
-    (table_stays t t.kind item refl (second_is (exports_nothing t.exports) _ h))
+    nothing_before _ _ _ t.exports _ (λ e. field.Table (record t { exports = e })) (first_is _ (is_written_table t.kind) h)
+    (table_stays t t.kind _ refl (second_is (exports_nothing t.exports) _ h))
 field_stays r (field.Memory m) h =
-    let item : Index = r space.Memory m.span m.id in
-    nothing_before m.span export.Memory item m.exports (data_in m.kind m.span item ++ memory_alone m m.kind ∷ []) (λ e. field.Memory (record m { exports = e })) (first_is _ (is_written_memory m.kind) h)
-    (memory_stays m m.kind item refl (second_is (exports_nothing m.exports) _ h))
+    nothing_before _ _ _ m.exports _ (λ e. field.Memory (record m { exports = e })) (first_is _ (is_written_memory m.kind) h)
+    (memory_stays m m.kind _ refl (second_is (exports_nothing m.exports) _ h))
 field_stays r (field.Global g) h =
-    nothing_before g.span export.Global (r space.Global g.span g.id) g.exports (global_alone g g.kind ∷ []) (λ e. field.Global (record g { exports = e })) (first_is _ (is_written_global g.kind) h)
+    nothing_before _ _ _ g.exports _ (λ e. field.Global (record g { exports = e })) (first_is _ (is_written_global g.kind) h)
     (ap (λ x. x ∷ []) (global_stays g g.kind refl (second_is (exports_nothing g.exports) _ h)))
 field_stays r (field.Tag t) h =
-    nothing_before t.span export.Tag (r space.Tag t.span t.id) t.exports (tag_alone t t.kind ∷ []) (λ e. field.Tag (record t { exports = e })) (first_is _ (is_written_tag t.kind) h)
+    nothing_before _ _ _ t.exports _ (λ e. field.Tag (record t { exports = e })) (first_is _ (is_written_tag t.kind) h)
     (ap (λ x. x ∷ []) (tag_stays t t.kind refl (second_is (exports_nothing t.exports) _ h)))
 field_stays r x h = refl
 

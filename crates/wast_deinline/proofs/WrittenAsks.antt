@@ -1,16 +1,16 @@
 -- What is asked in a list that is written out is what the fields ask, and the ids of their items.
-use Rattle.std.proofs.Common.{◌≡◌, ℕ, ◌+◌, Bool, true, false, ◌&&◌, List, [], ◌∷◌, ◌++◌, map, length, append-nil, Option, refl, sym, ap, ◌∙◌}
+use Rattle.std.proofs.Common.{◌≡◌, ℕ, ◌+◌, Bool, true, false, not, ◌&&◌, List, [], ◌∷◌, ◌++◌, length, append-nil, Option, refl, sym, ap, ◌∙◌}
 use Rattle.std.specs.List.{flat_map, list_all}
-use Rattle.std.specs.Borrow.{Bor}
 use Rattle.std.specs.Cmp.Derive.{both_true}
 use Rattle.std.proofs.lemmas.Bool.{and_parts}
+use Rattle.std.proofs.lemmas.List.{map-append}
 use Rattle.std.proofs.lemmas.List.Folds.{list_all-append}
 use Rattle.wast_tree.specs.Items.{Item, item, items_in, items}
-use Rattle.wast_tree.specs.Occurrences.{Ask, Wants, Occurrence, outside, in_ref, in_func, in_global_type, in_constant, in_payload, in_table_kind, in_global_kind, in_tag_type, exported_space, in_field, in_module, asked}
+use Rattle.wast_tree.specs.Sites.{Ask, Wants, Clause, Supported, Site, Asked, asking, in_ref, in_use, in_func, in_global_type, in_constant, in_payload, in_table_kind, in_global_kind, in_tag_type, in_field, in_module, asked}
 use Rattle.wast_tree.specs.Known.{names_in}
 use Rattle.wast_base.specs.Filling.{one_if, given_if}
 use Rattle.wast_tree.proofs.Visiting.{asked_both}
-use Rattle.wast_deinline.specs.Tree.{Span, Id, Index, Space, Func, FuncKind, Table, TableKind, Memory, MemoryKind, Global, GlobalKind, Tag, TagKind, ExportKind, ModuleField}
+use Rattle.wast_deinline.specs.Tree.{Span, Id, Index, Space, Func, FuncKind, Table, TableKind, Memory, MemoryKind, Global, GlobalKind, Tag, TagKind, ModuleField}
 use Rattle.wast_deinline.specs.Tree.index
 use Rattle.wast_deinline.specs.Tree.space
 use Rattle.wast_deinline.specs.Tree.func
@@ -18,12 +18,13 @@ use Rattle.wast_deinline.specs.Tree.table
 use Rattle.wast_deinline.specs.Tree.memory
 use Rattle.wast_deinline.specs.Tree.global
 use Rattle.wast_deinline.specs.Tree.tag_kind
-use Rattle.wast_deinline.specs.Tree.export
 use Rattle.wast_deinline.specs.Tree.field
 use Rattle.wast_deinline.specs.Segments.{at_zero}
-use Rattle.wast_deinline.specs.WriteOut.{Reference, export_of, exports_of, data_in, elem_in, func_alone, table_alone, memory_alone, global_alone, tag_alone, write_out}
+use Rattle.wast_deinline.specs.WriteOut.{Reference, data_in, elem_in, func_alone, table_alone, memory_alone, global_alone, tag_alone, write_out}
 use Rattle.wast_deinline.specs.Referring.{by_id, place_or, by_position, wants_id, with_item_id}
 use Rattle.wast_deinline.specs.Written.{referable, written_out_from, written_after, written_out}
+use Rattle.wast_deinline.specs.Laws.{is_supported, StaysSupportedByPosition}
+use Rattle.wast_deinline.proofs.Exported.{both_pass, behind_exports}
 
 -- ids that are given change nothing of it
 asked_given : (b : Bool) (n : ℕ) (x : ModuleField) → in_field (given_if b with_item_id n x) ≡ in_field x
@@ -44,51 +45,54 @@ all_true : {A : Type 0} (xs : List A) → list_all (λ (x : A). true) xs ≡ tru
 all_true [] = refl
 all_true (x ∷ xs) = all_true xs
 
--- Where all that is asked in some fields passes a test.
-module _ (ok : Ask → Bool) where
-  abbrev pass : List Occurrence → Bool
+-- Where all that is asked in some fields passes a test, which a clause that holds and a form that is supported pass.
+module _ (ok : Ask → Bool) (clause : ok (Clause 4 true) ≡ true) (form : ok (Supported true) ≡ true) where
+  abbrev pass : List Site → Bool
   pass os = list_all ok (asked os)
 
   abbrev passes : ModuleField → Bool
   passes x = pass (in_field x)
 
-  both_parts : (os ps : List Occurrence) → pass (os ++ ps) ≡ (pass os && pass ps)
+  both_parts : (os ps : List Site) → pass (os ++ ps) ≡ (pass os && pass ps)
   both_parts os ps = ap (list_all ok) (asked_both os ps) ∙ list_all-append ok (asked os) (asked ps)
+
+  joined : (os ps : List Site) → pass os ≡ true → pass ps ≡ true → pass (os ++ ps) ≡ true
+  joined os ps h k = both_parts os ps ∙ both_true h k
+
+  pub parted : (os ps : List Site) → pass (os ++ ps) ≡ true → (pass os ≡ true) × (pass ps ≡ true)
+  parted os ps h = and_parts (pass os) (pass ps) (sym (both_parts os ps) ∙ h)
 
   all_fields : (xs : List ModuleField) → pass (in_module xs) ≡ list_all passes xs
   all_fields [] = refl
   all_fields (x ∷ xs) = both_parts (in_field x) (in_module xs) ∙ ap (λ b. passes x && b) (all_fields xs)
 
-  both_pass : (xs ys : List ModuleField) → list_all passes xs ≡ true → list_all passes ys ≡ true → list_all passes (xs ++ ys) ≡ true
-  both_pass xs ys h k = list_all-append passes xs ys ∙ both_true h k
-
-  exports_pass : (span : Span) (k : ExportKind) (i : Index) (names : List (Bor (List ℕ))) → ok (Wants (exported_space k) i) ≡ true → list_all passes (map (export_of span k i) names) ≡ true
-  exports_pass span k i [] mine = refl
-  exports_pass span k i (name ∷ names) mine = both_true (both_true mine refl) (exports_pass span k i names mine)
-
-  -- a segment begins at a number
-  offset_passes : (is64 : Bool) (os : List Occurrence) → pass (in_constant (at_zero is64) ++ os) ≡ pass os
-  offset_passes false os = refl
-  offset_passes true os = refl
+  -- a segment begins at a number, without branch hints
+  offset_passes : (is64 : Bool) → pass (in_constant (at_zero is64)) ≡ true
+  offset_passes false = both_true form refl
+  offset_passes true = both_true form refl
 
   func_passes : (f : Func) (k : FuncKind) → pass (in_func (record f { kind = k })) ≡ true → list_all passes (func_alone f k ∷ []) ≡ true
-  func_passes f (func.Import source exact) h = both_true h refl
+  func_passes f (func.Import source exact) h = both_true (parted (in_use f.ty) (Asked (Supported (not exact)) ∷ []) h).0 refl
   func_passes f (func.Inline locals e) h = both_true h refl
 
   table_passes : (t : Table) (k : TableKind) (i : Index) → ok (Wants space.Table i) ≡ true → pass (in_table_kind k) ≡ true → list_all passes (elem_in k t.span i ++ table_alone t k ∷ []) ≡ true
   table_passes t (table.Import source ty) i mine h = both_true h refl
   table_passes t (table.Normal ty init) i mine h = both_true h refl
   table_passes t (table.Inline ty is64 shared p) i mine h =
-      let parts = and_parts (pass (outside (in_ref ty))) (pass (in_payload p)) (sym (both_parts (outside (in_ref ty)) (in_payload p)) ∙ h) in
-      both_true (both_true mine (offset_passes is64 (in_payload p) ∙ parts.1)) (both_true (ap pass (append-nil (outside (in_ref ty))) ∙ parts.0) refl)
+      let suited : List Ask = Clause 4 true ∷ [] in
+      let unshared : List Ask = Supported (not shared) ∷ [] in
+      let parts = parted (asking (in_ref ty)) (in_payload p ++ asking unshared) h in
+      let rest = parted (in_payload p) (asking unshared) parts.1 in
+      both_true (both_true mine (joined (in_constant (at_zero is64)) (in_payload p ++ asking suited) (offset_passes is64) (joined (in_payload p) (asking suited) rest.0 (both_true clause refl))))
+      (both_true (ap pass (append-nil (asking (in_ref ty ++ unshared)) ∙ map-append Asked (in_ref ty) unshared) ∙ joined (asking (in_ref ty)) (asking unshared) parts.0 rest.1) refl)
 
   memory_passes : (m : Memory) (k : MemoryKind) (i : Index) → ok (Wants space.Memory i) ≡ true → list_all passes (data_in k m.span i ++ memory_alone m k ∷ []) ≡ true
   memory_passes m (memory.Import source ty) i mine = refl
   memory_passes m (memory.Normal ty) i mine = refl
-  memory_passes m (memory.Inline is64 pieces exponent) i mine = both_true (both_true mine (offset_passes is64 [])) refl
+  memory_passes m (memory.Inline is64 pieces exponent) i mine = both_true (both_true mine (offset_passes is64)) refl
 
-  global_passes : (g : Global) (k : GlobalKind) → pass (outside (in_global_type g.ty) ++ in_global_kind k) ≡ true → list_all passes (global_alone g k ∷ []) ≡ true
-  global_passes g (global.Import source) h = both_true (sym (ap pass (append-nil (outside (in_global_type g.ty)))) ∙ h) refl
+  global_passes : (g : Global) (k : GlobalKind) → pass (asking (in_global_type g.ty) ++ in_global_kind k) ≡ true → list_all passes (global_alone g k ∷ []) ≡ true
+  global_passes g (global.Import source) h = both_true (sym (ap pass (append-nil (asking (in_global_type g.ty)))) ∙ h) refl
   global_passes g (global.Inline e) h = both_true h refl
 
   tag_passes : (t : Tag) (k : TagKind) → pass (in_tag_type t.ty) ≡ true → list_all passes (tag_alone t k ∷ []) ≡ true
@@ -102,23 +106,15 @@ module _ (ok : Ask → Bool) where
     own_passes s span id h = own s span id (and_parts (good (item s id [])) true h).0
 
     field_passes : (x : ModuleField) → list_all good (items_in x) ≡ true → passes x ≡ true → list_all passes (write_out r x) ≡ true
-    field_passes (field.Func f) its h =
-        let i : Index = r space.Func f.span f.id in
-        both_pass (exports_of f.span export.Func i f.exports) (func_alone f f.kind ∷ []) (exports_pass f.span export.Func i f.exports.names (own_passes space.Func f.span f.id its)) (func_passes f f.kind h)
+    field_passes (field.Func f) its h = behind_exports passes f.exports.names _ (λ name. both_true (own_passes space.Func f.span f.id its) refl) (func_passes f f.kind h)
     field_passes (field.Table t) its h =
-        let i : Index = r space.Table t.span t.id in
         let mine = own_passes space.Table t.span t.id its in
-        both_pass (exports_of t.span export.Table i t.exports) (elem_in t.kind t.span i ++ table_alone t t.kind ∷ []) (exports_pass t.span export.Table i t.exports.names mine) (table_passes t t.kind i mine h)
+        behind_exports passes t.exports.names _ (λ name. both_true mine refl) (table_passes t t.kind (r space.Table t.span t.id) mine h)
     field_passes (field.Memory m) its h =
-        let i : Index = r space.Memory m.span m.id in
         let mine = own_passes space.Memory m.span m.id its in
-        both_pass (exports_of m.span export.Memory i m.exports) (data_in m.kind m.span i ++ memory_alone m m.kind ∷ []) (exports_pass m.span export.Memory i m.exports.names mine) (memory_passes m m.kind i mine)
-    field_passes (field.Global g) its h =
-        let i : Index = r space.Global g.span g.id in
-        both_pass (exports_of g.span export.Global i g.exports) (global_alone g g.kind ∷ []) (exports_pass g.span export.Global i g.exports.names (own_passes space.Global g.span g.id its)) (global_passes g g.kind h)
-    field_passes (field.Tag t) its h =
-        let i : Index = r space.Tag t.span t.id in
-        both_pass (exports_of t.span export.Tag i t.exports) (tag_alone t t.kind ∷ []) (exports_pass t.span export.Tag i t.exports.names (own_passes space.Tag t.span t.id its)) (tag_passes t t.kind h)
+        behind_exports passes m.exports.names _ (λ name. both_true mine refl) (memory_passes m m.kind (r space.Memory m.span m.id) mine)
+    field_passes (field.Global g) its h = behind_exports passes g.exports.names _ (λ name. both_true (own_passes space.Global g.span g.id its) refl) (global_passes g g.kind h)
+    field_passes (field.Tag t) its h = behind_exports passes t.exports.names _ (λ name. both_true (own_passes space.Tag t.span t.id its) refl) (tag_passes t t.kind h)
     field_passes x its h = both_true h refl
 
     all_pass : (xs : List ModuleField) → list_all good (items xs) ≡ true → list_all passes xs ≡ true → list_all passes (flat_map (write_out r) xs) ≡ true
@@ -126,7 +122,7 @@ module _ (ok : Ask → Bool) where
     all_pass (x ∷ xs) its h =
         let of_items = and_parts (list_all good (items_in x)) (list_all good (items xs)) (sym (list_all-append good (items_in x) (items xs)) ∙ its) in
         let of_asks = and_parts (passes x) (list_all passes xs) h in
-        both_pass (write_out r x) (flat_map (write_out r) xs) (field_passes x of_items.0 of_asks.0) (all_pass xs of_items.1 of_asks.1)
+        both_pass passes (write_out r x) (flat_map (write_out r) xs) (field_passes x of_items.0 of_asks.0) (all_pass xs of_items.1 of_asks.1)
 
   -- so by ids,
   pub written_pass : (good : Item → Bool) → ((s : Space) (span : Span) (id : Option Id) → good (item s id []) ≡ true → ok (Wants s (by_id s span id)) ≡ true)
@@ -141,7 +137,10 @@ module _ (ok : Ask → Bool) where
     after_pass before (x ∷ xs) h =
         let parts = and_parts (passes x) (list_all passes xs) h in
         let own : (s : Space) (span : Span) (id : Option Id) → true ≡ true → ok (Wants s (by_position before s span id)) ≡ true = λ s span id e. numbers s (length (names_in s before)) (place_or span id) in
-        both_pass (write_out (by_position before) x) (written_after (before ++ items_in x) xs) (field_passes (by_position before) (λ y. true) own x (all_true (items_in x)) parts.0) (after_pass (before ++ items_in x) xs parts.1)
+        both_pass passes (write_out (by_position before) x) (written_after (before ++ items_in x) xs) (field_passes (by_position before) (λ y. true) own x (all_true (items_in x)) parts.0) (after_pass (before ++ items_in x) xs parts.1)
 
     pub written_out_pass : (fields : List ModuleField) → list_all ok (asked (in_module fields)) ≡ true → list_all ok (asked (in_module (written_out fields))) ≡ true
     written_out_pass fields h = all_fields (written_out fields) ∙ after_pass [] fields (sym (all_fields fields) ∙ h)
+
+pub stays_supported_by_position : StaysSupportedByPosition
+stays_supported_by_position = written_out_pass is_supported refl refl (λ s m span. refl)

@@ -16,7 +16,6 @@ use Rattle.wast_deinline.specs.Tree.table
 use Rattle.wast_deinline.specs.Tree.memory
 use Rattle.wast_deinline.specs.Tree.global
 use Rattle.wast_deinline.specs.Tree.tag_kind
-use Rattle.wast_deinline.specs.Tree.export
 use Rattle.wast_deinline.specs.Tree.field
 use Rattle.wast_deinline.specs.Segments.{has_bytes, has_elements}
 use Rattle.wast_deinline.specs.WriteOut.{Reference, export_of, data_in, elem_in, func_alone, table_alone, memory_alone, global_alone, tag_alone, write_out}
@@ -68,15 +67,11 @@ memory_items m (memory.Normal ty) i = refl
 memory_items m (memory.Inline is64 pieces exponent) i = refl
 
 pub field_items : (r : Reference) (x : ModuleField) → items (write_out r x) ≡ segments x ++ items_in x
-field_items r (field.Func g) = exported g.span export.Func (r space.Func g.span g.id) g.exports.names (func_alone g g.kind ∷ []) ∙ func_items g g.kind
-field_items r (field.Table t) =
-    let i : Index = r space.Table t.span t.id in
-    exported t.span export.Table i t.exports.names (elem_in t.kind t.span i ++ table_alone t t.kind ∷ []) ∙ table_items t t.kind i
-field_items r (field.Memory m) =
-    let i : Index = r space.Memory m.span m.id in
-    exported m.span export.Memory i m.exports.names (data_in m.kind m.span i ++ memory_alone m m.kind ∷ []) ∙ memory_items m m.kind i
-field_items r (field.Global g) = exported g.span export.Global (r space.Global g.span g.id) g.exports.names (global_alone g g.kind ∷ []) ∙ global_items g g.kind
-field_items r (field.Tag t) = exported t.span export.Tag (r space.Tag t.span t.id) t.exports.names (tag_alone t t.kind ∷ []) ∙ tag_items t t.kind
+field_items r (field.Func g) = exported _ _ _ g.exports.names _ ∙ func_items g g.kind
+field_items r (field.Table t) = exported _ _ _ t.exports.names _ ∙ table_items t t.kind (r space.Table t.span t.id)
+field_items r (field.Memory m) = exported _ _ _ m.exports.names _ ∙ memory_items m m.kind (r space.Memory m.span m.id)
+field_items r (field.Global g) = exported _ _ _ g.exports.names _ ∙ global_items g g.kind
+field_items r (field.Tag t) = exported _ _ _ t.exports.names _ ∙ tag_items t t.kind
 field_items r x = append-nil (items_in x)
 
 -- What takes no note of segments without ids is the same of the list with its abbreviations written out, by ids and by positions.

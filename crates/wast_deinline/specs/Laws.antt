@@ -1,7 +1,9 @@
 -- What holds of each list that is written out (text format: abbreviations).
-use Rattle.std.specs.Prelude.{◌≡◌, ℕ, ◌+◌, ◌<◌, true, false, List, IsTrue}
+use Rattle.std.specs.Prelude.{◌≡◌, ℕ, ◌+◌, ◌<◌, Bool, true, false, List, IsTrue}
+use Rattle.std.specs.List.{list_all}
 use Rattle.wast_tree.specs.Generations.{greatest_generation}
-use Rattle.wast_tree.specs.WellFormed.{are_plain, is_well_formed}
+use Rattle.wast_tree.specs.Sites.{Ask, Wants, Bare, Clause, Supported, asked, in_module}
+use Rattle.wast_tree.specs.WellFormed.{is_well_formed}
 use Rattle.wast_tree.specs.WrittenOut.{is_written_out}
 use Rattle.wast_deinline.specs.Tree.{ModuleField}
 use Rattle.wast_deinline.specs.Exact.{imports_exact}
@@ -24,12 +26,16 @@ StaysByPosition = (fields : List ModuleField) → IsTrue (is_written_out fields)
 abbrev pub WantsNoReference : Type 0
 WantsNoReference = (fields : List ModuleField) → IsTrue (is_written_out fields) → references_wanted fields ≡ 0
 
--- What is covered today stays so.
-abbrev pub StaysPlain : Type 0
-StaysPlain = (n : ℕ) (fields : List ModuleField) → IsTrue (are_plain fields) → IsTrue (are_plain (written_out_from n fields))
+-- What is asked of single parts, whatever the module names: a clause holds, and a form is supported.
+abbrev pub is_supported : Ask → Bool
+is_supported (Wants s i) = true
+is_supported (Bare m) = true
+is_supported (Clause n holds) = holds
+is_supported (Supported holds) = holds
 
-abbrev pub StaysPlainByPosition : Type 0
-StaysPlainByPosition = (fields : List ModuleField) → IsTrue (are_plain fields) → IsTrue (are_plain (written_out fields))
+-- By positions, what is supported today stays so.
+abbrev pub StaysSupportedByPosition : Type 0
+StaysSupportedByPosition = (fields : List ModuleField) → IsTrue (list_all is_supported (asked (in_module fields))) → IsTrue (list_all is_supported (asked (in_module (written_out fields))))
 
 -- Where the counter begins above the generations of the fields, each generation is below that of the next id.
 abbrev pub StaysBelow : Type 0

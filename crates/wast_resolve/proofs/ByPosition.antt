@@ -3,41 +3,42 @@ use Rattle.std.proofs.Common.{◌≡◌, ℕ, ◌+◌, ◌<◌, Bool, true, fals
 use Rattle.std.specs.List.{slice_get}
 use Rattle.std.proofs.lemmas.List.{map-append}
 use Rattle.wast_base.specs.Ids.{Name, name_of, generation_of}
+use Rattle.wast_base.specs.Filling.{one_if, given_if, filled, wanted}
 use Rattle.wast_tree.specs.Items.{items}
 use Rattle.wast_tree.specs.Known.{Known, known}
-use Rattle.wast_tree.specs.Occurrences.{Ask, Wants, Bare, asked, in_module}
+use Rattle.wast_tree.specs.Sites.{Ask, Wants, Bare, Clause, Supported, asked, in_module}
 use Rattle.wast_tree.specs.Generations.{generation_in, greatest_asked, greatest_generation}
-use Rattle.wast_expand.specs.Signatures.{Signature}
-use Rattle.wast_expand.specs.ImpliedTypes.{implied}
-use Rattle.wast_expand.specs.TypeSpace.{index_for, type_ids, by_id, id_at}
-use Rattle.wast_base.specs.Filling.{one_if, given_if, filled, wanted}
-use Rattle.wast_expand.specs.Expanders.{LookUp, index_of}
-use Rattle.wast_expand.specs.Expanded.{start_of_text, lacks_id, with_type_id, unnamed_type, implied_types, typed, bindings, expanded}
-use Rattle.wast_expand.specs.Completed.{completed}
-use Rattle.wast_expand.specs.Positioned.{position_for, positioned}
-use Rattle.wast_expand.proofs.AtItsIndex.{takes_the_type_at_its_index}
-use Rattle.wast_expand.proofs.Positions.{bound_where_there}
+use Rattle.wast_map.specs.Mapped.{mapped, mapped_def}
+use Rattle.wast_map.specs.Laws.{all_mapped}
+use Rattle.wast_types.specs.Signatures.{Signature}
+use Rattle.wast_types.specs.ImpliedTypes.{implied}
+use Rattle.wast_types.specs.TypeSpace.{index_for, type_ids, by_id, id_at}
+use Rattle.wast_types.specs.Expanders.{LookUp, index_of}
+use Rattle.wast_types.specs.Expanded.{start_of_text, lacks_id, with_type_id, unnamed_type, implied_types, typed, bindings, expanded}
+use Rattle.wast_types.specs.Completed.{completed}
+use Rattle.wast_types.specs.Positioned.{position_for, positioned}
+use Rattle.wast_types.proofs.AtItsIndex.{takes_the_type_at_its_index}
+use Rattle.wast_types.proofs.Positions.{bound_where_there}
 use Rattle.wast_resolve.specs.Tree.{Id, Index, Space, ModuleField}
 use Rattle.wast_resolve.specs.Tree.index
 use Rattle.wast_resolve.specs.Tree.space
 use Rattle.wast_resolve.specs.Tree.field
-use Rattle.wast_resolve.specs.Demands.{first_unmet, item_demands, use_demands, demands}
+use Rattle.wast_resolve.specs.Demands.{first_unmet, item_demands, site_demands, demands}
 use Rattle.wast_resolve.specs.Scopes.{scope}
-use Rattle.wast_resolve.specs.Resolved.{numbered_by, numbered_at, resolved_ask, resolved_def, resolved_field, resolved}
+use Rattle.wast_resolve.specs.Resolved.{numbered_by, numbering, resolved}
+use Rattle.wast_resolve.specs.Stripped.{written_id, at_start, stripping}
 use Rattle.wast_resolve.proofs.OfExpanded.{numbered}
 use Rattle.wast_resolve.proofs.Unmet.{met_parts}
 use Rattle.wast_resolve.proofs.ExpandedItems.{bound_items, expanded_position}
 use Rattle.wast_resolve.proofs.CompletedAsks.{completed_below}
 use Rattle.wast_resolve.proofs.Composed.{names_met}
 use Rattle.wast_resolve.proofs.FoundMatches.{id_denotes}
-use Rattle.wast_resolve.proofs.SameAsks.{Same}
-use Rattle.wast_resolve.proofs.SameUses.{told_by, one_pass, all_same}
-use Rattle.wast_resolve.specs.Stripped.{written_id, at_start, stripped}
+use Rattle.wast_resolve.proofs.SameUses.{telling, number_at, one_pass, SameAsk, Same, all_same}
 
 -- Ids that are given are generated, and so set aside.
 module _ (k : Known) (find : LookUp) where
   abbrev told : ModuleField → ModuleField
-  told x = told_by k find x
+  told x = mapped (telling k find) x
 
   none_written : (id : Option Id) → is_none id ≡ true → None ≡ written_id id
   none_written None h = refl
@@ -45,7 +46,7 @@ module _ (k : Known) (find : LookUp) where
 
   given_aside : (b : Bool) (n : ℕ) (x : ModuleField) → lacks_id x ≡ b → told (given_if b with_type_id n x) ≡ told x
   given_aside false n x h = refl
-  given_aside true n (field.Ty t) h = ap (λ (id : Option Id). field.Ty (record t { id = id; def = resolved_def k t.def })) (none_written t.id h)
+  given_aside true n (field.Ty t) h = ap (λ (id : Option Id). field.Ty (record t { id = id; def = mapped_def (telling k find).index t.def })) (none_written t.id h)
   given_aside true n x h = refl
 
   filled_aside : (n : ℕ) (xs : List ModuleField) → map told (filled lacks_id with_type_id n xs) ≡ map told xs
@@ -64,12 +65,9 @@ module _ (k : Known) (find : LookUp) where
       ∙ (ap (λ xs. map told fields ++ xs) (implied_aside m (implied fields)) ∙ sym (map-append told fields (map unnamed_type (implied fields)))))
 
 -- What the list by positions tells.
-pub told_positions : (fields : List ModuleField) → map stripped (resolved (positioned fields)) ≡ map (told_by (known (items (completed fields))) (position_for fields)) (completed fields)
+pub told_positions : (fields : List ModuleField) → all_mapped stripping (resolved (positioned fields)) ≡ all_mapped (telling (known (items (completed fields))) (position_for fields)) (completed fields)
 told_positions fields =
-    ap (λ xs. map stripped (map (resolved_field (known xs)) (positioned fields))) (bound_items (position_for fields) (completed fields)) ∙ one_pass (known (items (completed fields))) (position_for fields) (completed fields)
-
-abbrev number_at : Known → Option Index → Option Index
-number_at k i = option_map at_start (option_map (numbered_at k space.Ty) i)
+    ap (λ xs. all_mapped stripping (all_mapped (numbering (known xs)) (positioned fields))) (bound_items (position_for fields) (completed fields)) ∙ one_pass (known (items (completed fields))) (position_for fields) (completed fields)
 
 -- a position is told at the start of the text
 pub position_stays : (k : Known) (o : Option ℕ) → number_at k (option_map (λ p. index.Num p start_of_text) o) ≡ option_map (λ p. index.Num p start_of_text) o
@@ -78,14 +76,16 @@ position_stays k (Some p) = refl
 
 -- Indices are numbered alike where older names denote alike, and none that is asked is new.
 module _ (k l : Known) (n : ℕ) (alike : (q : Name) (s : Space) → generation_of q < n → k.number s q ≡ l.number s q) where
-  ask_alike : (a : Ask) → generation_in a < n → resolved_ask k a ≡ resolved_ask l a
+  ask_alike : (a : Ask) → generation_in a < n → SameAsk k l a
   ask_alike (Wants s (index.Num m p)) lt = refl
-  ask_alike (Wants s (index.Id id)) lt = ap (λ o. Wants s (numbered_by o id)) (alike (name_of id) s lt)
-  ask_alike (Bare m) lt = refl
+  ask_alike (Wants s (index.Id id)) lt = ap (λ o. numbered_by o id) (alike (name_of id) s lt)
+  ask_alike (Bare m) lt = tt
+  ask_alike (Clause m holds) lt = tt
+  ask_alike (Supported holds) lt = tt
 
   pub asks_alike : (asks : List Ask) → greatest_asked asks < n → Same k l asks
-  asks_alike [] lt = refl
-  asks_alike (a ∷ asks) lt = λ i. ask_alike a (omega (arith, lt)) i ∷ asks_alike asks (omega (arith, lt)) i
+  asks_alike [] lt = tt
+  asks_alike (a ∷ asks) lt = (ask_alike a (omega (arith, lt)), asks_alike asks (omega (arith, lt)))
 
 module _ (n : ℕ) (fields : List ModuleField) (above : greatest_generation fields < n) (met : first_unmet (demands (completed fields)) ≡ None) where
   abbrev made : LookUp
@@ -99,7 +99,7 @@ module _ (n : ℕ) (fields : List ModuleField) (above : greatest_generation fiel
 
   -- What a signature is bound to denotes its position.
   no_clash : first_unmet (item_demands (items (expanded n fields))) ≡ None
-  no_clash = (met_parts (item_demands (items (expanded n fields))) (use_demands (scope (expanded n fields)) (in_module (expanded n fields))) (names_met n fields above met)).0
+  no_clash = (met_parts (item_demands (items (expanded n fields))) (site_demands (scope (expanded n fields)) (in_module (expanded n fields))) (names_met n fields above met)).0
 
   denotes : (k : ℕ) (id : Id) → slice_get (type_ids (typed n fields)) k ≡ Some (Some id) → new.number space.Ty (name_of id) ≡ Some k
   denotes = id_denotes n fields no_clash
@@ -120,7 +120,7 @@ module _ (n : ℕ) (fields : List ModuleField) (above : greatest_generation fiel
   old_alike : Same new old (asked (in_module (completed fields)))
   old_alike = asks_alike new old n (expanded_position n fields (omega (arith, above))) (asked (in_module (completed fields))) (completed_below n fields (omega (arith, above)))
 
-  pub numbered_by_position : map stripped (numbered n fields) ≡ map stripped (resolved (positioned fields))
+  pub numbered_by_position : all_mapped stripping (numbered n fields) ≡ all_mapped stripping (resolved (positioned fields))
   numbered_by_position =
       one_pass new made (typed n fields)
       ∙ (ids_aside new made n fields ∙ (all_same new old made (position_for fields) bound_alike (completed fields) old_alike ∙ sym (told_positions fields)))

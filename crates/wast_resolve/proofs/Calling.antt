@@ -1,12 +1,13 @@
 -- Calls on the indices of parts that stand one after the other.
-use Rattle.std.proofs.Common.{◌≡◌, ℕ, zero, suc, List, [], ◌∷◌, ◌++◌, refl, subst, Result, Ok, Err, Option, Some, None}
+use Rattle.std.proofs.Common.{◌≡◌, ℕ, zero, suc, List, [], ◌∷◌, ◌++◌, not, refl, sym, ap, ◌∙◌, subst, append-nil, flat_map, Result, Ok, Err, Option, Some, None}
 use Rattle.std.specs.List.{Contains}
 use Rattle.std.proofs.lemmas.List.Elements.{Contains-append_left, Contains-append_right}
 use native.Mathlib.Omega.{arith}
 use Rattle.std.proofs.lemmas.Grind.{flat_map-append}
 use Rattle.wast_base.specs.declared.faults.Error.{Error}
-use Rattle.wast_tree.specs.Occurrences.{Ask, Wants, if_there, in_id}
-use Rattle.wast_resolve.specs.Tree.{Id, Index, Space}
+use Rattle.wast_tree.specs.Sites.{Ask, Wants, Supported, if_there, in_id, in_index, in_descriptor, in_inner, in_def}
+use Rattle.wast_resolve.specs.Tree.{Id, Index, Space, TypeDef}
+use Rattle.wast_resolve.specs.Tree.space
 use Rattle.wast_resolve.specs.CoreTypes.{Calls, none_left, answered, refused, index_of, indices_of, CallsOn, HasNeeds}
 
 pub indices-append : (xs ys : List Ask) → indices_of (xs ++ ys) ≡ indices_of xs ++ indices_of ys
@@ -62,3 +63,32 @@ module _ {C : Type 0} {needs : C → Index → Type 0} where
 
   pub needs_kept : {a b : C} {xs : List Ask} → ((i : Index) → needs a i → needs b i) → HasNeeds needs a xs → HasNeeds needs b xs
   needs_kept f h = record { each = λ i in_xs. f i (h.each i in_xs) }
+
+-- what is asked in a type, but for its forms
+abbrev pub asked_in_def : TypeDef → List Ask
+asked_in_def d = flat_map (in_index space.Ty) d.parents ++ (if_there (in_index space.Ty) d.descriptor ++ (if_there (in_index space.Ty) d.describes ++ in_inner d.kind))
+
+both_alike : (xs ys zs ws : List Ask) → indices_of xs ≡ indices_of zs → indices_of ys ≡ indices_of ws → indices_of (xs ++ ys) ≡ indices_of (zs ++ ws)
+both_alike xs ys zs ws p q = indices-append xs ys ∙ (ap (λ is. is ++ indices_of ys) p ∙ (ap (λ is. indices_of zs ++ is) q ∙ sym (indices-append zs ws)))
+
+descriptor_alike : (o : Option Index) → indices_of (if_there in_descriptor o) ≡ indices_of (if_there (in_index space.Ty) o)
+descriptor_alike None = refl
+descriptor_alike (Some i) = refl
+
+-- has the same indices
+def_alike : (d : TypeDef) → indices_of (in_def d) ≡ indices_of (asked_in_def d)
+def_alike d =
+    let form : List Ask = Supported (not d.shared) ∷ [] in
+    let at = if_there (in_index space.Ty) in
+    both_alike (flat_map (in_index space.Ty) d.parents) (if_there in_descriptor d.descriptor ++ (if_there in_descriptor d.describes ++ (in_inner d.kind ++ form))) (flat_map (in_index space.Ty) d.parents)
+    (at d.descriptor ++ (at d.describes ++ in_inner d.kind)) refl
+    (both_alike (if_there in_descriptor d.descriptor) (if_there in_descriptor d.describes ++ (in_inner d.kind ++ form)) (at d.descriptor) (at d.describes ++ in_inner d.kind) (descriptor_alike d.descriptor)
+    (both_alike (if_there in_descriptor d.describes) (in_inner d.kind ++ form) (at d.describes) (in_inner d.kind) (descriptor_alike d.describes) (indices-append (in_inner d.kind) form ∙ append-nil (indices_of (in_inner d.kind)))))
+
+-- so the calls on them are those, and so is what they need
+pub calls_in_def : {C : Type 0} {called : C → Index → C → Index → Result ℕ Error → Type 0} {a b : C} {result : Result (Unit {0}) Error} (d e : TypeDef)
+    → CallsOn called a (asked_in_def d) b (asked_in_def e) result → CallsOn called a (in_def d) b (in_def e) result
+calls_in_def d e h = record { calls = rw (def_alike d, def_alike e) h.calls }
+
+pub needs_in_def : {C : Type 0} {needs : C → Index → Type 0} {a : C} (d : TypeDef) → HasNeeds needs a (in_def d) → HasNeeds needs a (asked_in_def d)
+needs_in_def d h = record { each = λ i c. h.each i (rw (def_alike d) c) }

@@ -3,18 +3,18 @@ use Rattle.std.proofs.Common.{◌≡◌, ℕ, zero, suc, arith, Bool, true, fals
 use Rattle.std.specs.List.{flat_map, Contains}
 use Rattle.wast_base.specs.declared.faults.Error.{Error}
 use Rattle.wast_base.specs.Faults.{told}
-use Rattle.wast_tree.specs.Occurrences.{Ask, Wants, Bare}
+use Rattle.wast_tree.specs.Sites.{Ask, Wants, Bare, Clause, Supported}
 use Rattle.wast_tree.specs.Known.{Known}
 use Rattle.wast_resolve.specs.Tree.{Index}
 use Rattle.wast_resolve.specs.Tree.index
 use Rattle.wast_resolve.specs.Tree.space
 use Rattle.wast_resolve.specs.Demands.{Demand, first_unmet, ask_demand, ask_demands, Answers}
 use Rattle.wast_resolve.specs.Scopes.{denoted}
-use Rattle.wast_resolve.specs.LookUps.{IsSettledFor, LooksTypesUp}
+use Rattle.wast_resolve.specs.LookUps.{are_settled, IsSettledFor, LooksTypesUp}
 use Rattle.wast_resolve.specs.Resolvers.{known_of}
 use Rattle.wast_resolve.specs.Laws.{ByResolver, NeedsOfResolver}
 use Rattle.wast_base.specs.Spaces.{is_settled_index}
-use Rattle.wast_tree.specs.WellFormed.{are_settled}
+use Rattle.wast_map.specs.Mapped.{Indices}
 use Rattle.wast_resolve.specs.Resolved.{numbered_at}
 use Rattle.wast_resolve.specs.Walking.{Walks}
 use Rattle.wast_resolve.specs.CoreTypes.{Calls, none_left, answered, refused, indices_of, CallsOn, blank}
@@ -28,6 +28,8 @@ typed_demands : (k : Known) (asks : List Ask) → ask_demands k (map as_type ask
 typed_demands k [] = refl
 typed_demands k (Wants s i ∷ asks) = ap (λ ds. type_demand k i ++ ds) (typed_demands k asks)
 typed_demands k (Bare m ∷ asks) = typed_demands k asks
+typed_demands k (Clause n holds ∷ asks) = typed_demands k asks
+typed_demands k (Supported holds ∷ asks) = typed_demands k asks
 
 both_true : (a b : Bool) → (a && b) ≡ true → (a ≡ true) × (b ≡ true)
 both_true true b h = (refl, h)
@@ -37,6 +39,8 @@ both_true false b h = absurd (cc h)
 settled_each : (k : Known) (asks : List Ask) → are_settled k (map as_type asks) ≡ true → (i : Index) → Contains (indices_of asks) i → IsSettledFor k space.Ty i
 settled_each k [] h i (n, lt, is) = absurd (omega (arith, lt))
 settled_each k (Bare m ∷ asks) h i c = settled_each k asks h i c
+settled_each k (Clause n holds ∷ asks) h i c = settled_each k asks h i c
+settled_each k (Supported holds ∷ asks) h i c = settled_each k asks h i c
 settled_each k (Wants s j ∷ asks) h i (zero, lt, is) =
     subst (IsSettledFor k space.Ty) is (ap (λ b. b && true) (both_true (is_settled_index (k.number space.Ty) j) (are_settled k (map as_type asks)) h).0)
 settled_each k (Wants s j ∷ asks) h i (suc n, lt, is) =
@@ -46,7 +50,7 @@ denoted_met : (k : Known) (i : Index) (n : ℕ) → denoted (k.number space.Ty) 
 denoted_met k (index.Num m span) n h = refl
 denoted_met k (index.Id id) n h = rw h refl
 
-module _ {T : Type 0} {asks : T → List Ask} {changed : (Index → Index) → T → T} (p : IsTypePart asks changed) where
+module _ {T : Type 0} {asks : T → List Ask} {changed : Indices → T → T} (p : IsTypePart asks changed) where
   typed_of : (k : Known) (x : T) → ask_demands k (asks x) ≡ flat_map (type_demand k) (indices_of (asks x))
   typed_of k x = sym (ap (ask_demands k) (p.typed x)) ∙ typed_demands k (asks x)
 
@@ -77,13 +81,13 @@ module _ {C : Type 0} (known_by : C → Known) where
   calls_kept {a = a} {xs = xs} {ys = ys} {result = result} c = subst (λ b. CallsOn (LooksTypesUp known_by) a xs b ys result) (kept c.calls) c
 
   -- so they walk over a part of a type
-  pub calls_walk : {T : Type 0} {asks : T → List Ask} {changed : (Index → Index) → T → T} {a b : C} {x y : T} (result : Result (Unit {0}) Error) → IsTypePart asks changed
-      → CallsOn (LooksTypesUp known_by) a (asks x) b (asks y) result → changed blank y ≡ changed blank x → Walks ⊥ ⊥ (ask_demands (known_by a) (asks x)) (changed (numbered_at (known_by a) space.Ty) x) y result
+  pub calls_walk : {T : Type 0} {asks : T → List Ask} {changed : Indices → T → T} {a b : C} {x y : T} (result : Result (Unit {0}) Error) → IsTypePart asks changed
+      → CallsOn (LooksTypesUp known_by) a (asks x) b (asks y) result → changed blank y ≡ changed blank x → Walks ⊥ ⊥ (ask_demands (known_by a) (asks x)) (changed (numbered_at (known_by a)) x) y result
   calls_walk {a = a} {x = x} {y = y} (Ok u) p c rest =
-      let n = all_numbered c.calls in (ap first_unmet (typed_of p (known_by a) x) ∙ n.1, p.same (numbered_at (known_by a) space.Ty) x y rest n.0)
+      let n = all_numbered c.calls in (ap first_unmet (typed_of p (known_by a) x) ∙ n.1, p.same (numbered_at (known_by a)) x y rest n.0)
   calls_walk {a = a} {x = x} (Err e) p c rest = subst (λ ds. Answers ⊥ ⊥ (told e) (first_unmet ds)) (sym (typed_of p (known_by a) x)) (first_unknown c.calls)
 
-module _ {T : Type 0} {asks : T → List Ask} {changed : (Index → Index) → T → T} (p : IsTypePart asks changed) where
+module _ {T : Type 0} {asks : T → List Ask} {changed : Indices → T → T} (p : IsTypePart asks changed) where
   pub by_resolver : ByResolver asks changed
   by_resolver old new before after result called rest = calls_walk (λ names. known_of names.now) result p called rest
 

@@ -6,14 +6,14 @@ use Rattle.std.proofs.lemmas.List.{map-append, length-map}
 use Rattle.wast_base.specs.Ids.{Name, Mark, marked}
 use Rattle.wast_base.specs.Faults.{Cause, Duplicate, Told}
 use Rattle.wast_base.specs.Spaces.{name_if, is_borne}
-use Rattle.wast_tree.specs.Occurrences.{Step, Declares, declared_params, declared_locals, declared}
-use Rattle.wast_resolve.specs.Tree.{Span, Id, NameAnnotation, ValType, FunctionType, Local, FuncKind}
+use Rattle.wast_tree.specs.Sites.{param_marks, declaring}
+use Rattle.wast_resolve.specs.Tree.{Span, Id, NameAnnotation, ValType, FunctionType, Expression, Local}
 use Rattle.wast_resolve.specs.Tree.func
 use Rattle.wast_resolve.specs.Scopes.{Scope}
-use Rattle.wast_resolve.specs.Demands.{first_unmet, Answers, start, step_demands}
+use Rattle.wast_resolve.specs.Demands.{first_unmet, Answers, site_demands, declared}
 use Rattle.wast_namespace.specs.Filling.{IsClash, IsFirstClash, HasFirstClash}
 use Rattle.wast_resolve.specs.Gathers.{Stops}
-use Rattle.wast_resolve.specs.Locals.{params_in, locals_in, marks, names, said_of}
+use Rattle.wast_resolve.specs.Locals.{params_in, opening, marks, names, said_of}
 use Rattle.wast_namespace.specs.Outcomes.{Outcome}
 use Rattle.wast_base.specs.declared.faults.Error.{Error}
 use Rattle.std.specs.Prelude.{Result}
@@ -23,9 +23,6 @@ use Rattle.wast_resolve.proofs.Collecting.{stops_more}
 abbrev pub by_clash : List (Option Mark) → Option ℕ → Option (Cause × Span)
 by_clash ms None = None
 by_clash ms (Some p) = said_of (slice_index_or ms p None)
-
-abbrev declares : List (Option Mark) → List Step
-declares ms = map Declares ms
 
 clash_here : (before rest : List (Option Name)) (q : Name) → is_borne q before ≡ true → IsClash (before ++ Some q ∷ rest) (length before)
 clash_here before rest q h = record {
@@ -65,7 +62,7 @@ module _ (c : Scope) where
   more : (before : List (Option Name)) (o : Option Name) (rest : List (Option Name)) → (before ++ o ∷ []) ++ rest ≡ before ++ o ∷ rest
   more before o rest = append_assoc before (o ∷ []) rest
 
-  free_after : (before : List (Option Name)) (ms : List (Option Mark)) → ((p : ℕ) → IsClash (before ++ names ms) p → ⊥) → first_unmet (step_demands c (record { locals = before }) (declares ms)) ≡ None
+  free_after : (before : List (Option Name)) (ms : List (Option Mark)) → ((p : ℕ) → IsClash (before ++ names ms) p → ⊥) → first_unmet (site_demands c (declaring before ms)) ≡ None
   free_after before [] free = refl
   free_after before (None ∷ ms) free = free_after (before ++ None ∷ []) ms (λ p h. free p (subst (λ ns. IsClash ns p) (more before None (names ms)) h))
   free_after before (Some m ∷ ms) free =
@@ -78,7 +75,7 @@ module _ (c : Scope) where
       subst (λ p. IsFirstClash ((before ++ o ∷ []) ++ rest) p) at (subst (λ ns. IsFirstClash ns (length before + suc q)) (sym (more before o rest)) h)
 
   first_after : (before : List (Option Name)) (ms : List (Option Mark)) (q : ℕ) → IsFirstClash (before ++ names ms) (length before + q)
-      → first_unmet (step_demands c (record { locals = before }) (declares ms)) ≡ said_of (slice_index_or ms q None)
+      → first_unmet (site_demands c (declaring before ms)) ≡ said_of (slice_index_or ms q None)
   first_after before [] q h = let w = h.clash.within in absurd (omega (arith, w, length-append before []))
   first_after before (None ∷ ms) zero h = absurd (none_here before (names ms) (subst (λ p. IsClash (before ++ None ∷ names ms) p) (omega arith) h.clash))
   first_after before (None ∷ ms) (suc q) h = first_after (before ++ None ∷ []) ms q (next before None (names ms) q h)
@@ -88,10 +85,10 @@ module _ (c : Scope) where
       later_one (is_borne m.0 before) (Duplicate (codes "local"), m.1) _ _ (λ b. let l = h.least (length before) (clash_here before (names ms) m.0 b) in omega arith)
       (first_after (before ++ Some m.0 ∷ []) ms q (next before (Some m.0) (names ms) q h))
 
-  pub free_names : (ms : List (Option Mark)) → ((p : ℕ) → IsClash (names ms) p → ⊥) → first_unmet (step_demands c start (declares ms)) ≡ None
+  pub free_names : (ms : List (Option Mark)) → ((p : ℕ) → IsClash (names ms) p → ⊥) → first_unmet (site_demands c (declaring [] ms)) ≡ None
   free_names ms free = free_after [] ms free
 
-  pub first_name : (ms : List (Option Mark)) (p : ℕ) → IsFirstClash (names ms) p → first_unmet (step_demands c start (declares ms)) ≡ said_of (slice_index_or ms p None)
+  pub first_name : (ms : List (Option Mark)) (p : ℕ) → IsFirstClash (names ms) p → first_unmet (site_demands c (declaring [] ms)) ≡ said_of (slice_index_or ms p None)
   first_name ms p h = let at : p ≡ 0 + p = omega arith in first_after [] ms p (subst (λ q. IsFirstClash (names ms) q) at h)
 
 -- the names of a list, at its item at i
@@ -103,58 +100,42 @@ stops_at f t a begun xs i x o lt is same whole h =
     let early : length begun ≤ length a = omega (arith, ap length whole, length-append a (map f (drop i xs)), length-append begun (map f xs), length-map (drop i xs) f, length-map xs f, length-drop i xs) in
     stops_more t (length a) (length begun) (length (a ++ o ∷ [])) (length (begun ++ map f xs)) early (omega (arith, long, length-append a (o ∷ []), length-append a (f x ∷ map f (drop (suc i) xs)))) h
 
--- steps and names of what is declared
-pub each_step : {X : Type 0} (h : X → Option Mark) (zs : List X) → map (λ x. Declares (h x)) zs ≡ declares (map h zs)
-each_step h [] = refl
-each_step h (z ∷ zs) = ap (λ ss. Declares (h z) ∷ ss) (each_step h zs)
-
+-- the names of what is declared
 each_name : {X : Type 0} (h : X → Option Mark) (zs : List X) → map (λ x. name_if (h x)) zs ≡ names (map h zs)
 each_name h [] = refl
 each_name h (z ∷ zs) = ap (λ ns. name_if (h z) ∷ ns) (each_name h zs)
 
 module _ {A B : Type 0} (f : A → Option Mark) (g : B → Option Mark) (xs : List A) (ys : List B) where
-  pub steps_are : map (λ x. Declares (f x)) xs ++ map (λ y. Declares (g y)) ys ≡ declares (marks f g xs ys)
-  steps_are = ap (λ ss. ss ++ map (λ y. Declares (g y)) ys) (each_step f xs) ∙ (ap (λ ss. declares (map f xs) ++ ss) (each_step g ys) ∙ sym (map-append Declares (map f xs) (map g ys)))
-
   pub names_are : map (λ x. name_if (f x)) xs ++ map (λ y. name_if (g y)) ys ≡ names (marks f g xs ys)
   names_are = ap (λ ns. ns ++ map (λ y. name_if (g y)) ys) (each_name f xs) ∙ (ap (λ ns. names (map f xs) ++ ns) (each_name g ys) ∙ sym (map-append name_if (map f xs) (map g ys)))
 
 -- nothing is unmet, or what is said of the first clash
-pub clash_answers : (c : Scope) (ms : List (Option Mark)) (o : Option ℕ) → HasFirstClash (names ms) o → first_unmet (step_demands c start (declares ms)) ≡ by_clash ms o
+pub clash_answers : (c : Scope) (ms : List (Option Mark)) (o : Option ℕ) → HasFirstClash (names ms) o → first_unmet (site_demands c (declaring [] ms)) ≡ by_clash ms o
 clash_answers c ms None h = free_names c ms h
 clash_answers c ms (Some p) h = first_name c ms p h
 
--- what a function declares
-pub declares_are : (inline : Option FunctionType) (f : FuncKind) → declared inline f ≡ declares (map (λ p. marked p.0) (params_in inline) ++ map (λ l. marked l.id) (locals_in f))
-declares_are inline f =
-    ap (λ ss. ss ++ declared_locals f) (of_params inline)
-    ∙ (ap (λ ss. map (λ p. Declares (marked p.0)) (params_in inline) ++ ss) (of_locals f) ∙ steps_are (λ p. marked p.0) (λ l. marked l.id) (params_in inline) (locals_in f))
-  where
-    of_params : (inline : Option FunctionType) → declared_params inline ≡ map (λ p. Declares (marked p.0)) (params_in inline)
-    of_params None = refl
-    of_params (Some t) = refl
+-- what a function declares in front of its body
+pub opening_is : (inline : Option FunctionType) (locals : List Local) (e : Expression) → opening (param_marks inline) (func.Inline locals e) ≡ declaring [] (marks (λ p. marked p.0) (λ l. marked l.id) (params_in inline) locals)
+opening_is None locals e = refl
+opening_is (Some t) locals e = refl
 
-    of_locals : (f : FuncKind) → declared_locals f ≡ map (λ l. Declares (marked l.id)) (locals_in f)
-    of_locals (func.Import import exact) = refl
-    of_locals (func.Inline locals e) = refl
+long_as : (inline : Option FunctionType) (locals : List Local) (e : Expression) → marks (λ p. marked p.0) (λ l. marked l.id) (params_in inline) locals ≡ declared inline (func.Inline locals e)
+long_as None locals e = refl
+long_as (Some t) locals e = refl
 
 -- an answer for the names of these parameters and locals is one for the function
-pub names_answer : (K : Type 0) (c : Scope) (inline : Option FunctionType) (f : FuncKind) (ps : List (Option Id × Option NameAnnotation × ValType)) (ls : List Local) (r : Result (Unit {0}) Error)
-    → ps ≡ params_in inline → ls ≡ locals_in f
-    → (let ms = marks (λ p. marked p.0) (λ l. marked l.id) ps ls in Outcome K (2 ^ 32 ≤ length ms) (first_unmet (step_demands c start (declares ms))) r)
-    → Outcome K (2 ^ 32 ≤ length (declared inline f)) (first_unmet (step_demands c start (declared inline f))) r
-names_answer K c inline f ps ls r p l h =
-    let are = marks (λ p. marked p.0) (λ l. marked l.id) in
-    let ms = are (params_in inline) (locals_in f) in
-    let steps = declares_are inline f in
-    let long : length ms ≡ length (declared inline f) = sym (ap length steps ∙ length-map ms Declares) in
-    subst (λ ss. Outcome K (2 ^ 32 ≤ length (declared inline f)) (first_unmet (step_demands c start ss)) r) (sym steps)
-    (subst (λ n. Outcome K (2 ^ 32 ≤ n) (first_unmet (step_demands c start (declares ms))) r) long
-    (subst (λ ms. Outcome K (2 ^ 32 ≤ length ms) (first_unmet (step_demands c start (declares ms))) r) (ap (λ qs. are qs ls) p ∙ ap (λ ks. are (params_in inline) ks) l) h))
+pub names_answer : (K : Type 0) (c : Scope) (inline : Option FunctionType) (ls : List Local) (e : Expression) (ps : List Local) (r : Result (Unit {0}) Error) → ps ≡ ls
+    → (let ms = marks (λ p. marked p.0) (λ l. marked l.id) (params_in inline) ps in Outcome K (2 ^ 32 ≤ length ms) (first_unmet (site_demands c (declaring [] ms))) r)
+    → Outcome K (2 ^ 32 ≤ length (declared inline (func.Inline ls e))) (first_unmet (site_demands c (opening (param_marks inline) (func.Inline ls e)))) r
+names_answer K c inline ls e ps r same h =
+    let are = marks (λ p. marked p.0) (λ l. marked l.id) (params_in inline) in
+    subst (λ ss. Outcome K (2 ^ 32 ≤ length (declared inline (func.Inline ls e))) (first_unmet (site_demands c ss)) r) (sym (opening_is inline ls e))
+    (subst (λ ms. Outcome K (2 ^ 32 ≤ length ms) (first_unmet (site_demands c (declaring [] (are ls)))) r) (long_as inline ls e)
+    (subst (λ (xs : List Local). let ms = are xs in Outcome K (2 ^ 32 ≤ length ms) (first_unmet (site_demands c (declaring [] ms))) r) same h))
 
 -- the same parameters under another name
 pub params_answer : (K : Type 0) (c : Scope) (ps qs : List (Option Id × Option NameAnnotation × ValType)) (ls : List Local) (r : Result (Unit {0}) Error) → ps ≡ qs
-    → (let ms = marks (λ p. marked p.0) (λ l. marked l.id) ps ls in Outcome K (2 ^ 32 ≤ length ms) (first_unmet (step_demands c start (declares ms))) r)
-    → (let ms = marks (λ p. marked p.0) (λ l. marked l.id) qs ls in Outcome K (2 ^ 32 ≤ length ms) (first_unmet (step_demands c start (declares ms))) r)
+    → (let ms = marks (λ p. marked p.0) (λ l. marked l.id) ps ls in Outcome K (2 ^ 32 ≤ length ms) (first_unmet (site_demands c (declaring [] ms))) r)
+    → (let ms = marks (λ p. marked p.0) (λ l. marked l.id) qs ls in Outcome K (2 ^ 32 ≤ length ms) (first_unmet (site_demands c (declaring [] ms))) r)
 params_answer K c ps qs ls r same h =
-    subst (λ (xs : List (Option Id × Option NameAnnotation × ValType)). let ms = marks (λ p. marked p.0) (λ l. marked l.id) xs ls in Outcome K (2 ^ 32 ≤ length ms) (first_unmet (step_demands c start (declares ms))) r) same h
+    subst (λ (xs : List (Option Id × Option NameAnnotation × ValType)). let ms = marks (λ p. marked p.0) (λ l. marked l.id) xs ls in Outcome K (2 ^ 32 ≤ length ms) (first_unmet (site_demands c (declaring [] ms))) r) same h

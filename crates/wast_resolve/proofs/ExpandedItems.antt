@@ -6,18 +6,17 @@ use Rattle.std.proofs.lemmas.List.{map-append}
 use Rattle.std.proofs.lemmas.Grind.{flat_map-append}
 use Rattle.wast_base.specs.Ids.{Name, generation_of}
 use Rattle.wast_base.specs.Spaces.{position_of}
-use Rattle.wast_tree.specs.Items.{Item, field_ids, fields_of, item, space_of_kind, items_of_import, items_in, items}
+use Rattle.wast_tree.specs.Items.{Item, field_ids, fields_of, item, items_in, items}
 use Rattle.wast_tree.specs.Known.{names_in}
 use Rattle.wast_tree.specs.Generations.{greatest_item}
-use Rattle.wast_expand.specs.Signatures.{Signature}
-use Rattle.wast_expand.specs.ImpliedTypes.{implied}
+use Rattle.wast_map.proofs.Alone.{items_alone}
+use Rattle.wast_types.specs.Signatures.{Signature}
+use Rattle.wast_types.specs.ImpliedTypes.{implied}
 use Rattle.wast_base.specs.Filling.{one_if, given_if, filled, wanted}
-use Rattle.wast_expand.specs.Expanders.{LookUp, index_of}
-use Rattle.wast_expand.specs.Expanded.{lacks_id, with_type_id, start_of_text, unnamed_type, implied_types, typed, bindings, bound_item_kind, bound_import_items, bound_field, expanded, ids_wanted}
-use Rattle.wast_expand.specs.Completed.{completed}
-use Rattle.wast_resolve.specs.Tree.{Id, Span, Space, StructField, ItemKind, ImportItems, ModuleField}
-use Rattle.wast_resolve.specs.Tree.kind
-use Rattle.wast_resolve.specs.Tree.import_items
+use Rattle.wast_types.specs.Expanders.{LookUp, index_of}
+use Rattle.wast_types.specs.Expanded.{lacks_id, with_type_id, start_of_text, unnamed_type, implied_types, typed, bindings, binding, bound_field, expanded, ids_wanted}
+use Rattle.wast_types.specs.Completed.{completed}
+use Rattle.wast_resolve.specs.Tree.{Id, Span, Space, StructField, ModuleField}
 use Rattle.wast_resolve.specs.Tree.space
 use Rattle.wast_resolve.specs.Tree.ty
 use Rattle.wast_resolve.specs.Tree.field
@@ -92,23 +91,8 @@ new_fields n (x ∷ xs) ss =
 pub typed_items : (n : ℕ) (fields : List ModuleField) → items (typed n fields) ≡ news n (changes fields)
 typed_items n fields = new_fields n fields (implied fields)
 
-bound_items_in : (find : LookUp) (x : ModuleField) → items_in (bound_field find x) ≡ items_in x
-bound_items_in find (field.Import i) = same_import i.items
-  where
-    same_space_of : (k : ItemKind) → space_of_kind (bound_item_kind find k) ≡ space_of_kind k
-    same_space_of (kind.Func u) = refl
-    same_space_of (kind.Table t) = refl
-    same_space_of (kind.Memory t) = refl
-    same_space_of (kind.Global t) = refl
-    same_space_of (kind.Tag t) = refl
-
-    same_import : (i : ImportItems) → items_of_import (bound_import_items find i) ≡ items_of_import i
-    same_import (import_items.Single source name sig) = ap (λ s. item s sig.id [] ∷ []) (same_space_of sig.kind)
-bound_items_in find x = refl
-
 pub bound_items : (find : LookUp) (xs : List ModuleField) → items (map (bound_field find) xs) ≡ items xs
-bound_items find [] = refl
-bound_items find (x ∷ xs) = ap (λ ys. ys ++ items (map (bound_field find) xs)) (bound_items_in find x) ∙ ap (λ ys. items_in x ++ ys) (bound_items find xs)
+bound_items find xs = items_alone (binding find) (λ o. refl) xs
 
 pub new_items : (n : ℕ) (fields : List ModuleField) → items (expanded n fields) ≡ news n (changes fields)
 new_items n fields = bound_items (index_of (bindings (typed n fields))) (typed n fields) ∙ typed_items n fields

@@ -2,17 +2,21 @@
 use Rattle.std.proofs.Common.{◌≡◌, ℕ, ◌+◌, Bool, true, false, List, [], ◌∷◌, ◌++◌, map, length, refl, sym, ap, ◌∙◌}
 use Rattle.std.specs.List.{flat_map}
 use Rattle.std.proofs.lemmas.Grind.{flat_map-append}
-use Rattle.wast_expand.specs.Signatures.{Signature}
-use Rattle.wast_expand.specs.ImpliedTypes.{implied}
+use Rattle.wast_tree.specs.Sites.{param_marks}
+use Rattle.wast_map.proofs.Types.{type_at, rec_at}
+use Rattle.wast_types.specs.Signatures.{Signature}
+use Rattle.wast_types.specs.TypeSpace.{taken_kind}
+use Rattle.wast_types.specs.ImpliedTypes.{implied}
 use Rattle.wast_base.specs.Filling.{one_if, given_if, filled, wanted}
-use Rattle.wast_expand.specs.Expanders.{LookUp, index_of}
-use Rattle.wast_expand.specs.Expanded.{lacks_id, with_type_id, unnamed_type, implied_types, typed, bindings, bound_field, expanded}
-use Rattle.wast_expand.specs.Completed.{completed}
-use Rattle.wast_resolve.specs.Tree.{ModuleField}
+use Rattle.wast_types.specs.Expanders.{LookUp, index_of}
+use Rattle.wast_types.specs.Expanded.{lacks_id, with_type_id, unnamed_type, implied_types, typed, bindings, binding, bound_field, expanded}
+use Rattle.wast_types.specs.Completed.{completed}
+use Rattle.wast_resolve.specs.Tree.{Rec, ModuleField}
+use Rattle.wast_resolve.specs.Tree.ty
 use Rattle.wast_resolve.specs.Tree.field
 use Rattle.wast_resolve.specs.Scopes.{signatures_in, signatures}
 use Rattle.wast_resolve.specs.Demands.{local_counts_in, local_counts}
-use Rattle.wast_resolve.proofs.ExpandedAsks.{bound_declared}
+use Rattle.wast_resolve.proofs.Standing.{kind_declared}
 
 -- What neither ids nor indices of type uses change, field by field, they do not change in the list.
 module _ {A : Type 0} (f : ModuleField → List A) (bound : (find : LookUp) (x : ModuleField) → f (bound_field find x) ≡ f x) (given : (n : ℕ) (x : ModuleField) → f (with_type_id n x) ≡ f x) where
@@ -41,7 +45,8 @@ module _ {A : Type 0} (f : ModuleField → List A) (bound : (find : LookUp) (x :
       ∙ (ap (λ ys. flat_map f fields ++ ys) (each_implied m (implied fields)) ∙ sym (flat_map-append f fields (map unnamed_type (implied fields))))))
 
 bound_signatures : (find : LookUp) (x : ModuleField) → signatures_in (bound_field find x) ≡ signatures_in x
-bound_signatures find (field.Ty t) = refl
+bound_signatures find (field.Ty t) = ap (λ (t : ty.«Type»). taken_kind t.def.kind ∷ []) (type_at t).still
+bound_signatures find (field.Rec r) = ap (λ (r : Rec). map (λ t. taken_kind t.def.kind) r.types) (rec_at r).still
 bound_signatures find x = refl
 
 given_signatures : (n : ℕ) (x : ModuleField) → signatures_in (with_type_id n x) ≡ signatures_in x
@@ -49,7 +54,7 @@ given_signatures n (field.Ty t) = refl
 given_signatures n x = refl
 
 bound_counts : (find : LookUp) (x : ModuleField) → local_counts_in (bound_field find x) ≡ local_counts_in x
-bound_counts find (field.Func f) = ap (λ ss. length ss ∷ []) (bound_declared find f.ty.inline f.kind)
+bound_counts find (field.Func f) = ap (λ ms. length (param_marks f.ty.inline ++ ms) ∷ []) (kind_declared (binding find) (param_marks f.ty.inline) f.kind)
 bound_counts find x = refl
 
 given_counts : (n : ℕ) (x : ModuleField) → local_counts_in (with_type_id n x) ≡ local_counts_in x

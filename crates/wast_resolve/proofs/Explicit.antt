@@ -7,15 +7,15 @@ use Rattle.wast_deinline.specs.Written.{written_out_from, references_wanted}
 use Rattle.wast_deinline.proofs.Left.{nothing_is_left}
 use Rattle.wast_deinline.proofs.Below.{written_below}
 use Rattle.wast_deinline.proofs.Settled.{written_well_formed}
-use Rattle.wast_expand.specs.Expanded.{ids_wanted}
-use Rattle.wast_expand.specs.Completed.{completed}
+use Rattle.wast_types.specs.Expanded.{ids_wanted}
+use Rattle.wast_types.specs.Completed.{completed}
 use Rattle.wast_resolve.specs.Tree.{ModuleField}
 use Rattle.wast_resolve.specs.Demands.{first_unmet, demands}
 use Rattle.wast_resolve.specs.Explicit.{explicit, explicit_from, ids_filled}
-use Rattle.wast_resolve.specs.Laws.{SameAnswer, SameCounts, ExplicitStaysWellFormed, NoIdIsLeft, FinishedStaysWellFormed, SamePositions, FinishedIsBelow, UsesHaveIndices, FinishedIsWrittenOut, ItemsStay}
+use Rattle.wast_resolve.specs.Laws.{SameAnswer, SameCounts, ExplicitStaysWellFormed, NoIdIsLeft, FinishedStaysWellFormed, SamePositions, FinishedIsResolved, FinishedIsBelow, UsesHaveIndices, FinishedIsWrittenOut, ItemsStay}
 use Rattle.wast_resolve.proofs.AtRest.{items_stay}
 use Rattle.wast_resolve.proofs.Composed.{same_answer, same_counts, expanded_well_formed, all_are_numbers, numbered_well_formed, numbered_below}
-use Rattle.wast_resolve.proofs.Indexed.{numbered_indexed}
+use Rattle.wast_resolve.proofs.Indexed.{numbered_indexed, numbered_resolved}
 use Rattle.wast_resolve.proofs.InPlace.{numbered_written_out}
 use Rattle.wast_resolve.proofs.ByPosition.{numbered_by_position}
 use Rattle.wast_resolve.proofs.WrittenAlike.{written_unmet, written_counts, written_wants}
@@ -50,6 +50,9 @@ explicit_well_formed n fields above h = expanded_well_formed (next n fields) (wr
 
 pub finished_numbered : NoIdIsLeft
 finished_numbered n fields above met = all_are_numbers (next n fields) (written_out_from n fields) (still_above n fields above) (met_alike n fields above met)
+
+pub finished_resolved : FinishedIsResolved
+finished_resolved n fields above met = numbered_resolved (next n fields) (written_out_from n fields) (still_above n fields above) (met_alike n fields above met)
 
 pub finished_well_formed : FinishedStaysWellFormed
 finished_well_formed n fields above h met = numbered_well_formed (next n fields) (written_out_from n fields) (still_above n fields above) (written_well_formed n fields h) (met_alike n fields above met)

@@ -10,13 +10,13 @@ use Rattle.wast_base.specs.Ids.{Name, name_of, place_of, marked}
 use Rattle.wast_base.specs.Spaces.{name_if, position_of}
 use Rattle.wast_tree.specs.Items.{item, items_of_type, space_of_kind, items_of_import, items_in, items}
 use Rattle.wast_tree.specs.Known.{name_in, names_in}
-use Rattle.wast_tree.specs.Occurrences.{in_signature}
-use Rattle.wast_expand.specs.Signatures.{Signature, signature_of, same_signature}
-use Rattle.wast_expand.specs.TypeSpace.{taken_kind, types_in, type_space, has_signature, index_for, ids_in, type_ids, by_id, id_at}
-use Rattle.wast_expand.specs.Expanders.{index_of}
-use Rattle.wast_expand.specs.Expanded.{typed, bindings, expanded}
-use Rattle.wast_expand.proofs.AtRest.{types_are_the_space}
-use Rattle.wast_expand.proofs.AtItsIndex.{takes_the_type_at_its_index}
+use Rattle.wast_tree.specs.Sites.{in_signature}
+use Rattle.wast_types.specs.Signatures.{Signature, signature_of, same_signature}
+use Rattle.wast_types.specs.TypeSpace.{taken_kind, types_in, type_space, has_signature, index_for, ids_in, type_ids, by_id, id_at}
+use Rattle.wast_types.specs.Expanders.{index_of}
+use Rattle.wast_types.specs.Expanded.{typed, bindings, expanded}
+use Rattle.wast_types.proofs.AtRest.{types_are_the_space}
+use Rattle.wast_types.proofs.AtItsIndex.{takes_the_type_at_its_index}
 use Rattle.wast_resolve.specs.Tree.{Id, Index, FunctionType, ItemKind, ImportItems, ModuleField}
 use Rattle.wast_resolve.specs.Tree.kind
 use Rattle.wast_resolve.specs.Tree.import_items

@@ -7,9 +7,9 @@ use Rattle.wast_tree.specs.Items.{Item, fields_of, item, items_in, items}
 use Rattle.wast_tree.specs.Known.{names_in}
 use Rattle.wast_tree.specs.Generations.{greatest_item}
 use Rattle.wast_tree.proofs.Bearing.{borne_among, borne_by_both}
-use Rattle.wast_expand.specs.Signatures.{Signature, signature_of, same_signature}
-use Rattle.wast_expand.specs.Expanders.{index_of}
-use Rattle.wast_expand.specs.Expanded.{binding_of, bindings}
+use Rattle.wast_types.specs.Signatures.{Signature, signature_of, same_signature}
+use Rattle.wast_types.specs.Expanders.{index_of}
+use Rattle.wast_types.specs.Expanded.{binding_of, bindings}
 use Rattle.wast_resolve.specs.Tree.{Id, Index, StructField, InnerTypeKind, ModuleField}
 use Rattle.wast_resolve.specs.Tree.index
 use Rattle.wast_resolve.specs.Tree.space

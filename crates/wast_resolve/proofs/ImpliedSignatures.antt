@@ -3,9 +3,9 @@ use Rattle.std.proofs.Common.{◌≡◌, Bool, true, false, cond, ◌||◌, ◌&
 use Rattle.std.specs.Cmp.{first_so, second_so}
 use Rattle.std.specs.List.{flat_map, list_all}
 use Rattle.std.proofs.lemmas.List.Folds.{list_all-append}
-use Rattle.wast_expand.specs.Signatures.{Signature, same_signature}
-use Rattle.wast_expand.specs.NeedingUses.{needed}
-use Rattle.wast_expand.specs.ImpliedTypes.{written, is_among, first_new, implied}
+use Rattle.wast_types.specs.Signatures.{Signature, same_signature}
+use Rattle.wast_types.specs.NeedingUses.{needed}
+use Rattle.wast_types.specs.ImpliedTypes.{written, is_among, first_new, implied}
 use Rattle.wast_resolve.specs.Tree.{ValType, ModuleField}
 
 pub both_so : (a b : Bool) → a ≡ true → b ≡ true → (a && b) ≡ true

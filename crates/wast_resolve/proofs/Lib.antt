@@ -15,7 +15,6 @@ pub mod Declaring
 pub mod Each
 pub mod ExpandedAsks
 pub mod ExpandedItems
-pub mod ExpandedPlain
 pub mod ExpandedTypes
 pub mod Explicit
 pub mod FieldClashes
@@ -27,15 +26,15 @@ pub mod Functions
 pub mod ImpliedSignatures
 pub mod Indexed
 pub mod InPlace
+pub mod KeptAlike
 pub mod Matching
+pub mod Numbering
 pub mod OfExpanded
 pub mod OrderKept
 pub mod Orders
 pub mod Parts
 pub mod PartsOfTypes
 pub mod Resolving
-pub mod SameApart
-pub mod SameAsks
 pub mod SameTypes
 pub mod SameUses
 pub mod Standing
@@ -51,4 +50,5 @@ pub mod WrittenLooks
 pub mod WrittenOwn
 pub mod WrittenPositions
 pub mod WrittenSame
+pub mod WrittenTold
 pub mod WrittenUses

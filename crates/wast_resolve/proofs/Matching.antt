@@ -1,10 +1,10 @@
 -- An inline type matches what it matched before its indices were numbered.
-use Rattle.std.proofs.Common.{◌≡◌, ℕ, ◌&&◌, List, [], ◌∷◌, ◌++◌, map, Option, Some, None, option_map, refl, ap, ◌∙◌}
+use Rattle.std.proofs.Common.{◌≡◌, ℕ, ◌&&◌, List, [], ◌∷◌, map, Option, Some, None, option_map, refl, ap, ◌∙◌}
 use Rattle.std.specs.Bool.{beq}
 use Rattle.wast_base.specs.Ids.{Name, name_of, span_of_index}
 use Rattle.wast_tree.specs.Known.{Known}
-use Rattle.wast_tree.specs.Occurrences.{matched_by, matched}
-use Rattle.wast_expand.specs.Signatures.{Signature, type_of_param, same_heap_by, same_value_by, same_values_by}
+use Rattle.wast_map.specs.Mapped.{mapped_heap, mapped_val, mapped_param, mapped_signature}
+use Rattle.wast_types.specs.Signatures.{Signature, type_of_param, same_heap_by, same_value_by, same_values_by}
 use Rattle.wast_resolve.specs.Tree.{Id, Index, NameAnnotation, HeapType, ValType, FunctionType, TypeUse}
 use Rattle.wast_resolve.specs.Tree.index
 use Rattle.wast_resolve.specs.Tree.space
@@ -12,8 +12,8 @@ use Rattle.wast_resolve.specs.Tree.heap
 use Rattle.wast_resolve.specs.Tree.value
 use Rattle.wast_resolve.specs.Scopes.{Scope, denoted, type_at}
 use Rattle.wast_resolve.specs.Matches.{same_number, same_type, matches}
-use Rattle.wast_resolve.specs.Demands.{match_with, match_demands, start, step_demands}
-use Rattle.wast_resolve.specs.Resolved.{numbered_by, numbered, numbered_at, resolved_heap, resolved_val, resolved_param, resolved_signature, resolved_type_use}
+use Rattle.wast_resolve.specs.Demands.{match_with, match_demands, match_if}
+use Rattle.wast_resolve.specs.Resolved.{numbered_by, numbered, numbered_at, numbered_use}
 
 -- a numbered index denotes what it denoted, at its place
 denoted_by : (number : Name → Option ℕ) (id : Id) (o : Option ℕ) → number (name_of id) ≡ o → denoted number (numbered_by o id) ≡ o
@@ -36,53 +36,53 @@ module _ (k : Known) where
   same_index_still : (i j : Index) → same_type k (numbered_at k space.Ty i) j ≡ same_type k i j
   same_index_still i j = ap (λ o. same_number o (denoted (k.number space.Ty) j)) (denoted_still (k.number space.Ty) i)
 
-  same_heap_still : (a b : HeapType) → same_heap_by (same_type k) (resolved_heap k a) b ≡ same_heap_by (same_type k) a b
+  same_heap_still : (a b : HeapType) → same_heap_by (same_type k) (mapped_heap (numbered_at k) a) b ≡ same_heap_by (same_type k) a b
   same_heap_still (heap.Abstract s a) b = refl
   same_heap_still (heap.Concrete i) (heap.Concrete j) = same_index_still i j
   same_heap_still (heap.Concrete i) (heap.Abstract t b) = refl
 
-  same_value_still : (a b : ValType) → same_value_by (same_type k) (resolved_val k a) b ≡ same_value_by (same_type k) a b
+  same_value_still : (a b : ValType) → same_value_by (same_type k) (mapped_val (numbered_at k) a) b ≡ same_value_by (same_type k) a b
   same_value_still (value.Ref r) (value.Ref q) = ap (λ b. beq r.nullable q.nullable && b) (same_heap_still r.heap q.heap)
   same_value_still a b = refl
 
-  same_values_still : (vs ws : List ValType) → same_values_by (same_type k) (map (resolved_val k) vs) ws ≡ same_values_by (same_type k) vs ws
+  same_values_still : (vs ws : List ValType) → same_values_by (same_type k) (map (mapped_val (numbered_at k)) vs) ws ≡ same_values_by (same_type k) vs ws
   same_values_still [] ws = refl
   same_values_still (v ∷ vs) [] = refl
   same_values_still (v ∷ vs) (w ∷ ws) =
-      ap (λ b. b && same_values_by (same_type k) (map (resolved_val k) vs) ws) (same_value_still v w) ∙ ap (λ b. same_value_by (same_type k) v w && b) (same_values_still vs ws)
+      ap (λ b. b && same_values_by (same_type k) (map (mapped_val (numbered_at k)) vs) ws) (same_value_still v w) ∙ ap (λ b. same_value_by (same_type k) v w && b) (same_values_still vs ws)
 
-  types_of_params : (ps : List (Option Id × Option NameAnnotation × ValType)) → map type_of_param (map (resolved_param k) ps) ≡ map (resolved_val k) (map type_of_param ps)
+  types_of_params : (ps : List (Option Id × Option NameAnnotation × ValType)) → map type_of_param (map (mapped_param (numbered_at k)) ps) ≡ map (mapped_val (numbered_at k)) (map type_of_param ps)
   types_of_params [] = refl
-  types_of_params (p ∷ ps) = ap (λ vs. resolved_val k p.2 ∷ vs) (types_of_params ps)
+  types_of_params (p ∷ ps) = ap (λ vs. mapped_val (numbered_at k) p.2 ∷ vs) (types_of_params ps)
 
-  matches_still : (t : FunctionType) (s : Signature) → matches k (resolved_signature k t) s ≡ matches k t s
+  matches_still : (t : FunctionType) (s : Signature) → matches k (mapped_signature (numbered_at k) t) s ≡ matches k t s
   matches_still t s =
       let same = same_type k in
-      ap (λ vs. same_values_by same vs s.0 && same_values_by same (map (resolved_val k) t.results) s.1) (types_of_params t.params)
-      ∙ (ap (λ b. b && same_values_by same (map (resolved_val k) t.results) s.1) (same_values_still (map type_of_param t.params) s.0)
+      ap (λ vs. same_values_by same vs s.0 && same_values_by same (map (mapped_val (numbered_at k)) t.results) s.1) (types_of_params t.params)
+      ∙ (ap (λ b. b && same_values_by same (map (mapped_val (numbered_at k)) t.results) s.1) (same_values_still (map type_of_param t.params) s.0)
       ∙ ap (λ b. same_values_by same (map type_of_param t.params) s.0 && b) (same_values_still t.results s.1))
 
 module _ (c : Scope) where
   with_still : (t : FunctionType) (i : Index) (o : Option (Option Signature))
-      → match_with (matches c.known (resolved_signature c.known t)) (span_of_index (numbered_at c.known space.Ty i)) o ≡ match_with (matches c.known t) (span_of_index i) o
+      → match_with (matches c.known (mapped_signature (numbered_at c.known) t)) (span_of_index (numbered_at c.known space.Ty i)) o ≡ match_with (matches c.known t) (span_of_index i) o
   with_still t i None = ap (λ p. match_with (matches c.known t) p None) (span_still (c.known.number space.Ty) i)
   with_still t i (Some None) = ap (λ p. match_with (matches c.known t) p (Some None)) (span_still (c.known.number space.Ty) i)
   with_still t i (Some (Some s)) =
-      ap (λ p. match_with (matches c.known (resolved_signature c.known t)) p (Some (Some s))) (span_still (c.known.number space.Ty) i)
+      ap (λ p. match_with (matches c.known (mapped_signature (numbered_at c.known) t)) p (Some (Some s))) (span_still (c.known.number space.Ty) i)
       ∙ ap (λ b. match_with (λ u. b) (span_of_index i) (Some (Some s))) (matches_still c.known t s)
 
-  demands_still : (i : Index) (t : FunctionType) → match_demands c (numbered_at c.known space.Ty i) (resolved_signature c.known t) ≡ match_demands c i t
+  demands_still : (i : Index) (t : FunctionType) → match_demands c (numbered_at c.known space.Ty i) (mapped_signature (numbered_at c.known) t) ≡ match_demands c i t
   demands_still i t =
-      ap (λ o. match_with (matches c.known (resolved_signature c.known t)) (span_of_index (numbered_at c.known space.Ty i)) (type_at c.types o)) (denoted_still (c.known.number space.Ty) i)
+      ap (λ o. match_with (matches c.known (mapped_signature (numbered_at c.known) t)) (span_of_index (numbered_at c.known space.Ty i)) (type_at c.types o)) (denoted_still (c.known.number space.Ty) i)
       ∙ with_still t i (type_at c.types (denoted (c.known.number space.Ty) i))
 
   -- so of a type use
-  pub matched_still : (u : TypeUse FunctionType) → step_demands c start (matched (resolved_type_use c.known u)) ≡ step_demands c start (matched u)
+  pub matched_still : (u : TypeUse FunctionType) → match_if c (numbered_use c.known u).index (numbered_use c.known u).inline ≡ match_if c u.index u.inline
   matched_still u = by_parts u.index u.inline
     where
       by_parts : (i : Option Index) (inline : Option FunctionType)
-          → step_demands c start (matched_by (option_map (numbered_at c.known space.Ty) i) (option_map (resolved_signature c.known) inline)) ≡ step_demands c start (matched_by i inline)
+          → match_if c (option_map (numbered_at c.known space.Ty) i) (option_map (mapped_signature (numbered_at c.known)) inline) ≡ match_if c i inline
       by_parts None None = refl
       by_parts None (Some t) = refl
       by_parts (Some i) None = refl
-      by_parts (Some i) (Some t) = ap (λ ds. ds ++ []) (demands_still i t)
+      by_parts (Some i) (Some t) = demands_still i t

@@ -1,15 +1,15 @@
 -- What is so of each expanded list, where the counter begins above the generations of the fields.
 use Rattle.std.specs.Prelude.{◌≡◌, ℕ, ◌+◌, ◌<◌, true, [], None, List}
-use Rattle.wast_tree.specs.Occurrences.{asked, in_module}
 use Rattle.wast_tree.specs.WellFormed.{is_well_formed}
+use Rattle.wast_tree.specs.Resolved.{has_numbers, is_resolved}
 use Rattle.wast_tree.specs.WrittenOut.{is_written_out}
 use Rattle.wast_tree.specs.Generations.{greatest_generation}
-use Rattle.wast_expand.specs.NeedingUses.{needed}
-use Rattle.wast_expand.specs.Expanded.{expanded, ids_wanted}
-use Rattle.wast_expand.specs.Completed.{completed}
+use Rattle.wast_types.specs.NeedingUses.{needed}
+use Rattle.wast_types.specs.Expanded.{expanded, ids_wanted}
+use Rattle.wast_types.specs.Completed.{completed}
 use Rattle.wast_resolve.specs.Tree.{ModuleField}
 use Rattle.wast_resolve.specs.Demands.{first_unmet, demands, counts}
-use Rattle.wast_resolve.specs.Resolved.{resolved, is_resolved}
+use Rattle.wast_resolve.specs.Resolved.{resolved}
 
 -- the expanded list, once each index is a number
 abbrev pub numbered : ℕ → List ModuleField → List ModuleField
@@ -25,7 +25,7 @@ abbrev pub StaysWellFormed : Type 0
 StaysWellFormed = (n : ℕ) (fields : List ModuleField) → greatest_generation fields < n → is_well_formed fields ≡ true → is_well_formed (expanded n fields) ≡ true
 
 abbrev pub IsNumbered : Type 0
-IsNumbered = (n : ℕ) (fields : List ModuleField) → greatest_generation fields < n → first_unmet (demands (completed fields)) ≡ None → is_resolved (asked (in_module (numbered n fields))) ≡ true
+IsNumbered = (n : ℕ) (fields : List ModuleField) → greatest_generation fields < n → first_unmet (demands (completed fields)) ≡ None → has_numbers (numbered n fields) ≡ true
 
 abbrev pub IsWellFormedNumbered : Type 0
 IsWellFormedNumbered = (n : ℕ) (fields : List ModuleField) → greatest_generation fields < n → is_well_formed fields ≡ true → first_unmet (demands (completed fields)) ≡ None → is_well_formed (numbered n fields) ≡ true
@@ -35,6 +35,9 @@ IsBelowNext = (n : ℕ) (fields : List ModuleField) → greatest_generation fiel
 
 abbrev pub HasIndices : Type 0
 HasIndices = (n : ℕ) (fields : List ModuleField) → needed (numbered n fields) ≡ []
+
+abbrev pub IsResolved : Type 0
+IsResolved = (n : ℕ) (fields : List ModuleField) → greatest_generation fields < n → first_unmet (demands (completed fields)) ≡ None → is_resolved (numbered n fields) ≡ true
 
 abbrev pub StaysWrittenOut : Type 0
 StaysWrittenOut = (n : ℕ) (fields : List ModuleField) → is_written_out (numbered n fields) ≡ is_written_out fields

@@ -1,12 +1,13 @@
 -- Binding type uses, giving ids to types and appending implied types leave what the order of imports demands.
 use Rattle.std.proofs.Common.{◌≡◌, ℕ, ◌+◌, Bool, true, false, List, [], ◌∷◌, ◌++◌, map, Option, None, refl, sym, ap, ◌∙◌}
 use Rattle.std.specs.Option.{option_or}
-use Rattle.wast_expand.specs.Signatures.{Signature}
-use Rattle.wast_expand.specs.ImpliedTypes.{implied}
-use Rattle.wast_expand.specs.Expanders.{LookUp, index_of}
+use Rattle.wast_map.proofs.Alone.{defines_alone}
+use Rattle.wast_types.specs.Signatures.{Signature}
+use Rattle.wast_types.specs.ImpliedTypes.{implied}
+use Rattle.wast_types.specs.Expanders.{LookUp, index_of}
 use Rattle.wast_base.specs.Filling.{given_if, one_if, filled, wanted}
-use Rattle.wast_expand.specs.Expanded.{lacks_id, with_type_id, unnamed_type, implied_types, typed, bindings, bound_field, expanded}
-use Rattle.wast_expand.specs.Completed.{completed}
+use Rattle.wast_types.specs.Expanded.{lacks_id, with_type_id, unnamed_type, implied_types, typed, bindings, binding, bound_field, expanded}
+use Rattle.wast_types.specs.Completed.{completed}
 use Rattle.wast_resolve.specs.Tree.{Space, ModuleField}
 use Rattle.wast_resolve.specs.Tree.field
 use Rattle.wast_tree.specs.Imports.{defined_space}
@@ -24,9 +25,12 @@ one_alike last x y xs ys a rest =
     ap (λ o. nothing_defined last o ++ orders_from (option_or (defined_space x) last) xs) a.place
     ∙ (ap (λ o. nothing_defined last (import_place y) ++ orders_from (option_or o last) xs) a.space ∙ ap (λ ds. nothing_defined last (import_place y) ++ ds) (rest (option_or (defined_space y) last)))
 
+bound_place : (find : LookUp) (x : ModuleField) → import_place (bound_field find x) ≡ import_place x
+bound_place find (field.Import i) = refl
+bound_place find x = refl
+
 bound_alike : (find : LookUp) (x : ModuleField) → Alike (bound_field find x) x
-bound_alike find (field.Func f) = record { place = refl; space = refl }
-bound_alike find x = record { place = refl; space = refl }
+bound_alike find x = record { place = bound_place find x; space = defines_alone (binding find) x }
 
 bound_orders : (find : LookUp) (last : Option Space) (xs : List ModuleField) → orders_from last (map (bound_field find) xs) ≡ orders_from last xs
 bound_orders find last [] = refl

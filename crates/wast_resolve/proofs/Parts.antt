@@ -1,13 +1,13 @@
 -- What two parts demand, one after the other.
-use Rattle.std.proofs.Common.{◌≡◌, ap, ◌∙◌, sym, subst, List, [], ◌∷◌, ◌++◌, Option, Some, None, refl, Result, Ok, Err}
+use Rattle.std.proofs.Common.{◌≡◌, ap, ◌∙◌, sym, subst, List, [], ◌∷◌, ◌++◌, Option, Some, None, refl, Result, Ok, Err, append-nil}
 use Rattle.std.specs.List.{flat_map}
 use Rattle.std.proofs.lemmas.Grind.{flat_map-append}
-use Rattle.wast_base.specs.Faults.{Told, told}
-use Rattle.wast_tree.specs.Occurrences.{Ask, if_there, in_id, outside}
+use Rattle.wast_base.specs.Faults.{Cause, Told, told}
+use Rattle.wast_tree.specs.Sites.{Ask, Wants, Site, Asked, if_there, in_index, at_index, in_id, asking}
 use Rattle.wast_tree.specs.Known.{Known}
 use Rattle.wast_base.specs.declared.faults.Error.{Error}
-use Rattle.wast_resolve.specs.Tree.{Id}
-use Rattle.wast_resolve.specs.Demands.{Demand, first_unmet, Answers, ask_demand, ask_demands, use_demands}
+use Rattle.wast_resolve.specs.Tree.{Span, Space, Id, Index}
+use Rattle.wast_resolve.specs.Demands.{Demand, first_unmet, Answers, ask_demand, ask_demands, site_demand, site_demands}
 use Rattle.wast_resolve.specs.Scopes.{Scope}
 use Rattle.wast_resolve.specs.Walking.{Walks}
 use Rattle.wast_resolve.proofs.Unmet.{first_unmet-append, answers_more, answers_first, answers_after}
@@ -25,15 +25,39 @@ module _ {A : Type 0} (f : A → List Demand) (xs ys : List A) where
   pub second_fails : (K M : Type 0) (t : Told) → first_unmet (flat_map f xs) ≡ None → Answers K M t (first_unmet (flat_map f ys)) → Answers K M t (first_unmet (flat_map f (xs ++ ys)))
   second_fails K M t met a = subst (λ ds. Answers K M t (first_unmet ds)) (sym demands-append) (answers_after t (flat_map f xs) (flat_map f ys) (λ x. x) (λ x. x) met a)
 
+-- so where less is promised of the second part than of both, and nothing else of the first
+module _ (K M : Type 0) (c : Scope) (xs ys : List Site) (t : Told) where
+  pub fails_first : Answers ⊥ ⊥ t (first_unmet (site_demands c xs)) → Answers K M t (first_unmet (site_demands c (xs ++ ys)))
+  fails_first a = first_fails (site_demand c) xs ys K M t (answers_more t _ _ (λ l. absurd l) (λ m. absurd m) (λ f h. h) a)
+
+  pub fails_second : first_unmet (site_demands c xs) ≡ None → Answers K M t (first_unmet (site_demands c ys)) → Answers K M t (first_unmet (site_demands c (xs ++ ys)))
+  fails_second met a = second_fails (site_demand c) xs ys K M t met a
+
+pub more_answers : (K M N : Type 0) (t : Told) (o : Option (Cause × Span)) → (M → N) → Answers K M t o → Answers K N t o
+more_answers K M N t o n a = answers_more t o o (λ l. l) n (λ f h. h) a
+
 -- an id of which nothing is asked
 pub id_met : (k : Known) (id : Option Id) → first_unmet (ask_demands k (if_there in_id id)) ≡ None
 id_met k None = refl
 id_met k (Some id) = refl
 
--- what is asked outside of bodies
-pub outside_demands : (c : Scope) (asks : List Ask) → use_demands c (outside asks) ≡ ask_demands c.known asks
-outside_demands c [] = refl
-outside_demands c (a ∷ asks) = ap (λ ds. ask_demand c.known a ++ ds) (outside_demands c asks)
+-- what is asked of names alone
+pub asking_demands : (c : Scope) (asks : List Ask) → site_demands c (asking asks) ≡ ask_demands c.known asks
+asking_demands c [] = refl
+asking_demands c (a ∷ asks) = ap (λ ds. ask_demand c.known a ++ ds) (asking_demands c asks)
+
+-- indices in a field
+pub indices_demands : (c : Scope) (s : Space) (is : List Index) → site_demands c (flat_map (at_index s) is) ≡ ask_demands c.known (flat_map (in_index s) is)
+indices_demands c s [] = refl
+indices_demands c s (i ∷ is) = ap (λ ds. ask_demand c.known (Wants s i) ++ ds) (indices_demands c s is)
+
+pub optional_demands : (c : Scope) (s : Space) (o : Option Index) → site_demands c (if_there (at_index s) o) ≡ ask_demands c.known (if_there (in_index s) o)
+optional_demands c s None = refl
+optional_demands c s (Some i) = refl
+
+-- whether what stands there is supported, or a clause holds, demands nothing
+pub all_but_last : (c : Scope) (ss : List Site) (last : Ask) → ask_demand c.known last ≡ [] → site_demands c (ss ++ Asked last ∷ []) ≡ site_demands c ss
+all_but_last c ss last none = flat_map-append (site_demand c) ss (Asked last ∷ []) ∙ (ap (λ ds. site_demands c ss ++ (ds ++ [])) none ∙ append-nil (site_demands c ss))
 
 -- a walk over a part of what is walked
 pub walks_as : {T U K L M N : Type 0} (l : K → L) (n : M → N) (ds es : List Demand) (want new : T) (want2 new2 : U) (result : Result (Unit {0}) Error) → first_unmet ds ≡ first_unmet es → (new ≡ want → new2 ≡ want2)
@@ -41,7 +65,7 @@ pub walks_as : {T U K L M N : Type 0} (l : K → L) (n : M → N) (ds es : List 
 walks_as l n ds es want new want2 new2 (Ok x) same h w = (sym same ∙ w.0, h w.1)
 walks_as l n ds es want new want2 new2 (Err e) same h w = answers_more (told e) (first_unmet ds) (first_unmet es) l n (λ f g. sym same ∙ g) w
 
--- a walk over what stands outside of bodies
-pub walks_outside : {T : Type 0} (c : Scope) (asks : List Ask) (want new : T) (result : Result (Unit {0}) Error) → Walks ⊥ ⊥ (ask_demands c.known asks) want new result → Walks ⊥ ⊥ (use_demands c (outside asks)) want new result
-walks_outside c asks want new result walked =
-    walks_as (λ l. l) (λ m. m) (ask_demands c.known asks) (use_demands c (outside asks)) want new want new result (ap first_unmet (sym (outside_demands c asks))) (λ h. h) walked
+-- a walk over what is asked of names alone
+pub walks_asking : {T : Type 0} (c : Scope) (asks : List Ask) (want new : T) (result : Result (Unit {0}) Error) → Walks ⊥ ⊥ (ask_demands c.known asks) want new result → Walks ⊥ ⊥ (site_demands c (asking asks)) want new result
+walks_asking c asks want new result walked =
+    walks_as (λ l. l) (λ m. m) (ask_demands c.known asks) (site_demands c (asking asks)) want new want new result (ap first_unmet (sym (asking_demands c asks))) (λ h. h) walked

@@ -6,8 +6,8 @@ use Rattle.wast_base.specs.declared.faults.Error.{Error}
 use Rattle.wast_base.specs.Filling.{RunsOut}
 use Rattle.wast_tree.specs.Generations.{greatest_generation}
 use Rattle.wast_deinline.specs.Written.{written_out_from, references_wanted, CannotBeWritten}
-use Rattle.wast_expand.specs.Expanded.{expanded, ids_wanted}
-use Rattle.wast_expand.specs.Completed.{completed}
+use Rattle.wast_types.specs.Expanded.{expanded, ids_wanted}
+use Rattle.wast_types.specs.Completed.{completed}
 use Rattle.wast_resolve.specs.Tree.{ModuleField}
 use Rattle.wast_resolve.specs.Explicit.{explicit, explicit_from}
 use Rattle.wast_resolve.specs.Demands.{first_unmet, Answers, order_demands, name_demands, demands, counts, IsCrowded, IsTooLarge, IsUnnumbered, IsUnresolved}

@@ -1,11 +1,12 @@
 -- Parts that are given by the indices that stand in them and by the rest of them, and how they are put together.
 use Rattle.std.proofs.Common.{◌≡◌, List, [], ◌∷◌, ◌++◌, refl, sym, ap, ◌∙◌, length, map, arith, Option, Some, None}
-use Rattle.std.specs.Prelude.{option_map}
+use Rattle.std.specs.Prelude.{Bool, option_map}
 use Rattle.std.specs.List.{flat_map}
 use Rattle.std.proofs.lemmas.List.{length-append, map-append}
 use Rattle.wast_resolve.specs.Tree.{Id, Index}
 use Rattle.wast_resolve.specs.Tree.space
-use Rattle.wast_tree.specs.Occurrences.{Ask, Wants, Bare, if_there, in_id, in_index}
+use Rattle.wast_tree.specs.Sites.{Ask, Wants, Bare, Clause, Supported, if_there, in_id, in_index, in_descriptor}
+use Rattle.wast_map.specs.Mapped.{Indices}
 use Rattle.wast_resolve.specs.CoreTypes.{indices_of, blank}
 use Rattle.wast_resolve.proofs.Calling.{indices-append}
 
@@ -13,11 +14,13 @@ use Rattle.wast_resolve.proofs.Calling.{indices-append}
 abbrev pub as_type : Ask → Ask
 as_type (Wants s i) = Wants space.Ty i
 as_type (Bare m) = Bare m
+as_type (Clause n holds) = Clause n holds
+as_type (Supported holds) = Supported holds
 
-pub record IsTypePart {T : Type 0} (asks : T → List Ask) (changed : (Index → Index) → T → T) : Type 0 where
+pub record IsTypePart {T : Type 0} (asks : T → List Ask) (changed : Indices → T → T) : Type 0 where
   pub typed : (x : T) → map as_type (asks x) ≡ asks x
   pub many : (x y : T) → changed blank y ≡ changed blank x → length (indices_of (asks y)) ≡ length (indices_of (asks x))
-  pub same : (f : Index → Index) (x y : T) → changed blank y ≡ changed blank x → indices_of (asks y) ≡ map f (indices_of (asks x)) → y ≡ changed f x
+  pub same : (f : Indices) (x y : T) → changed blank y ≡ changed blank x → indices_of (asks y) ≡ map (f space.Ty) (indices_of (asks x)) → y ≡ changed f x
 
 split : {X : Type 0} (f : X → X) (us bs cs ds : List X) → length cs ≡ length us → cs ++ ds ≡ map f (us ++ bs) → (cs ≡ map f us) × (ds ≡ map f bs)
 split f [] bs [] ds n h = (refl, h)
@@ -51,23 +54,30 @@ id_part = record { typed = none; many = λ x y h. ap (λ z. length (indices_of (
     none None = refl
     none (Some x) = refl
 
-pub index_part : IsTypePart (in_index space.Ty) (λ f i. f i)
-index_part = record { typed = λ x. refl; many = λ x y h. refl; same = λ f x y h k. only (f x) y k }
-  where
-    only : (i j : Index) → j ∷ [] ≡ i ∷ [] → j ≡ i
-    only i j h = cc
+only_index : (i j : Index) → j ∷ [] ≡ i ∷ [] → j ≡ i
+only_index i j h = cc
 
-pub both_part : {A B : Type 0} {p : A → List Ask} {v : (Index → Index) → A → A} {q : B → List Ask} {w : (Index → Index) → B → B} → IsTypePart p v → IsTypePart q w → IsTypePart {T = A × B} (λ x. p x.0 ++ q x.1) (λ f x. (v f x.0, w f x.1))
+pub index_part : IsTypePart (in_index space.Ty) (λ f i. f space.Ty i)
+index_part = record { typed = λ x. refl; many = λ x y h. refl; same = λ f x y h k. only_index (f space.Ty x) y k }
+
+pub descriptor_part : IsTypePart in_descriptor (λ f i. f space.Ty i)
+descriptor_part = record { typed = λ x. refl; many = λ x y h. refl; same = λ f x y h k. only_index (f space.Ty x) y k }
+
+-- a form, and whether it is supported
+pub form_part : {T : Type 0} (holds : T → Bool) → IsTypePart (λ x. Supported (holds x) ∷ []) (λ f x. x)
+form_part holds = record { typed = λ x. refl; many = λ x y h. refl; same = λ f x y h k. h }
+
+pub both_part : {A B : Type 0} {p : A → List Ask} {v : Indices → A → A} {q : B → List Ask} {w : Indices → B → B} → IsTypePart p v → IsTypePart q w → IsTypePart {T = A × B} (λ x. p x.0 ++ q x.1) (λ f x. (v f x.0, w f x.1))
 both_part {A} {B} {p} {v} {q} {w} a b = record {
   typed = λ x. both_typed (p x.0) (q x.1) (a.typed x.0) (b.typed x.1);
   many = λ x y h. both_many (p x.0) (q x.1) (p y.0) (q y.1) (a.many x.0 y.0 (ap (λ z. z.0) h)) (b.many x.1 y.1 (ap (λ z. z.1) h));
   same = λ f x y h k.
-      let s = both_changed f (p x.0) (q x.1) (p y.0) (q y.1) (a.many x.0 y.0 (ap (λ z. z.0) h)) k in
+      let s = both_changed (f space.Ty) (p x.0) (q x.1) (p y.0) (q y.1) (a.many x.0 y.0 (ap (λ z. z.0) h)) k in
       λ i. (a.same f x.0 y.0 (ap (λ z. z.0) h) s.0 i, b.same f x.1 y.1 (ap (λ z. z.1) h) s.1 i);
 }
 
 -- a part that is given by another
-pub part_as : {T U : Type 0} {p : U → List Ask} {v : (Index → Index) → U → U} (to : T → U) (w : (Index → Index) → T → T) → IsTypePart p v → ((f : Index → Index) (x : T) → to (w f x) ≡ v f (to x)) → ((x y : T) → to x ≡ to y → x ≡ y)
+pub part_as : {T U : Type 0} {p : U → List Ask} {v : Indices → U → U} (to : T → U) (w : Indices → T → T) → IsTypePart p v → ((f : Indices) (x : T) → to (w f x) ≡ v f (to x)) → ((x y : T) → to x ≡ to y → x ≡ y)
     → IsTypePart (λ x. p (to x)) w
 part_as to w a moves one = record {
   typed = λ x. a.typed (to x);
@@ -75,7 +85,7 @@ part_as to w a moves one = record {
   same = λ f x y h k. one y (w f x) (a.same f (to x) (to y) (sym (moves blank y) ∙ (ap to h ∙ moves blank x)) k ∙ sym (moves f x));
 }
 
-module _ {T : Type 0} {p : T → List Ask} {v : (Index → Index) → T → T} (a : IsTypePart p v) where
+module _ {T : Type 0} {p : T → List Ask} {v : Indices → T → T} (a : IsTypePart p v) where
   list_typed : (xs : List T) → map as_type (flat_map p xs) ≡ flat_map p xs
   list_typed [] = refl
   list_typed (x ∷ xs) = both_typed (p x) (flat_map p xs) (a.typed x) (list_typed xs)
@@ -88,14 +98,14 @@ module _ {T : Type 0} {p : T → List Ask} {v : (Index → Index) → T → T} (
       let head : v blank y ≡ v blank x = cc in
       let tail : map (v blank) ys ≡ map (v blank) xs = cc in both_many (p x) (flat_map p xs) (p y) (flat_map p ys) (a.many x y head) (list_many xs ys tail)
 
-  list_same : (f : Index → Index) (xs ys : List T) → map (v blank) ys ≡ map (v blank) xs → indices_of (flat_map p ys) ≡ map f (indices_of (flat_map p xs)) → ys ≡ map (v f) xs
+  list_same : (f : Indices) (xs ys : List T) → map (v blank) ys ≡ map (v blank) xs → indices_of (flat_map p ys) ≡ map (f space.Ty) (indices_of (flat_map p xs)) → ys ≡ map (v f) xs
   list_same f [] [] h k = refl
   list_same f [] (y ∷ ys) h k = absurd (cc h)
   list_same f (x ∷ xs) [] h k = absurd (cc h)
   list_same f (x ∷ xs) (y ∷ ys) h k =
       let head : v blank y ≡ v blank x = cc in
       let tail : map (v blank) ys ≡ map (v blank) xs = cc in
-      let s = both_changed f (p x) (flat_map p xs) (p y) (flat_map p ys) (a.many x y head) k in λ i. a.same f x y head s.0 i ∷ list_same f xs ys tail s.1 i
+      let s = both_changed (f space.Ty) (p x) (flat_map p xs) (p y) (flat_map p ys) (a.many x y head) k in λ i. a.same f x y head s.0 i ∷ list_same f xs ys tail s.1 i
 
   pub list_part : IsTypePart (flat_map p) (λ f xs. map (v f) xs)
   list_part = record { typed = list_typed; many = list_many; same = list_same }
@@ -110,7 +120,7 @@ module _ {T : Type 0} {p : T → List Ask} {v : (Index → Index) → T → T} (
   option_many (Some x) None h = absurd (cc h)
   option_many (Some x) (Some y) h = let s : v blank y ≡ v blank x = cc in a.many x y s
 
-  option_same : (f : Index → Index) (x y : Option T) → option_map (v blank) y ≡ option_map (v blank) x → indices_of (if_there p y) ≡ map f (indices_of (if_there p x)) → y ≡ option_map (v f) x
+  option_same : (f : Indices) (x y : Option T) → option_map (v blank) y ≡ option_map (v blank) x → indices_of (if_there p y) ≡ map (f space.Ty) (indices_of (if_there p x)) → y ≡ option_map (v f) x
   option_same f None None h k = refl
   option_same f None (Some y) h k = absurd (cc h)
   option_same f (Some x) None h k = absurd (cc h)

@@ -2,16 +2,16 @@
 use Rattle.std.proofs.Common.{◌≡◌, ℕ, ◌<◌, true, List, None, ◌++◌, ap, ◌∙◌, arith}
 use Rattle.std.proofs.lemmas.Bool.{lt-ltb}
 use Rattle.wast_tree.specs.Items.{items}
-use Rattle.wast_tree.specs.Occurrences.{asked, in_module}
+use Rattle.wast_tree.specs.Sites.{Supported, in_module, asked}
 use Rattle.wast_tree.specs.Generations.{generation_in, greatest_item, greatest_generation}
 use Rattle.wast_deinline.specs.Written.{written_out_from, written_out}
 use Rattle.wast_deinline.proofs.WrittenAsks.{written_out_pass}
 use Rattle.wast_deinline.proofs.Below.{each_below}
-use Rattle.wast_expand.specs.Expanded.{ids_wanted}
-use Rattle.wast_expand.specs.Completed.{completed}
+use Rattle.wast_types.specs.Expanded.{ids_wanted}
+use Rattle.wast_types.specs.Completed.{completed}
 use Rattle.wast_resolve.specs.Tree.{ModuleField}
 use Rattle.wast_resolve.specs.Scopes.{scope}
-use Rattle.wast_resolve.specs.Demands.{first_unmet, item_demands, use_demands, order_demands, name_demands, demands, item_counts, local_counts, counts}
+use Rattle.wast_resolve.specs.Demands.{first_unmet, item_demands, site_demands, order_demands, name_demands, demands, item_counts, local_counts, counts}
 use Rattle.wast_resolve.proofs.Unmet.{alike_behind}
 use Rattle.wast_resolve.proofs.CompletedAsks.{pass, is_below, completed_pass}
 use Rattle.wast_resolve.proofs.AlikeScopes.{old_uses}
@@ -33,16 +33,17 @@ module _ (n : ℕ) (fields : List ModuleField) (above : greatest_generation fiel
   -- No generation is new among what is asked by positions.
   asks_below : pass (is_below n) (asked (in_module old)) ≡ true
   asks_below =
-      completed_pass (is_below n) (written_out fields) (written_out_pass (is_below n) (λ s m p. lt-ltb 0 n (omega (arith, above))) fields (each_below n generation_in (asked (in_module fields)) (omega (arith, above))))
+      let some : is_below n (Supported true) ≡ true = lt-ltb 0 n (omega (arith, above)) in
+      completed_pass (is_below n) some (written_out fields) (written_out_pass (is_below n) some some (λ s m p. some) fields (each_below n generation_in (asked (in_module fields)) (omega (arith, above))))
 
-  same_uses : first_unmet (item_demands (items new)) ≡ None → first_unmet (use_demands (scope new) (in_module new)) ≡ first_unmet (use_demands (scope old) (in_module old))
+  same_uses : first_unmet (item_demands (items new)) ≡ None → first_unmet (site_demands (scope new) (in_module new)) ≡ first_unmet (site_demands (scope old) (in_module old))
   same_uses free =
       written_uses (scope new) n fields (completed_own n fields free)
       ∙ ap first_unmet (old_uses n new old (alike_signatures (completed_looks n fields)) (λ s q lt. written_position n fields items_below q s lt) asks_below)
 
   same_names : first_unmet (name_demands new) ≡ first_unmet (name_demands old)
   same_names =
-      alike_behind (item_demands (items new)) (item_demands (items old)) (use_demands (scope new) (in_module new)) (use_demands (scope old) (in_module old)) (written_clashes n fields items_below) same_uses
+      alike_behind (item_demands (items new)) (item_demands (items old)) (site_demands (scope new) (in_module new)) (site_demands (scope old) (in_module old)) (written_clashes n fields items_below) same_uses
 
   pub written_unmet : first_unmet (demands new) ≡ first_unmet (demands old)
   written_unmet = alike_behind (order_demands new) (order_demands old) (name_demands new) (name_demands old) (ap first_unmet (alike_orders (completed_looks n fields))) (λ met. same_names)

@@ -7,9 +7,9 @@ use Rattle.wast_tree.specs.Items.{Item, items_in, items}
 use Rattle.wast_tree.specs.Known.{known}
 use Rattle.wast_tree.specs.Generations.{generation_or_zero, greatest_item}
 use Rattle.wast_base.specs.Filling.{one_if, given_if}
-use Rattle.wast_expand.specs.ImpliedTypes.{implied}
-use Rattle.wast_expand.specs.Expanded.{unnamed_type}
-use Rattle.wast_expand.specs.Completed.{completed}
+use Rattle.wast_types.specs.ImpliedTypes.{implied}
+use Rattle.wast_types.specs.Expanded.{unnamed_type}
+use Rattle.wast_types.specs.Completed.{completed}
 use Rattle.wast_deinline.specs.Tree.{ModuleField}
 use Rattle.wast_deinline.specs.Tree.field
 use Rattle.wast_deinline.specs.WriteOut.{Reference, write_out}

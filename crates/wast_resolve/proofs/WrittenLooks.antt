@@ -8,18 +8,20 @@ use Rattle.std.proofs.lemmas.List.{map-append}
 use Rattle.wast_base.specs.Ids.{generated}
 use Rattle.wast_tree.specs.Items.{Item, items_in}
 use Rattle.wast_tree.specs.Imports.{defined_space}
+use Rattle.wast_tree.specs.Sites.{in_field}
+use Rattle.wast_tree.proofs.Visiting.{each_of_each}
 use Rattle.wast_base.specs.Filling.{one_if, wanted}
 use Rattle.wast_deinline.specs.Referring.{wants_id}
 use Rattle.wast_deinline.specs.Written.{written_out_from, written_out}
-use Rattle.wast_expand.specs.Signatures.{Signature}
-use Rattle.wast_expand.specs.NeedingUses.{needed_by_field, needed}
-use Rattle.wast_expand.specs.ImpliedTypes.{written_in, is_among, first_new, implied}
-use Rattle.wast_expand.specs.ImpliedTypes as implied_types
-use Rattle.wast_expand.specs.TypeSpace.{types_in, type_space, has_signature}
-use Rattle.wast_expand.specs.Expanders.{LookUp}
-use Rattle.wast_expand.specs.Expanded.{start_of_text, lacks_id, unnamed_type, ids_wanted}
-use Rattle.wast_expand.specs.Completed.{completed}
-use Rattle.wast_expand.specs.Positioned.{position_for}
+use Rattle.wast_types.specs.Signatures.{Signature}
+use Rattle.wast_types.specs.NeedingUses.{needed_at, needed_in, needed}
+use Rattle.wast_types.specs.ImpliedTypes.{written_in, is_among, first_new, implied}
+use Rattle.wast_types.specs.ImpliedTypes as implied_types
+use Rattle.wast_types.specs.TypeSpace.{types_in, type_space, has_signature}
+use Rattle.wast_types.specs.Expanders.{LookUp}
+use Rattle.wast_types.specs.Expanded.{start_of_text, lacks_id, unnamed_type, ids_wanted}
+use Rattle.wast_types.specs.Completed.{completed}
+use Rattle.wast_types.specs.Positioned.{position_for}
 use Rattle.wast_resolve.specs.Tree.{Id, Index, Space, Span, ModuleField}
 use Rattle.wast_resolve.specs.Tree.index
 use Rattle.wast_resolve.specs.Tree.field
@@ -42,7 +44,7 @@ pub record Look : Type 0 where
 
 abbrev pub look : ModuleField → Look
 look x = record {
-  needs = needed_by_field x;
+  needs = needed_in (in_field x);
   writes = written_in x;
   types = types_in x;
   signatures = signatures_in x;
@@ -102,9 +104,12 @@ module _ {xs ys : List ModuleField} (h : LookAlike xs ys) where
   pub alike_local_counts : local_counts xs ≡ local_counts ys
   alike_local_counts = alike (λ l. l.locals)
 
+  alike_needed : needed xs ≡ needed ys
+  alike_needed = each_of_each in_field needed_at xs ∙ (alike (λ l. l.needs) ∙ sym (each_of_each in_field needed_at ys))
+
   pub alike_implied : implied xs ≡ implied ys
   alike_implied =
-      ap (λ (ss : List Signature). first_new (is_among ss) (needed xs)) (alike (λ l. l.writes)) ∙ ap (λ (ss : List Signature). first_new (is_among (implied_types.written ys)) ss) (alike (λ l. l.needs))
+      ap (λ (ss : List Signature). first_new (is_among ss) (needed xs)) (alike (λ l. l.writes)) ∙ ap (λ (ss : List Signature). first_new (is_among (implied_types.written ys)) ss) alike_needed
 
   alike_type_space : type_space xs ≡ type_space ys
   alike_type_space = ap (λ ts. ts ++ map Some (implied xs)) (alike (λ l. l.types)) ∙ ap (λ (ss : List Signature). flat_map types_in ys ++ map Some ss) alike_implied

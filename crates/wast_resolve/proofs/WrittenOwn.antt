@@ -12,9 +12,9 @@ use Rattle.wast_base.specs.Filling.{one_if, given_if}
 use Rattle.wast_deinline.specs.WriteOut.{write_out}
 use Rattle.wast_deinline.specs.Referring.{by_id, wants_id, with_item_id}
 use Rattle.wast_deinline.specs.Written.{referable, written_out_from}
-use Rattle.wast_expand.specs.ImpliedTypes.{implied}
-use Rattle.wast_expand.specs.Expanded.{unnamed_type}
-use Rattle.wast_expand.specs.Completed.{completed}
+use Rattle.wast_types.specs.ImpliedTypes.{implied}
+use Rattle.wast_types.specs.Expanded.{unnamed_type}
+use Rattle.wast_types.specs.Completed.{completed}
 use Rattle.wast_deinline.proofs.WrittenItems.{is_of_segments, same_in_field, given}
 use Rattle.wast_resolve.specs.Tree.{Id, Index, Space, ModuleField}
 use Rattle.wast_resolve.specs.Tree.index

@@ -8,9 +8,9 @@ use Rattle.std.proofs.lemmas.List.{map-append}
 use Rattle.wast_base.specs.Ids.{place_of, generated}
 use Rattle.wast_tree.specs.Items.{Item, item, items_in}
 use Rattle.wast_tree.specs.Known.{names_in}
-use Rattle.wast_tree.specs.Occurrences.{exported_space}
+use Rattle.wast_tree.specs.Sites.{exported_space}
 use Rattle.wast_base.specs.Filling.{one_if, given_if}
-use Rattle.wast_deinline.specs.Tree.{InlineImport}
+use Rattle.wast_deinline.specs.Tree.{InlineImport, InlineExport}
 use Rattle.wast_deinline.specs.Segments.{data_into, elem_into, has_bytes, has_elements}
 use Rattle.wast_deinline.specs.WriteOut.{Reference, import_of, export_of, exports_of, data_in, elem_in, func_alone, table_alone, memory_alone, global_alone, tag_alone, write_out}
 use Rattle.wast_deinline.specs.Referring.{by_id, by_position, exports_some, wants_id, with_item_id}
@@ -85,112 +85,95 @@ module _ (Same : Space → Index → Index → Type 0) where
       abbrev SameFor : Space → Span → Bool → Type 0
       SameFor s span o = o ≡ true → Same s (r s span x) (q s span y)
 
-      -- the field alone, and the segment before it
-      named_alone : (z : ModuleField) → Alike (called x z ∷ []) (called y z ∷ [])
-      named_alone z = ap (λ v. v ∷ []) (named.of_field z)
+      -- the field alone
+      func_named : (f : Func) (k : FuncKind) → give (func_alone (record f { id = x }) k) ≡ give (func_alone (record f { id = y }) k)
+      func_named f (func.Import source exact) = named.of_import f.span f.name source (kind.Func f.ty)
+      func_named f k = named.of_field (func_alone f k)
 
-      import_named : (span : Span) (name : Option NameAnnotation) (source : InlineImport) (k : ItemKind) → Alike (import_of span x name source k ∷ []) (import_of span y name source k ∷ [])
-      import_named span name source k = ap (λ v. v ∷ []) (named.of_import span name source k)
+      table_named : (t : Table) (k : TableKind) → give (table_alone (record t { id = x }) k) ≡ give (table_alone (record t { id = y }) k)
+      table_named t (table.Import source ty) = named.of_import t.span None source (kind.Table ty)
+      table_named t k = named.of_field (table_alone t k)
 
-      func_named : (f : Func) (k : FuncKind) → Alike (func_alone (record f { id = x }) k ∷ []) (func_alone (record f { id = y }) k ∷ [])
-      func_named f (func.Import source exact) = import_named f.span f.name source (kind.Func f.ty)
-      func_named f (func.Inline locals e) = named_alone (func_alone f (func.Inline locals e))
+      memory_named : (m : Memory) (k : MemoryKind) → give (memory_alone (record m { id = x }) k) ≡ give (memory_alone (record m { id = y }) k)
+      memory_named m (memory.Import source ty) = named.of_import m.span None source (kind.Memory ty)
+      memory_named m k = named.of_field (memory_alone m k)
 
-      table_named : (t : Table) (k : TableKind) → SameFor space.Table t.span (has_elements k)
-          → Alike (elem_in k t.span (r space.Table t.span x) ++ table_alone (record t { id = x }) k ∷ []) (elem_in k t.span (q space.Table t.span y) ++ table_alone (record t { id = y }) k ∷ [])
-      table_named t (table.Import source ty) same = import_named t.span None source (kind.Table ty)
-      table_named t (table.Normal ty init) same = named_alone (table_alone t (table.Normal ty init))
-      table_named t (table.Inline ty is64 shared p) same =
-          λ i. blind.of_elem t.span (r space.Table t.span x) (q space.Table t.span y) is64 p (same refl) i ∷ named_alone (table_alone t (table.Inline ty is64 shared p)) i
+      global_named : (g : Global) (k : GlobalKind) → give (global_alone (record g { id = x }) k) ≡ give (global_alone (record g { id = y }) k)
+      global_named g (global.Import source) = named.of_import g.span None source (kind.Global g.ty)
+      global_named g k = named.of_field (global_alone g k)
 
-      memory_named : (m : Memory) (k : MemoryKind) → SameFor space.Memory m.span (has_bytes k)
-          → Alike (data_in k m.span (r space.Memory m.span x) ++ memory_alone (record m { id = x }) k ∷ []) (data_in k m.span (q space.Memory m.span y) ++ memory_alone (record m { id = y }) k ∷ [])
-      memory_named m (memory.Import source ty) same = import_named m.span None source (kind.Memory ty)
-      memory_named m (memory.Normal ty) same = named_alone (memory_alone m (memory.Normal ty))
-      memory_named m (memory.Inline is64 pieces exponent) same =
-          λ i. blind.of_data m.span (r space.Memory m.span x) (q space.Memory m.span y) is64 pieces (same refl) i ∷ named_alone (memory_alone m (memory.Inline is64 pieces exponent)) i
+      tag_named : (t : Tag) (k : TagKind) → give (tag_alone (record t { id = x }) k) ≡ give (tag_alone (record t { id = y }) k)
+      tag_named t (tag_kind.Import source) = named.of_import t.span None source (kind.Tag t.ty)
+      tag_named t k = named.of_field (tag_alone t k)
 
-      global_named : (g : Global) (k : GlobalKind) → Alike (global_alone (record g { id = x }) k ∷ []) (global_alone (record g { id = y }) k ∷ [])
-      global_named g (global.Import source) = import_named g.span None source (kind.Global g.ty)
-      global_named g (global.Inline e) = named_alone (global_alone g (global.Inline e))
+      -- the segment of what stands in place
+      elem_turns : (span : Span) (k : TableKind) → SameFor space.Table span (has_elements k) → Alike (elem_in k span (r space.Table span x)) (elem_in k span (q space.Table span y))
+      elem_turns span (table.Inline ty is64 shared p) same = ap (λ v. v ∷ []) (blind.of_elem span (r space.Table span x) (q space.Table span y) is64 p (same refl))
+      elem_turns span k same = refl
 
-      tag_named : (t : Tag) (k : TagKind) → Alike (tag_alone (record t { id = x }) k ∷ []) (tag_alone (record t { id = y }) k ∷ [])
-      tag_named t (tag_kind.Import source) = import_named t.span None source (kind.Tag t.ty)
-      tag_named t tag_kind.Inline = named_alone (tag_alone t tag_kind.Inline)
+      data_turns : (span : Span) (k : MemoryKind) → SameFor space.Memory span (has_bytes k) → Alike (data_in k span (r space.Memory span x)) (data_in k span (q space.Memory span y))
+      data_turns span (memory.Inline is64 pieces exponent) same = ap (λ v. v ∷ []) (blind.of_data span (r space.Memory span x) (q space.Memory span y) is64 pieces (same refl))
+      data_turns span k same = refl
 
-      -- with what stands in place
+      -- its exports, the segment, and the field alone
+      parts_turn : (span : Span) (e : ExportKind) (exports : InlineExport) (us vs : List ModuleField) (z w : ModuleField)
+          → SameFor (exported_space e) span (exports_some exports) → Alike us vs → give z ≡ give w
+          → Alike (exports_of span e (r (exported_space e) span x) exports ++ (us ++ z ∷ [])) (exports_of span e (q (exported_space e) span y) exports ++ (vs ++ w ∷ []))
+      parts_turn span e exports us vs z w same segments alone =
+          let i : Index = r (exported_space e) span x in
+          let j : Index = q (exported_space e) span y in
+          both (exports_of span e i exports) (exports_of span e j exports) (us ++ z ∷ []) (vs ++ w ∷ []) (exports_alike span e i j exports.names same)
+          (both us vs (z ∷ []) (w ∷ []) segments (ap (λ v. v ∷ []) alone))
+
       abbrev Turns : ModuleField → Type 0
       Turns z = Alike (write_out r (called x z)) (write_out q (called y z))
 
       func_turns : (f : Func) → SameFor space.Func f.span (exports_some f.exports) → Turns (field.Func f)
-      func_turns f same =
-          let i : Index = r space.Func f.span x in
-          let j : Index = q space.Func f.span y in
-          both (exports_of f.span export.Func i f.exports) (exports_of f.span export.Func j f.exports) (func_alone (record f { id = x }) f.kind ∷ []) (func_alone (record f { id = y }) f.kind ∷ [])
-          (exports_alike f.span export.Func i j f.exports.names same) (func_named f f.kind)
+      func_turns f same = parts_turn f.span export.Func f.exports [] [] _ _ same refl (func_named f f.kind)
 
       table_turns : (t : Table) → SameFor space.Table t.span (exports_some t.exports || has_elements t.kind) → Turns (field.Table t)
       table_turns t same =
-          let i : Index = r space.Table t.span x in
-          let j : Index = q space.Table t.span y in
-          both (exports_of t.span export.Table i t.exports) (exports_of t.span export.Table j t.exports)
-          (elem_in t.kind t.span i ++ table_alone (record t { id = x }) t.kind ∷ []) (elem_in t.kind t.span j ++ table_alone (record t { id = y }) t.kind ∷ [])
-          (exports_alike t.span export.Table i j t.exports.names (λ h. same (first_or (exports_some t.exports) (has_elements t.kind) h)))
-          (table_named t t.kind (λ h. same (second_or (exports_some t.exports) (has_elements t.kind) h)))
+          parts_turn t.span export.Table t.exports _ _ _ _ (λ h. same (first_or (exports_some t.exports) (has_elements t.kind) h))
+          (elem_turns t.span t.kind (λ h. same (second_or (exports_some t.exports) (has_elements t.kind) h))) (table_named t t.kind)
 
       memory_turns : (m : Memory) → SameFor space.Memory m.span (exports_some m.exports || has_bytes m.kind) → Turns (field.Memory m)
       memory_turns m same =
-          let i : Index = r space.Memory m.span x in
-          let j : Index = q space.Memory m.span y in
-          both (exports_of m.span export.Memory i m.exports) (exports_of m.span export.Memory j m.exports)
-          (data_in m.kind m.span i ++ memory_alone (record m { id = x }) m.kind ∷ []) (data_in m.kind m.span j ++ memory_alone (record m { id = y }) m.kind ∷ [])
-          (exports_alike m.span export.Memory i j m.exports.names (λ h. same (first_or (exports_some m.exports) (has_bytes m.kind) h)))
-          (memory_named m m.kind (λ h. same (second_or (exports_some m.exports) (has_bytes m.kind) h)))
+          parts_turn m.span export.Memory m.exports _ _ _ _ (λ h. same (first_or (exports_some m.exports) (has_bytes m.kind) h))
+          (data_turns m.span m.kind (λ h. same (second_or (exports_some m.exports) (has_bytes m.kind) h))) (memory_named m m.kind)
 
       global_turns : (g : Global) → SameFor space.Global g.span (exports_some g.exports) → Turns (field.Global g)
-      global_turns g same =
-          let i : Index = r space.Global g.span x in
-          let j : Index = q space.Global g.span y in
-          both (exports_of g.span export.Global i g.exports) (exports_of g.span export.Global j g.exports) (global_alone (record g { id = x }) g.kind ∷ []) (global_alone (record g { id = y }) g.kind ∷ [])
-          (exports_alike g.span export.Global i j g.exports.names same) (global_named g g.kind)
+      global_turns g same = parts_turn g.span export.Global g.exports [] [] _ _ same refl (global_named g g.kind)
 
       tag_turns : (t : Tag) → SameFor space.Tag t.span (exports_some t.exports) → Turns (field.Tag t)
-      tag_turns t same =
-          let i : Index = r space.Tag t.span x in
-          let j : Index = q space.Tag t.span y in
-          both (exports_of t.span export.Tag i t.exports) (exports_of t.span export.Tag j t.exports) (tag_alone (record t { id = x }) t.kind ∷ []) (tag_alone (record t { id = y }) t.kind ∷ [])
-          (exports_alike t.span export.Tag i j t.exports.names same) (tag_named t t.kind)
+      tag_turns t same = parts_turn t.span export.Tag t.exports [] [] _ _ same refl (tag_named t t.kind)
 
     -- A field that is given an id where it wants one, or keeps the one that it has.
     module _ (m : ℕ) (le : n ≤ m) (before : List Item) where
       module _ (s : Space) (its : is_of_segments s ≡ false) (span : Span) (z : ModuleField) (bears : (id : Option Id) → items_in (called id z) ≡ item s id [] ∷ [])
-          (gives : with_item_id m z ≡ called (Some (generated m span)) z) where
+          (gives : (id : Option Id) → with_item_id m (called id z) ≡ called (Some (generated m span)) z) where
         abbrev ByTwo : Bool → Type 0
         ByTwo o = (r q : Reference) (x y : Option Id) → SameByIds give x y → (o ≡ true → Same s (r s span x) (q s span y)) → Alike (write_out r (called x z)) (write_out q (called y z))
 
         same : {id : Option Id} → SameByIds give id id
         same = record { of_import = λ span name source k. refl; of_field = λ w. refl }
 
-        one_alike : (o : Bool) (id : Option Id) → called id z ≡ z → ByTwo o → Owns before (given_if (o && is_none id) with_item_id m z)
-            → Alike (write_out by_id (given_if (o && is_none id) with_item_id m z)) (write_out (by_position before) z)
-        one_alike true None is turns own =
-            ap (λ y. map give (write_out by_id y)) gives
-            ∙ (turns by_id (by_position before) (Some (generated m span)) None (blind.given m span le) (λ h. own s (generated m span) its (ap items_in gives ∙ bears (Some (generated m span))))
-            ∙ ap (λ y. map give (write_out (by_position before) y)) is)
-        one_alike true (Some id) is turns own =
-            ap (λ y. map give (write_out by_id y)) (sym is)
-            ∙ (turns by_id (by_position before) (Some id) (Some id) same (λ h. own s id its (ap items_in (sym is) ∙ bears (Some id))) ∙ ap (λ y. map give (write_out (by_position before) y)) is)
-        one_alike false id is turns own =
-            ap (λ y. map give (write_out by_id y)) (sym is) ∙ (turns by_id (by_position before) id id same (λ h. absurd (true≢false (sym h))) ∙ ap (λ y. map give (write_out (by_position before) y)) is)
+        abbrev given_one : Bool → Option Id → ModuleField
+        given_one o id = given_if (o && is_none id) with_item_id m (called id z)
+
+        one_alike : (o : Bool) (id : Option Id) → ByTwo o → Owns before (given_one o id) → Alike (write_out by_id (given_one o id)) (write_out (by_position before) (called id z))
+        one_alike true None turns own =
+            let new = Some (generated m span) in
+            ap (λ y. map give (write_out by_id y)) (gives None)
+            ∙ turns by_id (by_position before) new None (blind.given m span le) (λ h. own s (generated m span) its (ap items_in (gives None) ∙ bears new))
+        one_alike true (Some id) turns own = turns by_id (by_position before) (Some id) (Some id) same (λ h. own s id its (bears (Some id)))
+        one_alike false id turns own = turns by_id (by_position before) id id same (λ h. absurd (true≢false (sym h)))
 
       field_alike : (x : ModuleField) → Owns before (given_if (wants_id x) with_item_id m x) → Alike (write_out by_id (given_if (wants_id x) with_item_id m x)) (write_out (by_position before) x)
-      field_alike (field.Func f) own = one_alike space.Func refl f.span (field.Func f) (λ id. refl) refl (exports_some f.exports) f.id refl (λ r q x y named same. func_turns r q x y named f same) own
-      field_alike (field.Table t) own =
-          one_alike space.Table refl t.span (field.Table t) (λ id. refl) refl (exports_some t.exports || has_elements t.kind) t.id refl (λ r q x y named same. table_turns r q x y named t same) own
-      field_alike (field.Memory z) own =
-          one_alike space.Memory refl z.span (field.Memory z) (λ id. refl) refl (exports_some z.exports || has_bytes z.kind) z.id refl (λ r q x y named same. memory_turns r q x y named z same) own
-      field_alike (field.Global g) own = one_alike space.Global refl g.span (field.Global g) (λ id. refl) refl (exports_some g.exports) g.id refl (λ r q x y named same. global_turns r q x y named g same) own
-      field_alike (field.Tag t) own = one_alike space.Tag refl t.span (field.Tag t) (λ id. refl) refl (exports_some t.exports) t.id refl (λ r q x y named same. tag_turns r q x y named t same) own
+      field_alike (field.Func f) own = one_alike space.Func refl f.span (field.Func f) (λ id. refl) (λ id. refl) _ f.id (λ r q x y named. func_turns r q x y named f) own
+      field_alike (field.Table t) own = one_alike space.Table refl t.span (field.Table t) (λ id. refl) (λ id. refl) _ t.id (λ r q x y named. table_turns r q x y named t) own
+      field_alike (field.Memory z) own = one_alike space.Memory refl z.span (field.Memory z) (λ id. refl) (λ id. refl) _ z.id (λ r q x y named. memory_turns r q x y named z) own
+      field_alike (field.Global g) own = one_alike space.Global refl g.span (field.Global g) (λ id. refl) (λ id. refl) _ g.id (λ r q x y named. global_turns r q x y named g) own
+      field_alike (field.Tag t) own = one_alike space.Tag refl t.span (field.Tag t) (λ id. refl) (λ id. refl) _ t.id (λ r q x y named. tag_turns r q x y named t) own
       field_alike x own = refl
 
     pub fields_alike : (m : ℕ) (before : List Item) (xs : List ModuleField) → n ≤ m → AllOwn m before xs → Alike (flat_map (write_out by_id) (referable m xs)) (written_after before xs)

@@ -1,9 +1,11 @@
 -- What resolving the indices of a type does, by what one call on an index does (text format: types, indices).
 use Rattle.std.specs.Prelude.{ℕ, List, [], ◌∷◌, flat_map, Contains, Result, Ok, Err}
 use Rattle.wast_base.specs.declared.faults.Error.{Error}
-use Rattle.wast_tree.specs.Occurrences.{Ask, Wants, Bare}
+use Rattle.wast_tree.specs.Sites.{Ask, Wants, Bare, Clause, Supported}
+use Rattle.wast_map.specs.Mapped.{Indices, mapped_def}
 use Rattle.wast_resolve.specs.Tree.{Index}
 use Rattle.wast_resolve.specs.Tree.index
+use Rattle.wast_resolve.specs.Tree.ty
 
 -- Calls on indices, one after the other, up to the first error, which is the answer: the context and the indices before,
 -- and those after.
@@ -17,6 +19,8 @@ pub data Calls {C : Type 0} (called : C → Index → C → Index → Result ℕ
 abbrev pub index_of : Ask → List Index
 index_of (Wants s i) = i ∷ []
 index_of (Bare m) = []
+index_of (Clause n holds) = []
+index_of (Supported holds) = []
 
 abbrev pub indices_of : List Ask → List Index
 indices_of asks = flat_map index_of asks
@@ -30,5 +34,9 @@ pub record HasNeeds {C : Type 0} (needs : C → Index → Type 0) (cx : C) (asks
   pub each : (i : Index) → Contains (indices_of asks) i → needs cx i
 
 -- in the place of any index
-abbrev pub blank : Index → Index
-blank i = index.Num 0 (record { offset = 0 })
+abbrev pub blank : Indices
+blank s i = index.Num 0 (record { offset = 0 })
+
+-- a type, its definition changed
+abbrev pub with_def : Indices → ty.«Type» → ty.«Type»
+with_def f t = record t { def = mapped_def f t.def }

@@ -1,17 +1,18 @@
 -- What a module demands of its imports and names, in the order in which it is answered (text format: identifiers, indices, modules).
 use Rattle.std.specs.Prelude.{⊤, ℕ, ◌+◌, ◌≤◌, ◌^◌, ◌⊎◌, Bool, false, not, List, [], ◌∷◌, ◌++◌, length, map, flat_map, Option, Some, None, codes, Contains, IsTrue}
 use Rattle.std.specs.List.{list_any}
-use Rattle.wast_resolve.specs.Tree.{Span, Index, FunctionType, ModuleField}
+use Rattle.wast_resolve.specs.Tree.{Span, Index, FunctionType, TypeUse, FuncKind, ModuleField}
 use Rattle.wast_resolve.specs.Tree.space
+use Rattle.wast_resolve.specs.Tree.func
 use Rattle.wast_resolve.specs.Tree.field
 use Rattle.wast_base.specs.Ids.{Name, text_of, Mark, span_of_index}
 use Rattle.wast_base.specs.Faults.{Cause, Duplicate, DuplicateField, OutOfBounds, NotFunc, NoMatch, told}
 use Rattle.wast_base.specs.declared.faults.Error.{Error}
 use Rattle.wast_base.specs.Spaces.{spaces, word_of, name_if, is_borne}
 use Rattle.wast_tree.specs.Items.{Item, items}
-use Rattle.wast_tree.specs.Occurrences.{Ask, Wants, Bare, Step, Named, Matches, Declares, Occurrence, Outside, InOrder, declared, in_module}
+use Rattle.wast_tree.specs.Sites.{Ask, Wants, Bare, Clause, Supported, Site, Asked, Used, Declared, in_type_use, param_marks, local_marks, in_module}
 use Rattle.wast_tree.specs.Known.{Known, names_in}
-use Rattle.wast_expand.specs.Signatures.{Signature}
+use Rattle.wast_types.specs.Signatures.{Signature}
 use Rattle.wast_deinline.specs.Segments.{overflows}
 use Rattle.wast_resolve.specs.Explicit.{explicit, ids_filled}
 pub use Rattle.wast_namespace.specs.FirstUnmet.{Demand, one_demand, first_unmet, unknown, known_index, Answers}
@@ -57,6 +58,8 @@ item_demands xs = each_after item_demand [] xs
 abbrev pub ask_demand : Known → Ask → List Demand
 ask_demand k (Wants s i) = known_index (k.number s) (word_of s) i
 ask_demand k (Bare m) = []
+ask_demand k (Clause n holds) = []
+ask_demand k (Supported holds) = []
 
 abbrev pub ask_demands : Known → List Ask → List Demand
 ask_demands k asks = flat_map (ask_demand k) asks
@@ -70,43 +73,29 @@ match_with same place (Some (Some s)) = one_demand NoMatch place (same s)
 abbrev pub match_demands : Scope → Index → FunctionType → List Demand
 match_demands c i t = match_with (matches c.known t) (span_of_index i) (type_at c.types (denoted (c.known.number space.Ty) i))
 
--- what a step of a body may read of the steps before it: the names of the parameters and locals
-pub record Here : Type 0 where
-  pub locals : List (Option Name)
+-- where both are there
+abbrev pub match_if : Scope → Option Index → Option FunctionType → List Demand
+match_if c None None = []
+match_if c None (Some t) = []
+match_if c (Some i) None = []
+match_if c (Some i) (Some t) = match_demands c i t
 
-abbrev pub start : Here
-start = record { locals = [] }
-
-abbrev pub after : Here → Step → Here
-after h (Named a) = h
-after h (Matches i t) = h
-after h (Declares m) = record { locals = h.locals ++ name_if m ∷ [] }
-
-abbrev pub after_all : Here → List Step → Here
-after_all h [] = h
-after_all h (s ∷ ss) = after_all (after h s) ss
+-- of a type use: its index, its inline type, and that the two match
+abbrev pub use_demand : Scope → TypeUse FunctionType → List Demand
+use_demand c u = ask_demands c.known (in_type_use u) ++ match_if c u.index u.inline
 
 -- No earlier parameter or local has the name of one that is declared.
-abbrev pub step_demand : Scope → Here → Step → List Demand
-step_demand c h (Named a) = ask_demand c.known a
-step_demand c h (Matches i t) = match_demands c i t
-step_demand c h (Declares m) = new_name_in (codes "local") h.locals m
+abbrev pub site_demand : Scope → Site → List Demand
+site_demand c (Asked a) = ask_demand c.known a
+site_demand c (Used u) = use_demand c u
+site_demand c (Declared before m) = new_name_in (codes "local") before m
 
--- what the steps demand, the first of them here
-abbrev pub step_demands : Scope → Here → List Step → List Demand
-step_demands c h [] = []
-step_demands c h (s ∷ ss) = step_demand c h s ++ step_demands c (after h s) ss
-
-abbrev pub use_demand : Scope → Occurrence → List Demand
-use_demand c (Outside a) = ask_demand c.known a
-use_demand c (InOrder ss) = step_demands c start ss
-
-abbrev pub use_demands : Scope → List Occurrence → List Demand
-use_demands c os = flat_map (use_demand c) os
+abbrev pub site_demands : Scope → List Site → List Demand
+site_demands c sites = flat_map (site_demand c) sites
 
 -- of names: first those of all items, and then those of what stands beside them
 abbrev pub name_demands : List ModuleField → List Demand
-name_demands fields = item_demands (items fields) ++ use_demands (scope fields) (in_module fields)
+name_demands fields = item_demands (items fields) ++ site_demands (scope fields) (in_module fields)
 
 -- of each import, by the fields before it
 abbrev pub order_demands : List ModuleField → List Demand
@@ -127,19 +116,16 @@ field_counts xs = map (λ x. length x.fields) xs
 abbrev pub item_counts : List Item → List ℕ
 item_counts xs = space_counts xs ++ field_counts xs
 
+abbrev pub kind_marks : FuncKind → List (Option Mark)
+kind_marks (func.Import import exact) = []
+kind_marks (func.Inline locals e) = local_marks locals
+
+abbrev pub declared : Option FunctionType → FuncKind → List (Option Mark)
+declared inline k = param_marks inline ++ kind_marks k
+
 abbrev pub local_counts_in : ModuleField → List ℕ
-local_counts_in (field.Ty t) = []
-local_counts_in (field.Rec r) = []
-local_counts_in (field.Import i) = []
 local_counts_in (field.Func f) = length (declared f.ty.inline f.kind) ∷ []
-local_counts_in (field.Table t) = []
-local_counts_in (field.Memory m) = []
-local_counts_in (field.Global g) = []
-local_counts_in (field.Export e) = []
-local_counts_in (field.Start i) = []
-local_counts_in (field.Elem e) = []
-local_counts_in (field.Data d) = []
-local_counts_in (field.Tag t) = []
+local_counts_in x = []
 
 abbrev pub local_counts : List ModuleField → List ℕ
 local_counts fields = flat_map local_counts_in fields

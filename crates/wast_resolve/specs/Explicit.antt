@@ -2,9 +2,9 @@
 -- abbreviations, type uses).
 use Rattle.std.specs.Prelude.{ℕ, ◌+◌, List}
 use Rattle.wast_deinline.specs.Written.{written_out_from, references_wanted, written_out}
-use Rattle.wast_expand.specs.Expanded.{expanded, ids_wanted}
-use Rattle.wast_expand.specs.Completed.{completed}
-use Rattle.wast_expand.specs.Positioned.{positioned}
+use Rattle.wast_types.specs.Expanded.{expanded, ids_wanted}
+use Rattle.wast_types.specs.Completed.{completed}
+use Rattle.wast_types.specs.Positioned.{positioned}
 use Rattle.wast_resolve.specs.Tree.{ModuleField}
 
 -- no id is made: what is written out is referred to by its position

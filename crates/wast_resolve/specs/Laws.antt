@@ -3,20 +3,23 @@
 use Rattle.std.specs.Prelude.{◌≡◌, ℕ, ◌+◌, ◌<◌, true, [], None, map, List, Result, IsTrue}
 use Rattle.std.specs.Borrow.{Bor}
 use Rattle.wast_tree.specs.Items.{items}
-use Rattle.wast_tree.specs.Occurrences.{Ask, asked, in_module}
-use Rattle.wast_tree.specs.WellFormed.{are_settled, is_well_formed}
+use Rattle.wast_tree.specs.Sites.{Ask, asked, in_module}
+use Rattle.wast_tree.specs.WellFormed.{is_well_formed}
 use Rattle.wast_tree.specs.WrittenOut.{is_written_out}
 use Rattle.wast_base.specs.declared.faults.Error.{Error}
 use Rattle.wast_tree.specs.Generations.{greatest_generation}
-use Rattle.wast_expand.specs.NeedingUses.{needed}
+use Rattle.wast_types.specs.NeedingUses.{needed}
 use Rattle.wast_resolve.specs.Tree.{Index, ModuleField}
 use Rattle.wast_resolve.specs.Tree.space
 use Rattle.wast_resolve.specs.Demands.{first_unmet, ask_demands, demands, counts}
 use Rattle.wast_resolve.specs.Explicit.{explicit, explicit_from, by_positions, ids_filled}
-use Rattle.wast_resolve.specs.Resolved.{numbered_at, resolved, is_resolved}
-use Rattle.wast_resolve.specs.Stripped.{stripped}
+use Rattle.wast_map.specs.Mapped.{Indices}
+use Rattle.wast_map.specs.Laws.{all_mapped}
+use Rattle.wast_tree.specs.Resolved.{has_numbers, is_resolved}
+use Rattle.wast_resolve.specs.Resolved.{numbered_at, resolved}
+use Rattle.wast_resolve.specs.Stripped.{stripping}
 use Rattle.wast_resolve.specs.Resolvers.{Resolution, known_of}
-use Rattle.wast_resolve.specs.LookUps.{IsSettledFor, LooksTypesUp}
+use Rattle.wast_resolve.specs.LookUps.{are_settled, IsSettledFor, LooksTypesUp}
 use Rattle.wast_resolve.specs.CoreTypes.{CallsOn, HasNeeds, blank}
 use Rattle.wast_resolve.specs.Walking.{Walks}
 use Rattle.wast_resolve.specs.Finished.{finished}
@@ -35,7 +38,11 @@ ExplicitStaysWellFormed = (n : ℕ) (fields : List ModuleField) → greatest_gen
 
 -- Where each demand is met, no id is left where an index is wanted.
 abbrev pub NoIdIsLeft : Type 0
-NoIdIsLeft = (n : ℕ) (fields : List ModuleField) → greatest_generation fields < n → first_unmet (demands (explicit fields)) ≡ None → is_resolved (asked (in_module (finished n fields))) ≡ true
+NoIdIsLeft = (n : ℕ) (fields : List ModuleField) → greatest_generation fields < n → first_unmet (demands (explicit fields)) ≡ None → has_numbers (finished n fields) ≡ true
+
+-- and, as each type use has an index, the list is resolved.
+abbrev pub FinishedIsResolved : Type 0
+FinishedIsResolved = (n : ℕ) (fields : List ModuleField) → greatest_generation fields < n → first_unmet (demands (explicit fields)) ≡ None → is_resolved (finished n fields) ≡ true
 
 -- and well formed fields stay so.
 abbrev pub FinishedStaysWellFormed : Type 0
@@ -43,7 +50,7 @@ FinishedStaysWellFormed = (n : ℕ) (fields : List ModuleField) → greatest_gen
 
 -- and it is the list by positions, but for generated ids and for where the indices of type uses stand.
 abbrev pub SamePositions : Type 0
-SamePositions = (n : ℕ) (fields : List ModuleField) → greatest_generation fields < n → first_unmet (demands (explicit fields)) ≡ None → map stripped (finished n fields) ≡ map stripped (resolved (by_positions fields))
+SamePositions = (n : ℕ) (fields : List ModuleField) → greatest_generation fields < n → first_unmet (demands (explicit fields)) ≡ None → all_mapped stripping (finished n fields) ≡ all_mapped stripping (resolved (by_positions fields))
 
 -- Each generation is below that of the next id.
 abbrev pub FinishedIsBelow : Type 0
@@ -63,10 +70,10 @@ ItemsStay = (n : ℕ) (fields : List ModuleField) → items (finished n fields) 
 
 -- By the resolver of a module, the calls on the indices of a part of a type succeed where each of its demands is met, and
 -- then it has its numbers; the error is the first unmet demand.
-abbrev pub ByResolver : {T : Type 0} → (T → List Ask) → ((Index → Index) → T → T) → Type 0
+abbrev pub ByResolver : {T : Type 0} → (T → List Ask) → (Indices → T → T) → Type 0
 ByResolver {T} asks changed = (old new : Bor Resolution) (before after : T) (result : Result (Unit {0}) Error)
     → CallsOn (LooksTypesUp (λ names. known_of names.now)) old (asks before) new (asks after) result → changed blank after ≡ changed blank before
-    → Walks ⊥ ⊥ (ask_demands (known_of old.now) (asks before)) (changed (numbered_at (known_of old.now) space.Ty) before) after result
+    → Walks ⊥ ⊥ (ask_demands (known_of old.now) (asks before)) (changed (numbered_at (known_of old.now)) before) after result
 
 -- and it has what it needs where the generated ids in the part are those of types.
 abbrev pub NeedsOfResolver : {T : Type 0} → (T → List Ask) → Type 0

@@ -3,23 +3,19 @@ use Rattle.std.specs.Prelude.{List, [], ◌++◌, map, Option, Some, None, optio
 use Rattle.wast_base.specs.Ids.{Name, Mark}
 use Rattle.wast_base.specs.Faults.{Cause, Duplicate}
 use Rattle.wast_base.specs.Spaces.{name_if}
-use Rattle.wast_tree.specs.Occurrences.{Step, declared}
-use Rattle.wast_resolve.specs.Tree.{Span, Id, NameAnnotation, ValType, FunctionType, Local, FuncKind}
+use Rattle.wast_tree.specs.Sites.{Site, local_marks, declaring}
+use Rattle.wast_resolve.specs.Tree.{Span, Id, NameAnnotation, ValType, FunctionType, FuncKind}
 use Rattle.wast_resolve.specs.Tree.func
 
--- the parameters of an inline type, and the locals of a function
+-- the parameters of an inline type
 abbrev pub params_in : Option FunctionType → List (Option Id × Option NameAnnotation × ValType)
 params_in None = []
 params_in (Some t) = t.params
 
-abbrev pub locals_in : FuncKind → List Local
-locals_in (func.Import import exact) = []
-locals_in (func.Inline locals e) = locals
-
--- what is declared in front of a body; what is imported in place has none
-abbrev pub opening : Option FunctionType → FuncKind → List Step
-opening inline (func.Import import exact) = []
-opening inline (func.Inline locals e) = declared inline (func.Inline locals e)
+-- what is declared in front of a body, behind these parameters; what is imported in place has none
+abbrev pub opening : List (Option Mark) → FuncKind → List Site
+opening params (func.Import import exact) = []
+opening params (func.Inline locals e) = declaring [] (params ++ local_marks locals)
 
 -- the ids of parameters, and of locals after them
 abbrev pub marks : {A B : Type 0} → (A → Option Mark) → (B → Option Mark) → List A → List B → List (Option Mark)

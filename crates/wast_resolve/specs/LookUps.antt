@@ -1,17 +1,27 @@
 -- What a look-up of an index needs, and what it answers.
-use Rattle.std.specs.Prelude.{◌≡◌, ℕ, Some, None, Result, IfOk, IfErr, IsTrue}
+use Rattle.std.specs.Prelude.{◌≡◌, ℕ, Bool, true, List, Some, None, Result, IfOk, IfErr, IsTrue}
+use Rattle.std.specs.List.{list_all}
 use Rattle.wast_base.specs.declared.faults.Error.{Error}
 use Rattle.wast_base.specs.Faults.{told}
-use Rattle.wast_tree.specs.Occurrences.{in_index}
+use Rattle.wast_base.specs.Spaces.{is_settled_index}
+use Rattle.wast_tree.specs.Sites.{Ask, Wants, Bare, Clause, Supported, in_index}
 use Rattle.wast_tree.specs.Known.{Known}
-use Rattle.wast_tree.specs.WellFormed.{are_settled}
 use Rattle.wast_resolve.specs.Tree.{Space, Index}
 use Rattle.wast_resolve.specs.Tree.space
 use Rattle.wast_resolve.specs.Demands.{first_unmet, ask_demands, Answers}
 use Rattle.wast_resolve.specs.Scopes.{denoted}
 use Rattle.wast_resolve.specs.Resolved.{numbered_at}
 
--- a generated id is known
+-- an index that is a generated id is known
+abbrev pub is_settled : Known → Ask → Bool
+is_settled k (Wants s i) = is_settled_index (k.number s) i
+is_settled k (Bare m) = true
+is_settled k (Clause n holds) = true
+is_settled k (Supported holds) = true
+
+abbrev pub are_settled : Known → List Ask → Bool
+are_settled k asks = list_all (is_settled k) asks
+
 abbrev pub IsSettledFor : Known → Space → Index → Type 0
 IsSettledFor k s i = IsTrue (are_settled k (in_index s i))
 

@@ -5,7 +5,7 @@ use Rattle.wast_resolve.specs.Tree.{Space}
 use Rattle.wast_resolve.specs.Tree.space
 use Rattle.wast_base.specs.Spaces.{rank_of}
 use Rattle.wast_tree.specs.Known.{Known}
-use Rattle.wast_expand.specs.Signatures.{Signature}
+use Rattle.wast_types.specs.Signatures.{Signature}
 use Rattle.wast_resolve.specs.declared.resolver.Ns.{Ns}
 use Rattle.wast_resolve.specs.declared.resolver.Ns.TheVariants as ns
 use Rattle.wast_namespace.specs.Namespaces.{NameSpace, coded_space, empty_from, number_in}

@@ -2,17 +2,10 @@
 use Rattle.std.specs.Prelude.{◌≡◌, List, None, Result, Ok, Err}
 use Rattle.wast_base.specs.declared.faults.Error.{Error}
 use Rattle.wast_base.specs.Faults.{told}
-use Rattle.wast_tree.specs.Occurrences.{Step}
-use Rattle.wast_resolve.specs.Demands.{Demand, first_unmet, Answers, Here, after_all, step_demands}
-use Rattle.wast_resolve.specs.Scopes.{Scope}
+use Rattle.wast_resolve.specs.Demands.{Demand, first_unmet, Answers}
 
 -- Each demand is met and the part is now what was wanted, or the error is the first unmet demand; memory and many say
 -- what else may be refused.
 abbrev pub Walks : {T : Type 0} → (memory many : Type 0) → List Demand → T → T → Result (Unit {0}) Error → Type 0
 Walks memory many ds want new (Ok x) = (first_unmet ds ≡ None) × (new ≡ want)
 Walks memory many ds want new (Err e) = Answers memory many (told e) (first_unmet ds)
-
--- The same of steps of a body, of which the first stands here, and what comes after them stands there.
-abbrev pub Steps : {T : Type 0} → (memory many : Type 0) → Scope → (here there : Here) → List Step → T → T → Result (Unit {0}) Error → Type 0
-Steps memory many c here there steps want new (Ok x) = (first_unmet (step_demands c here steps) ≡ None) × (new ≡ want) × (there ≡ after_all here steps)
-Steps memory many c here there steps want new (Err e) = Answers memory many (told e) (first_unmet (step_demands c here steps))

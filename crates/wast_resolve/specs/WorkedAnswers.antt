@@ -2,11 +2,11 @@
 use Rattle.std.specs.Prelude.{◌≡◌, ℕ, false, List, [], ◌∷◌, ◌++◌, Option, Some, None, codes}
 use Rattle.wast_base.specs.Faults.{Duplicate, DuplicateField, Unknown, OutOfBounds, NotFunc, NoMatch}
 use Rattle.wast_tree.specs.WorkedModules.{Address, place, id_at, by_id, by_number, plain_def, plain_type, plain_func, type_field, export_field, row27_with, row27, row31, row32}
-use Rattle.wast_expand.specs.Signatures.{empty_signature}
-use Rattle.wast_expand.specs.Expanded.{unnamed_type, implied_type, expanded}
-use Rattle.wast_expand.specs.Completed.{completed}
-use Rattle.wast_expand.specs.Positioned.{positioned}
-use Rattle.wast_expand.specs.WorkedExpansions.{func_at, function_type, type_at, ref_to, row2, row7, row7_with, row8_with, row23_with}
+use Rattle.wast_types.specs.Signatures.{empty_signature}
+use Rattle.wast_types.specs.Expanded.{unnamed_type, implied_type, expanded}
+use Rattle.wast_types.specs.Completed.{completed}
+use Rattle.wast_types.specs.Positioned.{positioned}
+use Rattle.wast_types.specs.WorkedExpansions.{func_at, function_type, type_at, ref_to, row2, row7, row7_with, row8_with, row23_with}
 use Rattle.wast_resolve.specs.Tree.{Id, Index, ValType, StructField, ModuleField}
 use Rattle.wast_resolve.specs.Tree.value
 use Rattle.wast_resolve.specs.Tree.storage

@@ -2,8 +2,8 @@
 use Rattle.std.specs.Prelude.{◌≡◌, ℕ, ◌+◌, false, List, [], ◌∷◌, Option, Some, None, codes}
 use Rattle.wast_base.specs.Faults.{ImportAfter, Duplicate, Unknown}
 use Rattle.wast_tree.specs.WorkedModules.{Address, text, place, id_at, by_id}
-use Rattle.wast_expand.specs.Completed.{completed}
-use Rattle.wast_expand.specs.WorkedExpansions.{func_at}
+use Rattle.wast_types.specs.Completed.{completed}
+use Rattle.wast_types.specs.WorkedExpansions.{func_at}
 use Rattle.wast_resolve.specs.Tree.{Id, FunctionType, TypeUse, MemoryType, ModuleField}
 use Rattle.wast_resolve.specs.Tree.func
 use Rattle.wast_resolve.specs.Tree.tag

@@ -2,10 +2,10 @@
 #![tactic(auto, using(crate::proofs::Parts::both_met, crate::proofs::Parts::first_fails, crate::proofs::Parts::second_fails))]
 
 ghost use Rattle.std.specs.Prelude.{List, [], map, flat_map, option_map};
-ghost use Rattle.wast_tree.specs.Known.{Known};
-ghost use Rattle.wast_tree.specs.Occurrences.{Occurrence, outside, if_there, in_index, in_use, in_tag_type, in_item_kind, in_import, in_constant, in_constant_if, in_table_kind, in_memory_kind, in_global_kind, in_global, in_elem_kind, in_payload, in_elem, in_data_kind};
-ghost use Rattle.wast_resolve.specs.Demands.{use_demands};
-ghost use Rattle.wast_resolve.specs.Resolved.{numbered_at, resolved_type_use, resolved_tag_type, resolved_item_kind, resolved_sig, resolved_import_items, resolved_import, resolved_constant, resolved_table_kind, resolved_table, resolved_global_kind, resolved_global, resolved_tag, resolved_elem_kind, resolved_payload, resolved_elem, resolved_data_kind, resolved_data};
+ghost use Rattle.wast_tree.specs.Sites.{Site, asking, at_index, if_there, in_use, in_tag_type, in_item_kind, in_import, in_constant, in_table_kind, in_memory_kind, in_global_kind, in_global, in_elem_kind, in_payload, in_elem, in_data_kind};
+ghost use Rattle.wast_map.specs.Mapped.{Change, mapped_tag_type, mapped_item_kind, mapped_sig, mapped_import_items, mapped_import, mapped_constant, mapped_table_kind, mapped_table, mapped_memory, mapped_global_kind, mapped_global, mapped_tag, mapped_elem_kind, mapped_payload, mapped_elem, mapped_data_kind, mapped_data};
+ghost use Rattle.wast_resolve.specs.Demands.{site_demands};
+ghost use Rattle.wast_resolve.specs.Resolved.{numbered_at, numbering};
 ghost use Rattle.wast_resolve.specs.Resolvers.{known_of, scope_of};
 ghost use Rattle.wast_resolve.specs.TwoSteps.{in_type_of_table, in_init, with_table_type, with_init, in_elem_table, in_elem_offset, with_elem_table, with_elem_offset, in_elements, in_element_type, with_elements, with_element_type, in_data_memory, in_data_offset, with_data_memory, with_data_offset};
 ghost use Rattle.wast_resolve.specs.Walking.{Walks};
@@ -25,7 +25,7 @@ pub(crate) fn walk_outside<'a, T: Walk<'a>>(
     names: &Resolver<'a>,
     part: &mut T,
 ) -> Result<(), Error<'a>>
-    ensures { Walks ⊥ ⊥ (use_demands (scope_of names.now) (outside (T.asks part.old))) (T.numbered (known_of names.now) part.old) part.new result }
+    ensures { Walks ⊥ ⊥ (site_demands (scope_of names.now) (asking (T.asks part.old))) (T.mapped (numbering (known_of names.now)) part.old) part.new result }
 {
     part.walk(names)
 }
@@ -36,7 +36,7 @@ pub(crate) fn walk_outside_index<'a>(
     space: Space,
     index: &mut Index<'a>,
 ) -> Result<(), Error<'a>>
-    ensures { Walks ⊥ ⊥ (use_demands (scope_of names.now) (outside (in_index space index.old))) (numbered_at (known_of names.now) space index.old) index.new result }
+    ensures { Walks ⊥ ⊥ (site_demands (scope_of names.now) (at_index space index.old)) (numbered_at (known_of names.now) space index.old) index.new result }
 {
     walk_index(names, space, index)
 }
@@ -47,7 +47,7 @@ fn walk_outside_optional<'a>(
     space: Space,
     index: &mut Option<Index<'a>>,
 ) -> Result<(), Error<'a>>
-    ensures { Walks ⊥ ⊥ (use_demands (scope_of names.now) (outside (if_there (in_index space) index.old))) (option_map (numbered_at (known_of names.now) space) index.old) index.new result }
+    ensures { Walks ⊥ ⊥ (site_demands (scope_of names.now) (if_there (at_index space) index.old)) (option_map (numbered_at (known_of names.now) space) index.old) index.new result }
 {
     walk_optional(names, space, index)
 }
@@ -58,7 +58,7 @@ fn walk_outside_indices<'a>(
     space: Space,
     indices: &mut Seq<Index<'a>>,
 ) -> Result<(), Error<'a>>
-    ensures { Walks ⊥ ⊥ (use_demands (scope_of names.now) (outside (flat_map (in_index space) indices.old))) (map (numbered_at (known_of names.now) space) indices.old) indices.new result }
+    ensures { Walks ⊥ ⊥ (site_demands (scope_of names.now) (flat_map (at_index space) indices.old)) (map (numbered_at (known_of names.now) space) indices.old) indices.new result }
 {
     walk_indices(names, space, indices)
 }
@@ -66,14 +66,14 @@ fn walk_outside_indices<'a>(
 /// A part of a field whose parts stand apart: none reads what another declares.
 pub(crate) trait WalkApart<'a> {
     /// What stands in it.
-    ghost stands: { Self → List Occurrence };
+    ghost stands: { Self → List Site };
 
-    /// It, with each index numbered.
-    ghost numbered: { Known → Self → Self };
+    /// It, after a change.
+    ghost mapped: { Change → Self → Self };
 
     /// Walks over it. The error is the first demand that is not met.
     fn walk_apart(&mut self, names: &Resolver<'a>) -> Result<(), Error<'a>>
-        ensures { Walks ⊥ ⊥ (use_demands (scope_of names.now) (stands self.old)) (numbered (known_of names.now) self.old) self.new result };
+        ensures { Walks ⊥ ⊥ (site_demands (scope_of names.now) (stands self.old)) (mapped (numbering (known_of names.now)) self.old) self.new result };
 }
 
 /// Walks over each part of a list, in order.
@@ -81,7 +81,7 @@ fn walk_each_apart<'a, T: WalkApart<'a>>(
     names: &Resolver<'a>,
     parts: &mut Seq<T>,
 ) -> Result<(), Error<'a>>
-    ensures { Walks ⊥ ⊥ (use_demands (scope_of names.now) (flat_map T.stands parts.old)) (map (T.numbered (known_of names.now)) parts.old) parts.new result }
+    ensures { Walks ⊥ ⊥ (site_demands (scope_of names.now) (flat_map T.stands parts.old)) (map (T.mapped (numbering (known_of names.now))) parts.old) parts.new result }
 {
     for i in 0..parts.len() {
         parts.at_mut(i).walk_apart(names)?;
@@ -92,7 +92,7 @@ fn walk_each_apart<'a, T: WalkApart<'a>>(
 impl<'a> WalkApart<'a> for TypeUse<'a, FunctionType<'a>> {
     ghost stands = { in_use };
 
-    ghost numbered = { resolved_type_use };
+    ghost mapped = { λ f. f.used };
 
     fn walk_apart(&mut self, names: &Resolver<'a>) -> Result<(), Error<'a>> {
         walk_type_use(names, self)?;
@@ -104,7 +104,7 @@ impl<'a> WalkApart<'a> for TypeUse<'a, FunctionType<'a>> {
 impl<'a> WalkApart<'a> for Expression<'a> {
     ghost stands = { in_constant };
 
-    ghost numbered = { resolved_constant };
+    ghost mapped = { mapped_constant };
 
     fn walk_apart(&mut self, names: &Resolver<'a>) -> Result<(), Error<'a>> {
         walk_expression(names, self)?;
@@ -113,9 +113,9 @@ impl<'a> WalkApart<'a> for Expression<'a> {
 }
 
 impl<'a> WalkApart<'a> for Option<Expression<'a>> {
-    ghost stands = { in_constant_if };
+    ghost stands = { if_there in_constant };
 
-    ghost numbered = { λ k o. option_map (resolved_constant k) o };
+    ghost mapped = { λ f o. option_map (mapped_constant f) o };
 
     fn walk_apart(&mut self, names: &Resolver<'a>) -> Result<(), Error<'a>> {
         match self {
@@ -128,7 +128,7 @@ impl<'a> WalkApart<'a> for Option<Expression<'a>> {
 impl<'a> WalkApart<'a> for TagType<'a> {
     ghost stands = { in_tag_type };
 
-    ghost numbered = { resolved_tag_type };
+    ghost mapped = { mapped_tag_type };
 
     fn walk_apart(&mut self, names: &Resolver<'a>) -> Result<(), Error<'a>> {
         match self {
@@ -140,7 +140,7 @@ impl<'a> WalkApart<'a> for TagType<'a> {
 impl<'a> WalkApart<'a> for ItemKind<'a> {
     ghost stands = { in_item_kind };
 
-    ghost numbered = { resolved_item_kind };
+    ghost mapped = { mapped_item_kind };
 
     fn walk_apart(&mut self, names: &Resolver<'a>) -> Result<(), Error<'a>> {
         match self {
@@ -156,7 +156,7 @@ impl<'a> WalkApart<'a> for ItemKind<'a> {
 impl<'a> WalkApart<'a> for ItemSig<'a> {
     ghost stands = { λ s. in_item_kind s.kind };
 
-    ghost numbered = { resolved_sig };
+    ghost mapped = { mapped_sig };
 
     fn walk_apart(&mut self, names: &Resolver<'a>) -> Result<(), Error<'a>> {
         self.kind.walk_apart(names)?;
@@ -167,7 +167,7 @@ impl<'a> WalkApart<'a> for ItemSig<'a> {
 impl<'a> WalkApart<'a> for ImportItems<'a> {
     ghost stands = { in_import };
 
-    ghost numbered = { resolved_import_items };
+    ghost mapped = { mapped_import_items };
 
     fn walk_apart(&mut self, names: &Resolver<'a>) -> Result<(), Error<'a>> {
         match self {
@@ -179,7 +179,7 @@ impl<'a> WalkApart<'a> for ImportItems<'a> {
 impl<'a> WalkApart<'a> for Imports<'a> {
     ghost stands = { λ i. in_import i.items };
 
-    ghost numbered = { resolved_import };
+    ghost mapped = { mapped_import };
 
     fn walk_apart(&mut self, names: &Resolver<'a>) -> Result<(), Error<'a>> {
         self.items.walk_apart(names)?;
@@ -189,7 +189,7 @@ impl<'a> WalkApart<'a> for Imports<'a> {
 
 /// Walks over the type of a table, or of its elements in place.
 fn walk_table_type<'a>(names: &Resolver<'a>, kind: &mut TableKind<'a>) -> Result<(), Error<'a>>
-    ensures { Walks ⊥ ⊥ (use_demands (scope_of names.now) (in_type_of_table kind.old)) (with_table_type (known_of names.now) kind.old) kind.new result }
+    ensures { Walks ⊥ ⊥ (site_demands (scope_of names.now) (in_type_of_table kind.old)) (with_table_type (numbering (known_of names.now)) kind.old) kind.new result }
 {
     match kind {
         TableKind::Import { ty, .. } => walk_outside(names, ty),
@@ -200,7 +200,7 @@ fn walk_table_type<'a>(names: &Resolver<'a>, kind: &mut TableKind<'a>) -> Result
 
 /// Walks over what the elements of a table are at first, or over those in place.
 fn walk_init<'a>(names: &Resolver<'a>, kind: &mut TableKind<'a>) -> Result<(), Error<'a>>
-    ensures { Walks ⊥ ⊥ (use_demands (scope_of names.now) (in_init kind.old)) (with_init (known_of names.now) kind.old) kind.new result }
+    ensures { Walks ⊥ ⊥ (site_demands (scope_of names.now) (in_init kind.old)) (with_init (numbering (known_of names.now)) kind.old) kind.new result }
 {
     match kind {
         TableKind::Import { .. } => Ok(()),
@@ -212,7 +212,7 @@ fn walk_init<'a>(names: &Resolver<'a>, kind: &mut TableKind<'a>) -> Result<(), E
 impl<'a> WalkApart<'a> for TableKind<'a> {
     ghost stands = { in_table_kind };
 
-    ghost numbered = { resolved_table_kind };
+    ghost mapped = { mapped_table_kind };
 
     fn walk_apart(&mut self, names: &Resolver<'a>) -> Result<(), Error<'a>> {
         walk_table_type(names, self)?;
@@ -223,7 +223,7 @@ impl<'a> WalkApart<'a> for TableKind<'a> {
 
 /// Walks over the table of an element segment.
 fn walk_elem_table<'a>(names: &Resolver<'a>, kind: &mut ElemKind<'a>) -> Result<(), Error<'a>>
-    ensures { Walks ⊥ ⊥ (use_demands (scope_of names.now) (in_elem_table kind.old)) (with_elem_table (known_of names.now) kind.old) kind.new result }
+    ensures { Walks ⊥ ⊥ (site_demands (scope_of names.now) (in_elem_table kind.old)) (with_elem_table (numbering (known_of names.now)) kind.old) kind.new result }
 {
     match kind {
         ElemKind::Passive => Ok(()),
@@ -234,7 +234,7 @@ fn walk_elem_table<'a>(names: &Resolver<'a>, kind: &mut ElemKind<'a>) -> Result<
 
 /// Walks over the offset of an element segment.
 fn walk_elem_offset<'a>(names: &Resolver<'a>, kind: &mut ElemKind<'a>) -> Result<(), Error<'a>>
-    ensures { Walks ⊥ ⊥ (use_demands (scope_of names.now) (in_elem_offset kind.old)) (with_elem_offset (known_of names.now) kind.old) kind.new result }
+    ensures { Walks ⊥ ⊥ (site_demands (scope_of names.now) (in_elem_offset kind.old)) (with_elem_offset (numbering (known_of names.now)) kind.old) kind.new result }
 {
     match kind {
         ElemKind::Passive => Ok(()),
@@ -246,7 +246,7 @@ fn walk_elem_offset<'a>(names: &Resolver<'a>, kind: &mut ElemKind<'a>) -> Result
 impl<'a> WalkApart<'a> for ElemKind<'a> {
     ghost stands = { in_elem_kind };
 
-    ghost numbered = { resolved_elem_kind };
+    ghost mapped = { mapped_elem_kind };
 
     fn walk_apart(&mut self, names: &Resolver<'a>) -> Result<(), Error<'a>> {
         walk_elem_table(names, self)?;
@@ -257,7 +257,7 @@ impl<'a> WalkApart<'a> for ElemKind<'a> {
 
 /// Walks over the elements of a segment.
 fn walk_elements<'a>(names: &Resolver<'a>, payload: &mut ElemPayload<'a>) -> Result<(), Error<'a>>
-    ensures { Walks ⊥ ⊥ (use_demands (scope_of names.now) (in_elements payload.old)) (with_elements (known_of names.now) payload.old) payload.new result }
+    ensures { Walks ⊥ ⊥ (site_demands (scope_of names.now) (in_elements payload.old)) (with_elements (numbering (known_of names.now)) payload.old) payload.new result }
 {
     match payload {
         ElemPayload::Indices(indices) => walk_outside_indices(names, Space::Func, indices),
@@ -270,7 +270,7 @@ fn walk_element_type<'a>(
     names: &Resolver<'a>,
     payload: &mut ElemPayload<'a>,
 ) -> Result<(), Error<'a>>
-    ensures { Walks ⊥ ⊥ (use_demands (scope_of names.now) (in_element_type payload.old)) (with_element_type (known_of names.now) payload.old) payload.new result }
+    ensures { Walks ⊥ ⊥ (site_demands (scope_of names.now) (in_element_type payload.old)) (with_element_type (numbering (known_of names.now)) payload.old) payload.new result }
 {
     match payload {
         ElemPayload::Indices(_) => Ok(()),
@@ -281,7 +281,7 @@ fn walk_element_type<'a>(
 impl<'a> WalkApart<'a> for ElemPayload<'a> {
     ghost stands = { in_payload };
 
-    ghost numbered = { resolved_payload };
+    ghost mapped = { mapped_payload };
 
     fn walk_apart(&mut self, names: &Resolver<'a>) -> Result<(), Error<'a>> {
         walk_elements(names, self)?;
@@ -292,7 +292,7 @@ impl<'a> WalkApart<'a> for ElemPayload<'a> {
 
 /// Walks over the memory of a data segment.
 fn walk_data_memory<'a>(names: &Resolver<'a>, kind: &mut DataKind<'a>) -> Result<(), Error<'a>>
-    ensures { Walks ⊥ ⊥ (use_demands (scope_of names.now) (in_data_memory kind.old)) (with_data_memory (known_of names.now) kind.old) kind.new result }
+    ensures { Walks ⊥ ⊥ (site_demands (scope_of names.now) (in_data_memory kind.old)) (with_data_memory (numbering (known_of names.now)) kind.old) kind.new result }
 {
     match kind {
         DataKind::Passive => Ok(()),
@@ -302,7 +302,7 @@ fn walk_data_memory<'a>(names: &Resolver<'a>, kind: &mut DataKind<'a>) -> Result
 
 /// Walks over the offset of a data segment.
 fn walk_data_offset<'a>(names: &Resolver<'a>, kind: &mut DataKind<'a>) -> Result<(), Error<'a>>
-    ensures { Walks ⊥ ⊥ (use_demands (scope_of names.now) (in_data_offset kind.old)) (with_data_offset (known_of names.now) kind.old) kind.new result }
+    ensures { Walks ⊥ ⊥ (site_demands (scope_of names.now) (in_data_offset kind.old)) (with_data_offset (numbering (known_of names.now)) kind.old) kind.new result }
 {
     match kind {
         DataKind::Passive => Ok(()),
@@ -313,7 +313,7 @@ fn walk_data_offset<'a>(names: &Resolver<'a>, kind: &mut DataKind<'a>) -> Result
 impl<'a> WalkApart<'a> for DataKind<'a> {
     ghost stands = { in_data_kind };
 
-    ghost numbered = { resolved_data_kind };
+    ghost mapped = { mapped_data_kind };
 
     fn walk_apart(&mut self, names: &Resolver<'a>) -> Result<(), Error<'a>> {
         walk_data_memory(names, self)?;
@@ -325,7 +325,7 @@ impl<'a> WalkApart<'a> for DataKind<'a> {
 impl<'a> WalkApart<'a> for Table<'a> {
     ghost stands = { λ t. in_table_kind t.kind };
 
-    ghost numbered = { resolved_table };
+    ghost mapped = { mapped_table };
 
     fn walk_apart(&mut self, names: &Resolver<'a>) -> Result<(), Error<'a>> {
         self.kind.walk_apart(names)?;
@@ -336,7 +336,7 @@ impl<'a> WalkApart<'a> for Table<'a> {
 impl<'a> WalkApart<'a> for Memory<'a> {
     ghost stands = { λ m. in_memory_kind m.kind };
 
-    ghost numbered = { λ k m. m };
+    ghost mapped = { mapped_memory };
 
     fn walk_apart(&mut self, _names: &Resolver<'a>) -> Result<(), Error<'a>> {
         match self.kind {
@@ -350,7 +350,7 @@ impl<'a> WalkApart<'a> for Memory<'a> {
 impl<'a> WalkApart<'a> for GlobalKind<'a> {
     ghost stands = { in_global_kind };
 
-    ghost numbered = { resolved_global_kind };
+    ghost mapped = { mapped_global_kind };
 
     fn walk_apart(&mut self, names: &Resolver<'a>) -> Result<(), Error<'a>> {
         match self {
@@ -363,7 +363,7 @@ impl<'a> WalkApart<'a> for GlobalKind<'a> {
 impl<'a> WalkApart<'a> for Global<'a> {
     ghost stands = { in_global };
 
-    ghost numbered = { resolved_global };
+    ghost mapped = { mapped_global };
 
     fn walk_apart(&mut self, names: &Resolver<'a>) -> Result<(), Error<'a>> {
         walk_outside(names, &mut self.ty)?;
@@ -375,7 +375,7 @@ impl<'a> WalkApart<'a> for Global<'a> {
 impl<'a> WalkApart<'a> for Elem<'a> {
     ghost stands = { in_elem };
 
-    ghost numbered = { resolved_elem };
+    ghost mapped = { mapped_elem };
 
     fn walk_apart(&mut self, names: &Resolver<'a>) -> Result<(), Error<'a>> {
         self.kind.walk_apart(names)?;
@@ -387,7 +387,7 @@ impl<'a> WalkApart<'a> for Elem<'a> {
 impl<'a> WalkApart<'a> for Data<'a> {
     ghost stands = { λ d. in_data_kind d.kind };
 
-    ghost numbered = { resolved_data };
+    ghost mapped = { mapped_data };
 
     fn walk_apart(&mut self, names: &Resolver<'a>) -> Result<(), Error<'a>> {
         self.kind.walk_apart(names)?;
@@ -398,7 +398,7 @@ impl<'a> WalkApart<'a> for Data<'a> {
 impl<'a> WalkApart<'a> for Tag<'a> {
     ghost stands = { λ t. in_tag_type t.ty };
 
-    ghost numbered = { resolved_tag };
+    ghost mapped = { mapped_tag };
 
     fn walk_apart(&mut self, names: &Resolver<'a>) -> Result<(), Error<'a>> {
         self.ty.walk_apart(names)?;

@@ -3,13 +3,13 @@
 
 ghost use Rattle.std.specs.Prelude.{◌≡◌, ℕ, List, Result, flat_map, map, option_map};
 ghost use Rattle.wast_base.specs.declared.faults.Error.{Error};
-ghost use Rattle.wast_tree.specs.Occurrences.{Ask, if_there, in_index, in_heap, in_ref, in_val, in_storage, in_param, in_signature, in_struct_field, in_struct, in_array, in_inner, in_def, in_type};
+ghost use Rattle.wast_tree.specs.Sites.{Ask, if_there, in_index, in_heap, in_ref, in_val, in_storage, in_param, in_signature, in_struct_field, in_struct, in_array, in_inner, in_def, in_type};
 ghost use Rattle.wast_resolve.specs.Tree.{Index};
 ghost use Rattle.wast_resolve.specs.Tree.space;
-ghost use Rattle.wast_resolve.specs.Resolved.{changed_heap, changed_ref, changed_val, changed_storage, changed_param, changed_signature, changed_struct_field, changed_struct, changed_array, changed_inner, changed_def, changed_type};
+ghost use Rattle.wast_map.specs.Mapped.{Indices, mapped_heap, mapped_ref, mapped_val, mapped_storage, mapped_param, mapped_signature, mapped_struct_field, mapped_struct, mapped_array, mapped_inner, mapped_def};
 ghost use Rattle.wast_resolve.specs.LookUps.{IsSettledFor, LooksTypesUp};
 ghost use Rattle.wast_resolve.specs.Resolvers.{known_of};
-ghost use Rattle.wast_resolve.specs.CoreTypes.{CallsOn, HasNeeds, blank};
+ghost use Rattle.wast_resolve.specs.CoreTypes.{CallsOn, HasNeeds, blank, with_def};
 
 use crate::resolver::{Ns, Resolver};
 use wast_tree::{
@@ -43,7 +43,7 @@ pub fn resolve_type<'a, C: ResolveCoreType<'a>>(
 ) -> Result<(), Error<'a>>
     requires { HasNeeds C.needs cx.old (in_type ty.old) }
     ensures calls { CallsOn C.called cx.old (in_type ty.old) cx.new (in_type ty.new) result }
-    ensures rest { changed_type blank ty.new ≡ changed_type blank ty.old }
+    ensures rest { with_def blank ty.new ≡ with_def blank ty.old }
     ensures kept { (i : Index) → C.needs cx.old i → C.needs cx.new i }
 {
     ty.resolve_with(cx)?;
@@ -59,7 +59,7 @@ pub fn resolve_type_def<'a, C: ResolveCoreType<'a>>(
 ) -> Result<(), Error<'a>>
     requires { HasNeeds C.needs cx.old (in_def ty.old) }
     ensures calls { CallsOn C.called cx.old (in_def ty.old) cx.new (in_def ty.new) result }
-    ensures rest { changed_def blank ty.new ≡ changed_def blank ty.old }
+    ensures rest { mapped_def blank ty.new ≡ mapped_def blank ty.old }
     ensures kept { (i : Index) → C.needs cx.old i → C.needs cx.new i }
 {
     ty.resolve_with(cx)?;
@@ -75,7 +75,7 @@ pub fn resolve_type_func<'a, C: ResolveCoreType<'a>>(
 ) -> Result<(), Error<'a>>
     requires { HasNeeds C.needs cx.old (in_signature ty.old) }
     ensures calls { CallsOn C.called cx.old (in_signature ty.old) cx.new (in_signature ty.new) result }
-    ensures rest { changed_signature blank ty.new ≡ changed_signature blank ty.old }
+    ensures rest { mapped_signature blank ty.new ≡ mapped_signature blank ty.old }
     ensures kept { (i : Index) → C.needs cx.old i → C.needs cx.new i }
 {
     ty.resolve_with(cx)?;
@@ -91,7 +91,7 @@ pub fn resolve_valtype<'a, C: ResolveCoreType<'a>>(
 ) -> Result<(), Error<'a>>
     requires { HasNeeds C.needs cx.old (in_val ty.old) }
     ensures calls { CallsOn C.called cx.old (in_val ty.old) cx.new (in_val ty.new) result }
-    ensures rest { changed_val blank ty.new ≡ changed_val blank ty.old }
+    ensures rest { mapped_val blank ty.new ≡ mapped_val blank ty.old }
     ensures kept { (i : Index) → C.needs cx.old i → C.needs cx.new i }
 {
     ty.resolve_with(cx)?;
@@ -107,7 +107,7 @@ pub fn resolve_reftype<'a, C: ResolveCoreType<'a>>(
 ) -> Result<(), Error<'a>>
     requires { HasNeeds C.needs cx.old (in_ref ty.old) }
     ensures calls { CallsOn C.called cx.old (in_ref ty.old) cx.new (in_ref ty.new) result }
-    ensures rest { changed_ref blank ty.new ≡ changed_ref blank ty.old }
+    ensures rest { mapped_ref blank ty.new ≡ mapped_ref blank ty.old }
     ensures kept { (i : Index) → C.needs cx.old i → C.needs cx.new i }
 {
     ty.resolve_with(cx)?;
@@ -123,7 +123,7 @@ pub fn resolve_heaptype<'a, C: ResolveCoreType<'a>>(
 ) -> Result<(), Error<'a>>
     requires { HasNeeds C.needs cx.old (in_heap ty.old) }
     ensures calls { CallsOn C.called cx.old (in_heap ty.old) cx.new (in_heap ty.new) result }
-    ensures rest { changed_heap blank ty.new ≡ changed_heap blank ty.old }
+    ensures rest { mapped_heap blank ty.new ≡ mapped_heap blank ty.old }
     ensures kept { (i : Index) → C.needs cx.old i → C.needs cx.new i }
 {
     ty.resolve_with(cx)?;
@@ -139,7 +139,7 @@ pub fn resolve_storagetype<'a, C: ResolveCoreType<'a>>(
 ) -> Result<(), Error<'a>>
     requires { HasNeeds C.needs cx.old (in_storage ty.old) }
     ensures calls { CallsOn C.called cx.old (in_storage ty.old) cx.new (in_storage ty.new) result }
-    ensures rest { changed_storage blank ty.new ≡ changed_storage blank ty.old }
+    ensures rest { mapped_storage blank ty.new ≡ mapped_storage blank ty.old }
     ensures kept { (i : Index) → C.needs cx.old i → C.needs cx.new i }
 {
     ty.resolve_with(cx)?;
@@ -162,7 +162,7 @@ trait CoreType<'a, C: ResolveCoreType<'a>> {
     ghost asks: { Self → List Ask };
 
     /// It, with each index changed.
-    ghost changed: { (Index → Index) → Self → Self };
+    ghost changed: { Indices → Self → Self };
 
     /// Resolves each index in it, in order, up to the first error.
     fn resolve_with(&mut self, cx: &mut C) -> Result<(), Error<'a>>
@@ -175,7 +175,7 @@ trait CoreType<'a, C: ResolveCoreType<'a>> {
 impl<'a, C: ResolveCoreType<'a>> CoreType<'a, C> for Index<'a> {
     ghost asks = { in_index space.Ty };
 
-    ghost changed = { λ f i. f i };
+    ghost changed = { λ f i. f space.Ty i };
 
     fn resolve_with(&mut self, cx: &mut C) -> Result<(), Error<'a>> {
         cx.resolve_type_name(self)?;
@@ -215,7 +215,7 @@ impl<'a, C: ResolveCoreType<'a>, T: CoreType<'a, C>> CoreType<'a, C> for Option<
 impl<'a, C: ResolveCoreType<'a>> CoreType<'a, C> for HeapType<'a> {
     ghost asks = { in_heap };
 
-    ghost changed = { changed_heap };
+    ghost changed = { mapped_heap };
 
     fn resolve_with(&mut self, cx: &mut C) -> Result<(), Error<'a>> {
         match self {
@@ -228,7 +228,7 @@ impl<'a, C: ResolveCoreType<'a>> CoreType<'a, C> for HeapType<'a> {
 impl<'a, C: ResolveCoreType<'a>> CoreType<'a, C> for RefType<'a> {
     ghost asks = { in_ref };
 
-    ghost changed = { changed_ref };
+    ghost changed = { mapped_ref };
 
     fn resolve_with(&mut self, cx: &mut C) -> Result<(), Error<'a>> {
         self.heap.resolve_with(cx)?;
@@ -239,7 +239,7 @@ impl<'a, C: ResolveCoreType<'a>> CoreType<'a, C> for RefType<'a> {
 impl<'a, C: ResolveCoreType<'a>> CoreType<'a, C> for ValType<'a> {
     ghost asks = { in_val };
 
-    ghost changed = { changed_val };
+    ghost changed = { mapped_val };
 
     fn resolve_with(&mut self, cx: &mut C) -> Result<(), Error<'a>> {
         match self {
@@ -256,7 +256,7 @@ impl<'a, C: ResolveCoreType<'a>> CoreType<'a, C> for ValType<'a> {
 impl<'a, C: ResolveCoreType<'a>> CoreType<'a, C> for StorageType<'a> {
     ghost asks = { in_storage };
 
-    ghost changed = { changed_storage };
+    ghost changed = { mapped_storage };
 
     fn resolve_with(&mut self, cx: &mut C) -> Result<(), Error<'a>> {
         match self {
@@ -271,7 +271,7 @@ impl<'a, C: ResolveCoreType<'a>> CoreType<'a, C>
     for (Option<Id<'a>>, Option<NameAnnotation<'a>>, ValType<'a>) {
     ghost asks = { in_param };
 
-    ghost changed = { changed_param };
+    ghost changed = { mapped_param };
 
     fn resolve_with(&mut self, cx: &mut C) -> Result<(), Error<'a>> {
         self.2.resolve_with(cx)?;
@@ -282,7 +282,7 @@ impl<'a, C: ResolveCoreType<'a>> CoreType<'a, C>
 impl<'a, C: ResolveCoreType<'a>> CoreType<'a, C> for FunctionType<'a> {
     ghost asks = { in_signature };
 
-    ghost changed = { changed_signature };
+    ghost changed = { mapped_signature };
 
     fn resolve_with(&mut self, cx: &mut C) -> Result<(), Error<'a>> {
         resolve_each(cx, &mut self.params)?;
@@ -294,7 +294,7 @@ impl<'a, C: ResolveCoreType<'a>> CoreType<'a, C> for FunctionType<'a> {
 impl<'a, C: ResolveCoreType<'a>> CoreType<'a, C> for StructField<'a> {
     ghost asks = { in_struct_field };
 
-    ghost changed = { changed_struct_field };
+    ghost changed = { mapped_struct_field };
 
     fn resolve_with(&mut self, cx: &mut C) -> Result<(), Error<'a>> {
         self.ty.resolve_with(cx)?;
@@ -305,7 +305,7 @@ impl<'a, C: ResolveCoreType<'a>> CoreType<'a, C> for StructField<'a> {
 impl<'a, C: ResolveCoreType<'a>> CoreType<'a, C> for StructType<'a> {
     ghost asks = { in_struct };
 
-    ghost changed = { changed_struct };
+    ghost changed = { mapped_struct };
 
     fn resolve_with(&mut self, cx: &mut C) -> Result<(), Error<'a>> {
         resolve_each(cx, &mut self.fields)?;
@@ -316,7 +316,7 @@ impl<'a, C: ResolveCoreType<'a>> CoreType<'a, C> for StructType<'a> {
 impl<'a, C: ResolveCoreType<'a>> CoreType<'a, C> for ArrayType<'a> {
     ghost asks = { in_array };
 
-    ghost changed = { changed_array };
+    ghost changed = { mapped_array };
 
     fn resolve_with(&mut self, cx: &mut C) -> Result<(), Error<'a>> {
         self.ty.resolve_with(cx)?;
@@ -327,7 +327,7 @@ impl<'a, C: ResolveCoreType<'a>> CoreType<'a, C> for ArrayType<'a> {
 impl<'a, C: ResolveCoreType<'a>> CoreType<'a, C> for InnerTypeKind<'a> {
     ghost asks = { in_inner };
 
-    ghost changed = { changed_inner };
+    ghost changed = { mapped_inner };
 
     fn resolve_with(&mut self, cx: &mut C) -> Result<(), Error<'a>> {
         match self {
@@ -341,7 +341,7 @@ impl<'a, C: ResolveCoreType<'a>> CoreType<'a, C> for InnerTypeKind<'a> {
 impl<'a, C: ResolveCoreType<'a>> CoreType<'a, C> for TypeDef<'a> {
     ghost asks = { in_def };
 
-    ghost changed = { changed_def };
+    ghost changed = { mapped_def };
 
     fn resolve_with(&mut self, cx: &mut C) -> Result<(), Error<'a>> {
         resolve_each(cx, &mut self.parents)?;
@@ -355,7 +355,7 @@ impl<'a, C: ResolveCoreType<'a>> CoreType<'a, C> for TypeDef<'a> {
 impl<'a, C: ResolveCoreType<'a>> CoreType<'a, C> for Type<'a> {
     ghost asks = { in_type };
 
-    ghost changed = { changed_type };
+    ghost changed = { with_def };
 
     fn resolve_with(&mut self, cx: &mut C) -> Result<(), Error<'a>> {
         self.def.resolve_with(cx)?;

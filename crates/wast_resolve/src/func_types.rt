@@ -2,12 +2,12 @@
 
 ghost use Rattle.std.specs.Prelude.{◌≡◌, [], ◌∷◌, ◌++◌, map, IfOk, IfErr, OnOk};
 ghost use Rattle.wast_base.specs.Faults.{out_of_memory};
-ghost use Rattle.wast_expand.specs.TypeSpace.{taken_kind};
+ghost use Rattle.wast_types.specs.TypeSpace.{taken_kind};
 ghost use Rattle.wast_resolve.specs.Scopes.{signatures_in, signatures};
 
 use std::alloc::Global;
-use wast_expand::{FuncKey, TypeReference};
 use wast_tree::{Error, InnerTypeKind, ModuleField, Type};
+use wast_types::{FuncKey, TypeReference};
 
 /// The signature of a type, where it is a function type.
 fn copied<'a>(alloc: Global, kind: &InnerTypeKind<'a>) -> Result<Option<FuncKey<'a>>, Error<'a>>

@@ -1,20 +1,22 @@
 //! Laws for callers to cite: of the resolved list of fields, and of types that the resolver of a module resolves.
 
-ghost use Rattle.wast_tree.specs.Occurrences.{in_heap, in_ref, in_val, in_storage, in_signature, in_def, in_type};
-ghost use Rattle.wast_resolve.specs.Resolved.{changed_heap, changed_ref, changed_val, changed_storage, changed_signature, changed_def, changed_type};
-ghost use Rattle.wast_resolve.specs.Laws.{ByResolver, NeedsOfResolver, SameAnswer, SameCounts, ExplicitStaysWellFormed, NoIdIsLeft, FinishedStaysWellFormed, SamePositions, FinishedIsBelow, UsesHaveIndices, FinishedIsWrittenOut, ItemsStay};
+ghost use Rattle.wast_tree.specs.Sites.{in_heap, in_ref, in_val, in_storage, in_signature, in_def, in_type};
+ghost use Rattle.wast_map.specs.Mapped.{mapped_heap, mapped_ref, mapped_val, mapped_storage, mapped_signature, mapped_def};
+ghost use Rattle.wast_resolve.specs.CoreTypes.{with_def};
+ghost use Rattle.wast_resolve.specs.Laws.{ByResolver, NeedsOfResolver, SameAnswer, SameCounts, ExplicitStaysWellFormed, NoIdIsLeft, FinishedStaysWellFormed, SamePositions, FinishedIsResolved, FinishedIsBelow, UsesHaveIndices, FinishedIsWrittenOut, ItemsStay};
 
 /// Where the counter begins above the ids of the fields, the ids that are filled in change no answer and no count, and
 /// well formed fields stay well formed. In the resolved list of fields whose demands are met no id is left where an index
-/// is wanted, each type use has an index, it is well formed if they are, and each generation in it is below that of the
-/// next id; it is written out; and it is the list by positions, generated ids and places of type uses aside. Its items are
+/// is wanted, each type use has an index, so it is resolved; it is well formed if they are, and each generation in it is below
+/// that of the next id; it is written out; and it is the list by positions, generated ids and places of type uses aside. Its items are
 /// those of the list in which nothing is left out, whatever is met. It does nothing.
-#[tactic(auto, using(crate::proofs::Explicit::explicit_answer, crate::proofs::Explicit::explicit_counts, crate::proofs::Explicit::explicit_well_formed, crate::proofs::Explicit::finished_numbered, crate::proofs::Explicit::finished_well_formed, crate::proofs::Explicit::finished_by_position, crate::proofs::Explicit::finished_below, crate::proofs::Explicit::finished_indexed, crate::proofs::Explicit::finished_written_out, crate::proofs::Explicit::finished_items))]
+#[tactic(auto, using(crate::proofs::Explicit::explicit_answer, crate::proofs::Explicit::explicit_counts, crate::proofs::Explicit::explicit_well_formed, crate::proofs::Explicit::finished_numbered, crate::proofs::Explicit::finished_resolved, crate::proofs::Explicit::finished_well_formed, crate::proofs::Explicit::finished_by_position, crate::proofs::Explicit::finished_below, crate::proofs::Explicit::finished_indexed, crate::proofs::Explicit::finished_written_out, crate::proofs::Explicit::finished_items))]
 pub fn resolved_laws()
     ensures answer { SameAnswer }
     ensures counts { SameCounts }
     ensures explicit { ExplicitStaysWellFormed }
     ensures numbers { NoIdIsLeft }
+    ensures resolved { FinishedIsResolved }
     ensures well_formed { FinishedStaysWellFormed }
     ensures positions { SamePositions }
     ensures generations { FinishedIsBelow }
@@ -29,13 +31,13 @@ pub fn resolved_laws()
 /// does nothing.
 #[tactic(auto, using(crate::proofs::CallingNames::by_resolver, crate::proofs::CallingNames::needs_of_resolver, crate::proofs::PartsOfTypes::heap_part, crate::proofs::PartsOfTypes::ref_part, crate::proofs::PartsOfTypes::val_part, crate::proofs::PartsOfTypes::storage_part))]
 pub fn core_type_laws()
-    ensures types { ByResolver in_type changed_type }
-    ensures defs { ByResolver in_def changed_def }
-    ensures functions { ByResolver in_signature changed_signature }
-    ensures values { ByResolver in_val changed_val }
-    ensures references { ByResolver in_ref changed_ref }
-    ensures heaps { ByResolver in_heap changed_heap }
-    ensures storages { ByResolver in_storage changed_storage }
+    ensures types { ByResolver in_type with_def }
+    ensures defs { ByResolver in_def mapped_def }
+    ensures functions { ByResolver in_signature mapped_signature }
+    ensures values { ByResolver in_val mapped_val }
+    ensures references { ByResolver in_ref mapped_ref }
+    ensures heaps { ByResolver in_heap mapped_heap }
+    ensures storages { ByResolver in_storage mapped_storage }
     ensures types_needs { NeedsOfResolver in_type }
     ensures defs_needs { NeedsOfResolver in_def }
     ensures functions_needs { NeedsOfResolver in_signature }

@@ -4,9 +4,9 @@ ghost use Rattle.std.specs.Prelude.{◌≡◌, ⊤, ◌≤◌, ◌^◌, ◌++◌
 ghost use Rattle.wast_base.specs.Ids.{Mark, marked};
 ghost use Rattle.wast_base.specs.Spaces.{name_if};
 ghost use Rattle.wast_base.specs.Faults.{told};
-ghost use Rattle.wast_tree.specs.Occurrences.{Declares, declared};
+ghost use Rattle.wast_tree.specs.Sites.{param_marks, declaring};
 ghost use Rattle.wast_resolve.specs.Scopes.{Scope};
-ghost use Rattle.wast_resolve.specs.Demands.{first_unmet, start, step_demands};
+ghost use Rattle.wast_resolve.specs.Demands.{first_unmet, site_demands, declared};
 ghost use Rattle.wast_namespace.specs.Filling.{HasFirstClash};
 ghost use Rattle.wast_resolve.specs.Gathers.{Stops, Gathers, with_gathered};
 ghost use Rattle.wast_resolve.specs.Locals.{params_in, opening, marks, names, said_of};
@@ -79,7 +79,7 @@ fn check_names<'a>(
     params: &[Param<'a>],
     locals: &[Local<'a>],
 ) -> Result<(), Error<'a>>
-    ensures { (c : Scope) → let ms = marks (λ p. marked p.0) (λ l. marked l.id) params.now locals.now in Outcome ⊤ (2 ^ 32 ≤ length ms) (first_unmet (step_demands c start (map Declares ms))) result }
+    ensures { (c : Scope) → let ms = marks (λ p. marked p.0) (λ l. marked l.id) params.now locals.now in Outcome ⊤ (2 ^ 32 ≤ length ms) (first_unmet (site_demands c (declaring [] ms))) result }
 {
     match first_clash(alloc, params, locals)? {
         None => Ok(()),
@@ -97,7 +97,7 @@ fn check_declared<'a>(
     inline: &Option<FunctionType<'a>>,
     locals: &[Local<'a>],
 ) -> Result<(), Error<'a>>
-    ensures { (c : Scope) → let ms = marks (λ p. marked p.0) (λ l. marked l.id) (params_in inline.now) locals.now in Outcome ⊤ (2 ^ 32 ≤ length ms) (first_unmet (step_demands c start (map Declares ms))) result }
+    ensures { (c : Scope) → let ms = marks (λ p. marked p.0) (λ l. marked l.id) (params_in inline.now) locals.now in Outcome ⊤ (2 ^ 32 ≤ length ms) (first_unmet (site_demands c (declaring [] ms))) result }
 {
     match inline {
         None => check_names(alloc, &[], locals),
@@ -114,7 +114,7 @@ pub(crate) fn check_locals<'a>(
     inline: &Option<FunctionType<'a>>,
     kind: &FuncKind<'a>,
 ) -> Result<(), Error<'a>>
-    ensures { (c : Scope) → Outcome ⊤ (2 ^ 32 ≤ length (declared inline.now kind.now)) (first_unmet (step_demands c start (opening inline.now kind.now))) result }
+    ensures { (c : Scope) → Outcome ⊤ (2 ^ 32 ≤ length (declared inline.now kind.now)) (first_unmet (site_demands c (opening (param_marks inline.now) kind.now))) result }
 {
     match kind {
         FuncKind::Import(..) => Ok(()),

@@ -3,24 +3,23 @@
 ghost use Rattle.std.specs.Prelude.{◌≡◌, List, None, map, IsTrue, OnOk, IfErr};
 ghost use Rattle.wast_base.specs.Ids.{is_number};
 ghost use Rattle.wast_base.specs.Faults.{told};
-ghost use Rattle.wast_tree.specs.Occurrences.{Ask, in_signature};
-ghost use Rattle.wast_tree.specs.Known.{Known};
-ghost use Rattle.wast_tree.specs.WellFormed.{are_settled};
-ghost use Rattle.wast_expand.specs.Signatures.{type_of_param, same_heap_by, same_ref_by, same_value_by, same_values_by};
+ghost use Rattle.wast_tree.specs.Sites.{Ask, in_signature};
+ghost use Rattle.wast_types.specs.Signatures.{type_of_param, same_heap_by, same_ref_by, same_value_by, same_values_by};
 ghost use Rattle.wast_resolve.specs.Tree.{Index, ValType};
 ghost use Rattle.wast_resolve.specs.Scopes.{Scope};
 ghost use Rattle.wast_resolve.specs.Matches.{same_type, matches};
 ghost use Rattle.wast_resolve.specs.Demands.{Demand, first_unmet, ask_demands, match_demands, Answers};
 ghost use Rattle.wast_namespace.specs.Outcomes.{Outcome};
-ghost use Rattle.wast_resolve.specs.Resolved.{changed_signature, resolved_signature};
-ghost use Rattle.wast_resolve.specs.LookUps.{LooksTypesUp};
+ghost use Rattle.wast_map.specs.Mapped.{Indices, mapped_signature};
+ghost use Rattle.wast_resolve.specs.Resolved.{numbered_at};
+ghost use Rattle.wast_resolve.specs.LookUps.{are_settled, LooksTypesUp};
 ghost use Rattle.wast_resolve.specs.CoreTypes.{CallsOn, blank};
 ghost use Rattle.wast_resolve.specs.Resolvers.{known_of, scope_of};
 
 use crate::core_types::resolve_type_func;
 use crate::resolver::Resolver;
-use wast_expand::FuncKey;
 use wast_tree::{Error, FunctionType, HeapType, Id, Index, NameAnnotation, RefType, ValType};
+use wast_types::FuncKey;
 
 /// Whether two heap types are one.
 fn same_heap<'a>(cx: &Resolver<'a>, a: &HeapType<'a>, b: &HeapType<'a>) -> bool
@@ -113,10 +112,7 @@ pub trait TypeReference<'a> {
     ghost asks: { Self → List Ask };
 
     /// It, with each index changed.
-    ghost changed: { (Index → Index) → Self → Self };
-
-    /// It, with each index numbered.
-    ghost numbered: { Known → Self → Self };
+    ghost changed: { Indices → Self → Self };
 
     /// What is demanded where it stands beside an index.
     ghost matched: { Scope → Index → Self → List Demand };
@@ -139,7 +135,7 @@ pub trait TypeReference<'a> {
     fn resolve(&mut self, cx: &Resolver<'a>) -> Result<(), Error<'a>>
         requires { IsTrue (are_settled (known_of cx.now) (asks self.old)) }
         ensures met { OnOk result (first_unmet (ask_demands (known_of cx.now) (asks self.old)) ≡ None) }
-        ensures becomes { OnOk result (self.new ≡ numbered (known_of cx.now) self.old) }
+        ensures becomes { OnOk result (self.new ≡ changed (numbered_at (known_of cx.now)) self.old) }
         ensures refusal { IfErr result (λ e. Answers ⊥ ⊥ (told e) (first_unmet (ask_demands (known_of cx.now) (asks self.old)))) }
         ensures calls { CallsOn (LooksTypesUp (λ names. known_of names.now)) cx.entry (asks self.old) cx.entry (asks self.new) result }
         ensures rest { changed blank self.new ≡ changed blank self.old };
@@ -148,9 +144,7 @@ pub trait TypeReference<'a> {
 impl<'a> TypeReference<'a> for FunctionType<'a> {
     ghost asks = { in_signature };
 
-    ghost changed = { changed_signature };
-
-    ghost numbered = { resolved_signature };
+    ghost changed = { mapped_signature };
 
     ghost matched = { match_demands };
 

@@ -19,7 +19,7 @@ use wast_tree::{Error, ModuleField, Seq, discard_fields};
 /// format, indices).
 ///
 /// It gives the fields, and what their ids denote and which function types they have. It needs nothing of the fields: what
-/// stands in place stays there, and a type use without an index has none afterwards ([`wast_expand::types::expand`] gives
+/// stands in place stays there, and a type use without an index has none afterwards ([`wast_types::types::expand`] gives
 /// each one an index). The error is the first demand that is not met: in the order of the fields E2 at the second bearer of
 /// an id in a space, and directly after a type E3 at the second bearer of an id among the fields of its struct; after all of
 /// these, field by field, E4 at an id that denotes nothing; E6, E5 or E7 at an index whose type is not the inline type

@@ -18,9 +18,9 @@ use crate::passes;
 use crate::resolver::Resolver;
 use std::alloc::Global;
 use std::marker::Model;
-use wast_deinline::written_laws;
-use wast_expand::{deinline, types};
+use wast_deinline::{deinline, written_laws};
 use wast_tree::{Error, Gensym, Index, ModuleField, Seq, Space};
+use wast_types::types;
 
 /// What the ids of a module denote, for a caller that has indices of its own (text format, indices).
 #[derive(Drop)]

@@ -14,9 +14,9 @@ ghost use Rattle.wast_resolve.specs.Resolvers.{space_of, space_in, known_of, sco
 use crate::matches::has_signature;
 use std::alloc::Global;
 use std::marker::Model;
-use wast_expand::FuncKey;
 use wast_namespace::Namespace;
 use wast_tree::{Error, Fault, FunctionType, Id, Index, Space};
+use wast_types::FuncKey;
 
 /// A space of items that an index can stand for (text format, indices).
 #[derive(Clone, Copy, Debug, PartialEq, Eq, Hash)]

@@ -1,16 +1,18 @@
 //! Walks over the tree in its place: each id where an index is wanted becomes the number that it denotes.
 #![tactic(auto, using(crate::proofs::Parts::both_met, crate::proofs::Parts::first_fails, crate::proofs::Parts::second_fails, crate::proofs::Parts::id_met))]
 
-ghost use Rattle.std.specs.Prelude.{⊤, ◌≤◌, ◌^◌, List, [], ◌∷◌, ◌++◌, length, map, flat_map, option_map};
-ghost use Rattle.wast_tree.specs.Known.{Known};
-ghost use Rattle.wast_tree.specs.Occurrences.{Ask, InOrder, if_there, outside, in_index, in_heap, in_ref, in_val, in_storage, in_param, in_signature, in_struct_field, in_struct, in_array, in_inner, in_def, in_type, in_rec, in_type_use, in_instr, in_expression, in_local, in_locals, in_body, matched, declared, in_func_kind, in_func, in_table_type, in_global_type, in_export, in_field, in_module};
-ghost use Rattle.wast_resolve.specs.Demands.{Here, start, first_unmet, ask_demands, step_demands, use_demands, local_counts_in, local_counts, HasMany};
+ghost use Rattle.std.specs.Prelude.{⊤, ◌≤◌, ◌^◌, List, length, map, flat_map, option_map};
+ghost use Rattle.wast_base.specs.Ids.{Mark};
+ghost use Rattle.wast_tree.specs.Sites.{Ask, Here, if_there, in_index, in_heap, in_ref, in_val, in_signature, in_type, in_rec, in_type_use, in_instr, in_instrs, in_expression, in_local, param_marks, in_func_kind, in_func, in_use, in_table_type, in_global_type, exported_space, in_field, in_module};
+ghost use Rattle.wast_map.specs.Mapped.{Change, mapped_heap, mapped_ref, mapped_val, mapped_signature, mapped_type, mapped_rec, mapped_table_type, mapped_global_type, mapped_local, mapped_export, mapped_instr, mapped_instrs, mapped_expression, mapped_func_kind, mapped_func, mapped};
+ghost use Rattle.wast_resolve.specs.Demands.{match_if, first_unmet, ask_demands, site_demands, declared, local_counts_in, local_counts, HasMany};
 ghost use Rattle.wast_namespace.specs.Outcomes.{Outcome};
-ghost use Rattle.wast_resolve.specs.Resolved.{numbered_at, resolved_heap, resolved_ref, resolved_val, resolved_storage, resolved_param, resolved_signature, resolved_struct_field, resolved_struct, resolved_array, resolved_inner, resolved_def, resolved_type, resolved_rec, resolved_type_use, resolved_local, resolved_instr, resolved_instrs, resolved_expression, resolved_locals, resolved_body, resolved_func_kind, resolved_func, resolved_table_type, resolved_global_type, resolved_export, resolved_field};
+ghost use Rattle.wast_resolve.specs.Resolved.{numbered_at, numbering};
+ghost use Rattle.wast_resolve.specs.TwoSteps.{in_locals, in_body, with_locals, with_body};
 ghost use Rattle.wast_resolve.specs.Resolvers.{known_of, scope_of};
 ghost use Rattle.wast_resolve.specs.LookUps.{LooksTypesUp};
 ghost use Rattle.wast_resolve.specs.Tree.field;
-ghost use Rattle.wast_resolve.specs.Walking.{Walks, Steps};
+ghost use Rattle.wast_resolve.specs.Walking.{Walks};
 
 use crate::apart::{WalkApart, walk_outside, walk_outside_index};
 use crate::core_types::{
@@ -91,12 +93,12 @@ pub(crate) trait Walk<'a> {
     /// What stands in it.
     ghost asks: { Self → List Ask };
 
-    /// It, with each index numbered.
-    ghost numbered: { Known → Self → Self };
+    /// It, after a change.
+    ghost mapped: { Change → Self → Self };
 
     /// Walks over it. The error is E4 at an id that denotes nothing.
     fn walk(&mut self, names: &Resolver<'a>) -> Result<(), Error<'a>>
-        ensures { Walks ⊥ ⊥ (ask_demands (known_of names.now) (asks self.old)) (numbered (known_of names.now) self.old) self.new result };
+        ensures { Walks ⊥ ⊥ (ask_demands (known_of names.now) (asks self.old)) (mapped (numbering (known_of names.now)) self.old) self.new result };
 }
 
 /// Walks over each part of a list, in order.
@@ -104,7 +106,7 @@ pub(crate) fn walk_each<'a, T: Walk<'a>>(
     names: &Resolver<'a>,
     parts: &mut Seq<T>,
 ) -> Result<(), Error<'a>>
-    ensures { Walks ⊥ ⊥ (ask_demands (known_of names.now) (flat_map T.asks parts.old)) (map (T.numbered (known_of names.now)) parts.old) parts.new result }
+    ensures { Walks ⊥ ⊥ (ask_demands (known_of names.now) (flat_map T.asks parts.old)) (map (T.mapped (numbering (known_of names.now))) parts.old) parts.new result }
 {
     for i in 0..parts.len() {
         parts.at_mut(i).walk(names)?;
@@ -115,7 +117,7 @@ pub(crate) fn walk_each<'a, T: Walk<'a>>(
 impl<'a> Walk<'a> for ValType<'a> {
     ghost asks = { in_val };
 
-    ghost numbered = { resolved_val };
+    ghost mapped = { λ f. mapped_val f.index };
 
     fn walk(&mut self, names: &Resolver<'a>) -> Result<(), Error<'a>> {
         resolve_valtype(&mut ByNames { names }, self)?;
@@ -126,7 +128,7 @@ impl<'a> Walk<'a> for ValType<'a> {
 impl<'a> Walk<'a> for RefType<'a> {
     ghost asks = { in_ref };
 
-    ghost numbered = { resolved_ref };
+    ghost mapped = { λ f. mapped_ref f.index };
 
     fn walk(&mut self, names: &Resolver<'a>) -> Result<(), Error<'a>> {
         resolve_reftype(&mut ByNames { names }, self)?;
@@ -137,7 +139,7 @@ impl<'a> Walk<'a> for RefType<'a> {
 impl<'a> Walk<'a> for HeapType<'a> {
     ghost asks = { in_heap };
 
-    ghost numbered = { resolved_heap };
+    ghost mapped = { λ f. mapped_heap f.index };
 
     fn walk(&mut self, names: &Resolver<'a>) -> Result<(), Error<'a>> {
         resolve_heaptype(&mut ByNames { names }, self)?;
@@ -148,7 +150,7 @@ impl<'a> Walk<'a> for HeapType<'a> {
 impl<'a> Walk<'a> for FunctionType<'a> {
     ghost asks = { in_signature };
 
-    ghost numbered = { resolved_signature };
+    ghost mapped = { λ f. mapped_signature f.index };
 
     fn walk(&mut self, names: &Resolver<'a>) -> Result<(), Error<'a>> {
         resolve_type_func(&mut ByNames { names }, self)?;
@@ -159,7 +161,7 @@ impl<'a> Walk<'a> for FunctionType<'a> {
 impl<'a> Walk<'a> for Type<'a> {
     ghost asks = { in_type };
 
-    ghost numbered = { resolved_type };
+    ghost mapped = { mapped_type };
 
     fn walk(&mut self, names: &Resolver<'a>) -> Result<(), Error<'a>> {
         resolve_type(&mut ByNames { names }, self)?;
@@ -170,7 +172,7 @@ impl<'a> Walk<'a> for Type<'a> {
 impl<'a> Walk<'a> for Rec<'a> {
     ghost asks = { in_rec };
 
-    ghost numbered = { resolved_rec };
+    ghost mapped = { mapped_rec };
 
     fn walk(&mut self, names: &Resolver<'a>) -> Result<(), Error<'a>> {
         walk_each(names, &mut self.types)?;
@@ -181,7 +183,7 @@ impl<'a> Walk<'a> for Rec<'a> {
 impl<'a, T: Walk<'a>> Walk<'a> for Option<T> {
     ghost asks = { if_there T.asks };
 
-    ghost numbered = { λ k o. option_map (T.numbered k) o };
+    ghost mapped = { λ f o. option_map (T.mapped f) o };
 
     fn walk(&mut self, names: &Resolver<'a>) -> Result<(), Error<'a>> {
         match self {
@@ -194,7 +196,7 @@ impl<'a, T: Walk<'a>> Walk<'a> for Option<T> {
 impl<'a> Walk<'a> for TypeUse<'a, FunctionType<'a>> {
     ghost asks = { in_type_use };
 
-    ghost numbered = { resolved_type_use };
+    ghost mapped = { λ f. f.used };
 
     fn walk(&mut self, names: &Resolver<'a>) -> Result<(), Error<'a>> {
         walk_optional(names, Space::Ty, &mut self.index)?;
@@ -206,7 +208,7 @@ impl<'a> Walk<'a> for TypeUse<'a, FunctionType<'a>> {
 impl<'a> Walk<'a> for TableType<'a> {
     ghost asks = { in_table_type };
 
-    ghost numbered = { resolved_table_type };
+    ghost mapped = { λ f. mapped_table_type f.index };
 
     fn walk(&mut self, names: &Resolver<'a>) -> Result<(), Error<'a>> {
         self.elem.walk(names)?;
@@ -217,7 +219,7 @@ impl<'a> Walk<'a> for TableType<'a> {
 impl<'a> Walk<'a> for GlobalType<'a> {
     ghost asks = { in_global_type };
 
-    ghost numbered = { resolved_global_type };
+    ghost mapped = { λ f. mapped_global_type f.index };
 
     fn walk(&mut self, names: &Resolver<'a>) -> Result<(), Error<'a>> {
         self.ty.walk(names)?;
@@ -228,7 +230,7 @@ impl<'a> Walk<'a> for GlobalType<'a> {
 impl<'a> Walk<'a> for Local<'a> {
     ghost asks = { in_local };
 
-    ghost numbered = { resolved_local };
+    ghost mapped = { mapped_local };
 
     fn walk(&mut self, names: &Resolver<'a>) -> Result<(), Error<'a>> {
         self.ty.walk(names)?;
@@ -237,9 +239,9 @@ impl<'a> Walk<'a> for Local<'a> {
 }
 
 impl<'a> Walk<'a> for Export<'a> {
-    ghost asks = { in_export };
+    ghost asks = { λ e. in_index (exported_space e.kind) e.item };
 
-    ghost numbered = { resolved_export };
+    ghost mapped = { mapped_export };
 
     fn walk(&mut self, names: &Resolver<'a>) -> Result<(), Error<'a>> {
         walk_index(names, self.kind.space(), &mut self.item)?;
@@ -249,7 +251,7 @@ impl<'a> Walk<'a> for Export<'a> {
 
 /// Walks over an instruction.
 fn walk_instr<'a>(names: &Resolver<'a>, instr: &mut Instruction<'a>) -> Result<(), Error<'a>>
-    ensures { (h : Here) → Steps ⊥ ⊥ (scope_of names.now) h h (in_instr instr.old) (resolved_instr (known_of names.now) h instr.old) instr.new result }
+    ensures { (h : Here) → Walks ⊥ ⊥ (site_demands (scope_of names.now) (in_instr h instr.old)) (mapped_instr (numbering (known_of names.now)) h instr.old) instr.new result }
 {
     match instr {
         Instruction::Plain(_) => Ok(()),
@@ -264,7 +266,7 @@ fn walk_instr<'a>(names: &Resolver<'a>, instr: &mut Instruction<'a>) -> Result<(
 
 /// Walks over instructions, in order.
 fn walk_instrs<'a>(names: &Resolver<'a>, instrs: &mut Seq<Instruction<'a>>) -> Result<(), Error<'a>>
-    ensures { (h : Here) → Steps ⊥ ⊥ (scope_of names.now) h h (flat_map in_instr instrs.old) (resolved_instrs (known_of names.now) h instrs.old) instrs.new result }
+    ensures { (h : Here) → Walks ⊥ ⊥ (site_demands (scope_of names.now) (in_instrs h instrs.old)) (mapped_instrs (numbering (known_of names.now)) h instrs.old) instrs.new result }
 {
     for i in 0..instrs.len() {
         walk_instr(names, instrs.at_mut(i))?;
@@ -277,7 +279,7 @@ pub(crate) fn walk_expression<'a>(
     names: &Resolver<'a>,
     expression: &mut Expression<'a>,
 ) -> Result<(), Error<'a>>
-    ensures { (h : Here) → Walks ⊥ ⊥ (step_demands (scope_of names.now) h (in_expression expression.old)) (resolved_expression (known_of names.now) h expression.old) expression.new result }
+    ensures { (h : Here) → Walks ⊥ ⊥ (site_demands (scope_of names.now) (in_expression h expression.old)) (mapped_expression (numbering (known_of names.now)) h expression.old) expression.new result }
 {
     walk_instrs(names, &mut expression.instrs)?;
     Ok(())
@@ -288,7 +290,7 @@ fn check_type_use<'a>(
     names: &Resolver<'a>,
     ty: &TypeUse<'a, FunctionType<'a>>,
 ) -> Result<(), Error<'a>>
-    ensures { Outcome ⊥ ⊥ (first_unmet (step_demands (scope_of names.now) start (matched ty.now))) result }
+    ensures { Outcome ⊥ ⊥ (first_unmet (match_if (scope_of names.now) ty.now.index ty.now.inline)) result }
 {
     match (&ty.index, &ty.inline) {
         (Some(index), Some(inline)) => names.check_match(index, inline),
@@ -303,7 +305,7 @@ pub(crate) fn walk_type_use<'a>(
     names: &Resolver<'a>,
     ty: &mut TypeUse<'a, FunctionType<'a>>,
 ) -> Result<(), Error<'a>>
-    ensures { Walks ⊥ ⊥ (use_demands (scope_of names.now) (outside (in_type_use ty.old) ++ InOrder (matched ty.old) ∷ [])) (resolved_type_use (known_of names.now) ty.old) ty.new result }
+    ensures { Walks ⊥ ⊥ (site_demands (scope_of names.now) (in_use ty.old)) ((numbering (known_of names.now)).used ty.old) ty.new result }
 {
     ty.walk(names)?;
     check_type_use(names, ty)?;
@@ -312,7 +314,7 @@ pub(crate) fn walk_type_use<'a>(
 
 /// Walks over the types of the locals of a function.
 fn walk_locals<'a>(names: &Resolver<'a>, kind: &mut FuncKind<'a>) -> Result<(), Error<'a>>
-    ensures { Walks ⊥ ⊥ (ask_demands (known_of names.now) (in_locals kind.old)) (resolved_locals (known_of names.now) kind.old) kind.new result }
+    ensures { Walks ⊥ ⊥ (ask_demands (known_of names.now) (in_locals kind.old)) (with_locals (numbering (known_of names.now)) kind.old) kind.new result }
 {
     match kind {
         FuncKind::Import(..) => Ok(()),
@@ -322,7 +324,7 @@ fn walk_locals<'a>(names: &Resolver<'a>, kind: &mut FuncKind<'a>) -> Result<(), 
 
 /// Walks over the body of a function.
 fn walk_body<'a>(names: &Resolver<'a>, kind: &mut FuncKind<'a>) -> Result<(), Error<'a>>
-    ensures { (h : Here) → Walks ⊥ ⊥ (step_demands (scope_of names.now) h (in_body kind.old)) (resolved_body (known_of names.now) h kind.old) kind.new result }
+    ensures { (h : Here) → Walks ⊥ ⊥ (site_demands (scope_of names.now) (in_body h kind.old)) (with_body (numbering (known_of names.now)) h kind.old) kind.new result }
 {
     match kind {
         FuncKind::Import(..) => Ok(()),
@@ -338,7 +340,7 @@ fn walk_kind<'a>(
     inline: &Option<FunctionType<'a>>,
     kind: &mut FuncKind<'a>,
 ) -> Result<(), Error<'a>>
-    ensures { Walks ⊤ (2 ^ 32 ≤ length (declared inline.now kind.old)) (use_demands (scope_of names.now) (outside (in_locals kind.old) ++ in_func_kind inline.now kind.old)) (resolved_func_kind (known_of names.now) inline.now kind.old) kind.new result }
+    ensures { Walks ⊤ (2 ^ 32 ≤ length (declared inline.now kind.old)) (site_demands (scope_of names.now) (in_func_kind (param_marks inline.now) kind.old)) (mapped_func_kind (numbering (known_of names.now)) (param_marks inline.now) kind.old) kind.new result }
 {
     walk_locals(names, kind)?;
     check_locals(alloc, inline, kind)?;
@@ -348,7 +350,7 @@ fn walk_kind<'a>(
 
 /// Walks over a function: its type use, and then what it is made of.
 fn walk_func<'a>(alloc: Global, names: &Resolver<'a>, func: &mut Func<'a>) -> Result<(), Error<'a>>
-    ensures { Walks ⊤ (HasMany (local_counts_in (field.Func func.old))) (use_demands (scope_of names.now) (in_func func.old)) (resolved_func (known_of names.now) func.old) func.new result }
+    ensures { Walks ⊤ (HasMany (local_counts_in (field.Func func.old))) (site_demands (scope_of names.now) (in_func func.old)) (mapped_func (numbering (known_of names.now)) func.old) func.new result }
 {
     walk_type_use(names, &mut func.ty)?;
     walk_kind(alloc, names, &func.ty.inline, &mut func.kind)?;
@@ -361,7 +363,7 @@ fn walk_field<'a>(
     names: &Resolver<'a>,
     field: &mut ModuleField<'a>,
 ) -> Result<(), Error<'a>>
-    ensures { Walks ⊤ (HasMany (local_counts_in field.old)) (use_demands (scope_of names.now) (in_field field.old)) (resolved_field (known_of names.now) field.old) field.new result }
+    ensures { Walks ⊤ (HasMany (local_counts_in field.old)) (site_demands (scope_of names.now) (in_field field.old)) (mapped (numbering (known_of names.now)) field.old) field.new result }
 {
     match field {
         ModuleField::Ty(ty) => walk_outside(names, ty),
@@ -388,7 +390,7 @@ pub(crate) fn walk_fields<'a>(
     names: &Resolver<'a>,
     fields: &mut Seq<ModuleField<'a>>,
 ) -> Result<(), Error<'a>>
-    ensures { Walks ⊤ (HasMany (local_counts fields.old)) (use_demands (scope_of names.now) (in_module fields.old)) (map (resolved_field (known_of names.now)) fields.old) fields.new result }
+    ensures { Walks ⊤ (HasMany (local_counts fields.old)) (site_demands (scope_of names.now) (in_module fields.old)) (map (mapped (numbering (known_of names.now))) fields.old) fields.new result }
 {
     for i in 0..fields.len() {
         walk_field(alloc, names, fields.at_mut(i))?;

@@ -4,11 +4,13 @@ use Rattle.std.specs.Prelude.{flat_map}
 use Rattle.std.proofs.lemmas.Grind.{flat_map-append}
 use Rattle.std.proofs.lemmas.List.{take_more}
 use Rattle.std.specs.Prelude.{Option, Some, None, map}
-use Rattle.wast_tree.specs.Tree.{Index, FunctionType, TypeUse, Expression, Local, FuncKind, Func}
+use Rattle.wast_base.specs.Ids.{Name, Mark}
+use Rattle.wast_base.specs.Spaces.{name_if}
+use Rattle.wast_tree.specs.Tree.{Index, Space, RefType, FunctionType, TypeUse, Instruction, Expression, Local}
 use Rattle.wast_tree.specs.Tree.func
-use Rattle.wast_tree.specs.Occurrences.{Ask, Step, Declares, Occurrence, InOrder, steps, outside, if_there, in_expression, in_use, in_constant, in_constant_if, in_type_use, in_body, in_locals, matched_by, matched, declared, declared_params, declared_locals, in_func_kind, in_func, asked_in_step, asked_in_steps, asked_in, asked}
-use Rattle.wast_base.specs.Ids.{Mark, marked}
+use Rattle.wast_tree.specs.Sites.{Ask, Wants, Site, Here, after_all, asking, at_index, if_there, in_index, in_use, in_ref, in_type_use, in_constant, in_local, in_instr, in_instrs, in_expression, local_marks, declaring, body_here, in_func_kind, asked_in, asked}
 use Rattle.wast_tree.specs.Visits.{Tells, Visits}
+use Rattle.wast_tree.proofs.Behind.{instrs-append}
 
 tells_both : {V A : Type 0} (told : V → A → V → Type 0) (a b c : V) (xs ys : List A) → Tells told a xs b → Tells told b ys c → Tells told a (xs ++ ys) c
 tells_both told a b c [] ys h k = subst (λ v. Tells told v ys c) h k
@@ -37,75 +39,58 @@ pub each_of_each : {A B C : Type 0} (f : A → List B) (g : B → List C) (xs : 
 each_of_each f g [] = refl
 each_of_each f g (x ∷ xs) = flat_map-append g (f x) (flat_map f xs) ∙ ap (λ zs. flat_map g (f x) ++ zs) (each_of_each f g xs)
 
-pub asked_outside : (asks : List Ask) → asked (outside asks) ≡ asks
-asked_outside [] = refl
-asked_outside (a ∷ asks) = ap (λ zs. a ∷ zs) (asked_outside asks)
+pub asked_asking : (asks : List Ask) → asked (asking asks) ≡ asks
+asked_asking [] = refl
+asked_asking (a ∷ asks) = ap (λ zs. a ∷ zs) (asked_asking asks)
 
-pub asked_steps : (asks : List Ask) → asked_in_steps (steps asks) ≡ asks
-asked_steps [] = refl
-asked_steps (a ∷ asks) = ap (λ zs. a ∷ zs) (asked_steps asks)
-
-pub asked_both : (xs ys : List Occurrence) → asked (xs ++ ys) ≡ asked xs ++ asked ys
+pub asked_both : (xs ys : List Site) → asked (xs ++ ys) ≡ asked xs ++ asked ys
 asked_both xs ys = flat_map-append asked_in xs ys
 
--- Nothing is asked where something is matched or declared.
-pub asked_matched : (i : Option Index) (inline : Option FunctionType) → asked_in_steps (matched_by i inline) ≡ []
-asked_matched None None = refl
-asked_matched None (Some t) = refl
-asked_matched (Some i) None = refl
-asked_matched (Some i) (Some t) = refl
-
-asked_each : {A : Type 0} (mark : A → Option Mark) (xs : List A) → asked_in_steps (map (λ x. Declares (mark x)) xs) ≡ []
-asked_each mark [] = refl
-asked_each mark (x ∷ xs) = asked_each mark xs
-
-asked_params : (inline : Option FunctionType) → asked_in_steps (declared_params inline) ≡ []
-asked_params None = refl
-asked_params (Some t) = asked_each (λ p. marked p.0) t.params
-
-asked_locals : (k : FuncKind) → asked_in_steps (declared_locals k) ≡ []
-asked_locals (func.Import import exact) = refl
-asked_locals (func.Inline locals e) = asked_each (λ (l : Local). marked l.id) locals
-
-asked_steps_both : (xs ys : List Step) → asked_in_steps (xs ++ ys) ≡ asked_in_steps xs ++ asked_in_steps ys
-asked_steps_both xs ys = flat_map-append asked_in_step xs ys
-
-pub asked_declared : (inline : Option FunctionType) (k : FuncKind) → asked_in_steps (declared inline k) ≡ []
-asked_declared inline k = asked_steps_both (declared_params inline) (declared_locals k) ∙ (ap (λ asks. asks ++ asked_in_steps (declared_locals k)) (asked_params inline) ∙ asked_locals k)
-
-pub asked_func_kind : (inline : Option FunctionType) (k : FuncKind) → asked (in_func_kind inline k) ≡ asked_in_steps (in_body k)
-asked_func_kind inline (func.Import import exact) = refl
-asked_func_kind inline (func.Inline locals e) =
-    append-nil (asked_in_steps (declared inline (func.Inline locals e) ++ in_body (func.Inline locals e)))
-    ∙ (asked_steps_both (declared inline (func.Inline locals e)) (in_body (func.Inline locals e)) ∙ ap (λ asks. asks ++ asked_in_steps (in_body (func.Inline locals e))) (asked_declared inline (func.Inline locals e)))
-
--- A function asks its type use, the types and ids of its locals, and then its body.
-pub asked_func : (f : Func) → asked (in_func f) ≡ in_type_use f.ty ++ (in_locals f.kind ++ asked_in_steps (in_body f.kind))
-asked_func f =
-    let kind = outside (in_locals f.kind) ++ in_func_kind f.ty.inline f.kind in
-    asked_both (outside (in_type_use f.ty)) (InOrder (matched f.ty) ∷ kind)
-    ∙ (ap (λ asks. asks ++ (asked_in_steps (matched f.ty) ++ asked kind)) (asked_outside (in_type_use f.ty))
-    ∙ (ap (λ asks. in_type_use f.ty ++ (asks ++ asked kind)) (asked_matched f.ty.index f.ty.inline)
-    ∙ ap (λ asks. in_type_use f.ty ++ asks)
-    (asked_both (outside (in_locals f.kind)) (in_func_kind f.ty.inline f.kind)
-    ∙ (ap (λ asks. asks ++ asked (in_func_kind f.ty.inline f.kind)) (asked_outside (in_locals f.kind)) ∙ ap (λ asks. in_locals f.kind ++ asks) (asked_func_kind f.ty.inline f.kind)))))
-
--- a type use outside of functions
 pub asked_use : (u : TypeUse FunctionType) → asked (in_use u) ≡ in_type_use u
-asked_use u =
-    asked_both (outside (in_type_use u)) (InOrder (matched u) ∷ [])
-    ∙ (ap (λ asks. asks ++ (asked_in_steps (matched u) ++ [])) (asked_outside (in_type_use u))
-    ∙ (ap (λ asks. in_type_use u ++ (asks ++ [])) (asked_matched u.index u.inline) ∙ append-nil (in_type_use u)))
+asked_use u = append-nil (in_type_use u)
 
--- constant expressions
-pub asked_constant : (e : Expression) → asked (in_constant e) ≡ asked_in_steps (in_expression e)
-asked_constant e = append-nil (asked_in_steps (in_expression e))
+-- of parts that may be there, and of lists of parts
+pub asked_if : {A : Type 0} (f : A → List Site) (o : Option A) → asked (if_there f o) ≡ if_there (λ x. asked (f x)) o
+asked_if f None = refl
+asked_if f (Some x) = refl
 
-pub asked_constant_if : (e : Option Expression) → asked (in_constant_if e) ≡ if_there (λ e. asked_in_steps (in_expression e)) e
-asked_constant_if None = refl
-asked_constant_if (Some e) = asked_constant e
+pub asked_index_if : (s : Space) (o : Option Index) → asked (if_there (at_index s) o) ≡ if_there (in_index s) o
+asked_index_if s None = refl
+asked_index_if s (Some i) = refl
 
-pub asked_constants : (es : List Expression) → asked (flat_map in_constant es) ≡ flat_map (λ e. asked_in_steps (in_expression e)) es
-asked_constants [] = refl
-asked_constants (e ∷ es) =
-    asked_both (in_constant e) (flat_map in_constant es) ∙ (ap (λ asks. asks ++ asked (flat_map in_constant es)) (asked_constant e) ∙ ap (λ asks. asked_in_steps (in_expression e) ++ asks) (asked_constants es))
+pub asked_each : {A : Type 0} (f : A → List Site) (xs : List A) → asked (flat_map f xs) ≡ flat_map (λ x. asked (f x)) xs
+asked_each f xs = each_of_each f asked_in xs
+
+pub asked_indices : (s : Space) (is : List Index) → asked (flat_map (at_index s) is) ≡ flat_map (in_index s) is
+asked_indices s [] = refl
+asked_indices s (i ∷ is) = ap (λ zs. Wants s i ∷ zs) (asked_indices s is)
+
+pub asked_exprs : (ty : RefType) (es : List Expression) → asked (flat_map in_constant es ++ asking (in_ref ty)) ≡ flat_map (λ e. asked (in_constant e)) es ++ in_ref ty
+asked_exprs ty es =
+    asked_both (flat_map in_constant es) (asking (in_ref ty))
+    ∙ (ap (λ asks. asks ++ asked (asking (in_ref ty))) (asked_each in_constant es) ∙ ap (λ asks. flat_map (λ e. asked (in_constant e)) es ++ asks) (asked_asking (in_ref ty)))
+
+-- Nothing is asked where a parameter or a local is declared.
+pub asked_declaring : (before : List (Option Name)) (marks : List (Option Mark)) → asked (declaring before marks) ≡ []
+asked_declaring before [] = refl
+asked_declaring before (m ∷ ms) = asked_declaring (before ++ name_if m ∷ []) ms
+
+-- A function asks the types and ids of its locals, and then its body.
+pub asked_inline : (params : List (Option Mark)) (locals : List Local) (e : Expression)
+    → asked (in_func_kind params (func.Inline locals e)) ≡ flat_map in_local locals ++ asked (in_expression (body_here (params ++ local_marks locals)) e)
+asked_inline params locals e =
+    let marks = params ++ local_marks locals in
+    let body = in_expression (body_here marks) e in
+    asked_both (asking (flat_map in_local locals)) (declaring [] marks ++ body)
+    ∙ (ap (λ asks. asks ++ asked (declaring [] marks ++ body)) (asked_asking (flat_map in_local locals))
+    ∙ ap (λ asks. flat_map in_local locals ++ asks) (asked_both (declaring [] marks) body ∙ ap (λ asks. asks ++ asked body) (asked_declaring [] marks)))
+
+-- one instruction more
+pub visits_next : {V : Type 0} {told : V → Ask → V → Type 0} {a b c : V} (h : Here) (is : List Instruction) (n : ℕ) (i d : Instruction) → n < length is → i ≡ get_or is n d
+    → Visits told a (asked (in_instrs h (take n is))) b → Visits told b (asked (in_instr (after_all h (in_instrs h (take n is))) i)) c → Visits told a (asked (in_instrs h (take (n + 1) is))) c
+visits_next {told = told} {a} {c = c} h is n i d lt at before next =
+    let there = after_all h (in_instrs h (take n is)) in
+    let more : in_instrs h (take (n + 1) is) ≡ in_instrs h (take n is) ++ in_instr there i =
+    ap (in_instrs h) (take_more is n d lt ∙ ap (λ y. take n is ++ y ∷ []) (sym at))
+    ∙ (instrs-append h (take n is) (i ∷ []) ∙ ap (λ ss. in_instrs h (take n is) ++ ss) (append-nil (in_instr there i))) in
+    subst (λ asks. Visits told a asks c) (sym (ap asked more ∙ asked_both (in_instrs h (take n is)) (in_instr there i))) (visits_both before next)

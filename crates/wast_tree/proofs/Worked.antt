@@ -30,7 +30,7 @@ pub settled_indices : SettledIndices
 settled_indices a = (refl, refl, refl, refl)
 
 pub unsettled_indices : UnsettledIndices
-unsettled_indices = (refl, refl, refl, refl, refl, refl, refl)
+unsettled_indices = (refl, refl, refl, refl, refl)
 
 pub well_formed_funcs : WellFormedFuncs
 well_formed_funcs a = (refl, refl, refl, refl, refl, refl, refl, refl, refl, refl, refl, refl)

@@ -1,15 +1,18 @@
 -- What the contracts cite. The tree comes first; then what a list of fields gives: its items, what
 -- it asks, what it makes known, whether it is well formed and written out, and the greatest generation of its ids.
+pub mod Clauses
 pub mod DataBytes
 pub mod Generations
 pub mod Imports
 pub mod Items
 pub mod Known
 pub mod Makers
-pub mod Occurrences
 pub mod Private
 pub mod WorkedModules
+pub mod Resolved
+pub mod Sites
 pub mod Tree
+pub mod Types
 pub mod Visits
 pub mod WellFormed
 pub mod WrittenOut

@@ -1,8 +1,9 @@
 //! What stands in fields other than types and functions, as reading walks tell it.
-#![tactic(auto, using(crate::proofs::Visiting::visits_both, crate::proofs::Visiting::visits_one, crate::proofs::Visiting::visits_none, crate::proofs::Visiting::asked_outside, crate::proofs::Visiting::asked_both, crate::proofs::Visiting::asked_use, crate::proofs::Visiting::asked_constant, crate::proofs::Visiting::asked_constant_if, crate::proofs::Visiting::asked_constants))]
+#![tactic(auto, using(crate::proofs::Visiting::visits_both, crate::proofs::Visiting::visits_one, crate::proofs::Visiting::visits_none, crate::proofs::Visiting::asked_asking, crate::proofs::Visiting::asked_both, crate::proofs::Visiting::asked_use, crate::proofs::Visiting::asked_if, crate::proofs::Visiting::asked_index_if, crate::proofs::Visiting::asked_each, crate::proofs::Visiting::asked_indices))]
 
-ghost use Rattle.wast_tree.specs.Occurrences.{in_table_type, in_global_type, in_tag_type, in_item_kind, in_import, in_table_kind, in_memory_kind, in_global_kind, in_global, in_export, in_elem_kind, in_payload, in_elem, in_data_kind, asked};
+ghost use Rattle.wast_tree.specs.Sites.{in_index, in_table_type, in_global_type, in_tag_type, in_item_kind, in_import, in_table_kind, in_memory_kind, in_global_kind, in_global, exported_space, in_elem_kind, in_payload, in_elem, in_data_kind, asked};
 
+use crate::clauses::{is_page_exponent, suits};
 use crate::entities::{GlobalType, TableType, TagType};
 use crate::fields::{Export, Global, GlobalKind, MemoryKind, TableKind};
 use crate::imports::{ImportItems, ItemKind};
@@ -15,6 +16,7 @@ impl Visit for TableType<'_> {
 
     fn visit<V: Visitor>(&self, visitor: &mut V) {
         self.elem.visit(visitor);
+        visitor.supported(!self.shared);
     }
 }
 
@@ -23,6 +25,7 @@ impl Visit for GlobalType<'_> {
 
     fn visit<V: Visitor>(&self, visitor: &mut V) {
         self.ty.visit(visitor);
+        visitor.supported(!self.shared);
     }
 }
 
@@ -70,9 +73,15 @@ impl Visit for TableKind<'_> {
                 ty.visit(visitor);
                 init_expr.visit(visitor);
             }
-            TableKind::Inline { elem, payload, .. } => {
+            TableKind::Inline {
+                elem,
+                shared,
+                payload,
+                ..
+            } => {
                 elem.visit(visitor);
                 payload.visit(visitor);
+                visitor.supported(!*shared);
             }
         }
     }
@@ -81,11 +90,13 @@ impl Visit for TableKind<'_> {
 impl Visit for MemoryKind<'_> {
     ghost asks = { λ k. asked (in_memory_kind k) };
 
-    fn visit<V: Visitor>(&self, _visitor: &mut V) {
+    fn visit<V: Visitor>(&self, visitor: &mut V) {
         match self {
             MemoryKind::Import { .. } => {}
             MemoryKind::Normal(_) => {}
-            MemoryKind::Inline { .. } => {}
+            MemoryKind::Inline { page_size_log2, .. } => {
+                visitor.clause(3, is_page_exponent(*page_size_log2))
+            }
         }
     }
 }
@@ -111,7 +122,7 @@ impl Visit for Global<'_> {
 }
 
 impl Visit for Export<'_> {
-    ghost asks = { in_export };
+    ghost asks = { λ e. in_index (exported_space e.kind) e.item };
 
     fn visit<V: Visitor>(&self, visitor: &mut V) {
         visitor.index(self.kind.space(), &self.item);
@@ -136,6 +147,7 @@ impl Visit for ElemKind<'_> {
 impl Visit for ElemPayload<'_> {
     ghost asks = { λ p. asked (in_payload p) };
 
+    #[tactic(auto, using(crate::proofs::Visiting::visits_both, crate::proofs::Visiting::asked_exprs, crate::proofs::Visiting::asked_indices))]
     fn visit<V: Visitor>(&self, visitor: &mut V) {
         match self {
             ElemPayload::Indices(indices) => {
@@ -155,6 +167,7 @@ impl Visit for Elem<'_> {
     fn visit<V: Visitor>(&self, visitor: &mut V) {
         self.kind.visit(visitor);
         self.payload.visit(visitor);
+        visitor.clause(4, suits(&self.kind, &self.payload));
     }
 }
 

@@ -1,7 +1,7 @@
 //! The fields of a module in the text format.
 
 ghost use Rattle.std.specs.Prelude.{◌≡◌, [], Some, None};
-ghost use Rattle.wast_tree.specs.Occurrences.{exported_space};
+ghost use Rattle.wast_tree.specs.Sites.{exported_space};
 ghost use Rattle.wast_tree.specs.Tree.func;
 ghost use Rattle.wast_tree.specs.Tree.table;
 ghost use Rattle.wast_tree.specs.Tree.memory;

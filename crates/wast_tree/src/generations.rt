@@ -46,6 +46,10 @@ impl Visitor for Greatest {
     fn id(&mut self, id: &Id<'_>) {
         self.see(id);
     }
+
+    fn clause(&mut self, _number: u8, _holds: bool) {}
+
+    fn supported(&mut self, _holds: bool) {}
 }
 
 /// The greatest generation of an id in the fields, and 0 where no id is generated. It takes no memory.

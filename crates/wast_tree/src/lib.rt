@@ -6,9 +6,9 @@
 
 mod bearers;
 mod check;
+mod clauses;
 mod entities;
 mod examples;
-mod field_checks;
 mod field_visits;
 mod fields;
 mod generations;

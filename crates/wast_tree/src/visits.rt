@@ -1,11 +1,11 @@
 //! Walks over the tree to read it: a visitor is told of each item, or of each id and index beside them, in order.
-#![tactic(auto, using(crate::proofs::Visiting::visits_both, crate::proofs::Visiting::visits_one, crate::proofs::Visiting::visits_none, crate::proofs::Visiting::asked_outside, crate::proofs::Visiting::asked_both, crate::proofs::Visiting::asked_steps))]
+#![tactic(auto, using(crate::proofs::Visiting::visits_both, crate::proofs::Visiting::visits_one, crate::proofs::Visiting::visits_none, crate::proofs::Visiting::asked_asking, crate::proofs::Visiting::asked_both, crate::proofs::Visiting::asked_use))]
 
-ghost use Rattle.std.specs.Prelude.{◌≡◌, ◌++◌, List};
+ghost use Rattle.std.specs.Prelude.{◌≡◌, Bool, List, Option};
 ghost use Rattle.std.specs.Prelude.{flat_map};
-ghost use Rattle.wast_base.specs.Ids.{mark_of};
+ghost use Rattle.wast_base.specs.Ids.{Mark, mark_of};
 ghost use Rattle.wast_tree.specs.Items.{Item, item, fields_of, items_of_type, items_of_import, items_in, items};
-ghost use Rattle.wast_tree.specs.Occurrences.{Ask, Wants, Bare, if_there, in_index, in_id, in_heap, in_ref, in_val, in_storage, in_param, in_signature, in_struct_field, in_struct, in_array, in_inner, in_def, in_type, in_rec, in_type_use, in_instr, in_expression, in_local, in_locals, in_body, outside, in_func, in_field, in_module, asked, asked_in_steps};
+ghost use Rattle.wast_tree.specs.Sites.{Ask, Wants, Bare, Clause, Supported, Here, if_there, in_index, in_id, in_heap, in_ref, in_val, in_storage, in_param, in_signature, in_struct_field, in_struct, in_array, in_inner, in_descriptor, in_def, in_type, in_rec, in_type_use, in_instr, in_instrs, in_expression, in_constant, in_local, in_func_kind, in_func, in_field, in_module, asked};
 ghost use Rattle.wast_tree.specs.Visits.{Visits};
 
 use crate::fields::{Func, FuncKind, Local, ModuleField};
@@ -27,7 +27,7 @@ pub trait ItemVisitor<'a> {
         ensures { told self.old (item space id.now fields.now) self.new };
 }
 
-/// What is told of the ids and indices that stand in a module beside its items.
+/// What is told of what stands in a module beside its items.
 pub(crate) trait Visitor {
     /// How it stands before and after one of them.
     ghost told: { Self → Ask → Self → Type 0 };
@@ -39,6 +39,14 @@ pub(crate) trait Visitor {
     /// An id of which nothing is asked.
     fn id(&mut self, id: &Id<'_>)
         ensures { told self.old (Bare (mark_of id.now)) self.new };
+
+    /// Whether the clause of this number of "well formed" holds.
+    fn clause(&mut self, number: u8, holds: bool)
+        ensures { told self.old (Clause number holds) self.new };
+
+    /// Whether a form is supported.
+    fn supported(&mut self, holds: bool)
+        ensures { told self.old (Supported holds) self.new };
 }
 
 /// Tells a visitor of each item of the fields, also of those without an id, in the order in which they are numbered (text
@@ -144,6 +152,16 @@ pub(crate) fn visit_index<V: Visitor>(space: Space, index: &Option<Index<'_>>, v
     }
 }
 
+/// Tells a visitor of the index of a descriptor, or of what one describes, if there is one.
+fn visit_descriptor<V: Visitor>(index: &Option<Index<'_>>, visitor: &mut V)
+    ensures { Visits V.told visitor.old (if_there in_descriptor index.now) visitor.new }
+{
+    if let Some(index) = index {
+        visitor.index(Space::Ty, index);
+        visitor.supported(false);
+    }
+}
+
 impl<T: Visit> Visit for Seq<T> {
     ghost asks = { λ parts. flat_map T.asks parts };
 
@@ -175,7 +193,7 @@ impl Visit for HeapType<'_> {
 
     fn visit<V: Visitor>(&self, visitor: &mut V) {
         match self {
-            HeapType::Abstract { .. } => {}
+            HeapType::Abstract { shared, .. } => visitor.supported(!*shared),
             HeapType::Concrete(index) => visitor.index(Space::Ty, index),
         }
     }
@@ -276,9 +294,10 @@ impl Visit for TypeDef<'_> {
 
     fn visit<V: Visitor>(&self, visitor: &mut V) {
         visit_indices(Space::Ty, self.parents.as_slice(), visitor);
-        visit_index(Space::Ty, &self.descriptor, visitor);
-        visit_index(Space::Ty, &self.describes, visitor);
+        visit_descriptor(&self.descriptor, visitor);
+        visit_descriptor(&self.describes, visitor);
         self.kind.visit(visitor);
+        visitor.supported(!self.shared);
     }
 }
 
@@ -307,27 +326,44 @@ impl<'a> Visit for TypeUse<'a, FunctionType<'a>> {
     }
 }
 
-impl Visit for Instruction<'_> {
-    ghost asks = { λ i. asked_in_steps (in_instr i) };
-
-    fn visit<V: Visitor>(&self, visitor: &mut V) {
-        match self {
-            Instruction::Plain(_) => {}
-            Instruction::call(func) => visitor.index(Space::Func, func),
-            Instruction::global_get(global) => visitor.index(Space::Global, global),
-            Instruction::i32_const(_) => {}
-            Instruction::i64_const(_) => {}
-            Instruction::ref_null(heap) => heap.visit(visitor),
-            Instruction::ref_func(func) => visitor.index(Space::Func, func),
-        }
+/// Tells a visitor of an instruction.
+fn visit_instr<V: Visitor>(instr: &Instruction<'_>, visitor: &mut V)
+    ensures { (h : Here) → Visits V.told visitor.old (asked (in_instr h instr.now)) visitor.new }
+{
+    match instr {
+        Instruction::Plain(_) => {}
+        Instruction::call(func) => visitor.index(Space::Func, func),
+        Instruction::global_get(global) => visitor.index(Space::Global, global),
+        Instruction::i32_const(_) => {}
+        Instruction::i64_const(_) => {}
+        Instruction::ref_null(heap) => heap.visit(visitor),
+        Instruction::ref_func(func) => visitor.index(Space::Func, func),
     }
 }
 
+/// Tells a visitor of instructions, in order.
+fn visit_instrs<V: Visitor>(instrs: &[Instruction<'_>], visitor: &mut V)
+    ensures { (h : Here) → Visits V.told visitor.old (asked (in_instrs h instrs.now)) visitor.new }
+{
+    for instr in instrs {
+        visit_instr(instr, visitor);
+    }
+}
+
+/// Tells a visitor of an expression.
+fn visit_expression<V: Visitor>(expression: &Expression<'_>, visitor: &mut V)
+    ensures { (h : Here) → Visits V.told visitor.old (asked (in_expression h expression.now)) visitor.new }
+{
+    visit_instrs(expression.instrs.as_slice(), visitor);
+    visitor.supported(expression.branch_hints.is_empty());
+}
+
+/// A constant expression.
 impl Visit for Expression<'_> {
-    ghost asks = { λ e. asked_in_steps (in_expression e) };
+    ghost asks = { λ e. asked (in_constant e) };
 
     fn visit<V: Visitor>(&self, visitor: &mut V) {
-        self.instrs.visit(visitor);
+        visit_expression(self, visitor);
     }
 }
 
@@ -340,16 +376,16 @@ impl Visit for Local<'_> {
     }
 }
 
-impl Visit for FuncKind<'_> {
-    ghost asks = { λ k. in_locals k ++ asked_in_steps (in_body k) };
-
-    fn visit<V: Visitor>(&self, visitor: &mut V) {
-        match self {
-            FuncKind::Import(..) => {}
-            FuncKind::Inline { locals, expression } => {
-                locals.visit(visitor);
-                expression.visit(visitor);
-            }
+/// Tells a visitor of what a function is made of.
+#[tactic(auto, using(crate::proofs::Visiting::visits_both, crate::proofs::Visiting::visits_one, crate::proofs::Visiting::asked_inline))]
+fn visit_func_kind<V: Visitor>(kind: &FuncKind<'_>, visitor: &mut V)
+    ensures { (params : List (Option Mark)) → Visits V.told visitor.old (asked (in_func_kind params kind.now)) visitor.new }
+{
+    match kind {
+        FuncKind::Import(_, exact) => visitor.supported(!*exact),
+        FuncKind::Inline { locals, expression } => {
+            locals.visit(visitor);
+            visit_expression(expression, visitor);
         }
     }
 }
@@ -357,10 +393,9 @@ impl Visit for FuncKind<'_> {
 impl Visit for Func<'_> {
     ghost asks = { λ f. asked (in_func f) };
 
-    #[tactic(auto, using(crate::proofs::Visiting::visits_both, crate::proofs::Visiting::asked_func))]
     fn visit<V: Visitor>(&self, visitor: &mut V) {
         self.ty.visit(visitor);
-        self.kind.visit(visitor);
+        visit_func_kind(&self.kind, visitor);
     }
 }
 
@@ -385,7 +420,7 @@ impl Visit for ModuleField<'_> {
     }
 }
 
-/// Tells a visitor of each id and index of the fields beside their items.
+/// Tells a visitor of what stands in the fields beside their items.
 pub(crate) fn visit_fields<V: Visitor>(fields: &[ModuleField<'_>], visitor: &mut V)
     ensures { Visits V.told visitor.old (asked (in_module fields.now)) visitor.new }
 {

@@ -21,9 +21,9 @@ use Rattle.wast_tree.specs.Tree.bytes
 use Rattle.wast_tree.specs.Tree.field
 use Rattle.wast_base.specs.Ids.{Name, Written, Generated, Mark, mark_of, generated, same_id, same_index}
 use Rattle.wast_tree.specs.Items.{items}
-use Rattle.wast_tree.specs.Occurrences.{Wants, Bare, Named, Matches, Declares, Outside, InOrder, in_module, asked}
+use Rattle.wast_tree.specs.Sites.{Wants, Bare, Clause, Supported, Site, Asked, Used, Declared, in_module, asked}
 use Rattle.wast_tree.specs.Known.{known}
-use Rattle.wast_tree.specs.WellFormed.{has_settled_indices, is_well_formed}
+use Rattle.wast_tree.specs.WellFormed.{is_well_formed}
 use Rattle.wast_tree.specs.WrittenOut.{is_written_out}
 use Rattle.wast_tree.specs.Generations.{generation_or_zero, generation_in, greatest_generation}
 use Rattle.wast_tree.specs.WorkedModules.{Address, text, place, id_at, by_id, by_number, plain_def, plain_type, plain_func, export_field, row27_with, row27, row31, row32, plain_global_type, plain_memory_type, plain_memory, filled_memory}
@@ -91,8 +91,15 @@ everywhere_generated a =
     ∷ export_field a 0 (made_index 11)
     ∷ []
 
--- Row 27 has two items, and three indices beside them, the second of them in a body. They stand as they are written,
--- and so do numbers.
+-- an index where one is wanted, and what is supported or not
+abbrev pub wanted : Space → Index → Site
+wanted s i = Asked (Wants s i)
+
+abbrev pub supported : Bool → Site
+supported holds = Asked (Supported holds)
+
+-- Row 27 has two items, and beside them a type use and two indices, the first of them in a body. They stand as they are
+-- written, and so do numbers.
 abbrev pub StandsInRow27 : Type 0
 StandsInRow27 = (a b c d e f : Address) →
     (items (row27 a b c d e f)
@@ -100,16 +107,18 @@ StandsInRow27 = (a b c d e f : Address) →
     ∷ record { space = space.Func; id = Some (Written (codes "f"), place 31); fields = [] }
     ∷ [])
     × (in_module (row27 a b c d e f)
-    ≡ Outside (Wants space.Ty (by_id d (codes "t") 40))
-    ∷ InOrder []
-    ∷ InOrder (Named (Wants space.Func (by_id e (codes "f") 49)) ∷ [])
-    ∷ Outside (Wants space.Func (by_id f (codes "f") 71))
+    ≡ supported true
+    ∷ Used (record { index = Some (by_id d (codes "t") 40); inline = None })
+    ∷ wanted space.Func (by_id e (codes "f") 49)
+    ∷ supported true
+    ∷ wanted space.Func (by_id f (codes "f") 71)
     ∷ [])
     × (in_module (row27_with a b c (by_number 0 40) (by_number 1 49) (by_number 2 71))
-    ≡ Outside (Wants space.Ty (by_number 0 40))
-    ∷ InOrder []
-    ∷ InOrder (Named (Wants space.Func (by_number 1 49)) ∷ [])
-    ∷ Outside (Wants space.Func (by_number 2 71))
+    ≡ supported true
+    ∷ Used (record { index = Some (by_number 0 40); inline = None })
+    ∷ wanted space.Func (by_number 1 49)
+    ∷ supported true
+    ∷ wanted space.Func (by_number 2 71)
     ∷ [])
 
 -- An imported global and a memory are items of their spaces, and so is a data segment. Beside them stand the memory that
@@ -122,15 +131,16 @@ StandsInFilledMemory = (a b c d e : Address) →
     ∷ record { space = space.Data; id = None; fields = [] }
     ∷ [])
     × (in_module (filled_memory a b c d e)
-    ≡ Outside (Wants space.Memory (by_id d (codes "m") 69))
-    ∷ InOrder (Named (Wants space.Global (by_id e (codes "g") 92)) ∷ [])
+    ≡ supported true
+    ∷ wanted space.Memory (by_id d (codes "m") 69)
+    ∷ wanted space.Global (by_id e (codes "g") 92)
+    ∷ supported true
     ∷ [])
     × (is_well_formed (filled_memory a b c d e) ≡ true)
 
--- A type has its parents before its descriptor, what it describes, its parameters and its results; a function has its type
--- before its parameters, its locals and its body. Of the ids of parameters, locals and fields nothing is asked outside of
--- bodies. An inline type is matched with the index beside it, and parameters and locals are declared before the body. The
--- types of a group are items one by one, a struct among them with its fields.
+-- A type has its parents before its descriptor, what it describes, its parameters and its results, and last whether it is
+-- shared; a function has its type use before its locals and its body. Parameters and locals are declared before the body,
+-- each behind the names of those before it. The types of a group are items one by one, a struct among them with its fields.
 abbrev pub StandsEverywhere : Type 0
 StandsEverywhere = (a : Address) →
     (items (everywhere_generated a)
@@ -140,22 +150,28 @@ StandsEverywhere = (a : Address) →
     ∷ record { space = space.Func; id = Some (made_mark 6); fields = [] }
     ∷ [])
     × (in_module (everywhere_generated a)
-    ≡ Outside (Wants space.Ty (made_index 3))
-    ∷ Outside (Wants space.Ty (made_index 4))
-    ∷ Outside (Wants space.Ty (made_index 5))
-    ∷ Outside (Bare (made_mark 2))
-    ∷ Outside (Wants space.Ty (made_index 12))
-    ∷ Outside (Wants space.Ty (made_index 13))
-    ∷ Outside (Bare (made_mark 15))
-    ∷ Outside (Wants space.Ty (made_index 16))
-    ∷ Outside (Wants space.Ty (made_index 18))
-    ∷ Outside (Wants space.Ty (made_index 9))
-    ∷ Outside (Bare (made_mark 10))
-    ∷ InOrder (Matches (made_index 9) (record { params = (Some (made 10), None, value.I32) ∷ []; results = [] }) ∷ [])
-    ∷ Outside (Wants space.Ty (made_index 19))
-    ∷ Outside (Bare (made_mark 7))
-    ∷ InOrder (Declares (Some (made_mark 10)) ∷ Declares (Some (made_mark 7)) ∷ Named (Wants space.Func (made_index 8)) ∷ [])
-    ∷ Outside (Wants space.Func (made_index 11))
+    ≡ wanted space.Ty (made_index 3)
+    ∷ wanted space.Ty (made_index 4)
+    ∷ supported false
+    ∷ wanted space.Ty (made_index 5)
+    ∷ supported false
+    ∷ Asked (Bare (made_mark 2))
+    ∷ wanted space.Ty (made_index 12)
+    ∷ wanted space.Ty (made_index 13)
+    ∷ supported true
+    ∷ Asked (Bare (made_mark 15))
+    ∷ wanted space.Ty (made_index 16)
+    ∷ supported true
+    ∷ wanted space.Ty (made_index 18)
+    ∷ supported true
+    ∷ Used (record { index = Some (made_index 9); inline = Some (record { params = (Some (made 10), None, value.I32) ∷ []; results = [] }) })
+    ∷ wanted space.Ty (made_index 19)
+    ∷ Asked (Bare (made_mark 7))
+    ∷ Declared [] (Some (made_mark 10))
+    ∷ Declared (Some (Generated 10) ∷ []) (Some (made_mark 7))
+    ∷ wanted space.Func (made_index 8)
+    ∷ supported true
+    ∷ wanted space.Func (made_index 11)
     ∷ [])
 
 -- the number of a name in a space, by a list of fields
@@ -199,17 +215,14 @@ def_alone def = field.Ty (record (plain_type None 8) { def = def }) ∷ []
 abbrev pub func_alone : Func → List ModuleField
 func_alone f = field.Func f ∷ []
 
--- An id of no item is seen in a parent, a descriptor, what a type describes, a type use and a call. That of a parameter
--- or a local stands there by right.
+-- An id of no item is seen in a parent, a type use and a call. That of a parameter or a local stands there by right.
 abbrev pub UnsettledIndices : Type 0
 UnsettledIndices =
-    (has_settled_indices (def_alone (record plain_def { parents = by_number 0 20 ∷ made_index 1 ∷ [] })) ≡ false)
-    × (has_settled_indices (def_alone (record plain_def { descriptor = Some (made_index 1) })) ≡ false)
-    × (has_settled_indices (def_alone (record plain_def { describes = Some (made_index 1) })) ≡ false)
-    × (has_settled_indices (func_alone (plain_func None 8 (made_index 1) [])) ≡ false)
-    × (has_settled_indices (func_alone (plain_func None 8 (by_number 0 20) (instr.call (made_index 1) ∷ []))) ≡ false)
-    × (has_settled_indices (def_alone (record plain_def { kind = inner.Func (record { params = (Some (made 1), None, value.I32) ∷ []; results = [] }) })) ≡ true)
-    × (has_settled_indices (func_alone (record bare_func { kind = func.Inline (record { id = Some (made 1); name = None; ty = value.I32 } ∷ []) (body_of []) })) ≡ true)
+    (is_well_formed (def_alone (record plain_def { parents = by_number 0 20 ∷ made_index 1 ∷ [] })) ≡ false)
+    × (is_well_formed (func_alone (plain_func None 8 (made_index 1) [])) ≡ false)
+    × (is_well_formed (func_alone (plain_func None 8 (by_number 0 20) (instr.call (made_index 1) ∷ []))) ≡ false)
+    × (is_well_formed (def_alone (record plain_def { kind = inner.Func (record { params = (Some (made 1), None, value.I32) ∷ []; results = [] }) })) ≡ true)
+    × (is_well_formed (func_alone (record bare_func { kind = func.Inline (record { id = Some (made 1); name = None; ty = value.I32 } ∷ []) (body_of []) })) ≡ true)
 
 -- `(import "m" "m")` in place
 abbrev pub from_m : Address → InlineImport
@@ -299,24 +312,27 @@ abbrev pub funcref : RefType
 funcref = record { nullable = true; heap = heap.Abstract false abstract.Func }
 
 -- Elements in place stand behind their type, and what they ask stands in the module; a function that is imported in place
--- asks its type and has no body.
+-- has its type use and no body.
 abbrev pub StandsInPlace : Type 0
 StandsInPlace = (a : Address) →
     (in_module (table_in_place (record { nullable = true; heap = heap.Concrete (made_index 1) }) false (payload.Indices (made_index 2 ∷ made_index 3 ∷ [])) ∷ [])
-    ≡ Outside (Wants space.Ty (made_index 1))
-    ∷ Outside (Wants space.Func (made_index 2))
-    ∷ Outside (Wants space.Func (made_index 3))
+    ≡ wanted space.Ty (made_index 1)
+    ∷ wanted space.Func (made_index 2)
+    ∷ wanted space.Func (made_index 3)
+    ∷ supported true
     ∷ [])
-    × (in_module (table_in_place funcref false (payload.Exprs (record { nullable = true; heap = heap.Concrete (made_index 2) }) (body_of (instr.ref_func (made_index 1) ∷ []) ∷ [])) ∷ [])
-    ≡ InOrder (Named (Wants space.Func (made_index 1)) ∷ [])
-    ∷ Outside (Wants space.Ty (made_index 2))
+    × (in_module (table_in_place funcref true (payload.Exprs (record { nullable = true; heap = heap.Concrete (made_index 2) }) (body_of (instr.ref_func (made_index 1) ∷ []) ∷ [])) ∷ [])
+    ≡ supported true
+    ∷ wanted space.Func (made_index 1)
+    ∷ supported true
+    ∷ wanted space.Ty (made_index 2)
+    ∷ supported false
     ∷ [])
-    × (in_module (func_alone (record bare_func { kind = func.Import (from_m a) false; ty = record { index = Some (made_index 1); inline = Some (record { params = (Some (made 2), None, value.I32) ∷ []; results = [] }) } }))
-    ≡ Outside (Wants space.Ty (made_index 1))
-    ∷ Outside (Bare (made_mark 2))
-    ∷ InOrder (Matches (made_index 1) (record { params = (Some (made 2), None, value.I32) ∷ []; results = [] }) ∷ [])
+    × (in_module (func_alone (record bare_func { kind = func.Import (from_m a) false; ty = record { index = Some (made_index 1); inline = None } }))
+    ≡ Used (record { index = Some (made_index 1); inline = None })
+    ∷ supported true
     ∷ [])
-    × (in_module (memory_in_place a None ∷ []) ≡ [])
+    × (in_module (memory_in_place a None ∷ []) ≡ Asked (Clause 3 true) ∷ [])
 
 -- `(elem (table ..) (offset global.get ..) (ref null ..) ref.func ..)`: its table, its offset, and then what it holds,
 -- expressions before their type. `(table 1 (ref null ..) ref.func ..)` and `(global (ref null ..) global.get ..)`: the
@@ -330,10 +346,13 @@ StandsInSegments =
       kind = elem.Active (Some (made_index 1)) (body_of (instr.global_get (made_index 2) ∷ []));
       payload = payload.Exprs (record { nullable = true; heap = heap.Concrete (made_index 4) }) (body_of (instr.ref_func (made_index 3) ∷ []) ∷ []);
     }) ∷ [])
-    ≡ Outside (Wants space.Table (made_index 1))
-    ∷ InOrder (Named (Wants space.Global (made_index 2)) ∷ [])
-    ∷ InOrder (Named (Wants space.Func (made_index 3)) ∷ [])
-    ∷ Outside (Wants space.Ty (made_index 4))
+    ≡ wanted space.Table (made_index 1)
+    ∷ wanted space.Global (made_index 2)
+    ∷ supported true
+    ∷ wanted space.Func (made_index 3)
+    ∷ supported true
+    ∷ wanted space.Ty (made_index 4)
+    ∷ Asked (Clause 4 true)
     ∷ [])
     × (in_module (field.Table (record {
       span = place 1;
@@ -342,7 +361,7 @@ StandsInSegments =
       exports = record { names = [] };
       kind = table.Normal (record plain_table_type { elem = record { nullable = true; heap = heap.Concrete (made_index 1) } }) (Some (body_of (instr.ref_func (made_index 2) ∷ [])));
     }) ∷ [])
-    ≡ Outside (Wants space.Ty (made_index 1)) ∷ InOrder (Named (Wants space.Func (made_index 2)) ∷ []) ∷ [])
+    ≡ wanted space.Ty (made_index 1) ∷ supported true ∷ wanted space.Func (made_index 2) ∷ supported true ∷ [])
     × (in_module (field.Global (record {
       span = place 1;
       id = None;
@@ -351,7 +370,7 @@ StandsInSegments =
       ty = record plain_global_type { ty = ref_to (made_index 1) };
       kind = global.Inline (body_of (instr.global_get (made_index 2) ∷ []));
     }) ∷ [])
-    ≡ Outside (Wants space.Ty (made_index 1)) ∷ InOrder (Named (Wants space.Global (made_index 2)) ∷ []) ∷ [])
+    ≡ wanted space.Ty (made_index 1) ∷ supported true ∷ wanted space.Global (made_index 2) ∷ supported true ∷ [])
 
 -- Elements in place may be of any type that is not shared; the page of bytes in place has a size below 2 to the 64.
 abbrev pub WellFormedInPlace : Type 0
@@ -385,4 +404,4 @@ GenerationsOfRows = (a b c d e f : Address) →
     × (greatest_generation (field.Ty (plain_type (Some (made 7)) 0) ∷ export_field a 0 (made_index 3) ∷ []) ≡ 7)
     × (greatest_generation [] ≡ 0)
     × (map (λ x. generation_or_zero x.id) (items (everywhere_generated a)) ≡ 1 ∷ 14 ∷ 17 ∷ 6 ∷ [])
-    × (map generation_in (asked (in_module (everywhere_generated a))) ≡ 3 ∷ 4 ∷ 5 ∷ 2 ∷ 12 ∷ 13 ∷ 15 ∷ 16 ∷ 18 ∷ 9 ∷ 10 ∷ 19 ∷ 7 ∷ 8 ∷ 11 ∷ [])
+    × (map generation_in (asked (in_module (everywhere_generated a))) ≡ 3 ∷ 4 ∷ 0 ∷ 5 ∷ 0 ∷ 2 ∷ 12 ∷ 13 ∷ 0 ∷ 15 ∷ 16 ∷ 0 ∷ 18 ∷ 0 ∷ 9 ∷ 10 ∷ 19 ∷ 7 ∷ 8 ∷ 0 ∷ 11 ∷ [])

@@ -6,6 +6,7 @@ use Rattle.wasm_out.specs.Built.{IsRefused}
 use Rattle.wast_conv.specs.Encodable.{is_encodable_instr}
 use Rattle.wast_conv.specs.Meaning as meaning
 use Rattle.wast_conv.proofs.Expressions.{spells_expression, expression_made, expression_refused}
+use Rattle.wast_conv.proofs.Standing.{ready_instrs}
 use Rattle.wast_conv.proofs.conv.const_expr.Goals as goal
 
 pub returns-in_err-bytes-clause-refusal : goal.returns-in_err-bytes-clause-refusal
@@ -13,8 +14,11 @@ returns-in_err-bytes-clause-refusal c =
     let p = err_from_is_err_and c.from_residual.result c.from_residual.ensures.1 in
     rw (p.1, p.2) (expression_refused c.args.expression.now.instrs c.in_err-bytes.field-0.0 (subst (λ is. IsRefused (All (λ i. InRangeInstr (meaning.instr i)) is) c.in_err-bytes.field-0.0) c.as_slice.ensures c.in_err-bytes.ensures.refusal))
 
+pub instrs_bytes-requires : goal.instrs_bytes-requires
+instrs_bytes-requires c = ap (list_all is_encodable_instr) c.as_slice.ensures ∙ ready_instrs c.args.expression.now c.requires
+
 pub raw-requires : goal.raw-requires
-raw-requires c = spells_expression c.as_slice.result.now c.in_ok-bytes.bytes.items (ap (list_all is_encodable_instr) c.as_slice.ensures ∙ c.requires) c.in_ok-bytes.ensures.value
+raw-requires c = spells_expression c.as_slice.result.now c.in_ok-bytes.bytes.items (ap (list_all is_encodable_instr) c.as_slice.ensures ∙ ready_instrs c.args.expression.now c.requires) c.in_ok-bytes.ensures.value
 
 pub returns-clause-value : goal.returns-clause-value
 returns-clause-value c =

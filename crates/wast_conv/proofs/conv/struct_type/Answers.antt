@@ -1,9 +1,9 @@
-use Rattle.std.proofs.Common.{◌∙◌, ap}
+use Rattle.std.proofs.Common.{◌∙◌, ap, sym}
 use Rattle.std.specs.List.{list_all}
-use Rattle.wast_tree.specs.Occurrences.{in_storage}
-use Rattle.wast_resolve.specs.Resolved.{is_resolved}
-use Rattle.wast_conv.proofs.TypesReady.{fields_numbered}
+use Rattle.wast_tree.specs.Sites.{in_struct_field}
+use Rattle.wast_tree.specs.Resolved.{is_numbered, are_numbered}
+use Rattle.wast_conv.proofs.EachPasses.{each_passes}
 use Rattle.wast_conv.proofs.conv.struct_type.Goals as goal
 
 pub converted-requires : goal.converted-requires
-converted-requires c = ap (list_all (λ f. is_resolved (in_storage f.ty))) c.as_slice.ensures ∙ fields_numbered c.args.ty.now c.requires
+converted-requires c = ap (list_all (λ f. are_numbered (in_struct_field f))) c.as_slice.ensures ∙ (sym (each_passes is_numbered in_struct_field c.args.ty.now.fields) ∙ c.requires)

@@ -1,5 +1,5 @@
 use Rattle.std.proofs.Common.{◌≡◌, ◌++◌, map, drop}
-use Rattle.wast_expand.specs.TypeSpace.{taken_kind}
+use Rattle.wast_types.specs.TypeSpace.{taken_kind}
 use Rattle.wast_resolve.proofs.func_types.add_types.Given as goal
 
 abbrev pub invariant-loop-ty : goal.invariant-loop-ty

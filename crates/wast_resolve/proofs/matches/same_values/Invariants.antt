@@ -1,5 +1,5 @@
 use Rattle.std.proofs.Common.{◌≡◌, map, drop}
-use Rattle.wast_expand.specs.Signatures.{same_values_by}
+use Rattle.wast_types.specs.Signatures.{same_values_by}
 use Rattle.wast_resolve.specs.Matches.{same_type}
 use Rattle.wast_resolve.specs.Resolvers.{known_of}
 use Rattle.wast_resolve.proofs.matches.same_values.Given as goal

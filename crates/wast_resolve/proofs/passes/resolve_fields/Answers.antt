@@ -3,7 +3,8 @@ use Rattle.std.proofs.lemmas.Result.{err_from_is_err_and}
 use Rattle.wast_base.specs.Faults.{told}
 use Rattle.wast_tree.specs.Known.{Known}
 use Rattle.wast_resolve.specs.Scopes.{signatures}
-use Rattle.wast_resolve.specs.Resolved.{resolved_field}
+use Rattle.wast_map.specs.Mapped.{mapped}
+use Rattle.wast_resolve.specs.Resolved.{numbering}
 use Rattle.wast_resolve.specs.Resolvers.{known_of, scope_of}
 use Rattle.wast_resolve.proofs.BothPasses.{items_stop, items_met, items_known, scope_known, uses_stop, both_pass}
 use Rattle.wast_resolve.proofs.passes.resolve_fields.Goals as goal
@@ -38,7 +39,7 @@ pub returns-clause-list : goal.returns-clause-list
 returns-clause-list c =
     let fs = c.args.fields.now in
     let known = items_known fs c.as_slice-2.result.now c.as_slice-2.ensures (known_of c.in_ok-spaces.spaces) c.in_ok-spaces.ensures.names in
-    c.in_ok-walk_fields.ensures.1 ∙ ap (λ (k : Known). map (resolved_field k) fs) (ap known_of c.with_types-names.ensures ∙ known)
+    c.in_ok-walk_fields.ensures.1 ∙ ap (λ (k : Known). map (mapped (numbering k)) fs) (ap known_of c.with_types-names.ensures ∙ known)
 
 pub returns-clause-names : goal.returns-clause-names
 returns-clause-names c =

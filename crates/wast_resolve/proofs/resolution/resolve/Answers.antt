@@ -3,7 +3,7 @@ use Rattle.std.proofs.lemmas.Result.{err_from_is_err_and}
 use Rattle.wast_base.specs.Filling.{RunsOut}
 use Rattle.wast_tree.specs.Items.{items}
 use Rattle.wast_tree.specs.Known.{known}
-use Rattle.wast_expand.specs.Expanded.{ids_wanted}
+use Rattle.wast_types.specs.Expanded.{ids_wanted}
 use Rattle.wast_namespace.specs.FirstUnmet.{first_unmet, Answers}
 use Rattle.wast_base.specs.Faults.{told}
 use Rattle.wast_resolve.specs.Tree.{ModuleField}

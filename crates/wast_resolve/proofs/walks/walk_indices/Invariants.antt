@@ -1,4 +1,4 @@
-use Rattle.wast_tree.specs.Occurrences.{in_index}
+use Rattle.wast_tree.specs.Sites.{in_index}
 use Rattle.wast_resolve.specs.Demands.{ask_demand}
 use Rattle.wast_resolve.specs.Resolved.{numbered_at}
 use Rattle.wast_resolve.specs.Resolvers.{known_of}

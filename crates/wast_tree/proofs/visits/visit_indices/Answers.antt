@@ -1,5 +1,5 @@
 use Rattle.std.proofs.Common.{arith, refl}
-use Rattle.wast_tree.specs.Occurrences.{in_index}
+use Rattle.wast_tree.specs.Sites.{in_index}
 use Rattle.wast_tree.proofs.Visiting.{visits_more, visits_one}
 use Rattle.wast_tree.proofs.visits.visit_indices.Goals as goal
 

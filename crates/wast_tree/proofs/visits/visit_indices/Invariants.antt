@@ -1,5 +1,5 @@
 use Rattle.std.proofs.Common.{flat_map, take}
-use Rattle.wast_tree.specs.Occurrences.{in_index}
+use Rattle.wast_tree.specs.Sites.{in_index}
 use Rattle.wast_tree.specs.Visits.{Visits}
 use Rattle.wast_tree.proofs.visits.visit_indices.Given as goal
 

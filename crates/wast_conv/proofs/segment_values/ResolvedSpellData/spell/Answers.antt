@@ -1,6 +1,5 @@
 use Rattle.std.proofs.Common.{true, refl}
-use Rattle.wast_conv.proofs.EachPasses.{all_pass}
-use Rattle.wast_conv.proofs.TypesReady.{both_true}
+use Rattle.wast_conv.proofs.EachPasses.{both_true, all_pass}
 use Rattle.wast_conv.proofs.segment_values.ResolvedSpellData.spell.Goals as goal
 
 pub encode-requires : goal.encode-requires

@@ -1,31 +1,43 @@
-use Rattle.std.proofs.Common.{◌≡◌, true, ◌&&◌, refl, sym, ap, ◌∙◌, subst}
+use Rattle.std.proofs.Common.{◌≡◌, true, refl, sym, ap, ◌∙◌, subst}
 use Rattle.std.specs.List.{list_all}
 use Rattle.wasm_ops.specs.ConstExprs.{expression, InRangeExpression}
 use Rattle.wasm_ops.specs.Covered.{is_covered_ref_type}
 use Rattle.wasm_ops.specs.Leb128.{unsigned}
 use Rattle.wasm_ops.specs.Spelling.{InRangeU32, vec, InRangeVec}
 use Rattle.wasm_out.specs.declared.elements.ElementKind.TheVariants as kinds
-use Rattle.wast_tree.specs.WellFormed.{suits}
+use Rattle.wast_tree.specs.Sites.{in_payload}
+use Rattle.wast_tree.specs.Clauses.{suits}
+use Rattle.wast_base.specs.Ids.{is_number}
+use Rattle.wast_conv.specs.Tree.space
 use Rattle.wast_conv.specs.Tree.payload
-use Rattle.wast_conv.specs.Encodable.{is_encodable_expression, is_encodable_elem_kind, is_encodable_payload}
+use Rattle.wast_conv.specs.Encodable.{encodable, is_encodable_expression}
 use Rattle.wast_conv.specs.Meaning as meaning
-use Rattle.wast_conv.proofs.EachPasses.{both_pass}
+use Rattle.wast_conv.proofs.EachPasses.{both_true}
 use Rattle.wast_conv.proofs.Segmented.{segment_written, has_its_form}
+use Rattle.wast_conv.proofs.Standing.{encodable_at}
 use Rattle.wast_conv.proofs.Spelled.{vec_mapped, in_range_mapped, in_range_unmapped}
-use Rattle.wast_conv.proofs.TypesReady.{both_true, heap_covered}
+use Rattle.wast_conv.proofs.SegmentsReady.{exprs_parts, elem_parts}
+use Rattle.wast_conv.proofs.TypesReady.{heap_covered}
 use Rattle.wast_conv.proofs.segment_values.ResolvedSpellElem.spell.Goals as goal
+
+pub encode-requires : goal.encode-requires
+encode-requires g c =
+    let e = c.args.elem.now in
+    let fs = c.in-Indices.functions in
+    let parts = elem_parts e c.requires in
+    both_true _ _ (has_its_form (λ b. meaning.expression b.0.now) c.mode_of-mode.result e.kind (payload.Indices fs) kinds.Functions c.mode_of-mode.ensures.same refl (subst (λ p. suits e.kind p ≡ true) c.in-Indices.is parts.fits))
+    (both_true _ _ c.mode_of-mode.ensures.ready (ap (list_all is_number) c.as_slice.ensures ∙ (sym (encodable_at space.Func fs) ∙ subst (λ p. encodable (in_payload p) ≡ true) c.in-Indices.is parts.holds)))
 
 pub encode-requires-in-Exprs : goal.encode-requires-in-Exprs
 encode-requires-in-Exprs g c =
     let e = c.args.elem.now in
     let ty = c.in-Exprs.ty in
     let es = c.in-Exprs.exprs in
-    let parts = both_pass (suits e.kind e.payload) (is_encodable_elem_kind e.kind && is_encodable_payload e.payload) c.requires in
-    let held = both_pass (is_encodable_elem_kind e.kind) (is_encodable_payload e.payload) parts.1 in
-    let payload_held = both_pass _ (list_all is_encodable_expression es) (subst (λ p. is_encodable_payload p ≡ true) c.in-Exprs.is held.1) in
-    both_true _ _ (has_its_form (λ b. meaning.expression b.0.now) c.mode_of-mode.result e.kind (payload.Exprs ty es) (kinds.Expressions c.ref_type.result) c.mode_of-mode.ensures.same (ap kinds.Expressions c.ref_type.ensures) (subst (λ p. suits e.kind p ≡ true) c.in-Exprs.is parts.0))
-    (both_true _ _ (ap is_covered_ref_type c.ref_type.ensures ∙ heap_covered ty.heap payload_held.0)
-    (both_true _ _ c.mode_of-mode.ensures.ready (ap (list_all is_encodable_expression) c.as_slice-in-Exprs.ensures ∙ payload_held.1)))
+    let parts = elem_parts e c.requires in
+    let exprs = exprs_parts ty es (subst (λ p. encodable (in_payload p) ≡ true) c.in-Exprs.is parts.holds) in
+    both_true _ _ (has_its_form (λ b. meaning.expression b.0.now) c.mode_of-mode.result e.kind (payload.Exprs ty es) (kinds.Expressions c.ref_type.result) c.mode_of-mode.ensures.same (ap kinds.Expressions c.ref_type.ensures) (subst (λ p. suits e.kind p ≡ true) c.in-Exprs.is parts.fits))
+    (both_true _ _ (ap is_covered_ref_type c.ref_type.ensures ∙ heap_covered ty.heap exprs.1)
+    (both_true _ _ c.mode_of-mode.ensures.ready (ap (list_all is_encodable_expression) c.as_slice-in-Exprs.ensures ∙ exprs.0)))
 
 pub returns-in-Indices : goal.returns-in-Indices
 returns-in-Indices g c =

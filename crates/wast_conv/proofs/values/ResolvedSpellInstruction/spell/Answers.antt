@@ -1,16 +1,17 @@
 use mir.Val.{SFits}
 use Rattle.std.specs.Int.{w32, w64}
 use Rattle.std.proofs.lemmas.Int.{to_z-of_z}
+use Rattle.wast_tree.specs.Sites.{in_heap}
 use Rattle.wasm_ops.specs.ConstantInstrs.{i32_const_instr, i64_const_instr}
 use Rattle.wasm_ops.specs.Sinks.{Writes}
 use Rattle.wasm_ops.specs.Table.{instr, InRangeInstr}
-use Rattle.std.proofs.Common.{rules, ◌≡◌, true, subst}
+use Rattle.std.proofs.Common.{rules, ◌≡◌, true, sym, ◌∙◌, subst}
 use Rattle.wast_conv.specs.Encodable.{is_encodable_instr}
-use Rattle.wast_conv.proofs.Expressions.{null_covered}
+use Rattle.wast_conv.proofs.Standing.{asking_passes}
 use Rattle.wast_conv.proofs.values.ResolvedSpellInstruction.spell.Goals as goal
 
-pub put_null-requires-clause-covered : goal.put_null-requires-clause-covered
-put_null-requires-clause-covered g c = null_covered c.in-ref_null.ty (subst (λ i. is_encodable_instr i ≡ true) c.in-ref_null.is c.requires)
+pub put_null-requires : goal.put_null-requires
+put_null-requires g c = sym (asking_passes (in_heap c.in-ref_null.ty)) ∙ subst (λ i. is_encodable_instr i ≡ true) c.in-ref_null.is c.requires
 
 pub returns-in-call : goal.returns-in-call
 returns-in-call g c = rw c.in-call.is c.put_index.ensures

@@ -1,15 +1,26 @@
-use Rattle.std.proofs.Common.{ap, sym, ◌∙◌, ◌==◌, ◌&&◌, length, map}
+use Rattle.std.proofs.Common.{◌≡◌, true, List, ap, sym, ◌∙◌, ◌==◌, ◌&&◌, length, map}
 use Rattle.std.specs.List.{list_all}
 use Rattle.wast_base.specs.Ids.{is_number}
+use Rattle.wast_tree.specs.Sites.{in_inner, in_def}
 use Rattle.wasm_ops.specs.Spelling.{composite_inner_type, sub_bytes}
 use Rattle.wast_conv.specs.Meaning as meaning
-use Rattle.wast_conv.specs.Encodable.{is_encodable_inner}
-use Rattle.wast_conv.proofs.EachPasses.{both_pass}
+use Rattle.wast_conv.specs.Encodable.{is_encodable_ask, are_encodable}
+use Rattle.wast_conv.specs.Tree.{Index, TypeDef}
+use Rattle.wast_conv.specs.Tree.space
+use Rattle.wast_conv.proofs.EachPasses.{both_true}
 use Rattle.wast_conv.proofs.Spelled.{final_is, open_bytes, final_bytes, sub_written}
+use Rattle.wast_conv.proofs.Standing.{encodable_in}
+use Rattle.wast_conv.proofs.TypesReady.{def_parts}
 use Rattle.wast_conv.proofs.values.ResolvedSpellTypeDef.spell.Goals as goal
 
+-- the types above a type are numbers, and what it is may be encoded
+parents_and_kind : (d : TypeDef) (ps : List Index) → ps ≡ d.parents → are_encodable (in_def d) ≡ true → (list_all is_number ps && are_encodable (in_inner d.kind)) ≡ true
+parents_and_kind d ps same e =
+    let parts = def_parts is_encodable_ask d e in
+    both_true (list_all is_number ps) (are_encodable (in_inner d.kind)) (ap (list_all is_number) same ∙ (sym (encodable_in space.Ty d.parents) ∙ parts.parents)) parts.kind
+
 pub encode-requires : goal.encode-requires
-encode-requires g c = ap (λ ps. list_all is_number ps && is_encodable_inner c.args.def.now.kind) c.as_slice.ensures ∙ (both_pass _ _ c.requires).1
+encode-requires g c = parents_and_kind c.args.def.now c.as_slice.result.now c.as_slice.ensures c.requires
 
 pub returns-then-not-unwrap_or : goal.returns-then-not-unwrap_or
 returns-then-not-unwrap_or g c =
@@ -20,7 +31,7 @@ returns-then-not-unwrap_or g c =
     (open_bytes meaning.number ps composite ∙ ap (λ m. sub_bytes m (map meaning.number ps) composite) (c.if-not-unwrap_or.ensures ∙ final_is d.final_type)) c.encode.ensures
 
 pub encode-requires-2 : goal.encode-requires-2
-encode-requires-2 g c = ap (λ ps. list_all is_number ps && is_encodable_inner c.args.def.now.kind) c.as_slice.ensures ∙ (both_pass _ _ c.requires).1
+encode-requires-2 g c = parents_and_kind c.args.def.now c.as_slice.result.now c.as_slice.ensures c.requires
 
 pub returns : goal.returns
 returns g c =

@@ -1,0 +1,109 @@
+-- What is read of the parts of a field tells nothing of what is taken away: generated ids, and the places of the indices of
+-- type uses.
+use Rattle.std.proofs.Common.{◌≡◌, ℕ, List, [], ◌∷◌, ◌++◌, map, Option, Some, None, option_map, refl, ap, ◌∙◌, arith}
+use Rattle.std.specs.Prelude.{unwrap_or}
+use Rattle.std.proofs.lemmas.Grind.{common_steps}
+use Rattle.wast_base.specs.Ids.{Mark}
+use Rattle.wast_tree.specs.Sites.{Here, start, behind, local_marks, body_here}
+use Rattle.wast_map.specs.Mapped.{mapped_heap, mapped_ref, mapped_def, mapped_type, mapped_table_type, mapped_global_type, mapped_tag_type, mapped_instr, mapped_instrs, mapped_constant, mapped_local, mapped_func_kind, mapped_item_kind, mapped_import_items, mapped_payload, mapped_table_kind, mapped_global_kind, mapped_elem_kind, mapped_data_kind}
+use Rattle.wast_map.proofs.Types.{heap_at, ref_at, val_at, type_at, table_type_at, global_type_at}
+use Rattle.wast_resolve.specs.Stripped.{at_start, stripped_use, stripping}
+use Rattle.wast_core.specs.Tree.{Index, TypeUse, FunctionType, HeapType, RefType, TableType, GlobalType, TagType, ItemKind, ImportItems, Instruction, Expression, Local, FuncKind, TableKind, GlobalKind, ElemKind, ElemPayload, DataKind}
+use Rattle.wast_core.specs.Tree.index
+use Rattle.wast_core.specs.Tree.ty
+use Rattle.wast_core.specs.Tree.tag
+use Rattle.wast_core.specs.Tree.kind
+use Rattle.wast_core.specs.Tree.import_items
+use Rattle.wast_core.specs.Tree.func
+use Rattle.wast_core.specs.Tree.table
+use Rattle.wast_core.specs.Tree.global
+use Rattle.wast_core.specs.Tree.elem
+use Rattle.wast_core.specs.Tree.payload
+use Rattle.wast_core.specs.Tree.data_kind
+use Rattle.wast_conv.specs.FieldEntries.{group_of, imported, table_of, value_of}
+use Rattle.wast_core.specs.Meaning.{number, val_type, sub_type, type_index, tag_type, entity_type, instr, expression, body, element_mode, element_items, data_mode}
+
+-- what is read of each of a list
+pub each_alike : {A B : Type 0} (f : A → A) (g : A → B) → ((x : A) → g (f x) ≡ g x) → (xs : List A) → map g (map f xs) ≡ map g xs
+each_alike f g same [] = refl
+each_alike f g same (x ∷ xs) = λ i. same x i ∷ each_alike f g same xs i
+
+-- Types stay, as no index in them changes.
+pub def_stays : (t : ty.«Type») → mapped_def stripping.index t.def ≡ t.def
+def_stays t = ap (λ (s : ty.«Type»). s.def) (type_at t).still
+
+heap_stays : (t : HeapType) → mapped_heap stripping.index t ≡ t
+heap_stays t = (heap_at t).still
+
+ref_stays : (t : RefType) → mapped_ref stripping.index t ≡ t
+ref_stays t = (ref_at t).still
+
+table_type_stays : (t : TableType) → mapped_table_type stripping.index t ≡ t
+table_type_stays t = (table_type_at t).still
+
+pub global_type_stays : (t : GlobalType) → mapped_global_type stripping.index t ≡ t
+global_type_stays t = (global_type_at t).still
+
+pub type_told : (t : ty.«Type») → sub_type (mapped_def stripping.index t.def) ≡ sub_type t.def
+type_told t = ap sub_type (def_stays t)
+
+pub group_told : (ts : List ty.«Type») → map (λ t. sub_type t.def) (map (mapped_type stripping) ts) ≡ map (λ t. sub_type t.def) ts
+group_told ts = each_alike (mapped_type stripping) (λ t. sub_type t.def) type_told ts
+
+-- A type use is read as a number.
+number_told : (i : Option Index) → unwrap_or (option_map number (option_map at_start i)) 0 ≡ unwrap_or (option_map number i) 0
+number_told None = refl
+number_told (Some (index.Num n span)) = refl
+number_told (Some (index.Id id)) = refl
+
+pub use_told : (u : TypeUse FunctionType) → type_index (stripped_use u) ≡ type_index u
+use_told u = number_told u.index
+
+pub tag_told : (t : TagType) → tag_type (mapped_tag_type stripping t) ≡ tag_type t
+tag_told t = grind (arith, common_steps, use_told)
+
+entity_told : (k : ItemKind) → entity_type (mapped_item_kind stripping k) ≡ entity_type k
+entity_told k = grind (arith, common_steps, use_told, table_type_stays, global_type_stays, tag_told)
+
+pub import_told : (i : ImportItems) → imported (mapped_import_items stripping i) ≡ imported i
+import_told i = grind (arith, common_steps, entity_told)
+
+-- Bodies.
+instr_told : (h : Here) (i : Instruction) → instr (mapped_instr stripping h i) ≡ instr i
+instr_told h i = grind (arith, common_steps, heap_stays)
+
+instrs_told : (h : Here) (is : List Instruction) → map instr (mapped_instrs stripping h is) ≡ map instr is
+instrs_told h [] = refl
+instrs_told h (i ∷ is) = λ t. instr_told h i t ∷ instrs_told (behind h i) is t
+
+constant_told : (e : Expression) → expression (mapped_constant stripping e) ≡ expression e
+constant_told e = instrs_told start e.instrs
+
+constants_told : (es : List Expression) → map expression (map (mapped_constant stripping) es) ≡ map expression es
+constants_told es = each_alike (mapped_constant stripping) expression constant_told es
+
+locals_told : (ls : List Local) → map (λ l. val_type l.ty) (map (mapped_local stripping) ls) ≡ map (λ l. val_type l.ty) ls
+locals_told ls = each_alike (mapped_local stripping) (λ l. val_type l.ty) (λ l. ap val_type (val_at l.ty).still) ls
+
+pub body_told : (params : List (Option Mark)) (k : FuncKind) → body (mapped_func_kind stripping params k) ≡ body k
+body_told params (func.Import import exact) = refl
+body_told params (func.Inline locals e) = λ t. record { locals = locals_told locals t; instrs = instrs_told (body_here (params ++ local_marks locals)) e.instrs t }
+
+-- Tables, globals and segments.
+pub table_told : (k : TableKind) → table_of (mapped_table_kind stripping k) ≡ table_of k
+table_told k = grind (arith, common_steps, table_type_stays, ref_stays, constant_told)
+
+pub value_told : (k : GlobalKind) → value_of (mapped_global_kind stripping k) ≡ value_of k
+value_told k = grind (arith, common_steps, constant_told)
+
+pub mode_told : (k : ElemKind) → element_mode (mapped_elem_kind stripping k) ≡ element_mode k
+mode_told k = grind (arith, common_steps, constant_told)
+
+numbers_told : (is : List Index) → map number (map (λ i. i) is) ≡ map number is
+numbers_told is = each_alike (λ i. i) number (λ i. refl) is
+
+pub items_told : (p : ElemPayload) → element_items (mapped_payload stripping p) ≡ element_items p
+items_told p = grind (arith, common_steps, numbers_told, constants_told, ref_stays)
+
+pub place_told : (k : DataKind) → data_mode (mapped_data_kind stripping k) ≡ data_mode k
+place_told k = grind (arith, common_steps, constant_told)

@@ -1,6 +1,0 @@
-use Rattle.wast_expand.specs.Binding.{state}
-use Rattle.wast_expand.proofs.Halfway.{IsHalfway}
-use Rattle.wast_expand.proofs.binding.bind_each.Given as goal
-
-abbrev pub invariant-loop-i : goal.invariant-loop-i
-invariant-loop-i g l = IsHalfway g.T.Bind.needed g.T.Bind.bound l.fn.parts l.parts l.i (state l.fn.cx l.fn.implied l.fn.gensym) (state l.cx l.implied l.gensym)

@@ -1,7 +1,0 @@
-use Rattle.std.proofs.Common.{take}
-use Rattle.wast_expand.specs.Expanders.{Extends}
-use Rattle.wast_expand.specs.Expanded.{bindings}
-use Rattle.wast_expand.proofs.expansion.bind_types.Given as goal
-
-abbrev pub invariant-loop-field : goal.invariant-loop-field
-invariant-loop-field l = Extends l.fn.cx l.cx (bindings (take l.field-index l.fields))

@@ -1,5 +1,0 @@
-use Rattle.wast_expand.proofs.AtRest.{stays_expanded}
-use Rattle.wast_expand.proofs.laws.expanded_laws.Goals as goal
-
-pub returns-clause-stays : goal.returns-clause-stays
-returns-clause-stays c = stays_expanded

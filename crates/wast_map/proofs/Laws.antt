@@ -1,0 +1,44 @@
+-- The laws of the map over a list of fields.
+use Rattle.std.specs.Prelude.{⊤, Option}
+use Rattle.std.proofs.Common.{◌≡◌, List, [], ◌∷◌, refl, sym, ap, ◌∙◌, map}
+use Rattle.std.specs.List.{flat_map}
+use Rattle.wast_map.specs.Tree.{Id, ModuleField}
+use Rattle.wast_tree.specs.Sites.{Site, Asked, Wants, Bare, Clause, Supported, Used, Declared, in_field, in_module}
+use Rattle.wast_map.specs.Mapped.{Change, same, then, mapped, mapped_site, KeepsMarks, Joins, AreJoint, Each}
+use Rattle.wast_map.proofs.Ways.{At, list_at}
+use Rattle.wast_map.proofs.Fields.{field_at}
+
+fields_at : (xs : List ModuleField) → At in_module (λ f xs. map (mapped f) xs) xs
+fields_at xs = list_at field_at xs
+
+pub each_so : (p : Site → Type 0) → ((s : Site) → p s) → (xs : List Site) → Each p xs
+each_so p h [] = tt
+each_so p h (x ∷ xs) = (h x, each_so p h xs)
+
+-- What stands in the changed list is the changed list of what stood.
+pub stands : (f : Change) → KeepsMarks f → (xs : List ModuleField) → in_module (map (mapped f) xs) ≡ map (mapped_site f) (in_module xs)
+stands f k xs = (fields_at xs).stands f k
+
+-- Where nothing changes, the list is the same.
+pub still : (xs : List ModuleField) → map (mapped same) xs ≡ xs
+still xs = (fields_at xs).still
+
+-- Two changes are a third where they are so at each site.
+pub joins : (h g f : Change) → AreJoint h g f → (xs : List ModuleField) → Each (Joins h g f) (in_module xs) → map (mapped g) (map (mapped h) xs) ≡ map (mapped f) xs
+joins h g f j xs e = (fields_at xs).joins h g f j e
+
+joins_then : (h g : Change) (s : Site) → Joins h g (then h g) s
+joins_then h g (Asked (Wants s i)) = refl
+joins_then h g (Asked (Bare m)) = tt
+joins_then h g (Asked (Clause n holds)) = tt
+joins_then h g (Asked (Supported holds)) = tt
+joins_then h g (Used u) = refl
+joins_then h g (Declared before m) = tt
+
+-- Two changes after one another are one.
+pub twice : (h g : Change) → KeepsMarks h → (xs : List ModuleField) → map (mapped g) (map (mapped h) xs) ≡ map (mapped (then h g)) xs
+twice h g k xs = joins h g (then h g) (record { keeps = k; ids = λ o. refl }) xs (each_so (Joins h g (then h g)) (joins_then h g) (in_module xs))
+
+-- Changes that are the same at each site give the same list.
+pub alike : (f g : Change) → ((o : Option Id) → f.id o ≡ g.id o) → (xs : List ModuleField) → Each (Joins same f g) (in_module xs) → map (mapped f) xs ≡ map (mapped g) xs
+alike f g ids xs e = sym (ap (map (mapped f)) (still xs)) ∙ joins same f g (record { keeps = λ u. refl; ids = ids }) xs e

@@ -1,0 +1,42 @@
+-- What is so of every map over the fields of a module.
+use Rattle.std.specs.Prelude.{◌≡◌, Option, List, map}
+use Rattle.wast_base.specs.Ids.{marked}
+use Rattle.wast_tree.specs.Items.{items}
+use Rattle.wast_tree.specs.Sites.{in_module}
+use Rattle.wast_tree.specs.WrittenOut.{is_written_out}
+use Rattle.wast_map.specs.Tree.{Id, ModuleField}
+use Rattle.wast_map.specs.Mapped.{Change, same, then, mapped, mapped_site, KeepsMarks, Joins, AreJoint, Each}
+
+abbrev pub all_mapped : Change → List ModuleField → List ModuleField
+all_mapped f fields = map (mapped f) fields
+
+-- What stands in the changed list is what stood there, changed.
+abbrev pub StandsMapped : Type 0
+StandsMapped = (f : Change) → KeepsMarks f → (fields : List ModuleField) → in_module (all_mapped f fields) ≡ map (mapped_site f) (in_module fields)
+
+-- Where nothing changes, the list is the same.
+abbrev pub StaysStill : Type 0
+StaysStill = (fields : List ModuleField) → all_mapped same fields ≡ fields
+
+-- Two changes after one another are a third, where they are so at each site and at the ids of items.
+abbrev pub MapsJoin : Type 0
+MapsJoin = (h g f : Change) → AreJoint h g f → (fields : List ModuleField) → Each (Joins h g f) (in_module fields) → all_mapped g (all_mapped h fields) ≡ all_mapped f fields
+
+-- So they are one change, and changes that are the same at each site give the same list.
+abbrev pub MapsTwice : Type 0
+MapsTwice = (h g : Change) → KeepsMarks h → (fields : List ModuleField) → all_mapped g (all_mapped h fields) ≡ all_mapped (then h g) fields
+
+abbrev pub MapsAlike : Type 0
+MapsAlike = (f g : Change) → ((o : Option Id) → f.id o ≡ g.id o) → (fields : List ModuleField) → Each (Joins same f g) (in_module fields) → all_mapped f fields ≡ all_mapped g fields
+
+-- A list is written out where the changed one is.
+abbrev pub StaysWrittenOut : Type 0
+StaysWrittenOut = (f : Change) (fields : List ModuleField) → is_written_out (all_mapped f fields) ≡ is_written_out fields
+
+-- Items keep their ids, as they are called and where.
+abbrev pub KeepsItems : Change → Type 0
+KeepsItems f = (o : Option Id) → marked (f.id o) ≡ marked o
+
+-- Then the items are the same.
+abbrev pub ItemsStay : Type 0
+ItemsStay = (f : Change) → KeepsItems f → (fields : List ModuleField) → items (all_mapped f fields) ≡ items fields

@@ -1,0 +1,286 @@
+-- The one map over the tree: what each index, each type use and each id of an item becomes (text format: indices, type
+-- uses, identifiers).
+use Rattle.std.specs.Prelude.{⊤, ◌≡◌, List, [], ◌∷◌, ◌++◌, map, Option, option_map}
+use Rattle.wast_base.specs.Ids.{Mark}
+use Rattle.wast_map.specs.Tree.{Id, Index, NameAnnotation, Space, RefType, HeapType, ValType, StorageType, StructField, StructType, ArrayType, FunctionType, TypeUse, InnerTypeKind, TypeDef, Rec, Instruction, Expression, TableType, GlobalType, TagType, Imports, ImportItems, ItemSig, ItemKind, Local, FuncKind, Func, Table, TableKind, Memory, Global, GlobalKind, Tag, Elem, ElemKind, ElemPayload, Data, DataKind, Export, ModuleField}
+use Rattle.wast_map.specs.Tree.space
+use Rattle.wast_map.specs.Tree.heap
+use Rattle.wast_map.specs.Tree.value
+use Rattle.wast_map.specs.Tree.storage
+use Rattle.wast_map.specs.Tree.inner
+use Rattle.wast_map.specs.Tree.ty
+use Rattle.wast_map.specs.Tree.instr
+use Rattle.wast_map.specs.Tree.func
+use Rattle.wast_map.specs.Tree.tag
+use Rattle.wast_map.specs.Tree.kind
+use Rattle.wast_map.specs.Tree.import_items
+use Rattle.wast_map.specs.Tree.table
+use Rattle.wast_map.specs.Tree.global
+use Rattle.wast_map.specs.Tree.elem
+use Rattle.wast_map.specs.Tree.payload
+use Rattle.wast_map.specs.Tree.data_kind
+use Rattle.wast_map.specs.Tree.field
+use Rattle.wast_tree.specs.Sites.{Here, start, behind, param_marks, local_marks, body_here, exported_space, Ask, Wants, Bare, Clause, Supported, Site, Asked, Used, Declared}
+
+-- what an index becomes where one of a space is wanted
+abbrev pub Indices : Type 0
+Indices = Space → Index → Index
+
+pub record Change : Type 0 where
+  pub index : Indices
+  -- a type use, with what stands in it
+  pub used : TypeUse FunctionType → TypeUse FunctionType
+  -- the id of an item
+  pub id : Option Id → Option Id
+
+-- nothing changes
+abbrev pub same : Change
+same = record { index = λ s i. i; used = λ u. u; id = λ o. o }
+
+-- one after the other
+abbrev pub then : Change → Change → Change
+then h g = record { index = λ s i. g.index s (h.index s i); used = λ u. g.used (h.used u); id = λ o. g.id (h.id o) }
+
+-- Types.
+abbrev pub mapped_heap : Indices → HeapType → HeapType
+mapped_heap f (heap.Abstract shared ty) = heap.Abstract shared ty
+mapped_heap f (heap.Concrete i) = heap.Concrete (f space.Ty i)
+
+-- a reference type
+abbrev pub mapped_ref : Indices → RefType → RefType
+mapped_ref f r = record r { heap = mapped_heap f r.heap }
+
+-- a value type
+abbrev pub mapped_val : Indices → ValType → ValType
+mapped_val f value.I32 = value.I32
+mapped_val f value.I64 = value.I64
+mapped_val f value.F32 = value.F32
+mapped_val f value.F64 = value.F64
+mapped_val f value.V128 = value.V128
+mapped_val f (value.Ref r) = value.Ref (mapped_ref f r)
+
+-- what a field of a struct or an element of an array is stored as
+abbrev pub mapped_storage : Indices → StorageType → StorageType
+mapped_storage f storage.I8 = storage.I8
+mapped_storage f storage.I16 = storage.I16
+mapped_storage f (storage.Val t) = storage.Val (mapped_val f t)
+
+-- a parameter
+abbrev pub mapped_param : Indices → Option Id × Option NameAnnotation × ValType → Option Id × Option NameAnnotation × ValType
+mapped_param f p = (p.0, p.1, mapped_val f p.2)
+
+-- a function type
+abbrev pub mapped_signature : Indices → FunctionType → FunctionType
+mapped_signature f t = record { params = map (mapped_param f) t.params; results = map (mapped_val f) t.results }
+
+-- a field of a struct
+abbrev pub mapped_struct_field : Indices → StructField → StructField
+mapped_struct_field f x = record x { ty = mapped_storage f x.ty }
+
+-- a struct type
+abbrev pub mapped_struct : Indices → StructType → StructType
+mapped_struct f t = record { fields = map (mapped_struct_field f) t.fields }
+
+-- an array type
+abbrev pub mapped_array : Indices → ArrayType → ArrayType
+mapped_array f t = record t { ty = mapped_storage f t.ty }
+
+-- a composite type
+abbrev pub mapped_inner : Indices → InnerTypeKind → InnerTypeKind
+mapped_inner f (inner.Func t) = inner.Func (mapped_signature f t)
+mapped_inner f (inner.Struct t) = inner.Struct (mapped_struct f t)
+mapped_inner f (inner.Array t) = inner.Array (mapped_array f t)
+
+-- what a type is defined as
+abbrev pub mapped_def : Indices → TypeDef → TypeDef
+mapped_def f d = record d {
+  parents = map (f space.Ty) d.parents;
+  descriptor = option_map (f space.Ty) d.descriptor;
+  describes = option_map (f space.Ty) d.describes;
+  kind = mapped_inner f d.kind;
+}
+
+-- a type, which is an item
+abbrev pub mapped_type : Change → ty.«Type» → ty.«Type»
+mapped_type f t = record t { id = f.id t.id; def = mapped_def f.index t.def }
+
+-- the types of a group
+abbrev pub mapped_rec : Change → Rec → Rec
+mapped_rec f r = record r { types = map (mapped_type f) r.types }
+
+-- a table type
+abbrev pub mapped_table_type : Indices → TableType → TableType
+mapped_table_type f t = record t { elem = mapped_ref f t.elem }
+
+-- a global type
+abbrev pub mapped_global_type : Indices → GlobalType → GlobalType
+mapped_global_type f t = record t { ty = mapped_val f t.ty }
+
+-- a tag type
+abbrev pub mapped_tag_type : Change → TagType → TagType
+mapped_tag_type f (tag.Exception u) = tag.Exception (f.used u)
+
+-- Bodies: each instruction from where it stands.
+abbrev pub mapped_instr : Change → Here → Instruction → Instruction
+mapped_instr f h (instr.Plain op) = instr.Plain op
+mapped_instr f h (instr.call i) = instr.call (f.index space.Func i)
+mapped_instr f h (instr.global_get i) = instr.global_get (f.index space.Global i)
+mapped_instr f h (instr.i32_const n) = instr.i32_const n
+mapped_instr f h (instr.i64_const n) = instr.i64_const n
+mapped_instr f h (instr.ref_null t) = instr.ref_null (mapped_heap f.index t)
+mapped_instr f h (instr.ref_func i) = instr.ref_func (f.index space.Func i)
+
+-- instructions, each behind those before it
+abbrev pub mapped_instrs : Change → Here → List Instruction → List Instruction
+mapped_instrs f h [] = []
+mapped_instrs f h (i ∷ is) = mapped_instr f h i ∷ mapped_instrs f (behind h i) is
+
+-- an expression, from where it stands
+abbrev pub mapped_expression : Change → Here → Expression → Expression
+mapped_expression f h e = record e { instrs = mapped_instrs f h e.instrs }
+
+-- a constant expression
+abbrev pub mapped_constant : Change → Expression → Expression
+mapped_constant f e = mapped_expression f start e
+
+-- Fields.
+abbrev pub mapped_local : Change → Local → Local
+mapped_local f l = record l { ty = mapped_val f.index l.ty }
+
+-- behind these parameters
+abbrev pub mapped_func_kind : Change → List (Option Mark) → FuncKind → FuncKind
+mapped_func_kind f params (func.Import import exact) = func.Import import exact
+mapped_func_kind f params (func.Inline locals e) = func.Inline (map (mapped_local f) locals) (mapped_expression f (body_here (params ++ local_marks locals)) e)
+
+-- a function
+abbrev pub mapped_func : Change → Func → Func
+mapped_func f x = record x { id = f.id x.id; kind = mapped_func_kind f (param_marks x.ty.inline) x.kind; ty = f.used x.ty }
+
+-- what is imported: its type
+abbrev pub mapped_item_kind : Change → ItemKind → ItemKind
+mapped_item_kind f (kind.Func u) = kind.Func (f.used u)
+mapped_item_kind f (kind.Table t) = kind.Table (mapped_table_type f.index t)
+mapped_item_kind f (kind.Memory t) = kind.Memory t
+mapped_item_kind f (kind.Global t) = kind.Global (mapped_global_type f.index t)
+mapped_item_kind f (kind.Tag t) = kind.Tag (mapped_tag_type f t)
+
+-- an imported item
+abbrev pub mapped_sig : Change → ItemSig → ItemSig
+mapped_sig f s = record s { id = f.id s.id; kind = mapped_item_kind f s.kind }
+
+-- what an import imports
+abbrev pub mapped_import_items : Change → ImportItems → ImportItems
+mapped_import_items f (import_items.Single source name sig) = import_items.Single source name (mapped_sig f sig)
+
+-- an import
+abbrev pub mapped_import : Change → Imports → Imports
+mapped_import f i = record i { items = mapped_import_items f i.items }
+
+-- what an element segment holds
+abbrev pub mapped_payload : Change → ElemPayload → ElemPayload
+mapped_payload f (payload.Indices is) = payload.Indices (map (f.index space.Func) is)
+mapped_payload f (payload.Exprs ty es) = payload.Exprs (mapped_ref f.index ty) (map (mapped_constant f) es)
+
+-- what a table is made of
+abbrev pub mapped_table_kind : Change → TableKind → TableKind
+mapped_table_kind f (table.Import import ty) = table.Import import (mapped_table_type f.index ty)
+mapped_table_kind f (table.Normal ty init) = table.Normal (mapped_table_type f.index ty) (option_map (mapped_constant f) init)
+mapped_table_kind f (table.Inline ty is64 shared elements) = table.Inline (mapped_ref f.index ty) is64 shared (mapped_payload f elements)
+
+-- a table
+abbrev pub mapped_table : Change → Table → Table
+mapped_table f t = record t { id = f.id t.id; kind = mapped_table_kind f t.kind }
+
+-- a memory
+abbrev pub mapped_memory : Change → Memory → Memory
+mapped_memory f m = record m { id = f.id m.id }
+
+-- the value of a global
+abbrev pub mapped_global_kind : Change → GlobalKind → GlobalKind
+mapped_global_kind f (global.Import import) = global.Import import
+mapped_global_kind f (global.Inline e) = global.Inline (mapped_constant f e)
+
+-- a global
+abbrev pub mapped_global : Change → Global → Global
+mapped_global f g = record g { id = f.id g.id; ty = mapped_global_type f.index g.ty; kind = mapped_global_kind f g.kind }
+
+-- a tag
+abbrev pub mapped_tag : Change → Tag → Tag
+mapped_tag f t = record t { id = f.id t.id; ty = mapped_tag_type f t.ty }
+
+-- what an element segment fills
+abbrev pub mapped_elem_kind : Change → ElemKind → ElemKind
+mapped_elem_kind f elem.Passive = elem.Passive
+mapped_elem_kind f elem.Declared = elem.Declared
+mapped_elem_kind f (elem.Active table offset) = elem.Active (option_map (f.index space.Table) table) (mapped_constant f offset)
+
+-- an element segment
+abbrev pub mapped_elem : Change → Elem → Elem
+mapped_elem f e = record e { id = f.id e.id; kind = mapped_elem_kind f e.kind; payload = mapped_payload f e.payload }
+
+-- what a data segment fills
+abbrev pub mapped_data_kind : Change → DataKind → DataKind
+mapped_data_kind f data_kind.Passive = data_kind.Passive
+mapped_data_kind f (data_kind.Active memory offset) = data_kind.Active (f.index space.Memory memory) (mapped_constant f offset)
+
+-- a data segment
+abbrev pub mapped_data : Change → Data → Data
+mapped_data f d = record d { id = f.id d.id; kind = mapped_data_kind f d.kind }
+
+-- an export
+abbrev pub mapped_export : Change → Export → Export
+mapped_export f e = record e { item = f.index (exported_space e.kind) e.item }
+
+-- a field
+abbrev pub mapped : Change → ModuleField → ModuleField
+mapped f (field.Ty t) = field.Ty (mapped_type f t)
+mapped f (field.Rec r) = field.Rec (mapped_rec f r)
+mapped f (field.Import i) = field.Import (mapped_import f i)
+mapped f (field.Func x) = field.Func (mapped_func f x)
+mapped f (field.Table t) = field.Table (mapped_table f t)
+mapped f (field.Memory m) = field.Memory (mapped_memory f m)
+mapped f (field.Global g) = field.Global (mapped_global f g)
+mapped f (field.Export e) = field.Export (mapped_export f e)
+mapped f (field.Start i) = field.Start (f.index space.Func i)
+mapped f (field.Elem e) = field.Elem (mapped_elem f e)
+mapped f (field.Data d) = field.Data (mapped_data f d)
+mapped f (field.Tag t) = field.Tag (mapped_tag f t)
+
+-- What stands in a mapped part.
+abbrev pub mapped_ask : Indices → Ask → Ask
+mapped_ask f (Wants s i) = Wants s (f s i)
+mapped_ask f (Bare m) = Bare m
+mapped_ask f (Clause n holds) = Clause n holds
+mapped_ask f (Supported holds) = Supported holds
+
+-- a site
+abbrev pub mapped_site : Change → Site → Site
+mapped_site f (Asked a) = Asked (mapped_ask f.index a)
+mapped_site f (Used u) = Used (f.used u)
+mapped_site f (Declared before m) = Declared before m
+
+-- A change keeps the ids of the parameters in a type use.
+abbrev pub KeepsMarks : Change → Type 0
+KeepsMarks f = (u : TypeUse FunctionType) → param_marks (f.used u).inline ≡ param_marks u.inline
+
+-- At a site, two changes after one another are a third.
+abbrev pub JoinsAsk : Indices → Indices → Indices → Ask → Type 0
+JoinsAsk h g f (Wants s i) = g s (h s i) ≡ f s i
+JoinsAsk h g f (Bare m) = ⊤
+JoinsAsk h g f (Clause n holds) = ⊤
+JoinsAsk h g f (Supported holds) = ⊤
+
+abbrev pub Joins : Change → Change → Change → Site → Type 0
+Joins h g f (Asked a) = JoinsAsk h.index g.index f.index a
+Joins h g f (Used u) = g.used (h.used u) ≡ f.used u
+Joins h g f (Declared before m) = ⊤
+
+-- They are so at the ids of items, and the first keeps the ids of parameters.
+pub record AreJoint (h g f : Change) : Type 0 where
+  pub keeps : KeepsMarks h
+  pub ids : (o : Option Id) → g.id (h.id o) ≡ f.id o
+
+-- so at each of a list
+abbrev pub Each : {S : Type 0} → (S → Type 0) → List S → Type 0
+Each p [] = ⊤
+Each p (x ∷ xs) = p x × Each p xs

@@ -1,0 +1,16 @@
+//! The one map over the tree of a WebAssembly module in the text format: what each index, each type use and each id of an
+//! item becomes. It has no code: passes over the tree are cases of it, and its laws are what proofs of them cite.
+#![tactic(auto)]
+
+ghost use Rattle.wast_map.specs.Laws.{StandsMapped, StaysStill, MapsJoin, MapsTwice, MapsAlike, StaysWrittenOut, ItemsStay};
+
+/// What is so of every map over the fields of a module. It does nothing.
+pub fn map_laws()
+    ensures stands { StandsMapped }
+    ensures still { StaysStill }
+    ensures joins { MapsJoin }
+    ensures twice { MapsTwice }
+    ensures alike { MapsAlike }
+    ensures written_out { StaysWrittenOut }
+    ensures items { ItemsStay }
+{}

@@ -1,0 +1,50 @@
+-- What is asked of single parts of a well formed module (text format: memories, element segments; binary format: element
+-- section).
+use Rattle.std.specs.Prelude.{ℕ, nat_lt, Bool, true, false, not, ◌&&◌, Option, Some, None}
+use Rattle.wast_tree.specs.Tree.{Index, HeapType, AbstractHeapType, RefType, ElemKind, ElemPayload}
+use Rattle.wast_tree.specs.Tree.heap
+use Rattle.wast_tree.specs.Tree.abstract
+use Rattle.wast_tree.specs.Tree.elem
+use Rattle.wast_tree.specs.Tree.payload
+
+-- The size of a page of 2 to this many bytes is a number of 64 bits; where none is written, a page has 65,536 bytes.
+abbrev pub is_page_exponent : Option ℕ → Bool
+is_page_exponent None = true
+is_page_exponent (Some n) = nat_lt n 64
+
+-- `funcref`
+abbrev pub is_func : AbstractHeapType → Bool
+is_func abstract.Func = true
+is_func abstract.Extern = false
+is_func abstract.Exn = false
+is_func abstract.NoExn = false
+is_func abstract.Any = false
+is_func abstract.Eq = false
+is_func abstract.Struct = false
+is_func abstract.Array = false
+is_func abstract.NoFunc = false
+is_func abstract.NoExtern = false
+is_func abstract.None = false
+is_func abstract.I31 = false
+
+abbrev pub is_func_heap : HeapType → Bool
+is_func_heap (heap.Abstract shared ty) = not shared && is_func ty
+is_func_heap (heap.Concrete i) = false
+
+abbrev pub is_funcref : RefType → Bool
+is_funcref r = r.nullable && is_func_heap r.heap
+
+-- functions, or references to any functions
+abbrev pub holds_functions : ElemPayload → Bool
+holds_functions (payload.Indices is) = true
+holds_functions (payload.Exprs ty es) = is_funcref ty
+
+abbrev pub is_some_or : Option Index → Bool → Bool
+is_some_or None other = other
+is_some_or (Some i) other = true
+
+-- An active segment without a table holds functions: the binary format has no place for another type (element section).
+abbrev pub suits : ElemKind → ElemPayload → Bool
+suits elem.Passive p = true
+suits elem.Declared p = true
+suits (elem.Active table offset) p = is_some_or table (holds_functions p)

@@ -1,0 +1,28 @@
+-- What is resolved: each index is a number, and each type use has one (text format: indices, type uses).
+use Rattle.std.specs.Prelude.{Bool, true, ◌&&◌, is_some, List}
+use Rattle.std.specs.List.{list_all}
+use Rattle.wast_base.specs.Ids.{is_number}
+use Rattle.wast_tree.specs.Tree.{ModuleField}
+use Rattle.wast_tree.specs.Sites.{Ask, Wants, Bare, Clause, Supported, Site, Asked, Used, Declared, in_type_use, asked, in_module}
+
+-- no id is left where an index is wanted
+abbrev pub is_numbered : Ask → Bool
+is_numbered (Wants s i) = is_number i
+is_numbered (Bare m) = true
+is_numbered (Clause n holds) = true
+is_numbered (Supported holds) = true
+
+abbrev pub are_numbered : List Ask → Bool
+are_numbered asks = list_all is_numbered asks
+
+abbrev pub has_numbers : List ModuleField → Bool
+has_numbers fields = are_numbered (asked (in_module fields))
+
+-- and no type use is without an index
+abbrev pub is_resolved_site : Site → Bool
+is_resolved_site (Asked a) = is_numbered a
+is_resolved_site (Used u) = is_some u.index && are_numbered (in_type_use u)
+is_resolved_site (Declared before m) = true
+
+abbrev pub is_resolved : List ModuleField → Bool
+is_resolved fields = list_all is_resolved_site (in_module fields)

@@ -1,0 +1,320 @@
+-- The one list of what stands in a module beside its items, in the order in which it is asked (text format: identifiers,
+-- indices): what stands in a type, and sites of fields and bodies, which carry what they may read of those before them.
+use Rattle.std.specs.Prelude.{ℕ, Bool, false, not, ◌==◌, length, List, [], ◌∷◌, ◌++◌, map, Option, Some, None, flat_map}
+use Rattle.wast_tree.specs.Tree.{Id, Index, NameAnnotation, Space, RefType, HeapType, ValType, StorageType, StructField, StructType, ArrayType, FunctionType, TypeUse, InnerTypeKind, TypeDef, Rec, Instruction, Expression, Local, FuncKind, Func, TableType, GlobalType, TagType, ItemKind, ImportItems, TableKind, MemoryKind, GlobalKind, Global, ExportKind, ElemKind, ElemPayload, Elem, DataKind, ModuleField}
+use Rattle.wast_tree.specs.Tree.space
+use Rattle.wast_tree.specs.Tree.heap
+use Rattle.wast_tree.specs.Tree.value
+use Rattle.wast_tree.specs.Tree.storage
+use Rattle.wast_tree.specs.Tree.inner
+use Rattle.wast_tree.specs.Tree.ty
+use Rattle.wast_tree.specs.Tree.instr
+use Rattle.wast_tree.specs.Tree.func
+use Rattle.wast_tree.specs.Tree.tag
+use Rattle.wast_tree.specs.Tree.import_items
+use Rattle.wast_tree.specs.Tree.kind
+use Rattle.wast_tree.specs.Tree.table
+use Rattle.wast_tree.specs.Tree.memory
+use Rattle.wast_tree.specs.Tree.global
+use Rattle.wast_tree.specs.Tree.elem
+use Rattle.wast_tree.specs.Tree.payload
+use Rattle.wast_tree.specs.Tree.data_kind
+use Rattle.wast_tree.specs.Tree.export
+use Rattle.wast_tree.specs.Tree.field
+use Rattle.wast_base.specs.Ids.{Name, Mark, mark_of, marked}
+use Rattle.wast_base.specs.Spaces.{name_if}
+use Rattle.wast_tree.specs.Clauses.{is_page_exponent, suits}
+
+pub data Ask : Type 0 where
+  -- an index, a number or an id, where one of this space is wanted
+  Wants : Space → Index → Ask
+  -- an id of which nothing is asked
+  Bare : Mark → Ask
+  -- the clause of "well formed" of this number, and whether it holds here
+  Clause : ℕ → Bool → Ask
+  -- whether what stands here is a form that the tree supports today
+  Supported : Bool → Ask
+
+pub data Site : Type 0 where
+  -- what is asked of the names of the module alone
+  Asked : Ask → Site
+  -- a type use: its index, its inline type, and whether the two match
+  Used : TypeUse FunctionType → Site
+  -- a parameter or a local, with its id if it has one, behind those of these names
+  Declared : List (Option Name) → Option Mark → Site
+
+-- what an instruction may read of what stands before it in its body: the names of the parameters and locals
+pub record Here : Type 0 where
+  pub locals : List (Option Name)
+
+-- a constant expression has no parameters and no locals
+abbrev pub start : Here
+start = record { locals = [] }
+
+-- no site of today moves the place
+abbrev pub after : Here → Site → Here
+after h (Asked a) = h
+after h (Used u) = h
+after h (Declared before m) = h
+
+-- where one stands behind these
+abbrev pub after_all : Here → List Site → Here
+after_all h [] = h
+after_all h (s ∷ ss) = after_all (after h s) ss
+
+-- what is asked, as sites
+abbrev pub asking : List Ask → List Site
+asking asks = map Asked asks
+
+-- Each part of the tree.
+abbrev pub if_there : {S A : Type 0} → (A → List S) → Option A → List S
+if_there f None = []
+if_there f (Some x) = f x
+
+-- an index of a space, and the same as a site
+abbrev pub in_index : Space → Index → List Ask
+in_index s i = Wants s i ∷ []
+
+abbrev pub at_index : Space → Index → List Site
+at_index s i = asking (in_index s i)
+
+-- an id
+abbrev pub in_id : Id → List Ask
+in_id id = Bare (mark_of id) ∷ []
+
+-- what is referred to is not shared
+abbrev pub in_heap : HeapType → List Ask
+in_heap (heap.Abstract shared ty) = Supported (not shared) ∷ []
+in_heap (heap.Concrete i) = in_index space.Ty i
+
+-- a reference type
+abbrev pub in_ref : RefType → List Ask
+in_ref r = in_heap r.heap
+
+-- a value type
+abbrev pub in_val : ValType → List Ask
+in_val value.I32 = []
+in_val value.I64 = []
+in_val value.F32 = []
+in_val value.F64 = []
+in_val value.V128 = []
+in_val (value.Ref r) = in_ref r
+
+-- what a field of a struct or an element of an array is stored as
+abbrev pub in_storage : StorageType → List Ask
+in_storage storage.I8 = []
+in_storage storage.I16 = []
+in_storage (storage.Val t) = in_val t
+
+-- a parameter: its id, and its type
+abbrev pub in_param : Option Id × Option NameAnnotation × ValType → List Ask
+in_param p = if_there in_id p.0 ++ in_val p.2
+
+-- a function type: its parameters, and then its results
+abbrev pub in_signature : FunctionType → List Ask
+in_signature t = flat_map in_param t.params ++ flat_map in_val t.results
+
+-- a field of a struct: its id, and its type
+abbrev pub in_struct_field : StructField → List Ask
+in_struct_field f = if_there in_id f.id ++ in_storage f.ty
+
+-- a struct type
+abbrev pub in_struct : StructType → List Ask
+in_struct t = flat_map in_struct_field t.fields
+
+-- an array type
+abbrev pub in_array : ArrayType → List Ask
+in_array t = in_storage t.ty
+
+-- a composite type
+abbrev pub in_inner : InnerTypeKind → List Ask
+in_inner (inner.Func t) = in_signature t
+in_inner (inner.Struct t) = in_struct t
+in_inner (inner.Array t) = in_array t
+
+-- a type is without descriptor and describes, and it is not shared
+abbrev pub in_descriptor : Index → List Ask
+in_descriptor i = in_index space.Ty i ++ Supported false ∷ []
+
+-- what a type is defined as: its parents, its descriptor, what it describes, and then the composite type
+abbrev pub in_def : TypeDef → List Ask
+in_def d =
+    flat_map (in_index space.Ty) d.parents
+    ++ (if_there in_descriptor d.descriptor ++ (if_there in_descriptor d.describes ++ (in_inner d.kind ++ Supported (not d.shared) ∷ [])))
+
+-- a type
+abbrev pub in_type : ty.«Type» → List Ask
+in_type t = in_def t.def
+
+-- each type of a group after the one before it
+abbrev pub in_rec : Rec → List Ask
+in_rec r = flat_map in_type r.types
+
+-- a type use: its index, and then its inline type
+abbrev pub in_type_use : TypeUse FunctionType → List Ask
+in_type_use u = if_there (in_index space.Ty) u.index ++ if_there in_signature u.inline
+
+-- an instruction, from where it stands
+abbrev pub in_instr : Here → Instruction → List Site
+in_instr h (instr.Plain op) = []
+in_instr h (instr.call f) = at_index space.Func f
+in_instr h (instr.global_get g) = at_index space.Global g
+in_instr h (instr.i32_const n) = []
+in_instr h (instr.i64_const n) = []
+in_instr h (instr.ref_null t) = asking (in_heap t)
+in_instr h (instr.ref_func f) = at_index space.Func f
+
+-- where the next one stands
+abbrev pub behind : Here → Instruction → Here
+behind h i = after_all h (in_instr h i)
+
+-- instructions, each behind those before it
+abbrev pub in_instrs : Here → List Instruction → List Site
+in_instrs h [] = []
+in_instrs h (i ∷ is) = in_instr h i ++ in_instrs (behind h i) is
+
+-- without branch hints
+abbrev pub in_expression : Here → Expression → List Site
+in_expression h e = in_instrs h e.instrs ++ Asked (Supported (length e.branch_hints == 0)) ∷ []
+
+-- a local: its type, and its id
+abbrev pub in_local : Local → List Ask
+in_local l = in_val l.ty ++ if_there in_id l.id
+
+-- what is declared: the parameters of the inline type, and the locals after them
+abbrev pub param_marks : Option FunctionType → List (Option Mark)
+param_marks None = []
+param_marks (Some t) = map (λ p. marked p.0) t.params
+
+-- the ids of locals, where they have one
+abbrev pub local_marks : List Local → List (Option Mark)
+local_marks locals = map (λ l. marked l.id) locals
+
+-- what is declared behind these names, each behind those before it
+abbrev pub declaring : List (Option Name) → List (Option Mark) → List Site
+declaring before [] = []
+declaring before (m ∷ ms) = Declared before m ∷ declaring (before ++ name_if m ∷ []) ms
+
+-- where a body stands: behind what is declared
+abbrev pub body_here : List (Option Mark) → Here
+body_here marks = record { locals = map name_if marks }
+
+-- behind these parameters: the types of the locals, what is declared, and then the body; an imported function is not exact
+abbrev pub in_func_kind : List (Option Mark) → FuncKind → List Site
+in_func_kind params (func.Import import exact) = Asked (Supported (not exact)) ∷ []
+in_func_kind params (func.Inline locals e) =
+    let marks = params ++ local_marks locals in
+    asking (flat_map in_local locals) ++ (declaring [] marks ++ in_expression (body_here marks) e)
+
+-- a type use is a site as a whole
+abbrev pub in_use : TypeUse FunctionType → List Site
+in_use u = Used u ∷ []
+
+-- a function: its type use, and then what it is made of
+abbrev pub in_func : Func → List Site
+in_func f = in_use f.ty ++ in_func_kind (param_marks f.ty.inline) f.kind
+
+-- a table type, which is not shared
+abbrev pub in_table_type : TableType → List Ask
+in_table_type t = in_ref t.elem ++ Supported (not t.shared) ∷ []
+
+-- a global type, which is not shared
+abbrev pub in_global_type : GlobalType → List Ask
+in_global_type t = in_val t.ty ++ Supported (not t.shared) ∷ []
+
+-- a tag type
+abbrev pub in_tag_type : TagType → List Site
+in_tag_type (tag.Exception u) = in_use u
+
+-- what is imported: its type
+abbrev pub in_item_kind : ItemKind → List Site
+in_item_kind (kind.Func u) = in_use u
+in_item_kind (kind.Table t) = asking (in_table_type t)
+in_item_kind (kind.Memory t) = []
+in_item_kind (kind.Global t) = asking (in_global_type t)
+in_item_kind (kind.Tag t) = in_tag_type t
+
+-- an import
+abbrev pub in_import : ImportItems → List Site
+in_import (import_items.Single source name sig) = in_item_kind sig.kind
+
+-- a constant expression stands alone
+abbrev pub in_constant : Expression → List Site
+in_constant e = in_expression start e
+
+-- functions; or expressions, and then their type
+abbrev pub in_payload : ElemPayload → List Site
+in_payload (payload.Indices is) = flat_map (at_index space.Func) is
+in_payload (payload.Exprs ty es) = flat_map in_constant es ++ asking (in_ref ty)
+
+-- the type, and then what the elements are at first; or the type of the elements in place, and then these
+abbrev pub in_table_kind : TableKind → List Site
+in_table_kind (table.Import import ty) = asking (in_table_type ty)
+in_table_kind (table.Normal ty init) = asking (in_table_type ty) ++ if_there in_constant init
+in_table_kind (table.Inline ty is64 shared elements) = asking (in_ref ty) ++ (in_payload elements ++ Asked (Supported (not shared)) ∷ [])
+
+-- where bytes stand in place, a page has a size
+abbrev pub in_memory_kind : MemoryKind → List Site
+in_memory_kind (memory.Import import ty) = []
+in_memory_kind (memory.Normal ty) = []
+in_memory_kind (memory.Inline is64 pieces exponent) = Asked (Clause 3 (is_page_exponent exponent)) ∷ []
+
+-- the value of a global
+abbrev pub in_global_kind : GlobalKind → List Site
+in_global_kind (global.Import import) = []
+in_global_kind (global.Inline e) = in_constant e
+
+-- the type, and then the value at first
+abbrev pub in_global : Global → List Site
+in_global g = asking (in_global_type g.ty) ++ in_global_kind g.kind
+
+-- the table, if one is written, and the offset
+abbrev pub in_elem_kind : ElemKind → List Site
+in_elem_kind elem.Passive = []
+in_elem_kind elem.Declared = []
+in_elem_kind (elem.Active table offset) = if_there (at_index space.Table) table ++ in_constant offset
+
+-- an element segment: what it fills, what it holds, and whether the two suit
+abbrev pub in_elem : Elem → List Site
+in_elem e = in_elem_kind e.kind ++ (in_payload e.payload ++ Asked (Clause 4 (suits e.kind e.payload)) ∷ [])
+
+-- the memory, and the offset
+abbrev pub in_data_kind : DataKind → List Site
+in_data_kind data_kind.Passive = []
+in_data_kind (data_kind.Active memory offset) = at_index space.Memory memory ++ in_constant offset
+
+-- the space of what is exported
+abbrev pub exported_space : ExportKind → Space
+exported_space export.Func = space.Func
+exported_space export.Table = space.Table
+exported_space export.Memory = space.Memory
+exported_space export.Global = space.Global
+exported_space export.Tag = space.Tag
+
+-- a field
+abbrev pub in_field : ModuleField → List Site
+in_field (field.Ty t) = asking (in_type t)
+in_field (field.Rec r) = asking (in_rec r)
+in_field (field.Import i) = in_import i.items
+in_field (field.Func f) = in_func f
+in_field (field.Table t) = in_table_kind t.kind
+in_field (field.Memory m) = in_memory_kind m.kind
+in_field (field.Global g) = in_global g
+in_field (field.Export e) = at_index (exported_space e.kind) e.item
+in_field (field.Start i) = at_index space.Func i
+in_field (field.Elem e) = in_elem e
+in_field (field.Data d) = in_data_kind d.kind
+in_field (field.Tag t) = in_tag_type t.ty
+
+-- each field after the one before it
+abbrev pub in_module : List ModuleField → List Site
+in_module fields = flat_map in_field fields
+
+-- What is asked, wherever it stands.
+abbrev pub asked_in : Site → List Ask
+asked_in (Asked a) = a ∷ []
+asked_in (Used u) = in_type_use u
+asked_in (Declared before m) = []
+
+abbrev pub asked : List Site → List Ask
+asked sites = flat_map asked_in sites

@@ -1,0 +1,68 @@
+//! What is asked of single parts of a well formed module.
+
+ghost use Rattle.std.specs.Prelude.{◌≡◌};
+ghost use Rattle.wast_tree.specs.Clauses.{is_page_exponent, is_func, is_funcref, holds_functions, suits};
+
+use crate::segments::{ElemKind, ElemPayload};
+use crate::types::{AbstractHeapType, HeapType, RefType};
+
+/// Whether 2 to this is a number of 64 bits; it is, where nothing is written.
+pub(crate) fn is_page_exponent(exponent: Option<u32>) -> bool
+    ensures { result ≡ is_page_exponent exponent }
+{
+    match exponent {
+        None => true,
+        Some(exponent) => exponent < 64,
+    }
+}
+
+/// Whether it is `func`.
+fn is_func(ty: AbstractHeapType) -> bool
+    ensures { result ≡ is_func ty }
+{
+    match ty {
+        AbstractHeapType::Func => true,
+        AbstractHeapType::Extern
+        | AbstractHeapType::Exn
+        | AbstractHeapType::NoExn
+        | AbstractHeapType::Any
+        | AbstractHeapType::Eq
+        | AbstractHeapType::Struct
+        | AbstractHeapType::Array
+        | AbstractHeapType::NoFunc
+        | AbstractHeapType::NoExtern
+        | AbstractHeapType::None
+        | AbstractHeapType::I31 => false,
+    }
+}
+
+/// Whether it is `funcref`.
+fn is_funcref(ty: &RefType<'_>) -> bool
+    ensures { result ≡ is_funcref ty.now }
+{
+    match ty.heap {
+        HeapType::Abstract { shared, ty: heap } => ty.nullable && !shared && is_func(heap),
+        HeapType::Concrete(_) => false,
+    }
+}
+
+/// Whether the elements are functions, or references to any functions.
+fn holds_functions(payload: &ElemPayload<'_>) -> bool
+    ensures { result ≡ holds_functions payload.now }
+{
+    match payload {
+        ElemPayload::Indices(_) => true,
+        ElemPayload::Exprs { ty, .. } => is_funcref(ty),
+    }
+}
+
+/// Whether the binary format has a place for these elements in such a segment.
+pub(crate) fn suits(kind: &ElemKind<'_>, payload: &ElemPayload<'_>) -> bool
+    ensures { result ≡ suits kind.now payload.now }
+{
+    match kind {
+        ElemKind::Passive => true,
+        ElemKind::Declared => true,
+        ElemKind::Active { table, .. } => table.is_some() || holds_functions(payload),
+    }
+}

@@ -1,0 +1,143 @@
+-- Types that are added for one list of uses after another.
+use Rattle.std.proofs.Common.{◌≡◌, ℕ, suc, ◌+◌, ◌≤◌, Bool, true, false, cond, ◌||◌, List, [], ◌∷◌, ◌++◌, map, length, length-append, append_assoc, append-nil, Option, Some, None, is_some, inl, inr, refl, sym, ap, ◌∙◌, subst, arith}
+use mathlib.Core.Path.{fun_ext}
+use Rattle.std.proofs.Math.Bool.{or_assoc}
+use Rattle.std.specs.Map.{lookup, keys_of}
+use Rattle.std.specs.Option.{option_or}
+use Rattle.std.proofs.lemmas.Map.Made.{is_some-lookup}
+use Rattle.std.proofs.lemmas.List.Concat.{flat_map-append}
+use Rattle.wast_base.specs.declared.faults.Error.{Error}
+use Rattle.wast_types.specs.Tree.{Index, ValType}
+use Rattle.wast_types.specs.Signatures.{Signature, type_of_param, same_signature}
+use Rattle.wast_types.specs.ImpliedTypes.{is_among, first_new}
+use Rattle.wast_base.specs.Filling.{RunsOut}
+use Rattle.wast_types.specs.Expanders.{BoundSignatures, LookUp, index_of, with_more}
+use Rattle.wast_types.specs.Expanded.{nameless, implied_type, implied_types, bindings_in, bindings}
+use Rattle.wast_types.specs.Binding.{State, new_signatures, new_types, next_after, Adds}
+
+pub less_runs_out : (m n : ℕ) (e : Error) → m ≤ n → RunsOut m e → RunsOut n e
+less_runs_out m n e le (inl x) = inl x
+less_runs_out m n e le (inr r) = inr (r.0, omega (arith, r.1))
+
+-- more bindings after more bindings
+pub lookup-append : (test : Signature → Bool) (a b : BoundSignatures) → lookup test (a ++ b) ≡ option_or (lookup test a) (lookup test b)
+lookup-append test [] b = refl
+lookup-append test (e ∷ a) b = head_case (test e.0) e.1 (lookup test a) (lookup test b) (lookup test (a ++ b)) (lookup-append test a b)
+  where
+    head_case : (t : Bool) (i : Index) (o p both : Option Index) → both ≡ option_or o p → cond t (Some i) both ≡ option_or (cond t (Some i) o) p
+    head_case true i o p both h = refl
+    head_case false i o p both h = h
+
+or_or : (o p q : Option Index) → option_or (option_or o p) q ≡ option_or o (option_or p q)
+or_or None p q = refl
+or_or (Some i) p q = refl
+
+pub with_more_twice : (find : LookUp) (a b : BoundSignatures) (s : Signature) → with_more (with_more find a) b s ≡ with_more find (a ++ b) s
+with_more_twice find a b s = or_or (find s) (index_of a s) (index_of b s) ∙ ap (option_or (find s)) (sym (lookup-append (same_signature s) a b))
+
+-- the signature of an implied type is the one it was made for
+pub types_again : (vs : List ValType) → map type_of_param (map nameless vs) ≡ vs
+types_again [] = refl
+types_again (v ∷ vs) = ap (λ ws. v ∷ ws) (types_again vs)
+
+keys_of_implied : (n : ℕ) (ss : List Signature) → keys_of (bindings (implied_types n ss)) ≡ ss
+keys_of_implied n [] = refl
+keys_of_implied n (s ∷ ss) = ap (λ (vs : List ValType). (vs, s.1) ∷ keys_of (bindings (implied_types (n + 1) ss))) (types_again s.0) ∙ ap (λ ts. s ∷ ts) (keys_of_implied (n + 1) ss)
+
+-- what is bound once types are implied
+pub known_after : (find : LookUp) (n : ℕ) (ss : List Signature) (t : Signature) → is_some (with_more find (bindings (implied_types n ss)) t) ≡ (is_some (find t) || is_among ss t)
+known_after find n ss t = either (find t) (index_of (bindings (implied_types n ss)) t) (is_among ss t) (is_some-lookup (same_signature t) (bindings (implied_types n ss)) ∙ ap (λ ts. is_among ts t) (keys_of_implied n ss))
+  where
+    either : (o p : Option Index) (b : Bool) → is_some p ≡ b → is_some (option_or o p) ≡ (is_some o || b)
+    either None p b h = h
+    either (Some i) p b h = refl
+
+or_false : (b : Bool) → b ≡ (b || false)
+or_false true = refl
+or_false false = refl
+
+-- what is new in two lists, one after the other
+first_new-append : (known : Signature → Bool) (ss ts : List Signature) → first_new known (ss ++ ts) ≡ first_new known ss ++ first_new (λ t. known t || is_among (first_new known ss) t) ts
+first_new-append known [] ts = ap (λ (k : Signature → Bool). first_new k ts) (fun_ext (λ (t : Signature). or_false (known t)))
+first_new-append known (s ∷ ss) ts =
+    new_case (known s) known s ss ts (first_new-append known ss ts) (first_new-append (λ t. known t || same_signature t s) ss ts)
+  where
+    new_case : (b : Bool) (known : Signature → Bool) (s : Signature) (ss ts : List Signature)
+        → first_new known (ss ++ ts) ≡ first_new known ss ++ first_new (λ t. known t || is_among (first_new known ss) t) ts
+        → first_new (λ t. known t || same_signature t s) (ss ++ ts)
+        ≡ first_new (λ t. known t || same_signature t s) ss ++ first_new (λ t. (known t || same_signature t s) || is_among (first_new (λ t. known t || same_signature t s) ss) t) ts
+        → cond b (first_new known (ss ++ ts)) (s ∷ first_new (λ t. known t || same_signature t s) (ss ++ ts))
+        ≡ cond b (first_new known ss) (s ∷ first_new (λ t. known t || same_signature t s) ss)
+        ++ first_new (λ t. known t || is_among (cond b (first_new known ss) (s ∷ first_new (λ t. known t || same_signature t s) ss)) t) ts
+    new_case true known s ss ts p q = p
+    new_case false known s ss ts p q =
+        let new : List Signature = first_new (λ t. known t || same_signature t s) ss in
+        ap (λ ws. s ∷ ws) (q ∙ ap (λ (k : Signature → Bool). new ++ first_new k ts) (fun_ext (λ (t : Signature). or_assoc (known t) (same_signature t s) (is_among new t))))
+
+add_zero : (n : ℕ) → n ≡ n + 0
+add_zero n = omega arith
+
+one_more : (n m : ℕ) → (n + 1) + m ≡ n + suc m
+one_more n m = omega arith
+
+implied_types-append : (n : ℕ) (ss ts : List Signature) → implied_types n (ss ++ ts) ≡ implied_types n ss ++ implied_types (n + length ss) ts
+implied_types-append n [] ts = ap (λ m. implied_types m ts) (add_zero n)
+implied_types-append n (s ∷ ss) ts = ap (λ ws. implied_type n s ∷ ws) (implied_types-append (n + 1) ss ts ∙ ap (λ m. implied_types (n + 1) ss ++ implied_types m ts) (one_more n (length ss)))
+
+-- uses that need nothing
+pub adds_none : (a : State) → Adds a a []
+adds_none a = record { types = λ s. or_none (index_of a.bound s); fields = sym (append-nil a.implied); counter = add_zero a.next }
+  where
+    or_none : (o : Option Index) → o ≡ option_or o None
+    or_none None = refl
+    or_none (Some i) = refl
+
+-- the same uses, said in another way
+pub adds_as : {a b : State} {ss ts : List Signature} → ss ≡ ts → Adds a b ss → Adds a b ts
+adds_as {a} {b} e h = subst (λ us. Adds a b us) e h
+
+pub adds_nothing : (a : State) {ss : List Signature} → ss ≡ [] → Adds a a ss
+adds_nothing a e = adds_as (sym e) (adds_none a)
+
+module _ {a b : State} {ss : List Signature} (h : Adds a b ss) where
+  -- what is bound once the first are
+  bound_then : index_of b.bound ≡ with_more (index_of a.bound) (bindings (new_types a ss))
+  bound_then = fun_ext h.types
+
+  new_then : (ts : List Signature) → new_signatures a.bound (ss ++ ts) ≡ new_signatures a.bound ss ++ new_signatures b.bound ts
+  new_then ts =
+      let known : Signature → Bool = λ t. is_some (index_of a.bound t) in
+      first_new-append known ss ts ∙ ap (λ (k : Signature → Bool). new_signatures a.bound ss ++ first_new k ts)
+      (fun_ext (λ (t : Signature). sym (known_after (index_of a.bound) a.next (new_signatures a.bound ss) t) ∙ ap (λ (find : LookUp). is_some (find t)) (sym bound_then)))
+
+  types_then : (ts : List Signature) → new_types a (ss ++ ts) ≡ new_types a ss ++ new_types b ts
+  types_then ts =
+      ap (implied_types a.next) (new_then ts) ∙ (implied_types-append a.next (new_signatures a.bound ss) (new_signatures b.bound ts)
+      ∙ ap (λ m. new_types a ss ++ implied_types m (new_signatures b.bound ts)) (sym h.counter))
+
+  pub count_then : (ts : List Signature) → next_after a (ss ++ ts) ≡ next_after b ts
+  count_then ts =
+      let l : length (new_signatures a.bound (ss ++ ts)) ≡ length (new_signatures a.bound ss) + length (new_signatures b.bound ts) = ap length (new_then ts) ∙ length-append (new_signatures a.bound ss) (new_signatures b.bound ts) in
+      omega (arith, h.counter)
+
+  -- uses after uses
+  pub adds_both : {c : State} {ts : List Signature} → Adds b c ts → Adds a c (ss ++ ts)
+  adds_both {c} {ts} k = record {
+    types = λ s. k.types s ∙ (ap (λ (find : LookUp). with_more find (bindings (new_types b ts)) s) bound_then
+        ∙ (with_more_twice (index_of a.bound) (bindings (new_types a ss)) (bindings (new_types b ts)) s
+        ∙ ap (λ more. with_more (index_of a.bound) more s) (sym (ap bindings (types_then ts) ∙ flat_map-append bindings_in (new_types a ss) (new_types b ts)))));
+    fields = k.fields ∙ (ap (λ xs. xs ++ new_types b ts) h.fields ∙ (append_assoc a.implied (new_types a ss) (new_types b ts) ∙ ap (λ xs. a.implied ++ xs) (sym (types_then ts))));
+    counter = k.counter ∙ sym (count_then ts);
+  }
+
+  -- What was bound by more stays bound by more after it.
+  pub more_then : (more : BoundSignatures) → with_more (index_of b.bound) more ≡ with_more (index_of a.bound) (bindings (new_types a ss) ++ more)
+  more_then more = ap (λ (find : LookUp). with_more find more) bound_then ∙ fun_ext (λ (s : Signature). with_more_twice (index_of a.bound) (bindings (new_types a ss)) more s)
+
+-- fewer uses do not run out first
+pub first_after : (a : State) (ss ts : List Signature) → next_after a ss ≤ next_after a (ss ++ ts)
+first_after a ss ts =
+    let known : Signature → Bool = λ t. is_some (index_of a.bound t) in
+    let rest : List Signature = first_new (λ t. known t || is_among (first_new known ss) t) ts in
+    let l : length (new_signatures a.bound (ss ++ ts)) ≡ length (new_signatures a.bound ss) + length rest = ap length (first_new-append known ss ts) ∙ length-append (new_signatures a.bound ss) rest in
+    omega arith

@@ -1,0 +1,13 @@
+pub mod Needing
+pub mod Staying
+pub mod Bound
+pub mod Adding
+pub mod OneMore
+pub mod Halfway
+pub mod Expanding
+pub mod Covered
+pub mod InPlace
+pub mod AtRest
+pub mod AtItsIndex
+pub mod Positions
+pub mod Worked

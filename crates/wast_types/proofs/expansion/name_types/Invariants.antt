@@ -1,0 +1,12 @@
+use Rattle.std.proofs.Common.{◌≡◌, ◌+◌, ◌≤◌, ◌++◌, take, drop, length}
+use Rattle.wast_base.specs.Filling.{filled, wanted}
+use Rattle.wast_types.specs.Expanded.{lacks_id, with_type_id}
+use Rattle.wast_types.proofs.expansion.name_types.Given as goal
+
+abbrev pub invariant-loop-i : goal.invariant-loop-i
+invariant-loop-i l = record {
+  len : length l.fields ≡ length l.fn.fields;
+  fields : take l.i l.fields ++ filled lacks_id with_type_id l.gensym (drop l.i l.fields) ≡ filled lacks_id with_type_id l.fn.gensym l.fn.fields;
+  counted : l.gensym + wanted lacks_id (drop l.i l.fields) ≡ l.fn.gensym + wanted lacks_id l.fn.fields;
+  rising : l.fn.gensym ≤ l.gensym;
+}

@@ -1,0 +1,33 @@
+-- How the uses of a list are bound one after the other. Private functions alone use this.
+use Rattle.std.specs.Prelude.{◌≡◌, ℕ, ◌+◌, is_some, List, ◌++◌, length}
+use Rattle.wast_types.specs.Tree.{ModuleField}
+use Rattle.wast_types.specs.Signatures.{Signature}
+use Rattle.wast_types.specs.ImpliedTypes.{first_new}
+use Rattle.wast_types.specs.Expanders.{BoundSignatures, index_of, Extends}
+use Rattle.wast_types.specs.Expanded.{implied_types, bindings}
+
+-- what signatures are bound to, the types that are implied so far, and the generation of the next id
+pub record State : Type 0 where
+  pub bound : BoundSignatures
+  pub implied : List ModuleField
+  pub next : ℕ
+
+abbrev pub state : BoundSignatures → List ModuleField → ℕ → State
+state bound implied next = record { bound = bound; implied = implied; next = next }
+
+abbrev pub new_signatures : BoundSignatures → List Signature → List Signature
+new_signatures bound ss = first_new (λ s. is_some (index_of bound s)) ss
+
+-- the types for those that are not bound
+abbrev pub new_types : State → List Signature → List ModuleField
+new_types a ss = implied_types a.next (new_signatures a.bound ss)
+
+-- the generation of the next id when each of these has its type
+abbrev pub next_after : State → List Signature → ℕ
+next_after a ss = a.next + length (new_signatures a.bound ss)
+
+-- What stands before and after these have their types: no other type is new.
+pub record Adds (a b : State) (ss : List Signature) : Type 0 where
+  pub types : Extends a.bound b.bound (bindings (new_types a ss))
+  pub fields : b.implied ≡ a.implied ++ new_types a ss
+  pub counter : b.next ≡ next_after a ss

@@ -1,0 +1,95 @@
+-- The list of fields in which each type has an id and each type use an index (text format, type uses: abbreviations).
+use Rattle.std.specs.Prelude.{ℕ, ◌+◌, is_none, length, Bool, false, List, [], ◌∷◌, ◌++◌, map, flat_map, Option, Some, None}
+use Rattle.wast_types.specs.Tree.{Span, Id, Index, NameAnnotation, ValType, FunctionType, TypeUse, InnerTypeKind, TypeDef, ModuleField}
+use Rattle.wast_types.specs.Tree.index
+use Rattle.wast_types.specs.Tree.inner
+use Rattle.wast_types.specs.Tree.ty
+use Rattle.wast_types.specs.Tree.field
+use Rattle.wast_base.specs.Ids.{generated}
+use Rattle.wast_tree.specs.Sites.{if_there}
+use Rattle.wast_tree.specs.Types.{lone_type}
+use Rattle.wast_map.specs.Mapped.{Change, mapped}
+use Rattle.wast_types.specs.Signatures.{Signature, signature_of}
+use Rattle.wast_types.specs.NeedingUses.{inline_signature}
+use Rattle.wast_types.specs.ImpliedTypes.{implied}
+use Rattle.wast_base.specs.Filling.{filled, wanted}
+use Rattle.wast_types.specs.Expanders.{BoundSignatures, LookUp, index_of}
+
+-- A type that has no id wants one, but no member of a group.
+abbrev pub is_unnamed : Option ty.«Type» → Bool
+is_unnamed None = false
+is_unnamed (Some t) = is_none t.id
+
+abbrev pub lacks_id : ModuleField → Bool
+lacks_id x = is_unnamed (lone_type x)
+
+abbrev pub with_type_id : ℕ → ModuleField → ModuleField
+with_type_id n (field.Ty t) = field.Ty (record t { id = Some (generated n t.span) })
+with_type_id n x = x
+
+-- the type of a signature: final where nothing else is said, without parents, its parameters without names
+abbrev pub nameless : ValType → Option Id × Option NameAnnotation × ValType
+nameless v = (None, None, v)
+
+abbrev pub def_of : Signature → Bool → TypeDef
+def_of s is_shared = record {
+  kind = inner.Func (record { params = map nameless s.0; results = s.1 });
+  shared = is_shared;
+  parents = [];
+  descriptor = None;
+  describes = None;
+  final_type = None;
+}
+
+abbrev pub start_of_text : Span
+start_of_text = record { offset = 0 }
+
+abbrev pub unnamed_type : Signature → ModuleField
+unnamed_type s = field.Ty (record { span = start_of_text; id = None; name = None; def = def_of s false })
+
+abbrev pub implied_type : ℕ → Signature → ModuleField
+implied_type n s = with_type_id n (unnamed_type s)
+
+abbrev pub implied_types : ℕ → List Signature → List ModuleField
+implied_types n [] = []
+implied_types n (s ∷ ss) = implied_type n s ∷ implied_types (n + 1) ss
+
+-- each type has an id, and the implied types stand last
+abbrev pub typed : ℕ → List ModuleField → List ModuleField
+typed n fields = filled lacks_id with_type_id n fields ++ implied_types (n + wanted lacks_id fields) (implied fields)
+
+-- the function types, by their ids
+abbrev pub binding_of : InnerTypeKind → Option Id → BoundSignatures
+binding_of (inner.Func t) None = []
+binding_of (inner.Func t) (Some id) = (signature_of t, index.Id id) ∷ []
+binding_of (inner.Struct t) id = []
+binding_of (inner.Array t) id = []
+
+abbrev pub bindings_in : ModuleField → BoundSignatures
+bindings_in x = if_there (λ (t : ty.«Type»). binding_of t.def.kind t.id) (lone_type x)
+
+abbrev pub bindings : List ModuleField → BoundSignatures
+bindings fields = flat_map bindings_in fields
+
+-- a use without an index has that of its type
+abbrev pub bound_index : LookUp → Option Index → Option FunctionType → Option Index
+bound_index find None inline = find (inline_signature inline)
+bound_index find (Some i) inline = Some i
+
+abbrev pub bound_use : LookUp → TypeUse FunctionType → TypeUse FunctionType
+bound_use find u = record u { index = bound_index find u.index u.inline }
+
+-- no other index changes, and no id
+abbrev pub binding : LookUp → Change
+binding find = record { index = λ s i. i; used = bound_use find; id = λ o. o }
+
+abbrev pub bound_field : LookUp → ModuleField → ModuleField
+bound_field find x = mapped (binding find) x
+
+-- The list that expansion gives, from a counter.
+abbrev pub expanded : ℕ → List ModuleField → List ModuleField
+expanded n fields = map (bound_field (index_of (bindings (typed n fields)))) (typed n fields)
+
+-- how many ids it takes
+abbrev pub ids_wanted : List ModuleField → ℕ
+ids_wanted fields = wanted lacks_id fields + length (implied fields)

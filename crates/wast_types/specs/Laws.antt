@@ -1,0 +1,42 @@
+-- What holds of each list that is expanded (text format, type uses: abbreviations).
+use Rattle.std.specs.Prelude.{◌≡◌, ℕ, false, List, [], flat_map, IsTrue}
+use Rattle.std.specs.List.{list_any}
+use Rattle.wast_tree.specs.WrittenOut.{is_written_out}
+use Rattle.wast_types.specs.Tree.{ModuleField}
+use Rattle.wast_types.specs.Signatures.{Signature}
+use Rattle.wast_types.specs.NeedingUses.{needed}
+use Rattle.wast_types.specs.ImpliedTypes.{written, is_among, implied, are_distinct}
+use Rattle.wast_types.specs.TypeSpace.{types_in, type_space, index_for, type_ids, id_at}
+use Rattle.wast_types.specs.Expanders.{index_of}
+use Rattle.wast_types.specs.Expanded.{typed, bindings, expanded, ids_wanted}
+
+-- Each use has an index.
+abbrev pub UsesAreBound : Type 0
+UsesAreBound = (n : ℕ) (fields : List ModuleField) → needed (expanded n fields) ≡ []
+
+-- The types that stand in the expanded list are those of the type space, in its order.
+abbrev pub TypesAreTheSpace : Type 0
+TypesAreTheSpace = (n : ℕ) (fields : List ModuleField) → flat_map types_in (expanded n fields) ≡ type_space fields
+
+-- A signature is bound to the id of the type at its index in the type space.
+abbrev pub TakesTheTypeAtItsIndex : Type 0
+TakesTheTypeAtItsIndex = (n : ℕ) (fields : List ModuleField) (s : Signature) → index_of (bindings (typed n fields)) s ≡ id_at (index_for fields s) (type_ids (typed n fields))
+
+-- No implied type has the signature of a written one.
+abbrev pub ImpliedAreNew : Type 0
+ImpliedAreNew = (fields : List ModuleField) → list_any (is_among (written fields)) (implied fields) ≡ false
+
+-- No implied type has the signature of another implied type.
+abbrev pub ImpliedAreDistinct : Type 0
+ImpliedAreDistinct = (fields : List ModuleField) → IsTrue (are_distinct (implied fields))
+
+-- An expanded list stays as it is, from any counter, and takes no id.
+abbrev pub StaysExpanded : Type 0
+StaysExpanded = (m n : ℕ) (fields : List ModuleField) → expanded m (expanded n fields) ≡ expanded n fields
+
+abbrev pub WantsNoMore : Type 0
+WantsNoMore = (n : ℕ) (fields : List ModuleField) → ids_wanted (expanded n fields) ≡ 0
+
+-- A list is written out where the expanded one is: expansion puts nothing in place.
+abbrev pub StaysWrittenOut : Type 0
+StaysWrittenOut = (n : ℕ) (fields : List ModuleField) → is_written_out (expanded n fields) ≡ is_written_out fields

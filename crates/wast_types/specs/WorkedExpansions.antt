@@ -1,0 +1,252 @@
+-- What the definitions say of worked modules (text format, type uses: abbreviations). Texts of names may lie anywhere.
+use Rattle.std.specs.Prelude.{◌≡◌, ℕ, ◌+◌, true, false, List, [], ◌∷◌, ◌++◌, map, Bool, Option, Some, None, codes}
+use Rattle.wast_types.specs.Tree.{Id, Index, AbstractHeapType, ValType, FunctionType, ModuleField}
+use Rattle.wast_types.specs.Tree.index
+use Rattle.wast_types.specs.Tree.abstract
+use Rattle.wast_types.specs.Tree.heap
+use Rattle.wast_types.specs.Tree.value
+use Rattle.wast_types.specs.Tree.inner
+use Rattle.wast_types.specs.Tree.func
+use Rattle.wast_types.specs.Tree.tag
+use Rattle.wast_types.specs.Tree.tag_kind
+use Rattle.wast_types.specs.Tree.kind
+use Rattle.wast_types.specs.Tree.import_items
+use Rattle.wast_types.specs.Tree.field
+use Rattle.wast_base.specs.Ids.{generated}
+use Rattle.wast_tree.specs.WorkedModules.{Address, text, place, id_at, by_id, by_number, plain_def, plain_type}
+use Rattle.wast_types.specs.Signatures.{Signature, empty_signature, same_value, same_signature}
+use Rattle.wast_types.specs.NeedingUses.{needed}
+use Rattle.wast_types.specs.ImpliedTypes.{implied, are_distinct}
+use Rattle.wast_types.specs.TypeSpace.{index_for}
+use Rattle.wast_types.specs.Expanded.{unnamed_type, implied_type, expanded, ids_wanted}
+use Rattle.wast_types.specs.Completed.{completed}
+use Rattle.wast_types.specs.Positioned.{positioned}
+
+-- the id of a generation for a type that no text defines, and as an index
+abbrev pub made : ℕ → Id
+made n = generated n (place 0)
+
+abbrev pub by_made : ℕ → Index
+by_made n = index.Id (made n)
+
+-- `(func ..)` without an id and with an empty body, which begins at n
+abbrev pub func_at : ℕ → Option Index → Option FunctionType → ModuleField
+func_at n type inline = field.Func (record {
+  span = place (n + 1);
+  id = None;
+  name = None;
+  exports = record { names = [] };
+  kind = func.Inline [] (record { instrs = []; branch_hints = [] });
+  ty = record { index = type; inline = inline };
+})
+
+-- a function type that is written with nameless parameters
+abbrev pub function_type : List ValType → List ValType → FunctionType
+function_type params results = record { params = map (λ v. (None, None, v)) params; results = results }
+
+-- `(type .. (func ..))`, which begins at n
+abbrev pub type_at : Option Id → ℕ → FunctionType → ModuleField
+type_at id n t = field.Ty (record (plain_type id n) { def = record plain_def { kind = inner.Func t } })
+
+-- `(type .. (struct))`, which begins at n
+abbrev pub struct_at : Option Id → ℕ → ModuleField
+struct_at id n = field.Ty (record (plain_type id n) { def = record plain_def { kind = inner.Struct (record { fields = [] }) } })
+
+-- `(ref ..)`, `(ref null func)` and the like
+abbrev pub ref_to : Index → ValType
+ref_to i = value.Ref (record { nullable = false; heap = heap.Concrete i })
+
+abbrev pub abstract_ref : Bool → Bool → AbstractHeapType → ValType
+abstract_ref is_nullable is_shared a = value.Ref (record { nullable = is_nullable; heap = heap.Abstract is_shared a })
+
+-- Parameters and results count, each in its place and order; the one is not the other.
+abbrev pub SameSignatures : Type 0
+SameSignatures =
+    (same_signature (value.I32 ∷ [], value.F64 ∷ value.V128 ∷ []) (value.I32 ∷ [], value.F64 ∷ value.V128 ∷ []) ≡ true)
+    × (same_signature (value.I32 ∷ [], []) ([], value.I32 ∷ []) ≡ false)
+    × (same_signature (value.I32 ∷ [], []) (value.I64 ∷ [], []) ≡ false)
+    × (same_signature (value.F32 ∷ value.F64 ∷ [], []) (value.F64 ∷ value.F32 ∷ [], []) ≡ false)
+    × (same_signature ([], value.I32 ∷ []) ([], []) ≡ false)
+
+-- Signatures are distinct where none comes again.
+abbrev pub DistinctSignatures : Type 0
+DistinctSignatures =
+    (are_distinct (empty_signature ∷ (value.I32 ∷ [], []) ∷ ([], value.I32 ∷ []) ∷ []) ≡ true)
+    × (are_distinct (empty_signature ∷ (value.I32 ∷ [], []) ∷ empty_signature ∷ []) ≡ false)
+
+-- Equal ids are equal wherever they stand, and a number is no id. Whether it is nullable or shared counts, and what it is.
+abbrev pub SameReferences : Type 0
+SameReferences = (a b : Address) →
+    (same_value (ref_to (by_id a (codes "t") 5)) (ref_to (by_id b (codes "t") 9)) ≡ true)
+    × (same_value (ref_to (by_id a (codes "t") 5)) (ref_to (by_id b (codes "u") 5)) ≡ false)
+    × (same_value (ref_to (by_number 0 5)) (ref_to (by_number 0 9)) ≡ true)
+    × (same_value (ref_to (by_number 0 5)) (ref_to (by_number 1 5)) ≡ false)
+    × (same_value (ref_to (by_id a (codes "t") 5)) (ref_to (by_number 0 5)) ≡ false)
+    × (same_value (abstract_ref true false abstract.Func) (abstract_ref true false abstract.Func) ≡ true)
+    × (same_value (abstract_ref true false abstract.Func) (abstract_ref false false abstract.Func) ≡ false)
+    × (same_value (abstract_ref true false abstract.Func) (abstract_ref true true abstract.Func) ≡ false)
+    × (same_value (abstract_ref true false abstract.Func) (abstract_ref true false abstract.Extern) ≡ false)
+    × (same_value (abstract_ref false false abstract.Func) (ref_to (by_number 0 5)) ≡ false)
+    × (same_value (ref_to (by_number 0 5)) value.I32 ≡ false)
+
+-- `(module (func))`: the type `(func)` is implied, and is type 0.
+abbrev pub row2 : List ModuleField
+row2 = func_at 8 None None ∷ []
+
+abbrev pub Row2 : Type 0
+Row2 =
+    (needed row2 ≡ empty_signature ∷ [])
+    × (implied row2 ≡ empty_signature ∷ [])
+    × (index_for row2 empty_signature ≡ Some 0)
+    × (ids_wanted row2 ≡ 1)
+    × (completed row2 ≡ row2 ++ unnamed_type empty_signature ∷ [])
+    × (positioned row2 ≡ func_at 8 (Some (by_number 0 0)) None ∷ unnamed_type empty_signature ∷ [])
+    × (expanded 5 row2 ≡ func_at 8 (Some (by_made 5)) None ∷ implied_type 5 empty_signature ∷ [])
+
+-- `(module (func (result i32 i64)) (type $t (func (result i32 i64))))`: a use takes a type that is written later.
+abbrev pub results7 : List ValType
+results7 = value.I32 ∷ value.I64 ∷ []
+
+abbrev pub row7_with : Address → Option Index → List ModuleField
+row7_with a type = func_at 8 type (Some (function_type [] results7)) ∷ type_at (Some (id_at a (codes "t") 38)) 32 (function_type [] results7) ∷ []
+
+abbrev pub row7 : Address → List ModuleField
+row7 a = row7_with a None
+
+abbrev pub Row7 : Type 0
+Row7 = (a : Address) →
+    (needed (row7 a) ≡ ([], results7) ∷ [])
+    × (implied (row7 a) ≡ [])
+    × (index_for (row7 a) ([], results7) ≡ Some 0)
+    × (ids_wanted (row7 a) ≡ 0)
+    × (completed (row7 a) ≡ row7 a)
+    × (positioned (row7 a) ≡ row7_with a (Some (by_number 0 0)))
+    × (expanded 5 (row7 a) ≡ row7_with a (Some (index.Id (id_at a (codes "t") 38))))
+
+-- `(module (rec (type (func))) (func))`: no member of a group is taken, nor given an id, but it has a place.
+abbrev pub row8_with : Option Index → List ModuleField
+row8_with type = field.Rec (record { span = place 9; types = plain_type None 13 ∷ [] }) ∷ func_at 28 type None ∷ []
+
+abbrev pub Row8 : Type 0
+Row8 =
+    (needed (row8_with None) ≡ empty_signature ∷ [])
+    × (implied (row8_with None) ≡ empty_signature ∷ [])
+    × (index_for (row8_with None) empty_signature ≡ Some 1)
+    × (ids_wanted (row8_with None) ≡ 1)
+    × (positioned (row8_with None) ≡ row8_with (Some (by_number 1 0)) ++ unnamed_type empty_signature ∷ [])
+    × (expanded 5 (row8_with None) ≡ row8_with (Some (by_made 5)) ++ implied_type 5 empty_signature ∷ [])
+
+-- `(module (type (struct)) (func (type 0) (param i32)))`: a use with an index needs no type, and the type has an id.
+abbrev pub row23_with : Option Id → List ModuleField
+row23_with id = struct_at id 8 ∷ func_at 24 (Some (by_number 0 36)) (Some (function_type (value.I32 ∷ []) [])) ∷ []
+
+abbrev pub Row23 : Type 0
+Row23 =
+    (needed (row23_with None) ≡ [])
+    × (implied (row23_with None) ≡ [])
+    × (index_for (row23_with None) empty_signature ≡ None)
+    × (index_for (row23_with None) (value.I32 ∷ [], []) ≡ None)
+    × (ids_wanted (row23_with None) ≡ 1)
+    × (expanded 5 (row23_with None) ≡ row23_with (Some (generated 5 (place 9))))
+
+-- `(module (type (sub (func))) (func))`: an open type is taken.
+abbrev pub row37_with : Option Id → Option Index → List ModuleField
+row37_with id type = field.Ty (record (plain_type id 8) { def = record plain_def { final_type = Some false } }) ∷ func_at 28 type None ∷ []
+
+abbrev pub Row37 : Type 0
+Row37 =
+    (implied (row37_with None None) ≡ [])
+    × (index_for (row37_with None None) empty_signature ≡ Some 0)
+    × (expanded 5 (row37_with None None) ≡ row37_with (Some (generated 5 (place 9))) (Some (index.Id (generated 5 (place 9)))))
+
+-- `(module (func (param $p i32)) (func (result i32)) (type (func)) (func (param i32)))`: a type for each signature, in the
+-- order of first use and behind those that are written; names of parameters do not count.
+abbrev pub named_param : Address → FunctionType
+named_param a = record { params = (Some (id_at a (codes "p") 21), None, value.I32) ∷ []; results = [] }
+
+abbrev pub several_with : Address → Option Id → Option Index → Option Index → List ModuleField
+several_with a id param result =
+    func_at 8 param (Some (named_param a)) ∷ func_at 30 result (Some (function_type [] (value.I32 ∷ [])))
+    ∷ type_at id 50 (function_type [] []) ∷ func_at 64 param (Some (function_type (value.I32 ∷ []) [])) ∷ []
+
+abbrev pub several : Address → List ModuleField
+several a = several_with a None None None
+
+abbrev pub Several : Type 0
+Several = (a : Address) →
+    (needed (several a) ≡ (value.I32 ∷ [], []) ∷ ([], value.I32 ∷ []) ∷ (value.I32 ∷ [], []) ∷ [])
+    × (implied (several a) ≡ (value.I32 ∷ [], []) ∷ ([], value.I32 ∷ []) ∷ [])
+    × (index_for (several a) empty_signature ≡ Some 0)
+    × (index_for (several a) (value.I32 ∷ [], []) ≡ Some 1)
+    × (index_for (several a) ([], value.I32 ∷ []) ≡ Some 2)
+    × (ids_wanted (several a) ≡ 3)
+    × (completed (several a) ≡ several a ++ (unnamed_type (value.I32 ∷ [], []) ∷ unnamed_type ([], value.I32 ∷ []) ∷ []))
+    × (expanded 5 (several a)
+    ≡ several_with a (Some (generated 5 (place 51))) (Some (by_made 6)) (Some (by_made 7))
+    ++ (implied_type 6 (value.I32 ∷ [], []) ∷ implied_type 7 ([], value.I32 ∷ []) ∷ []))
+
+-- `(module (type (struct)) (type (func)) (func))`: a struct is not taken, and the type after it is type 1.
+abbrev pub after_struct_with : Option Id → Option Id → Option Index → List ModuleField
+after_struct_with first second type = struct_at first 8 ∷ type_at second 24 (function_type [] []) ∷ func_at 38 type None ∷ []
+
+abbrev pub AfterStruct : Type 0
+AfterStruct =
+    (implied (after_struct_with None None None) ≡ [])
+    × (index_for (after_struct_with None None None) empty_signature ≡ Some 1)
+    × (ids_wanted (after_struct_with None None None) ≡ 2)
+    × (expanded 5 (after_struct_with None None None)
+    ≡ after_struct_with (Some (generated 5 (place 9))) (Some (generated 6 (place 25))) (Some (index.Id (generated 6 (place 25)))))
+
+-- `(module (type $t (func)) (func (param (ref $t))) (func (param (ref 0))))`: an id and a number differ, and each has a type.
+abbrev pub takes_ref : Index → FunctionType
+takes_ref i = function_type (ref_to i ∷ []) []
+
+abbrev pub by_id_and_number_with : (a b : Address) → Option Index → Option Index → List ModuleField
+by_id_and_number_with a b first second =
+    type_at (Some (id_at a (codes "t") 14)) 8 (function_type [] [])
+    ∷ func_at 25 first (Some (takes_ref (by_id b (codes "t") 43))) ∷ func_at 49 second (Some (takes_ref (by_number 0 67))) ∷ []
+
+abbrev pub by_ref : Index → Signature
+by_ref i = (ref_to i ∷ [], [])
+
+abbrev pub ByIdAndNumber : Type 0
+ByIdAndNumber = (a b c : Address) →
+    (implied (by_id_and_number_with a b None None) ≡ by_ref (by_id b (codes "t") 43) ∷ by_ref (by_number 0 67) ∷ [])
+    × (index_for (by_id_and_number_with a b None None) (by_ref (by_id c (codes "t") 90)) ≡ Some 1)
+    × (index_for (by_id_and_number_with a b None None) (by_ref (by_number 0 90)) ≡ Some 2)
+    × (ids_wanted (by_id_and_number_with a b None None) ≡ 2)
+    × (expanded 5 (by_id_and_number_with a b None None)
+    ≡ by_id_and_number_with a b (Some (by_made 5)) (Some (by_made 6))
+    ++ (implied_type 5 (by_ref (by_id b (codes "t") 43)) ∷ implied_type 6 (by_ref (by_number 0 67)) ∷ []))
+
+-- `(module (type $a (func)) (type $b (func)) (func))`: the first type of the signature is taken.
+abbrev pub twice_with : Address → Address → Option Index → List ModuleField
+twice_with a b type = type_at (Some (id_at a (codes "a") 14)) 8 (function_type [] []) ∷ type_at (Some (id_at b (codes "b") 31)) 25 (function_type [] []) ∷ func_at 42 type None ∷ []
+
+abbrev pub FirstOfTwo : Type 0
+FirstOfTwo = (a b : Address) →
+    (index_for (twice_with a b None) empty_signature ≡ Some 0)
+    × (expanded 5 (twice_with a b None) ≡ twice_with a b (Some (index.Id (id_at a (codes "a") 14))))
+
+-- `(module (import "e" "f" (func (param i32))) (tag (param i32)) (func))`: imported functions and tags need types as
+-- functions do, in the order of the fields.
+abbrev pub takes_i32 : FunctionType
+takes_i32 = function_type (value.I32 ∷ []) []
+
+abbrev pub uses_with : Address → (a b c : Option Index) → List ModuleField
+uses_with e a b c =
+    field.Import (record {
+      span = place 9;
+      items = import_items.Single (text e (codes "e")) (text e (codes "f")) (record { span = place 25; id = None; name = None; kind = kind.Func (record { index = a; inline = Some takes_i32 }) });
+    })
+    ∷ field.Tag (record { span = place 45; id = None; name = None; exports = record { names = [] }; ty = tag.Exception (record { index = b; inline = Some takes_i32 }); kind = tag_kind.Inline })
+    ∷ func_at 62 c None ∷ []
+
+abbrev pub UsesInOrder : Type 0
+UsesInOrder = (a : Address) →
+    (needed (uses_with a None None None) ≡ (value.I32 ∷ [], []) ∷ (value.I32 ∷ [], []) ∷ empty_signature ∷ [])
+    × (implied (uses_with a None None None) ≡ (value.I32 ∷ [], []) ∷ empty_signature ∷ [])
+    × (positioned (uses_with a None None None)
+    ≡ uses_with a (Some (by_number 0 0)) (Some (by_number 0 0)) (Some (by_number 1 0)) ++ (unnamed_type (value.I32 ∷ [], []) ∷ unnamed_type empty_signature ∷ []))
+    × (expanded 5 (uses_with a None None None)
+    ≡ uses_with a (Some (by_made 5)) (Some (by_made 5)) (Some (by_made 6)) ++ (implied_type 5 (value.I32 ∷ [], []) ∷ implied_type 6 empty_signature ∷ []))

@@ -1,0 +1,388 @@
+//! Type uses are bound in their place, and types are made for the signatures that none has.
+
+ghost use Rattle.std.specs.Prelude.{◌≡◌, ◌≤◌, ◌+◌, ◌++◌, ◌∷◌, [], Some, List, map, flat_map, IfOk, IfErr, OnOk};
+ghost use Rattle.wast_base.specs.Ids.{generated};
+ghost use Rattle.wast_base.specs.Faults.{out_of_memory};
+ghost use Rattle.wast_types.specs.Tree.index;
+ghost use Rattle.wast_types.specs.Signatures.{Signature};
+ghost use Rattle.wast_tree.specs.Sites.{start, in_instr, in_constant, in_func_kind, in_use, in_func, in_tag_type, in_item_kind, in_import, in_field};
+ghost use Rattle.wast_map.specs.Mapped.{mapped_instr, mapped_constant, mapped_func_kind, mapped_func, mapped_tag_type, mapped_item_kind, mapped_sig, mapped_import_items, mapped_import, mapped_tag};
+ghost use Rattle.wast_types.specs.NeedingUses.{needed_in, inline_signature};
+ghost use Rattle.wast_base.specs.Filling.{RunsOut};
+ghost use Rattle.wast_types.specs.Expanders.{BoundSignatures, LookUp, index_of, with_more, Extends};
+ghost use Rattle.wast_types.specs.Expanded.{start_of_text, implied_type, bound_use, binding, bound_field};
+ghost use Rattle.wast_types.specs.Binding.{state, next_after, Adds};
+
+use crate::expanders::Expander;
+use crate::keys::{FuncKey, TypeKey, TypeReference};
+use std::alloc::Global;
+use wast_tree::{
+    Error, Expression, Func, FuncKind, FunctionType, Gensym, ImportItems, Imports, Index,
+    Instruction, ItemKind, ItemSig, ModuleField, Seq, Span, Tag, TagType, Type, TypeUse,
+    push_field,
+};
+
+/// A part of the tree in which type uses may stand. They are the same wherever it stands, so a part of a body is seen as if
+/// it stood first.
+pub(crate) trait Bind<'a> {
+    /// The signatures of the uses in it that have no index.
+    ghost needed: { Self → List Signature };
+
+    /// What it becomes, where signatures are bound so.
+    ghost bound: { LookUp → Self → Self };
+
+    /// Binds each use in it that has no index.
+    fn bind(
+        &mut self,
+        alloc: Global,
+        cx: &mut Expander<'a>,
+        implied: &mut Seq<ModuleField<'a>>,
+        gensym: &mut Gensym,
+    ) -> Result<(), Error<'a>>
+        ensures bound { OnOk result ((more : BoundSignatures) → self.new ≡ bound (with_more (index_of cx.new) more) self.old) }
+        ensures adds { OnOk result (Adds (state cx.old implied.old gensym.old) (state cx.new implied.new gensym.new) (needed self.old)) }
+        ensures refusal { IfErr result (RunsOut (next_after (state cx.old implied.old gensym.old) (needed self.old))) }
+        ensures rising { gensym.old ≤ gensym.new };
+}
+
+/// Binds in each part of a list, in order.
+pub(crate) fn bind_each<'a, T: Bind<'a>>(
+    parts: &mut Seq<T>,
+    alloc: Global,
+    cx: &mut Expander<'a>,
+    implied: &mut Seq<ModuleField<'a>>,
+    gensym: &mut Gensym,
+) -> Result<(), Error<'a>>
+    ensures bound { OnOk result ((more : BoundSignatures) → parts.new ≡ map (T.bound (with_more (index_of cx.new) more)) parts.old) }
+    ensures adds { OnOk result (Adds (state cx.old implied.old gensym.old) (state cx.new implied.new gensym.new) (flat_map T.needed parts.old)) }
+    ensures refusal { IfErr result (RunsOut (next_after (state cx.old implied.old gensym.old) (flat_map T.needed parts.old))) }
+    ensures rising { gensym.old ≤ gensym.new }
+{
+    for i in 0..parts.len() {
+        parts.at_mut(i).bind(alloc, cx, implied, gensym)?;
+    }
+    Ok(())
+}
+
+impl<'a> Bind<'a> for ModuleField<'a> {
+    ghost needed = { λ x. needed_in (in_field x) };
+
+    ghost bound = { bound_field };
+
+    fn bind(
+        &mut self,
+        alloc: Global,
+        cx: &mut Expander<'a>,
+        implied: &mut Seq<ModuleField<'a>>,
+        gensym: &mut Gensym,
+    ) -> Result<(), Error<'a>> {
+        match self {
+            ModuleField::Ty(_) => Ok(()),
+            ModuleField::Rec(_) => Ok(()),
+            ModuleField::Import(imports) => {
+                imports.bind(alloc, cx, implied, gensym)?;
+                Ok(())
+            }
+            ModuleField::Func(func) => {
+                func.bind(alloc, cx, implied, gensym)?;
+                Ok(())
+            }
+            ModuleField::Table(_) => Ok(()),
+            ModuleField::Memory(_) => Ok(()),
+            ModuleField::Global(_) => Ok(()),
+            ModuleField::Export(_) => Ok(()),
+            ModuleField::Start(_) => Ok(()),
+            ModuleField::Elem(_) => Ok(()),
+            ModuleField::Data(_) => Ok(()),
+            ModuleField::Tag(tag) => {
+                tag.bind(alloc, cx, implied, gensym)?;
+                Ok(())
+            }
+        }
+    }
+}
+
+impl<'a> Bind<'a> for Imports<'a> {
+    ghost needed = { λ i. needed_in (in_import i.items) };
+
+    ghost bound = { λ find. mapped_import (binding find) };
+
+    fn bind(
+        &mut self,
+        alloc: Global,
+        cx: &mut Expander<'a>,
+        implied: &mut Seq<ModuleField<'a>>,
+        gensym: &mut Gensym,
+    ) -> Result<(), Error<'a>> {
+        self.items.bind(alloc, cx, implied, gensym)?;
+        Ok(())
+    }
+}
+
+impl<'a> Bind<'a> for ImportItems<'a> {
+    ghost needed = { λ i. needed_in (in_import i) };
+
+    ghost bound = { λ find. mapped_import_items (binding find) };
+
+    fn bind(
+        &mut self,
+        alloc: Global,
+        cx: &mut Expander<'a>,
+        implied: &mut Seq<ModuleField<'a>>,
+        gensym: &mut Gensym,
+    ) -> Result<(), Error<'a>> {
+        match self {
+            ImportItems::Single { sig, .. } => {
+                sig.bind(alloc, cx, implied, gensym)?;
+                Ok(())
+            }
+        }
+    }
+}
+
+impl<'a> Bind<'a> for ItemSig<'a> {
+    ghost needed = { λ s. needed_in (in_item_kind s.kind) };
+
+    ghost bound = { λ find. mapped_sig (binding find) };
+
+    fn bind(
+        &mut self,
+        alloc: Global,
+        cx: &mut Expander<'a>,
+        implied: &mut Seq<ModuleField<'a>>,
+        gensym: &mut Gensym,
+    ) -> Result<(), Error<'a>> {
+        self.kind.bind(alloc, cx, implied, gensym)?;
+        Ok(())
+    }
+}
+
+impl<'a> Bind<'a> for ItemKind<'a> {
+    ghost needed = { λ k. needed_in (in_item_kind k) };
+
+    ghost bound = { λ find. mapped_item_kind (binding find) };
+
+    fn bind(
+        &mut self,
+        alloc: Global,
+        cx: &mut Expander<'a>,
+        implied: &mut Seq<ModuleField<'a>>,
+        gensym: &mut Gensym,
+    ) -> Result<(), Error<'a>> {
+        match self {
+            ItemKind::Func(ty) => {
+                ty.bind(alloc, cx, implied, gensym)?;
+                Ok(())
+            }
+            ItemKind::Table(_) => Ok(()),
+            ItemKind::Memory(_) => Ok(()),
+            ItemKind::Global(_) => Ok(()),
+            ItemKind::Tag(ty) => {
+                ty.bind(alloc, cx, implied, gensym)?;
+                Ok(())
+            }
+        }
+    }
+}
+
+impl<'a> Bind<'a> for Tag<'a> {
+    ghost needed = { λ t. needed_in (in_tag_type t.ty) };
+
+    ghost bound = { λ find. mapped_tag (binding find) };
+
+    fn bind(
+        &mut self,
+        alloc: Global,
+        cx: &mut Expander<'a>,
+        implied: &mut Seq<ModuleField<'a>>,
+        gensym: &mut Gensym,
+    ) -> Result<(), Error<'a>> {
+        self.ty.bind(alloc, cx, implied, gensym)?;
+        Ok(())
+    }
+}
+
+impl<'a> Bind<'a> for TagType<'a> {
+    ghost needed = { λ t. needed_in (in_tag_type t) };
+
+    ghost bound = { λ find. mapped_tag_type (binding find) };
+
+    fn bind(
+        &mut self,
+        alloc: Global,
+        cx: &mut Expander<'a>,
+        implied: &mut Seq<ModuleField<'a>>,
+        gensym: &mut Gensym,
+    ) -> Result<(), Error<'a>> {
+        match self {
+            TagType::Exception(ty) => {
+                ty.bind(alloc, cx, implied, gensym)?;
+                Ok(())
+            }
+        }
+    }
+}
+
+impl<'a> Bind<'a> for Func<'a> {
+    ghost needed = { λ f. needed_in (in_func f) };
+
+    ghost bound = { λ find. mapped_func (binding find) };
+
+    fn bind(
+        &mut self,
+        alloc: Global,
+        cx: &mut Expander<'a>,
+        implied: &mut Seq<ModuleField<'a>>,
+        gensym: &mut Gensym,
+    ) -> Result<(), Error<'a>> {
+        self.ty.bind(alloc, cx, implied, gensym)?;
+        self.kind.bind(alloc, cx, implied, gensym)?;
+        Ok(())
+    }
+}
+
+impl<'a> Bind<'a> for FuncKind<'a> {
+    ghost needed = { λ k. needed_in (in_func_kind [] k) };
+
+    ghost bound = { λ find. mapped_func_kind (binding find) [] };
+
+    fn bind(
+        &mut self,
+        alloc: Global,
+        cx: &mut Expander<'a>,
+        implied: &mut Seq<ModuleField<'a>>,
+        gensym: &mut Gensym,
+    ) -> Result<(), Error<'a>> {
+        match self {
+            FuncKind::Import(..) => Ok(()),
+            FuncKind::Inline { expression, .. } => {
+                expression.bind(alloc, cx, implied, gensym)?;
+                Ok(())
+            }
+        }
+    }
+}
+
+impl<'a> Bind<'a> for Expression<'a> {
+    ghost needed = { λ e. needed_in (in_constant e) };
+
+    ghost bound = { λ find. mapped_constant (binding find) };
+
+    fn bind(
+        &mut self,
+        alloc: Global,
+        cx: &mut Expander<'a>,
+        implied: &mut Seq<ModuleField<'a>>,
+        gensym: &mut Gensym,
+    ) -> Result<(), Error<'a>> {
+        bind_each(&mut self.instrs, alloc, cx, implied, gensym)?;
+        Ok(())
+    }
+}
+
+impl<'a> Bind<'a> for Instruction<'a> {
+    ghost needed = { λ i. needed_in (in_instr start i) };
+
+    ghost bound = { λ find. mapped_instr (binding find) start };
+
+    fn bind(
+        &mut self,
+        _alloc: Global,
+        _cx: &mut Expander<'a>,
+        _implied: &mut Seq<ModuleField<'a>>,
+        _gensym: &mut Gensym,
+    ) -> Result<(), Error<'a>> {
+        match self {
+            Instruction::Plain(_) => Ok(()),
+            Instruction::call(_) => Ok(()),
+            Instruction::global_get(_) => Ok(()),
+            Instruction::i32_const(_) => Ok(()),
+            Instruction::i64_const(_) => Ok(()),
+            Instruction::ref_null(_) => Ok(()),
+            Instruction::ref_func(_) => Ok(()),
+        }
+    }
+}
+
+impl<'a> Bind<'a> for TypeUse<'a, FunctionType<'a>> {
+    ghost needed = { λ u. needed_in (in_use u) };
+
+    ghost bound = { bound_use };
+
+    fn bind(
+        &mut self,
+        alloc: Global,
+        cx: &mut Expander<'a>,
+        implied: &mut Seq<ModuleField<'a>>,
+        gensym: &mut Gensym,
+    ) -> Result<(), Error<'a>> {
+        match self.index {
+            Some(_) => Ok(()),
+            None => {
+                let key = inline_key(alloc, &self.inline)?;
+                let index = key_to_idx(alloc, key, cx, implied, gensym)?;
+                self.index = Some(index);
+                Ok(())
+            }
+        }
+    }
+}
+
+/// The key of an inline type; that of `(func)` where there is none.
+fn inline_key<'a>(
+    alloc: Global,
+    inline: &Option<FunctionType<'a>>,
+) -> Result<FuncKey<'a>, Error<'a>>
+    ensures ok { IfOk result (λ key. key ≡ inline_signature inline.now) }
+    ensures refusal { IfErr result (λ e. e ≡ out_of_memory) }
+{
+    match inline {
+        Some(ty) => ty.key(alloc),
+        None => Ok(FuncKey(Seq::new(alloc), Seq::new(alloc))),
+    }
+}
+
+/// The index of the first type with the key: a new one where no type has it.
+fn key_to_idx<'a>(
+    alloc: Global,
+    key: FuncKey<'a>,
+    cx: &mut Expander<'a>,
+    implied: &mut Seq<ModuleField<'a>>,
+    gensym: &mut Gensym,
+) -> Result<Index<'a>, Error<'a>>
+    ensures index { IfOk result (λ i. index_of cx.new key.entry ≡ Some i) }
+    ensures adds { OnOk result (Adds (state cx.old implied.old gensym.old) (state cx.new implied.new gensym.new) (key.entry ∷ [])) }
+    ensures refusal { IfErr result (RunsOut (next_after (state cx.old implied.old gensym.old) (key.entry ∷ []))) }
+    ensures rising { gensym.old ≤ gensym.new }
+{
+    match cx.get(&key) {
+        Some(index) => Ok(index),
+        None => {
+            let index = add_type(alloc, key, cx, implied, gensym)?;
+            Ok(index)
+        }
+    }
+}
+
+/// A type of its own for a key.
+fn add_type<'a>(
+    alloc: Global,
+    key: FuncKey<'a>,
+    cx: &mut Expander<'a>,
+    implied: &mut Seq<ModuleField<'a>>,
+    gensym: &mut Gensym,
+) -> Result<Index<'a>, Error<'a>>
+    ensures index { IfOk result (λ i. i ≡ index.Id (generated gensym.old start_of_text)) }
+    ensures types { OnOk result (Extends cx.old cx.new ((key.entry, index.Id (generated gensym.old start_of_text)) ∷ [])) }
+    ensures implied { OnOk result (implied.new ≡ implied.old ++ implied_type gensym.old key.entry ∷ []) }
+    ensures counted { OnOk result (gensym.new ≡ gensym.old + 1) }
+    ensures refusal { IfErr result (RunsOut (gensym.old + 1)) }
+    ensures rising { gensym.old ≤ gensym.new }
+{
+    let span = Span { offset: 0 };
+    let id = gensym.generate(span)?;
+    let def = key.to_def(alloc, span, false)?;
+    push_field(implied, ModuleField::Ty(Type::new(span, Some(id), def)))?;
+    cx.put(key, Index::Id(id))?;
+    Ok(Index::Id(id))
+}

@@ -1,0 +1,214 @@
+//! Keys of types: what is equal of two types that a type use may take.
+
+ghost use Rattle.std.specs.Prelude.{◌≡◌, ◌∷◌, [], map, IsOk, IfOk, IfErr, OnOk, OnErr};
+ghost use Rattle.std.specs.Cmp.{partial_equiv_from_equiv};
+ghost use Rattle.wast_base.specs.Faults.{out_of_memory};
+ghost use Rattle.wast_types.specs.Signatures.{Signature, type_of_param, same_signature, signature_of, empty_signature};
+ghost use Rattle.wast_types.specs.SignatureLaws.{signatures_equiv, signature_fed, signatures_alike};
+ghost use Rattle.wast_types.specs.Expanded.{nameless, def_of};
+ghost use Rattle.wast_types.specs.Expanders.{index_of, Extends, Keeps};
+
+use crate::expanders::Expander;
+use std::alloc::Global;
+use std::hash::{Hash, Hasher};
+use std::marker::Model;
+use wast_tree::{
+    Error, FunctionType, Id, Index, InnerTypeKind, NameAnnotation, Seq, Span, TypeDef, ValType,
+};
+
+/// The key of a function type: the types of its parameters, and of its results. Contracts see its signature.
+///
+/// Keys are equal where their signatures are equal as they are written (text format, type uses): `(ref $t)` and `(ref 0)`
+/// differ, also where both are one type.
+#[derive(Debug, Drop)]
+pub struct FuncKey<'a>(pub Seq<ValType<'a>>, pub Seq<ValType<'a>>);
+
+impl<'a> Model for FuncKey<'a> {
+    ghost Value = { Signature };
+
+    ghost view = { λ k. (k.0, k.1) };
+}
+
+impl<'a> PartialEq for FuncKey<'a> {
+    ghost eq = { same_signature };
+
+    ghost laws = { partial_equiv_from_equiv signatures_equiv };
+
+    #[tactic(auto, using(crate::specs::SignatureLaws::same_values_are))]
+    fn eq(&self, other: &FuncKey<'a>) -> bool {
+        self.0.as_slice() == other.0.as_slice() && self.1.as_slice() == other.1.as_slice()
+    }
+}
+
+impl<'a> Eq for FuncKey<'a> {
+    ghost laws = { signatures_equiv };
+}
+
+impl<'a> Hash for FuncKey<'a> {
+    ghost hash_input = { λ s. signature_fed ⟦<ValType<'a> as Hash>⟧.hash_input s };
+
+    ghost respects_eq = { signatures_alike.fed };
+
+    fn hash<H: Hasher>(&self, state: &mut H) {
+        self.0.as_slice().hash(state);
+        self.1.as_slice().hash(state);
+    }
+}
+
+/// A type that a type use may write out in place (text format, type uses).
+pub trait TypeReference<'a> {
+    /// What is equal of two of them.
+    type Key: TypeKey<'a>;
+
+    /// Its signature.
+    ghost signature: { Self → Signature };
+
+    /// The type that is meant where none is written out: `(func)`. It takes no memory.
+    fn empty(alloc: Global) -> Self
+        ensures { signature result ≡ empty_signature };
+
+    /// Its key: the signature as it is written. It takes memory for the key; where that is refused it answers E12.
+    fn key(&self, alloc: Global) -> Result<Self::Key, Error<'a>>
+        ensures key { IfOk result (λ k. Self.Key.signature k ≡ signature self.now) }
+        ensures refusal { IfErr result (λ e. e ≡ out_of_memory) };
+
+    /// Binds the type uses within it; its signature stays, and what is bound stays so. It may take memory; where that is
+    /// refused it answers E12.
+    fn expand(&mut self, cx: &mut Expander<'a>) -> Result<(), Error<'a>>
+        ensures stays { signature self.new ≡ signature self.old }
+        ensures keeps { Keeps cx.old cx.new }
+        ensures refusal { IfErr result (λ e. e ≡ out_of_memory) };
+}
+
+/// The key of a type that a type use may take (text format, type uses).
+pub trait TypeKey<'a> {
+    /// The signature that it stands for.
+    ghost signature: { Self → Signature };
+
+    /// The index that the key is bound to, if it is bound. It takes no memory.
+    fn lookup(&self, cx: &Expander<'a>) -> Option<Index<'a>>
+        ensures { result ≡ index_of cx.now (signature self.now) };
+
+    /// The definition of a type of this key: final, without parents, its parameters without names. It takes memory for its
+    /// lists; where that is refused it answers E12.
+    fn to_def(&self, alloc: Global, span: Span, shared: bool) -> Result<TypeDef<'a>, Error<'a>>
+        ensures def { IfOk result (λ d. d ≡ def_of (signature self.now) shared) }
+        ensures refusal { IfErr result (λ e. e ≡ out_of_memory) };
+
+    /// Binds the key to an index, unless it is bound; other keys keep theirs. It may take memory; where that is refused it
+    /// answers E12, and nothing changes.
+    fn insert(
+        &self,
+        alloc: Global,
+        cx: &mut Expander<'a>,
+        index: Index<'a>,
+    ) -> Result<(), Error<'a>>
+        ensures ok { OnOk result (Extends cx.old cx.new ((signature self.now, index.entry) ∷ [])) }
+        ensures refusal { IfErr result (λ e. e ≡ out_of_memory) }
+        ensures err { OnErr result (cx.new ≡ cx.old) };
+}
+
+impl<'a> TypeReference<'a> for FunctionType<'a> {
+    type Key = FuncKey<'a>;
+
+    ghost signature = { signature_of };
+
+    fn empty(alloc: Global) -> Self {
+        FunctionType {
+            params: Seq::new(alloc),
+            results: Seq::new(alloc),
+        }
+    }
+
+    fn key(&self, alloc: Global) -> Result<FuncKey<'a>, Error<'a>> {
+        let params = types_of(alloc, &self.params)?;
+        let results = copied(alloc, &self.results)?;
+        Ok(FuncKey(params, results))
+    }
+
+    /// No type use is within it, and nothing changes. It takes no memory.
+    fn expand(&mut self, _cx: &mut Expander<'a>) -> Result<(), Error<'a>>
+        ensures stays { signature_of self.new ≡ signature_of self.old }
+        ensures keeps { Keeps _cx.old _cx.new }
+        ensures unchanged { self.new ≡ self.old }
+        ensures binds_nothing { _cx.new ≡ _cx.old }
+        ensures refusal { IfErr result (λ e. e ≡ out_of_memory) }
+        ensures ok { IsOk result }
+    {
+        Ok(())
+    }
+}
+
+impl<'a> TypeKey<'a> for FuncKey<'a> {
+    ghost signature = { λ s. s };
+
+    fn lookup(&self, cx: &Expander<'a>) -> Option<Index<'a>> {
+        cx.get(self)
+    }
+
+    fn to_def(&self, alloc: Global, _span: Span, shared: bool) -> Result<TypeDef<'a>, Error<'a>> {
+        let params = params_of(alloc, &self.0)?;
+        let results = copied(alloc, &self.1)?;
+        Ok(TypeDef {
+            kind: InnerTypeKind::Func(FunctionType { params, results }),
+            shared,
+            parents: Seq::new(alloc),
+            descriptor: None,
+            describes: None,
+            final_type: None,
+        })
+    }
+
+    fn insert(
+        &self,
+        alloc: Global,
+        cx: &mut Expander<'a>,
+        index: Index<'a>,
+    ) -> Result<(), Error<'a>> {
+        let key = FuncKey(copied(alloc, &self.0)?, copied(alloc, &self.1)?);
+        cx.put(key, index)
+    }
+}
+
+/// A parameter: its id, its name annotation and its type.
+type Param<'a> = (Option<Id<'a>>, Option<NameAnnotation<'a>>, ValType<'a>);
+
+/// The types of parameters.
+fn types_of<'a>(alloc: Global, params: &Seq<Param<'a>>) -> Result<Seq<ValType<'a>>, Error<'a>>
+    ensures ok { IfOk result (λ types. types ≡ map type_of_param params.now) }
+    ensures refusal { IfErr result (λ e. e ≡ out_of_memory) }
+{
+    let mut types = Seq::new(alloc);
+    for param in params.as_slice() {
+        types.push(param.2)?;
+    }
+    Ok(types)
+}
+
+/// A parameter of this type, without names.
+fn nameless<'a>(ty: ValType<'a>) -> Param<'a>
+    ensures { result ≡ nameless ty.entry }
+{
+    (None, None, ty)
+}
+
+/// Parameters of these types, without names.
+fn params_of<'a>(alloc: Global, types: &Seq<ValType<'a>>) -> Result<Seq<Param<'a>>, Error<'a>>
+    ensures ok { IfOk result (λ params. params ≡ map nameless types.now) }
+    ensures refusal { IfErr result (λ e. e ≡ out_of_memory) }
+{
+    let mut params: Seq<Param<'a>> = Seq::new(alloc);
+    for ty in types.as_slice() {
+        params.push(nameless(*ty))?;
+    }
+    Ok(params)
+}
+
+/// The same value types in a list of their own.
+fn copied<'a>(alloc: Global, types: &Seq<ValType<'a>>) -> Result<Seq<ValType<'a>>, Error<'a>>
+    ensures ok { IfOk result (λ copy. copy ≡ types.now) }
+    ensures refusal { IfErr result (λ e. e ≡ out_of_memory) }
+{
+    let items = Vec::from_slice(alloc, types.as_slice())?;
+    Ok(Seq::from_vec(items))
+}

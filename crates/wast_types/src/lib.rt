@@ -1,0 +1,21 @@
+//! Type uses of a WebAssembly module in the text format: each that has no index is bound to a type, and the types that no
+//! text defines are appended.
+//!
+//! A call takes memory only where its text says so. A call that can fail says when, and with what.
+#![tactic(auto)]
+
+mod binding;
+mod examples;
+mod expanders;
+mod expansion;
+mod keys;
+mod laws;
+
+pub use expanders::Expander;
+pub use keys::{FuncKey, TypeKey, TypeReference};
+pub use laws::expanded_laws;
+
+/// The pass over the fields of a module.
+pub mod types {
+    pub use crate::expansion::expand;
+}
