@@ -1,14 +1,11 @@
 //! Walks over fields whose parts stand apart: what is asked outside of bodies, type uses, and constant expressions.
 #![tactic(auto, using(crate::proofs::Parts::both_met, crate::proofs::Parts::first_fails, crate::proofs::Parts::second_fails))]
 
-ghost use Rattle.std.specs.Prelude.{List, [], map, flat_map, option_map};
+ghost use Rattle.std.specs.Prelude.{List, map, flat_map, option_map};
 ghost use Rattle.wast_tree.specs.Sites.{Site, asking, at_index, if_there, in_use, in_tag_type, in_item_kind, in_import, in_constant, in_table_kind, in_memory_kind, in_global_kind, in_global, in_elem_kind, in_payload, in_elem, in_data_kind};
 ghost use Rattle.wast_map.specs.Mapped.{Change, mapped_tag_type, mapped_item_kind, mapped_sig, mapped_import_items, mapped_import, mapped_constant, mapped_table_kind, mapped_table, mapped_memory, mapped_global_kind, mapped_global, mapped_tag, mapped_elem_kind, mapped_payload, mapped_elem, mapped_data_kind, mapped_data};
-ghost use Rattle.wast_resolve.specs.Demands.{site_demands};
-ghost use Rattle.wast_resolve.specs.Resolved.{numbered_at, numbering};
-ghost use Rattle.wast_resolve.specs.Resolvers.{known_of, scope_of};
 ghost use Rattle.wast_resolve.specs.TwoSteps.{in_type_of_table, in_init, with_table_type, with_init, in_elem_table, in_elem_offset, with_elem_table, with_elem_offset, in_elements, in_element_type, with_elements, with_element_type, in_data_memory, in_data_offset, with_data_memory, with_data_offset};
-ghost use Rattle.wast_resolve.specs.Walking.{Walks};
+ghost use Rattle.wast_resolve.specs.Walking.{WalksSites};
 
 use crate::resolver::Resolver;
 use crate::walks::{
@@ -25,7 +22,7 @@ pub(crate) fn walk_outside<'a, T: Walk<'a>>(
     names: &Resolver<'a>,
     part: &mut T,
 ) -> Result<(), Error<'a>>
-    ensures { Walks ⊥ ⊥ (site_demands (scope_of names.now) (asking (T.asks part.old))) (T.mapped (numbering (known_of names.now)) part.old) part.new result }
+    ensures { WalksSites names.now (λ part. asking (T.asks part)) T.mapped part.old part.new result }
 {
     part.walk(names)
 }
@@ -36,7 +33,7 @@ pub(crate) fn walk_outside_index<'a>(
     space: Space,
     index: &mut Index<'a>,
 ) -> Result<(), Error<'a>>
-    ensures { Walks ⊥ ⊥ (site_demands (scope_of names.now) (at_index space index.old)) (numbered_at (known_of names.now) space index.old) index.new result }
+    ensures { WalksSites names.now (at_index space) (λ f. f.index space) index.old index.new result }
 {
     walk_index(names, space, index)
 }
@@ -47,7 +44,7 @@ fn walk_outside_optional<'a>(
     space: Space,
     index: &mut Option<Index<'a>>,
 ) -> Result<(), Error<'a>>
-    ensures { Walks ⊥ ⊥ (site_demands (scope_of names.now) (if_there (at_index space) index.old)) (option_map (numbered_at (known_of names.now) space) index.old) index.new result }
+    ensures { WalksSites names.now (if_there (at_index space)) (λ f. option_map (f.index space)) index.old index.new result }
 {
     walk_optional(names, space, index)
 }
@@ -58,7 +55,7 @@ fn walk_outside_indices<'a>(
     space: Space,
     indices: &mut Seq<Index<'a>>,
 ) -> Result<(), Error<'a>>
-    ensures { Walks ⊥ ⊥ (site_demands (scope_of names.now) (flat_map (at_index space) indices.old)) (map (numbered_at (known_of names.now) space) indices.old) indices.new result }
+    ensures { WalksSites names.now (flat_map (at_index space)) (λ f. map (f.index space)) indices.old indices.new result }
 {
     walk_indices(names, space, indices)
 }
@@ -73,7 +70,7 @@ pub(crate) trait WalkApart<'a> {
 
     /// Walks over it. The error is the first demand that is not met.
     fn walk_apart(&mut self, names: &Resolver<'a>) -> Result<(), Error<'a>>
-        ensures { Walks ⊥ ⊥ (site_demands (scope_of names.now) (stands self.old)) (mapped (numbering (known_of names.now)) self.old) self.new result };
+        ensures { WalksSites names.now stands mapped self.old self.new result };
 }
 
 /// Walks over each part of a list, in order.
@@ -81,7 +78,7 @@ fn walk_each_apart<'a, T: WalkApart<'a>>(
     names: &Resolver<'a>,
     parts: &mut Seq<T>,
 ) -> Result<(), Error<'a>>
-    ensures { Walks ⊥ ⊥ (site_demands (scope_of names.now) (flat_map T.stands parts.old)) (map (T.mapped (numbering (known_of names.now))) parts.old) parts.new result }
+    ensures { WalksSites names.now (flat_map T.stands) (λ f. map (T.mapped f)) parts.old parts.new result }
 {
     for i in 0..parts.len() {
         parts.at_mut(i).walk_apart(names)?;
@@ -189,7 +186,7 @@ impl<'a> WalkApart<'a> for Imports<'a> {
 
 /// Walks over the type of a table, or of its elements in place.
 fn walk_table_type<'a>(names: &Resolver<'a>, kind: &mut TableKind<'a>) -> Result<(), Error<'a>>
-    ensures { Walks ⊥ ⊥ (site_demands (scope_of names.now) (in_type_of_table kind.old)) (with_table_type (numbering (known_of names.now)) kind.old) kind.new result }
+    ensures { WalksSites names.now in_type_of_table with_table_type kind.old kind.new result }
 {
     match kind {
         TableKind::Import { ty, .. } => walk_outside(names, ty),
@@ -200,7 +197,7 @@ fn walk_table_type<'a>(names: &Resolver<'a>, kind: &mut TableKind<'a>) -> Result
 
 /// Walks over what the elements of a table are at first, or over those in place.
 fn walk_init<'a>(names: &Resolver<'a>, kind: &mut TableKind<'a>) -> Result<(), Error<'a>>
-    ensures { Walks ⊥ ⊥ (site_demands (scope_of names.now) (in_init kind.old)) (with_init (numbering (known_of names.now)) kind.old) kind.new result }
+    ensures { WalksSites names.now in_init with_init kind.old kind.new result }
 {
     match kind {
         TableKind::Import { .. } => Ok(()),
@@ -223,7 +220,7 @@ impl<'a> WalkApart<'a> for TableKind<'a> {
 
 /// Walks over the table of an element segment.
 fn walk_elem_table<'a>(names: &Resolver<'a>, kind: &mut ElemKind<'a>) -> Result<(), Error<'a>>
-    ensures { Walks ⊥ ⊥ (site_demands (scope_of names.now) (in_elem_table kind.old)) (with_elem_table (numbering (known_of names.now)) kind.old) kind.new result }
+    ensures { WalksSites names.now in_elem_table with_elem_table kind.old kind.new result }
 {
     match kind {
         ElemKind::Passive => Ok(()),
@@ -234,7 +231,7 @@ fn walk_elem_table<'a>(names: &Resolver<'a>, kind: &mut ElemKind<'a>) -> Result<
 
 /// Walks over the offset of an element segment.
 fn walk_elem_offset<'a>(names: &Resolver<'a>, kind: &mut ElemKind<'a>) -> Result<(), Error<'a>>
-    ensures { Walks ⊥ ⊥ (site_demands (scope_of names.now) (in_elem_offset kind.old)) (with_elem_offset (numbering (known_of names.now)) kind.old) kind.new result }
+    ensures { WalksSites names.now in_elem_offset with_elem_offset kind.old kind.new result }
 {
     match kind {
         ElemKind::Passive => Ok(()),
@@ -257,7 +254,7 @@ impl<'a> WalkApart<'a> for ElemKind<'a> {
 
 /// Walks over the elements of a segment.
 fn walk_elements<'a>(names: &Resolver<'a>, payload: &mut ElemPayload<'a>) -> Result<(), Error<'a>>
-    ensures { Walks ⊥ ⊥ (site_demands (scope_of names.now) (in_elements payload.old)) (with_elements (numbering (known_of names.now)) payload.old) payload.new result }
+    ensures { WalksSites names.now in_elements with_elements payload.old payload.new result }
 {
     match payload {
         ElemPayload::Indices(indices) => walk_outside_indices(names, Space::Func, indices),
@@ -270,7 +267,7 @@ fn walk_element_type<'a>(
     names: &Resolver<'a>,
     payload: &mut ElemPayload<'a>,
 ) -> Result<(), Error<'a>>
-    ensures { Walks ⊥ ⊥ (site_demands (scope_of names.now) (in_element_type payload.old)) (with_element_type (numbering (known_of names.now)) payload.old) payload.new result }
+    ensures { WalksSites names.now in_element_type with_element_type payload.old payload.new result }
 {
     match payload {
         ElemPayload::Indices(_) => Ok(()),
@@ -292,7 +289,7 @@ impl<'a> WalkApart<'a> for ElemPayload<'a> {
 
 /// Walks over the memory of a data segment.
 fn walk_data_memory<'a>(names: &Resolver<'a>, kind: &mut DataKind<'a>) -> Result<(), Error<'a>>
-    ensures { Walks ⊥ ⊥ (site_demands (scope_of names.now) (in_data_memory kind.old)) (with_data_memory (numbering (known_of names.now)) kind.old) kind.new result }
+    ensures { WalksSites names.now in_data_memory with_data_memory kind.old kind.new result }
 {
     match kind {
         DataKind::Passive => Ok(()),
@@ -302,7 +299,7 @@ fn walk_data_memory<'a>(names: &Resolver<'a>, kind: &mut DataKind<'a>) -> Result
 
 /// Walks over the offset of a data segment.
 fn walk_data_offset<'a>(names: &Resolver<'a>, kind: &mut DataKind<'a>) -> Result<(), Error<'a>>
-    ensures { Walks ⊥ ⊥ (site_demands (scope_of names.now) (in_data_offset kind.old)) (with_data_offset (numbering (known_of names.now)) kind.old) kind.new result }
+    ensures { WalksSites names.now in_data_offset with_data_offset kind.old kind.new result }
 {
     match kind {
         DataKind::Passive => Ok(()),

@@ -2,17 +2,15 @@
 #![tactic(auto, using(crate::proofs::Parts::both_met, crate::proofs::Parts::first_fails, crate::proofs::Parts::second_fails, crate::proofs::Parts::id_met))]
 
 ghost use Rattle.std.specs.Prelude.{⊤, ◌≤◌, ◌^◌, List, length, map, flat_map, option_map};
-ghost use Rattle.wast_base.specs.Ids.{Mark};
 ghost use Rattle.wast_tree.specs.Sites.{Ask, Here, if_there, in_index, in_heap, in_ref, in_val, in_signature, in_type, in_rec, in_type_use, in_instr, in_instrs, in_expression, in_local, param_marks, in_func_kind, in_func, in_use, in_table_type, in_global_type, exported_space, in_field, in_module};
 ghost use Rattle.wast_map.specs.Mapped.{Change, mapped_heap, mapped_ref, mapped_val, mapped_signature, mapped_type, mapped_rec, mapped_table_type, mapped_global_type, mapped_local, mapped_export, mapped_instr, mapped_instrs, mapped_expression, mapped_func_kind, mapped_func, mapped};
-ghost use Rattle.wast_resolve.specs.Demands.{match_if, first_unmet, ask_demands, site_demands, declared, local_counts_in, local_counts, HasMany};
+ghost use Rattle.wast_resolve.specs.Demands.{match_if, first_unmet, declared, local_counts_in, local_counts, HasMany};
 ghost use Rattle.wast_namespace.specs.Outcomes.{Outcome};
-ghost use Rattle.wast_resolve.specs.Resolved.{numbered_at, numbering};
 ghost use Rattle.wast_resolve.specs.TwoSteps.{in_locals, in_body, with_locals, with_body};
 ghost use Rattle.wast_resolve.specs.Resolvers.{known_of, scope_of};
 ghost use Rattle.wast_resolve.specs.LookUps.{LooksTypesUp};
 ghost use Rattle.wast_resolve.specs.Tree.field;
-ghost use Rattle.wast_resolve.specs.Walking.{Walks};
+ghost use Rattle.wast_resolve.specs.Walking.{WalksAsks, WalksSites, WalksFunctions};
 
 use crate::apart::{WalkApart, walk_outside, walk_outside_index};
 use crate::core_types::{
@@ -34,7 +32,7 @@ pub(crate) fn walk_index<'a>(
     space: Space,
     index: &mut Index<'a>,
 ) -> Result<(), Error<'a>>
-    ensures { Walks ⊥ ⊥ (ask_demands (known_of names.now) (in_index space index.old)) (numbered_at (known_of names.now) space index.old) index.new result }
+    ensures { WalksAsks names.now (in_index space) (λ f. f.index space) index.old index.new result }
 {
     // A second walk meets numbers alone.
     if let Index::Num(_, _) = index {
@@ -50,7 +48,7 @@ pub(crate) fn walk_optional<'a>(
     space: Space,
     index: &mut Option<Index<'a>>,
 ) -> Result<(), Error<'a>>
-    ensures { Walks ⊥ ⊥ (ask_demands (known_of names.now) (if_there (in_index space) index.old)) (option_map (numbered_at (known_of names.now) space) index.old) index.new result }
+    ensures { WalksAsks names.now (if_there (in_index space)) (λ f. option_map (f.index space)) index.old index.new result }
 {
     match index {
         None => Ok(()),
@@ -64,7 +62,7 @@ pub(crate) fn walk_indices<'a>(
     space: Space,
     indices: &mut Seq<Index<'a>>,
 ) -> Result<(), Error<'a>>
-    ensures { Walks ⊥ ⊥ (ask_demands (known_of names.now) (flat_map (in_index space) indices.old)) (map (numbered_at (known_of names.now) space) indices.old) indices.new result }
+    ensures { WalksAsks names.now (flat_map (in_index space)) (λ f. map (f.index space)) indices.old indices.new result }
 {
     for i in 0..indices.len() {
         walk_index(names, space, indices.at_mut(i))?;
@@ -98,7 +96,7 @@ pub(crate) trait Walk<'a> {
 
     /// Walks over it. The error is E4 at an id that denotes nothing.
     fn walk(&mut self, names: &Resolver<'a>) -> Result<(), Error<'a>>
-        ensures { Walks ⊥ ⊥ (ask_demands (known_of names.now) (asks self.old)) (mapped (numbering (known_of names.now)) self.old) self.new result };
+        ensures { WalksAsks names.now asks mapped self.old self.new result };
 }
 
 /// Walks over each part of a list, in order.
@@ -106,7 +104,7 @@ pub(crate) fn walk_each<'a, T: Walk<'a>>(
     names: &Resolver<'a>,
     parts: &mut Seq<T>,
 ) -> Result<(), Error<'a>>
-    ensures { Walks ⊥ ⊥ (ask_demands (known_of names.now) (flat_map T.asks parts.old)) (map (T.mapped (numbering (known_of names.now))) parts.old) parts.new result }
+    ensures { WalksAsks names.now (flat_map T.asks) (λ f. map (T.mapped f)) parts.old parts.new result }
 {
     for i in 0..parts.len() {
         parts.at_mut(i).walk(names)?;
@@ -251,7 +249,7 @@ impl<'a> Walk<'a> for Export<'a> {
 
 /// Walks over an instruction.
 fn walk_instr<'a>(names: &Resolver<'a>, instr: &mut Instruction<'a>) -> Result<(), Error<'a>>
-    ensures { (h : Here) → Walks ⊥ ⊥ (site_demands (scope_of names.now) (in_instr h instr.old)) (mapped_instr (numbering (known_of names.now)) h instr.old) instr.new result }
+    ensures { (h : Here) → WalksSites names.now (in_instr h) (λ f. mapped_instr f h) instr.old instr.new result }
 {
     match instr {
         Instruction::Plain(_) => Ok(()),
@@ -266,7 +264,7 @@ fn walk_instr<'a>(names: &Resolver<'a>, instr: &mut Instruction<'a>) -> Result<(
 
 /// Walks over instructions, in order.
 fn walk_instrs<'a>(names: &Resolver<'a>, instrs: &mut Seq<Instruction<'a>>) -> Result<(), Error<'a>>
-    ensures { (h : Here) → Walks ⊥ ⊥ (site_demands (scope_of names.now) (in_instrs h instrs.old)) (mapped_instrs (numbering (known_of names.now)) h instrs.old) instrs.new result }
+    ensures { (h : Here) → WalksSites names.now (in_instrs h) (λ f. mapped_instrs f h) instrs.old instrs.new result }
 {
     for i in 0..instrs.len() {
         walk_instr(names, instrs.at_mut(i))?;
@@ -279,7 +277,7 @@ pub(crate) fn walk_expression<'a>(
     names: &Resolver<'a>,
     expression: &mut Expression<'a>,
 ) -> Result<(), Error<'a>>
-    ensures { (h : Here) → Walks ⊥ ⊥ (site_demands (scope_of names.now) (in_expression h expression.old)) (mapped_expression (numbering (known_of names.now)) h expression.old) expression.new result }
+    ensures { (h : Here) → WalksSites names.now (in_expression h) (λ f. mapped_expression f h) expression.old expression.new result }
 {
     walk_instrs(names, &mut expression.instrs)?;
     Ok(())
@@ -305,7 +303,7 @@ pub(crate) fn walk_type_use<'a>(
     names: &Resolver<'a>,
     ty: &mut TypeUse<'a, FunctionType<'a>>,
 ) -> Result<(), Error<'a>>
-    ensures { Walks ⊥ ⊥ (site_demands (scope_of names.now) (in_use ty.old)) ((numbering (known_of names.now)).used ty.old) ty.new result }
+    ensures { WalksSites names.now in_use (λ f. f.used) ty.old ty.new result }
 {
     ty.walk(names)?;
     check_type_use(names, ty)?;
@@ -314,7 +312,7 @@ pub(crate) fn walk_type_use<'a>(
 
 /// Walks over the types of the locals of a function.
 fn walk_locals<'a>(names: &Resolver<'a>, kind: &mut FuncKind<'a>) -> Result<(), Error<'a>>
-    ensures { Walks ⊥ ⊥ (ask_demands (known_of names.now) (in_locals kind.old)) (with_locals (numbering (known_of names.now)) kind.old) kind.new result }
+    ensures { WalksAsks names.now in_locals with_locals kind.old kind.new result }
 {
     match kind {
         FuncKind::Import(..) => Ok(()),
@@ -324,7 +322,7 @@ fn walk_locals<'a>(names: &Resolver<'a>, kind: &mut FuncKind<'a>) -> Result<(), 
 
 /// Walks over the body of a function.
 fn walk_body<'a>(names: &Resolver<'a>, kind: &mut FuncKind<'a>) -> Result<(), Error<'a>>
-    ensures { (h : Here) → Walks ⊥ ⊥ (site_demands (scope_of names.now) (in_body h kind.old)) (with_body (numbering (known_of names.now)) h kind.old) kind.new result }
+    ensures { (h : Here) → WalksSites names.now (in_body h) (λ f. with_body f h) kind.old kind.new result }
 {
     match kind {
         FuncKind::Import(..) => Ok(()),
@@ -340,7 +338,9 @@ fn walk_kind<'a>(
     inline: &Option<FunctionType<'a>>,
     kind: &mut FuncKind<'a>,
 ) -> Result<(), Error<'a>>
-    ensures { Walks ⊤ (2 ^ 32 ≤ length (declared inline.now kind.old)) (site_demands (scope_of names.now) (in_func_kind (param_marks inline.now) kind.old)) (mapped_func_kind (numbering (known_of names.now)) (param_marks inline.now) kind.old) kind.new result }
+    ensures { let ps = param_marks inline.now in
+        WalksFunctions (2 ^ 32 ≤ length (declared inline.now kind.old))
+        names.now (in_func_kind ps) (λ f. mapped_func_kind f ps) kind.old kind.new result }
 {
     walk_locals(names, kind)?;
     check_locals(alloc, inline, kind)?;
@@ -350,7 +350,7 @@ fn walk_kind<'a>(
 
 /// Walks over a function: its type use, and then what it is made of.
 fn walk_func<'a>(alloc: Global, names: &Resolver<'a>, func: &mut Func<'a>) -> Result<(), Error<'a>>
-    ensures { Walks ⊤ (HasMany (local_counts_in (field.Func func.old))) (site_demands (scope_of names.now) (in_func func.old)) (mapped_func (numbering (known_of names.now)) func.old) func.new result }
+    ensures { WalksFunctions (HasMany (local_counts_in (field.Func func.old))) names.now in_func mapped_func func.old func.new result }
 {
     walk_type_use(names, &mut func.ty)?;
     walk_kind(alloc, names, &func.ty.inline, &mut func.kind)?;
@@ -363,7 +363,7 @@ fn walk_field<'a>(
     names: &Resolver<'a>,
     field: &mut ModuleField<'a>,
 ) -> Result<(), Error<'a>>
-    ensures { Walks ⊤ (HasMany (local_counts_in field.old)) (site_demands (scope_of names.now) (in_field field.old)) (mapped (numbering (known_of names.now)) field.old) field.new result }
+    ensures { WalksFunctions (HasMany (local_counts_in field.old)) names.now in_field mapped field.old field.new result }
 {
     match field {
         ModuleField::Ty(ty) => walk_outside(names, ty),
@@ -390,7 +390,7 @@ pub(crate) fn walk_fields<'a>(
     names: &Resolver<'a>,
     fields: &mut Seq<ModuleField<'a>>,
 ) -> Result<(), Error<'a>>
-    ensures { Walks ⊤ (HasMany (local_counts fields.old)) (site_demands (scope_of names.now) (in_module fields.old)) (map (mapped (numbering (known_of names.now))) fields.old) fields.new result }
+    ensures { WalksFunctions (HasMany (local_counts fields.old)) names.now in_module (λ f. map (mapped f)) fields.old fields.new result }
 {
     for i in 0..fields.len() {
         walk_field(alloc, names, fields.at_mut(i))?;
