@@ -101,7 +101,8 @@ pub(crate) fn first_clash<'a>(
     clashes: [Option<u32>; 8],
 ) -> Option<Error<'a>>
     requires { (s : Space) → HasFirstClash (names_in s (items fields.now)) (slice_index_or clashes (rank_of s) None) }
-    ensures first { let unmet = first_unmet (item_demands (items fields.now)) in MatchOption result (unmet ≡ None) (λ e. Answers ⊤ (IsCrowded fields.now) (told e) unmet) }
+    ensures first { let unmet = first_unmet (item_demands (items fields.now)) in
+        MatchOption result (unmet ≡ None) (λ e. Answers ⊤ (IsCrowded fields.now) (told e) unmet) }
     ensures free { result ≡ None → (s : Space) → slice_index_or clashes (rank_of s) None ≡ None }
 {
     let mut finder = Finder {

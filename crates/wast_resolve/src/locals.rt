@@ -1,15 +1,14 @@
 //! The names of the parameters and locals of a function.
 
-ghost use Rattle.std.specs.Prelude.{◌≡◌, ⊤, ◌≤◌, ◌^◌, ◌++◌, [], map, length, slice_index_or, Option as Maybe, None, IfOk, IfErr};
-ghost use Rattle.wast_base.specs.Ids.{Mark, marked};
-ghost use Rattle.wast_base.specs.Spaces.{name_if};
+ghost use Rattle.std.specs.Prelude.{◌≡◌, ⊤, ◌≤◌, ◌^◌, [], length, slice_index_or, None, IfOk, IfErr};
+ghost use Rattle.wast_base.specs.Ids.{marked};
 ghost use Rattle.wast_base.specs.Faults.{told};
-ghost use Rattle.wast_tree.specs.Sites.{param_marks, declaring};
+ghost use Rattle.wast_tree.specs.Sites.{param_marks};
 ghost use Rattle.wast_resolve.specs.Scopes.{Scope};
 ghost use Rattle.wast_resolve.specs.Demands.{first_unmet, site_demands, declared};
 ghost use Rattle.wast_namespace.specs.Filling.{HasFirstClash};
-ghost use Rattle.wast_resolve.specs.Gathers.{Stops, Gathers, with_gathered};
-ghost use Rattle.wast_resolve.specs.Locals.{params_in, opening, marks, names, said_of};
+ghost use Rattle.wast_resolve.specs.Gathers.{Stops, Gathers};
+ghost use Rattle.wast_resolve.specs.Locals.{params_in, opening, marks_of, names, said_of, ChecksNames};
 ghost use Rattle.wast_namespace.specs.Outcomes.{Outcome};
 
 use crate::gathers::{count_ids, gather_each};
@@ -26,7 +25,7 @@ fn gather_locals<'a>(
     params: &[Param<'a>],
     locals: &[Local<'a>],
 ) -> Result<Gathering<'a>, Error<'a>>
-    ensures { Gathers (Ok []) (names (marks (λ p. marked p.0) (λ l. marked l.id) params.now locals.now)) result }
+    ensures { Gathers (Ok []) (names (marks_of params.now locals.now)) result }
 {
     let ids = count_ids(params).saturating_add(count_ids(locals));
     let mut gathering = Gathering::new(alloc, ids)?;
@@ -37,7 +36,7 @@ fn gather_locals<'a>(
 
 /// The id at a position among parameters and locals.
 fn id_at<'a>(params: &[Param<'a>], locals: &[Local<'a>], at: usize) -> Option<Id<'a>>
-    ensures { marked result ≡ slice_index_or (marks (λ p. marked p.0) (λ l. marked l.id) params.now locals.now) at None }
+    ensures { marked result ≡ slice_index_or (marks_of params.now locals.now) at None }
 {
     if at < params.len() {
         return params[at].0;
@@ -56,8 +55,8 @@ fn first_clash<'a>(
     params: &[Param<'a>],
     locals: &[Local<'a>],
 ) -> Result<Option<u32>, Error<'a>>
-    ensures found { IfOk result (HasFirstClash (names (marks (λ p. marked p.0) (λ l. marked l.id) params.now locals.now))) }
-    ensures stops { IfErr result (λ e. Stops (told e) 0 (length (marks (λ p. marked p.0) (λ l. marked l.id) params.now locals.now))) }
+    ensures found { IfOk result (HasFirstClash (names (marks_of params.now locals.now))) }
+    ensures stops { IfErr result (λ e. Stops (told e) 0 (length (marks_of params.now locals.now))) }
 {
     let gathering = gather_locals(alloc, params, locals)?;
     Ok(gathering.first_clash())
@@ -65,7 +64,7 @@ fn first_clash<'a>(
 
 /// E2 at the id at a position among parameters and locals, if there is one.
 fn clash_at<'a>(params: &[Param<'a>], locals: &[Local<'a>], at: usize) -> Result<(), Error<'a>>
-    ensures { Outcome ⊥ ⊥ (said_of (slice_index_or (marks (λ p. marked p.0) (λ l. marked l.id) params.now locals.now) at None)) result }
+    ensures { Outcome ⊥ ⊥ (said_of (slice_index_or (marks_of params.now locals.now) at None)) result }
 {
     match id_at(params, locals, at) {
         None => Ok(()),
@@ -79,7 +78,7 @@ fn check_names<'a>(
     params: &[Param<'a>],
     locals: &[Local<'a>],
 ) -> Result<(), Error<'a>>
-    ensures { (c : Scope) → let ms = marks (λ p. marked p.0) (λ l. marked l.id) params.now locals.now in Outcome ⊤ (2 ^ 32 ≤ length ms) (first_unmet (site_demands c (declaring [] ms))) result }
+    ensures { (c : Scope) → ChecksNames c (marks_of params.now locals.now) result }
 {
     match first_clash(alloc, params, locals)? {
         None => Ok(()),
@@ -97,7 +96,7 @@ fn check_declared<'a>(
     inline: &Option<FunctionType<'a>>,
     locals: &[Local<'a>],
 ) -> Result<(), Error<'a>>
-    ensures { (c : Scope) → let ms = marks (λ p. marked p.0) (λ l. marked l.id) (params_in inline.now) locals.now in Outcome ⊤ (2 ^ 32 ≤ length ms) (first_unmet (site_demands c (declaring [] ms))) result }
+    ensures { (c : Scope) → ChecksNames c (marks_of (params_in inline.now) locals.now) result }
 {
     match inline {
         None => check_names(alloc, &[], locals),
@@ -114,7 +113,8 @@ pub(crate) fn check_locals<'a>(
     inline: &Option<FunctionType<'a>>,
     kind: &FuncKind<'a>,
 ) -> Result<(), Error<'a>>
-    ensures { (c : Scope) → Outcome ⊤ (2 ^ 32 ≤ length (declared inline.now kind.now)) (first_unmet (site_demands c (opening (param_marks inline.now) kind.now))) result }
+    ensures { (c : Scope) → Outcome ⊤ (2 ^ 32 ≤ length (declared inline.now kind.now))
+        (first_unmet (site_demands c (opening (param_marks inline.now) kind.now))) result }
 {
     match kind {
         FuncKind::Import(..) => Ok(()),

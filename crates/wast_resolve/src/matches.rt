@@ -137,7 +137,8 @@ pub trait TypeReference<'a> {
         ensures met { OnOk result (first_unmet (ask_demands (known_of cx.now) (asks self.old)) ≡ None) }
         ensures becomes { OnOk result (self.new ≡ changed (numbered_at (known_of cx.now)) self.old) }
         ensures refusal { IfErr result (λ e. Answers ⊥ ⊥ (told e) (first_unmet (ask_demands (known_of cx.now) (asks self.old)))) }
-        ensures calls { CallsOn (LooksTypesUp (λ names. known_of names.now)) cx.entry (asks self.old) cx.entry (asks self.new) result }
+        ensures calls { CallsOn (LooksTypesUp (λ names. known_of names.now))
+            cx.entry (asks self.old) cx.entry (asks self.new) result }
         ensures rest { changed blank self.new ≡ changed blank self.old };
 }
 

@@ -22,8 +22,10 @@ fn try_space<'a>(
     alloc: Global,
     gathered: Result<Gathering<'a>, Error<'a>>,
 ) -> Result<(Namespace<'a>, Option<u32>), Error<'a>>
-    ensures tried { (names : List (Maybe Name)) → Gathers (Ok []) names gathered.entry → IfOk result (λ r. IsTried names r.0 r.1) }
-    ensures stops { (names : List (Maybe Name)) → Gathers (Ok []) names gathered.entry → IfErr result (λ e. Stops (told e) 0 (length names)) }
+    ensures tried { (names : List (Maybe Name)) → Gathers (Ok []) names gathered.entry →
+        IfOk result (λ r. IsTried names r.0 r.1) }
+    ensures stops { (names : List (Maybe Name)) → Gathers (Ok []) names gathered.entry →
+        IfErr result (λ e. Stops (told e) 0 (length names)) }
 {
     match gathered?.filled(alloc)? {
         Ok(names) => Ok((names, None)),
@@ -42,7 +44,8 @@ pub(crate) fn name_spaces<'a>(
 ) -> Result<Resolver<'a>, Error<'a>>
     ensures met { OnOk result (first_unmet (item_demands (items fields.now)) ≡ None) }
     ensures names { IfOk result (λ r. known_of r ≡ known (items fields.now)) }
-    ensures refusal { IfErr result (λ e. Answers ⊤ (IsCrowded fields.now) (told e) (first_unmet (item_demands (items fields.now)))) }
+    ensures refusal { IfErr result (λ e.
+        Answers ⊤ (IsCrowded fields.now) (told e) (first_unmet (item_demands (items fields.now)))) }
 {
     let mut spaces = Vec::new(alloc);
     let mut clashes = [None; 8];

@@ -277,7 +277,8 @@ pub(crate) fn walk_expression<'a>(
     names: &Resolver<'a>,
     expression: &mut Expression<'a>,
 ) -> Result<(), Error<'a>>
-    ensures { (h : Here) → WalksSites names.now (in_expression h) (λ f. mapped_expression f h) expression.old expression.new result }
+    ensures { (h : Here) →
+        WalksSites names.now (in_expression h) (λ f. mapped_expression f h) expression.old expression.new result }
 {
     walk_instrs(names, &mut expression.instrs)?;
     Ok(())
@@ -350,7 +351,8 @@ fn walk_kind<'a>(
 
 /// Walks over a function: its type use, and then what it is made of.
 fn walk_func<'a>(alloc: Global, names: &Resolver<'a>, func: &mut Func<'a>) -> Result<(), Error<'a>>
-    ensures { WalksFunctions (HasMany (local_counts_in (field.Func func.old))) names.now in_func mapped_func func.old func.new result }
+    ensures { WalksFunctions (HasMany (local_counts_in (field.Func func.old)))
+        names.now in_func mapped_func func.old func.new result }
 {
     walk_type_use(names, &mut func.ty)?;
     walk_kind(alloc, names, &func.ty.inline, &mut func.kind)?;
@@ -390,7 +392,8 @@ pub(crate) fn walk_fields<'a>(
     names: &Resolver<'a>,
     fields: &mut Seq<ModuleField<'a>>,
 ) -> Result<(), Error<'a>>
-    ensures { WalksFunctions (HasMany (local_counts fields.old)) names.now in_module (λ f. map (mapped f)) fields.old fields.new result }
+    ensures { WalksFunctions (HasMany (local_counts fields.old))
+        names.now in_module (λ f. map (mapped f)) fields.old fields.new result }
 {
     for i in 0..fields.len() {
         walk_field(alloc, names, fields.at_mut(i))?;
