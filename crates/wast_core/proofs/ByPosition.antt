@@ -20,7 +20,7 @@ use Rattle.wast_resolve.specs.Laws.{SamePositions}
 use Rattle.wast_core.specs.Tree.{ModuleField}
 use Rattle.wast_core.specs.declared.slots.Slot.{Slot}
 use Rattle.wast_core.specs.declared.slots.Slot.TheVariants as slot
-use Rattle.wast_core.specs.Slots.{kind_of, order}
+use Rattle.wast_core.specs.Slots.{section_kind, order}
 use Rattle.wast_names.specs.NamesPayload.{name_subsections}
 use Rattle.wast_names.specs.NameSection.{names_part}
 use Rattle.wast_core.specs.Meaning.{Contribution, start_part, starts_in, contributed, of_kind, entries_in, entries, listed, in_slot, parts}
@@ -42,7 +42,7 @@ same_entries kind xs = each_like (mapped stripping) (entries_in kind) (entries_i
 
 module _ (name : Option (List ℕ)) where
   same_slot : (xs : List ModuleField) (s : Slot) → in_slot name (all_mapped stripping xs) s ≡ in_slot name xs s
-  same_slot xs (slot.Section kind) = ap (listed (kind_of kind)) (same_entries (kind_of kind) xs)
+  same_slot xs (slot.Section kind) = ap (listed (section_kind kind)) (same_entries (section_kind kind) xs)
   same_slot xs slot.Start = each_like (mapped stripping) starts_in starts_in (λ x. ap (λ (c : Contribution). map start_part c.starts) (same_contributed x)) xs
   same_slot xs slot.Names = ap names_part (same_subsections (mapped stripping) keeps_names name xs)
   same_slot xs s = refl

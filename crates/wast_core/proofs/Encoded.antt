@@ -10,7 +10,7 @@ use Rattle.wast_tree.specs.Items.{items}
 use Rattle.wast_tree.specs.Known.{known}
 use Rattle.wast_tree.specs.WellFormed.{is_well_formed}
 use Rattle.wast_resolve.specs.Finished.{finished}
-use Rattle.wast_resolve.specs.Resolvers.{Bindings}
+use Rattle.wast_resolve.specs.Resolvers.{KnownNames}
 use Rattle.wast_resolve.specs.Laws.{FinishedStaysWellFormed, FinishedIsResolved, FinishedIsWrittenOut, SamePositions}
 use Rattle.wasm_ops.specs.Sinks.{SinkRules, AppendLaws}
 use Rattle.wasm_out.specs.Reads.{Reads}
@@ -38,7 +38,7 @@ unwritten : SamePositions → (form : Option Form) (n : ℕ) (name : Option (Lis
 unwritten positions (Some form) n name fields e above met h = h
 unwritten positions None n name fields e above met h = elim h [ inl memory ↦ inl memory | inr large ↦ inr (large.0, λ b. large.1 (written_where_meant positions n name fields above met b.writable)) ]
 
-pub encodes : SamePositions → (n : ℕ) (name : Option (List ℕ)) (old new : ModuleKind) (names : Bindings) (result : Result (Vec ℕ) Error) → bound_of_kind old < n → ResolvesKind n old (Ok names) new → EncodesResolved name new result → EncodesKind n name old result new
+pub encodes : SamePositions → (n : ℕ) (name : Option (List ℕ)) (old new : ModuleKind) (names : KnownNames) (result : Result (Vec ℕ) Error) → bound_of_kind old < n → ResolvesKind n old (Ok names) new → EncodesResolved name new result → EncodesKind n name old result new
 encodes positions n name (kind.Text fs) new names result above r h = text fs new result above r (subst (λ k. EncodesResolved name k result) r.1 h)
   where
     text : (fs : List ModuleField) (new : ModuleKind) (result : Result (Vec ℕ) Error) → greatest_generation fs < n → ResolvesKind n (kind.Text fs) (Ok names) new → EncodesResolved name (kind.Text (finished n fs)) result → EncodesKind n name (kind.Text fs) result new

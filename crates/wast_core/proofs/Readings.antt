@@ -31,7 +31,7 @@ use Rattle.wast_core.specs.Meaning.{Contribution, of_type, of_rec, of_import, of
 use Rattle.wast_core.specs.Utf8Names.{HasUtf8Items, HasUtf8Names}
 use Rattle.wast_names.specs.NamesPayload.{name_subsections}
 use Rattle.wast_names.specs.NameSection.{names_part}
-use Rattle.wast_core.specs.Slots.{kind_of, order}
+use Rattle.wast_core.specs.Slots.{section_kind, order}
 use Rattle.wast_conv.proofs.EachPasses.{both_pass, both_true}
 use Rattle.wast_conv.proofs.EntitiesReady.{table_covered, global_covered, kind_covered}
 use Rattle.wast_conv.proofs.Expressions.{instrs_rows, instrs_covered, expression_covered}
@@ -181,7 +181,7 @@ names_readable (s ∷ ss) = all_one IsReadablePart _ name_is_text
 slot_readable : (name : Option (List ℕ)) (fields : List ModuleField) → IsTrue (is_encodable fields) → All HasUtf8Names fields → (s : Slot) → All IsReadablePart (in_slot name fields s)
 slot_readable name fields e h slot.BeforeFirst = All-nil IsReadablePart
 slot_readable name fields e h (slot.Before k) = All-nil IsReadablePart
-slot_readable name fields e h (slot.Section k) = listed_readable (kind_of k) (entries (kind_of k) fields) (entries_readable (kind_of k) fields e h)
+slot_readable name fields e h (slot.Section k) = listed_readable (section_kind k) (entries (section_kind k) fields) (entries_readable (section_kind k) fields e h)
 slot_readable name fields e h slot.BeforeStart = All-nil IsReadablePart
 slot_readable name fields e h slot.Start = starts_readable fields
 slot_readable name fields e h slot.AfterStart = All-nil IsReadablePart

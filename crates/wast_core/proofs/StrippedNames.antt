@@ -18,7 +18,7 @@ use Rattle.wast_core.specs.Tree.import_items
 use Rattle.wast_core.specs.Tree.func
 use Rattle.wast_core.specs.Tree.field
 use Rattle.wast_names.specs.GivenNames.{written_text, id_text, given_name}
-use Rattle.wast_names.specs.WithinItems.{arity, types_in, arity_at, params_or, local_name, locals_in, behind, locals_of, tag_params, lists_in_type}
+use Rattle.wast_names.specs.WithinItems.{arity, types_within, arity_at, params_or, local_name, locals_in, behind, locals_of, tag_params, lists_in_type}
 use Rattle.wast_names.specs.NamesPayload.{type_name, import_names, item_names_in}
 use Rattle.wast_names.proofs.Each.{each_like}
 use Rattle.wast_names.proofs.SameNames.{SameLists, SameInKind, SameInImport, KeepsNames, arity_in, same_arity, in_type, in_func, in_tag, in_imported_func}
@@ -50,7 +50,7 @@ same_names x = grind (arith, common_steps, same_given, same_types, same_imported
 same_arity_in : (t : ty.«Type») → arity_in (mapped_type stripping t) ≡ arity_in t
 same_arity_in t = ap (λ d. arity d.kind) (def_stays t)
 
-arities_in : (x : ModuleField) → map arity_in (types_in (mapped stripping x)) ≡ map arity_in (types_in x)
+arities_in : (x : ModuleField) → map arity_in (types_within (mapped stripping x)) ≡ map arity_in (types_within x)
 arities_in (field.Ty t) = ap (λ n. n ∷ []) (same_arity_in t)
 arities_in (field.Rec r) = each_alike (mapped_type stripping) arity_in same_arity_in r.types
 arities_in x = refl

@@ -13,7 +13,7 @@ use Rattle.wasm_out.specs.Reads.{Reads}
 use Rattle.wast_resolve.specs.Explicit.{explicit, explicit_from, ids_filled}
 use Rattle.wast_resolve.specs.Demands.{demands, first_unmet, IsUnresolved}
 use Rattle.wast_resolve.specs.Finished.{finished}
-use Rattle.wast_resolve.specs.Resolvers.{Bindings, known_to}
+use Rattle.wast_resolve.specs.Resolvers.{KnownNames, known_to}
 use Rattle.wast_core.specs.Tree.{ModuleField}
 use Rattle.wast_core.specs.declared.module.Module.{Module}
 use Rattle.wast_core.specs.declared.module.ModuleKind.{ModuleKind}
@@ -28,7 +28,7 @@ abbrev pub IsMet : List ModuleField → Type 0
 IsMet fields = first_unmet (demands (explicit fields)) ≡ None
 
 -- A text module is resolved exactly where each demand is met, with the ids that a counter gives; a refusal is kept, and answered from then on.
-abbrev pub ResolvesKind : ℕ → ModuleKind → Result Bindings Error → ModuleKind → Type 0
+abbrev pub ResolvesKind : ℕ → ModuleKind → Result KnownNames Error → ModuleKind → Type 0
 ResolvesKind n (kind.Text fields) (Ok names) new = IsMet fields × (new ≡ kind.Text (finished n fields)) × (known_to names ≡ known (items (explicit_from n fields)))
 ResolvesKind n (kind.Text fields) (Err e) new = IsUnresolved n fields e × (new ≡ kind.Refused e)
 ResolvesKind n (kind.Binary pieces) (Ok names) new = (known_to names ≡ known []) × (new ≡ kind.Binary pieces)
@@ -45,7 +45,7 @@ Counts (kind.Binary pieces) new before after = after ≡ before
 Counts (kind.Refused e) new before after = after ≡ before
 
 -- resolving what a module holds, and the counter, before and after
-pub record Resolves (old : ModuleKind) (before : ℕ) (result : Result Bindings Error) (new : ModuleKind) (after : ℕ) : Type 0 where
+pub record Resolves (old : ModuleKind) (before : ℕ) (result : Result KnownNames Error) (new : ModuleKind) (after : ℕ) : Type 0 where
   pub kind : ResolvesKind before old result new
   pub counter : Counts old new before after
 

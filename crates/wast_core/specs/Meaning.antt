@@ -17,7 +17,7 @@ use Rattle.wast_names.specs.NamesPayload.{name_subsections}
 use Rattle.wast_names.specs.NameSection.{names_part}
 use Rattle.wast_core.specs.declared.slots.Slot.{Slot}
 use Rattle.wast_core.specs.declared.slots.Slot.TheVariants as slot
-use Rattle.wast_core.specs.Slots.{kind_of, order}
+use Rattle.wast_core.specs.Slots.{section_kind, order}
 pub use Rattle.wast_conv.specs.Values.{number, abstract_type, heap_type, ref_type, val_type, storage_type, field_type, struct_type, array_type, func_type, inner_type, sub_type, type_index, table_type, memory_type, global_type, tag_type, entity_type, instr, expression, body_of, body, export_kind}
 pub use Rattle.wast_conv.specs.FieldEntries.{group_of, import_entry, table_entry, memory_entry, global_entry, tag_entry, export_entry, element_items, element_mode, element_entry, data_mode, data_entry}
 
@@ -138,7 +138,7 @@ starts_in f = map start_part (contributed f).starts
 abbrev pub in_slot : Option (List ℕ) → List ModuleField → Slot → List Part
 in_slot name fields slot.BeforeFirst = []
 in_slot name fields (slot.Before kind) = []
-in_slot name fields (slot.Section kind) = listed (kind_of kind) (entries (kind_of kind) fields)
+in_slot name fields (slot.Section kind) = listed (section_kind kind) (entries (section_kind kind) fields)
 in_slot name fields slot.BeforeStart = []
 in_slot name fields slot.Start = flat_map starts_in fields
 in_slot name fields slot.AfterStart = []

@@ -7,18 +7,18 @@ use Rattle.wast_core.specs.declared.slots.Slot.{Slot}
 use Rattle.wast_core.specs.declared.slots.Slot.TheVariants as slot
 
 -- the kind as the parts of a module name it
-abbrev pub kind_of : SectionKind → parts.SectionKind
-kind_of kind.Types = parts.Types
-kind_of kind.Imports = parts.Imports
-kind_of kind.Functions = parts.Functions
-kind_of kind.Tables = parts.Tables
-kind_of kind.Memories = parts.Memories
-kind_of kind.Tags = parts.Tags
-kind_of kind.Globals = parts.Globals
-kind_of kind.Exports = parts.Exports
-kind_of kind.Elements = parts.Elements
-kind_of kind.Code = parts.Code
-kind_of kind.Data = parts.Data
+abbrev pub section_kind : SectionKind → parts.SectionKind
+section_kind kind.Types = parts.Types
+section_kind kind.Imports = parts.Imports
+section_kind kind.Functions = parts.Functions
+section_kind kind.Tables = parts.Tables
+section_kind kind.Memories = parts.Memories
+section_kind kind.Tags = parts.Tags
+section_kind kind.Globals = parts.Globals
+section_kind kind.Exports = parts.Exports
+section_kind kind.Elements = parts.Elements
+section_kind kind.Code = parts.Code
+section_kind kind.Data = parts.Data
 
 -- what stands before a section, the section, and what stands behind it
 abbrev pub order : List Slot

@@ -13,7 +13,7 @@ ghost use Rattle.wast_names.specs.Names.{counted};
 ghost use Rattle.wast_core.specs.Putting.{puts};
 ghost use Rattle.wast_reach.specs.Reaches.{is_reach, are_reaches};
 ghost use Rattle.wast_tree.specs.declared.fields.ModuleField.{ModuleField};
-ghost use Rattle.wast_core.specs.Slots.{kind_of};
+ghost use Rattle.wast_core.specs.Slots.{section_kind};
 
 use crate::slots::SectionKind;
 use wasm_ops::{By, Each, Encode, Refusal, Sink, Spell, WithLength, length_of, width};
@@ -23,7 +23,7 @@ use wast_tree::ModuleField;
 
 /// How many entries a field puts into the section of a kind: at most one.
 fn entries_of(kind: SectionKind, field: &ModuleField) -> u32
-    ensures { result ≡ length (entries_in (kind_of kind) field.now) }
+    ensures { result ≡ length (entries_in (section_kind kind) field.now) }
 {
     match kind {
         SectionKind::Types => match field {
@@ -77,7 +77,7 @@ fn entries_of(kind: SectionKind, field: &ModuleField) -> u32
 /// Appends the entry of a field to the section of a kind, where it has one.
 fn put_entry<S: Sink>(kind: SectionKind, field: &ModuleField, out: &mut S) -> Result<(), Refusal>
     requires { IsTrue (is_encodable_field field.now) }
-    ensures { Writes S.rules (All (InRangeEntry (kind_of kind)) (entries_in (kind_of kind) field.now)) out.old out.new (flat_map (entry (kind_of kind)) (entries_in (kind_of kind) field.now)) result }
+    ensures { Writes S.rules (All (InRangeEntry (section_kind kind)) (entries_in (section_kind kind) field.now)) out.old out.new (flat_map (entry (section_kind kind)) (entries_in (section_kind kind) field.now)) result }
 {
     match kind {
         SectionKind::Types => match field {
@@ -133,9 +133,9 @@ fn put_entry<S: Sink>(kind: SectionKind, field: &ModuleField, out: &mut S) -> Re
 struct EntriesOf(SectionKind);
 
 impl Spell<ModuleField<'_>> for EntriesOf {
-    ghost spelling = { λ w f. flat_map (entry (kind_of w.0)) (entries_in (kind_of w.0) f) };
+    ghost spelling = { λ w f. flat_map (entry (section_kind w.0)) (entries_in (section_kind w.0) f) };
 
-    ghost in_range = { λ w f. All (InRangeEntry (kind_of w.0)) (entries_in (kind_of w.0) f) };
+    ghost in_range = { λ w f. All (InRangeEntry (section_kind w.0)) (entries_in (section_kind w.0) f) };
 
     ghost is_ready = { λ _ f. is_encodable_field f };
 
@@ -146,8 +146,8 @@ impl Spell<ModuleField<'_>> for EntriesOf {
 
 /// How many entries the section of a kind has, where these are less than 2^32.
 fn count(kind: SectionKind, fields: &[ModuleField]) -> Option<u32>
-    ensures some { IfSome result (λ n. n ≡ length (entries (kind_of kind) fields.now)) }
-    ensures none { IsNone result → InRangeU32 (length (entries (kind_of kind) fields.now)) → ⊥ }
+    ensures some { IfSome result (λ n. n ≡ length (entries (section_kind kind) fields.now)) }
+    ensures none { IsNone result → InRangeU32 (length (entries (section_kind kind) fields.now)) → ⊥ }
 {
     let mut sum = 0u32;
     for field in fields {
@@ -161,7 +161,7 @@ fn count(kind: SectionKind, fields: &[ModuleField]) -> Option<u32>
 
 /// Where the fields stand that put something into the section of a kind.
 fn reach_of(kind: SectionKind, reaches: &Reaches) -> Reach
-    ensures { (fields : List ModuleField) → IsTrue (are_reaches fields reaches.now) → IsTrue (is_reach (puts (kind_of kind)) fields result) }
+    ensures { (fields : List ModuleField) → IsTrue (are_reaches fields reaches.now) → IsTrue (is_reach (puts (section_kind kind)) fields result) }
 {
     match kind {
         SectionKind::Types => {
@@ -181,13 +181,13 @@ fn reach_of(kind: SectionKind, reaches: &Reaches) -> Reach
 }
 
 /// The fields from the first to the last that put something into the section of a kind.
-fn fields_of<'b, 'a>(
+fn section_fields<'b, 'a>(
     kind: SectionKind,
     fields: &'b [ModuleField<'a>],
     reaches: &Reaches,
 ) -> &'b [ModuleField<'a>]
     requires { IsTrue (are_reaches fields.now reaches.now) }
-    ensures same { entries (kind_of kind) result.now ≡ entries (kind_of kind) fields.now }
+    ensures same { entries (section_kind kind) result.now ≡ entries (section_kind kind) fields.now }
     ensures ready { IsTrue (is_encodable fields.now) → IsTrue (is_encodable result.now) }
 {
     reach_of(kind, reaches).of(fields)
@@ -223,10 +223,10 @@ pub(crate) fn extent_of(
 ) -> Result<Extent, Refusal>
     requires ready { IsTrue (is_encodable fields.now) }
     requires reaches { IsTrue (are_reaches fields.now reaches.now) }
-    ensures ok { IfOk result (λ e. IsExtent (kind_of kind) fields.now e.count e.size) }
-    ensures err { IfErr result (λ e. (e ≡ refusal.TooLarge) × (All InRangePart (listed (kind_of kind) (entries (kind_of kind) fields.now)) → ⊥)) }
+    ensures ok { IfOk result (λ e. IsExtent (section_kind kind) fields.now e.count e.size) }
+    ensures err { IfErr result (λ e. (e ≡ refusal.TooLarge) × (All InRangePart (listed (section_kind kind) (entries (section_kind kind) fields.now)) → ⊥)) }
 {
-    let there = fields_of(kind, fields, reaches);
+    let there = section_fields(kind, fields, reaches);
     let Some(count) = count(kind, there) else {
         return Err(Refusal::TooLarge);
     };
@@ -247,13 +247,13 @@ pub(crate) fn put_section<S: Sink>(
 ) -> Result<(), Refusal>
     requires ready { IsTrue (is_encodable fields.now) }
     requires reaches { IsTrue (are_reaches fields.now reaches.now) }
-    requires extent { IsExtent (kind_of kind) fields.now extent.count extent.size }
-    ensures { Writes S.rules (All InRangePart (listed (kind_of kind) (entries (kind_of kind) fields.now))) out.old out.new (flat_map part (listed (kind_of kind) (entries (kind_of kind) fields.now))) result }
+    requires extent { IsExtent (section_kind kind) fields.now extent.count extent.size }
+    ensures { Writes S.rules (All InRangePart (listed (section_kind kind) (entries (section_kind kind) fields.now))) out.old out.new (flat_map part (listed (section_kind kind) (entries (section_kind kind) fields.now))) result }
 {
     if extent.count == 0 {
         return Ok(());
     }
-    let entries = Each(fields_of(kind, fields, reaches), EntriesOf(kind));
+    let entries = Each(section_fields(kind, fields, reaches), EntriesOf(kind));
     (kind.id(), (extent.size, (extent.count, entries))).encode(out)
 }
 

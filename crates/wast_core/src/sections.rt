@@ -10,7 +10,7 @@ ghost use Rattle.wast_core.specs.Extents.{IsExtent, section_size};
 ghost use Rattle.wast_core.specs.Measured.{is_measured};
 ghost use Rattle.wast_core.specs.Meaning.{in_slot};
 ghost use Rattle.wast_names.specs.Names.{counted, text_seen};
-ghost use Rattle.wast_core.specs.Slots.{kind_of};
+ghost use Rattle.wast_core.specs.Slots.{section_kind};
 
 use crate::entries::{Extent, extent_of, put_section, put_starts, start_fields, starts_size};
 use crate::slots::{ORDER, SectionKind, Slot};
@@ -86,7 +86,7 @@ impl<'b, 'a> BinaryModule<'b, 'a> {
     /// The extent of the section of a kind.
     fn extent(&self, kind: SectionKind) -> Extent
         requires { IsTrue (is_measured self.now) }
-        ensures { IsExtent (kind_of kind) self.now.fields.now result.count result.size }
+        ensures { IsExtent (section_kind kind) self.now.fields.now result.count result.size }
     {
         match kind {
             SectionKind::Types => self.types,

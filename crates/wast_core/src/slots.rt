@@ -2,7 +2,7 @@
 
 ghost use Rattle.std.specs.Prelude.{◌≡◌};
 ghost use Rattle.wasm_out.specs.Parts.{section_id};
-ghost use Rattle.wast_core.specs.Slots.{kind_of};
+ghost use Rattle.wast_core.specs.Slots.{section_kind};
 
 /// A kind of sections that are lists (binary format, modules: sections).
 #[derive(Clone, Copy)]
@@ -34,7 +34,7 @@ pub(crate) enum SectionKind {
 impl SectionKind {
     /// The id of such a section.
     pub(crate) fn id(self) -> u8
-        ensures { result ≡ section_id (kind_of self) }
+        ensures { result ≡ section_id (section_kind self) }
     {
         match self {
             SectionKind::Types => 1,

@@ -7,7 +7,7 @@ use Rattle.wast_deinline.specs.Tree.{ModuleField}
 use Rattle.wast_deinline.specs.Tree.field
 use Rattle.wast_deinline.specs.Segments.{overflows}
 use Rattle.wast_deinline.specs.Referring.{wants_id, with_item_id}
-use Rattle.wast_deinline.specs.Written.{referable, IsRefused, CannotBeWritten}
+use Rattle.wast_deinline.specs.Written.{referable, IsRefusedWhere, CannotBeWritten}
 
 overflows_given : (b : Bool) (n : ℕ) (x : ModuleField) → overflows (given_if b with_item_id n x) ≡ overflows x
 overflows_given false n x = refl
@@ -21,6 +21,6 @@ overflows_referable n (x ∷ xs) =
     ∙ ap (λ b. overflows x || b) (overflows_referable (n + one_if (wants_id x)) xs)
 
 -- what is refused once ids are given
-pub refused : (n : ℕ) (xs ys : List ModuleField) (r : Result (List ModuleField) Error) → ys ≡ referable n xs → IfErr r (IsRefused (list_any overflows ys)) → IfErr r (CannotBeWritten n xs)
+pub refused : (n : ℕ) (xs ys : List ModuleField) (r : Result (List ModuleField) Error) → ys ≡ referable n xs → IfErr r (IsRefusedWhere (list_any overflows ys)) → IfErr r (CannotBeWritten n xs)
 refused n xs ys (Ok out) is h = h
-refused n xs ys (Err e) is h = inr (subst (λ b. IsRefused b e) (ap (list_any overflows) is ∙ overflows_referable n xs) h)
+refused n xs ys (Err e) is h = inr (subst (λ b. IsRefusedWhere b e) (ap (list_any overflows) is ∙ overflows_referable n xs) h)

@@ -33,9 +33,9 @@ abbrev pub written_out : List ModuleField → List ModuleField
 written_out fields = written_after [] fields
 
 -- Memory is refused; or too much is asked for, where that is so.
-abbrev pub IsRefused : Bool → Error → Type 0
-IsRefused too_much e = (e ≡ out_of_memory) ⊎ ((e ≡ too_large) × IsTrue too_much)
+abbrev pub IsRefusedWhere : Bool → Error → Type 0
+IsRefusedWhere too_much e = (e ≡ out_of_memory) ⊎ ((e ≡ too_large) × IsTrue too_much)
 
 -- Memory is refused, the counter would pass 64 bits, or the bytes in place of a memory are 2^32 or more.
 abbrev pub CannotBeWritten : ℕ → List ModuleField → Error → Type 0
-CannotBeWritten n fields e = RunsOut (n + references_wanted fields) e ⊎ IsRefused (list_any overflows fields) e
+CannotBeWritten n fields e = RunsOut (n + references_wanted fields) e ⊎ IsRefusedWhere (list_any overflows fields) e

@@ -8,7 +8,7 @@ ghost use Rattle.wast_deinline.specs.Tree.field;
 ghost use Rattle.wast_deinline.specs.Tree.data_kind;
 ghost use Rattle.wast_deinline.specs.Tree.elem as elem_kind;
 ghost use Rattle.wast_deinline.specs.Segments.{at_zero, element_count, page_count, filled_memory_type, filled_table_type, are_too_many};
-ghost use Rattle.wast_deinline.specs.Written.{IsRefused};
+ghost use Rattle.wast_deinline.specs.Written.{IsRefusedWhere};
 
 use std::alloc::Global;
 use wast_tree::{
@@ -129,7 +129,7 @@ pub(crate) fn filling<'a>(
     page_size_log2: Option<u32>,
 ) -> Result<(MemoryType, Expression<'a>), Error<'a>>
     ensures ok { IfOk result (λ f. (f.0 ≡ filled_memory_type is64 pieces.now page_size_log2) × (f.1 ≡ at_zero is64)) }
-    ensures refusal { IfErr result (λ e. IsRefused (are_too_many pieces.now) e) }
+    ensures refusal { IfErr result (λ e. IsRefusedWhere (are_too_many pieces.now) e) }
 {
     let ty = filled_memory_type(is64, pieces, page_size_log2)?;
     match at_zero(alloc, is64) {

@@ -11,7 +11,7 @@ ghost use Rattle.wast_deinline.specs.Exact.{imports_exact};
 ghost use Rattle.wast_deinline.specs.Segments.{overflows_kind, overflows};
 ghost use Rattle.wast_deinline.specs.WriteOut.{no_exports, exports_of, import_of, data_in, elem_in, func_alone, table_alone, memory_alone, global_alone, tag_alone, write_out};
 ghost use Rattle.wast_deinline.specs.Referring.{by_id};
-ghost use Rattle.wast_deinline.specs.Written.{written_out_from, references_wanted, IsRefused, CannotBeWritten};
+ghost use Rattle.wast_deinline.specs.Written.{written_out_from, references_wanted, IsRefusedWhere, CannotBeWritten};
 
 use crate::references::{by_id, has_bytes, has_elements, name_items};
 use crate::segments::{at_zero, data_into, elem_into, filled_table_type, filling};
@@ -80,7 +80,7 @@ fn write_fields<'a>(
     fields: &mut Seq<ModuleField<'a>>,
 ) -> Result<Seq<ModuleField<'a>>, Error<'a>>
     ensures list { IfOk result (λ out. out ≡ flat_map (write_out by_id) fields.old) }
-    ensures refusal { IfErr result (λ e. IsRefused (list_any overflows fields.old) e) }
+    ensures refusal { IfErr result (λ e. IsRefusedWhere (list_any overflows fields.old) e) }
 {
     let count = written_count(fields.as_slice());
     let mut out = fields_with_capacity(alloc, count)?;
@@ -100,7 +100,7 @@ fn write_each<'a>(
     out: &mut Seq<ModuleField<'a>>,
 ) -> Result<(), Error<'a>>
     ensures list { OnOk result (out.new ≡ out.old ++ flat_map (write_out by_id) fields.old) }
-    ensures refusal { IfErr result (λ e. IsRefused (list_any overflows fields.old) e) }
+    ensures refusal { IfErr result (λ e. IsRefusedWhere (list_any overflows fields.old) e) }
 {
     for i in 0..fields.len() {
         write_field(alloc, take_field(fields.at_mut(i)), out)?;
@@ -152,7 +152,7 @@ fn write_field<'a>(
     out: &mut Seq<ModuleField<'a>>,
 ) -> Result<(), Error<'a>>
     ensures list { OnOk result (out.new ≡ out.old ++ write_out by_id field.entry) }
-    ensures refusal { IfErr result (λ e. IsRefused (overflows field.entry) e) }
+    ensures refusal { IfErr result (λ e. IsRefusedWhere (overflows field.entry) e) }
 {
     match field {
         ModuleField::Ty(ty) => push_field(out, ModuleField::Ty(ty)),
@@ -387,7 +387,7 @@ fn write_memory_alone<'a>(
     out: &mut Seq<ModuleField<'a>>,
 ) -> Result<(), Error<'a>>
     ensures list { OnOk result (out.new ≡ out.old ++ (data_in memory.entry.kind memory.entry.span item.entry ++ memory_alone memory.entry memory.entry.kind ∷ [])) }
-    ensures refusal { IfErr result (λ e. IsRefused (overflows_kind memory.entry.kind) e) }
+    ensures refusal { IfErr result (λ e. IsRefusedWhere (overflows_kind memory.entry.kind) e) }
 {
     let Memory {
         span,
@@ -426,7 +426,7 @@ fn write_memory<'a>(
     out: &mut Seq<ModuleField<'a>>,
 ) -> Result<(), Error<'a>>
     ensures list { OnOk result (out.new ≡ out.old ++ write_out by_id (field.Memory memory.entry)) }
-    ensures refusal { IfErr result (λ e. IsRefused (overflows (field.Memory memory.entry)) e) }
+    ensures refusal { IfErr result (λ e. IsRefusedWhere (overflows (field.Memory memory.entry)) e) }
 {
     let item = by_id(memory.span, memory.id);
     match write_exports(&memory.exports, memory.span, ExportKind::Memory, item, out) {

@@ -12,7 +12,7 @@ use Rattle.wast_names.specs.declared.within.Within.TheVariants as within
 use Rattle.wast_names.specs.declared.names_payload.NameMap.{NameMap}
 use Rattle.wast_names.specs.declared.names_payload.NameMap.TheVariants as map_of
 use Rattle.wast_names.specs.GivenNames.{named_from}
-use Rattle.wast_names.specs.WithinItems.{arity, arity_of, types_in, locals_of, inline_params, tag_params, list_of, lists_in_type, lists_in_func, lists_in_tag, lists_in_imported_func, lists_in_kind, lists_in_import, lists_within}
+use Rattle.wast_names.specs.WithinItems.{arity, arity_of, types_within, locals_of, inline_params, tag_params, list_of, lists_in_type, lists_in_func, lists_in_tag, lists_in_imported_func, lists_in_kind, lists_in_import, lists_within}
 use Rattle.wast_names.specs.NamesPayload.{item_names_in, given_name_in, names_given, named_items, direct, named_of, indirect, named_within, map_names, module_name, name_maps, name_subsections}
 use Rattle.wast_names.proofs.Each.{each_like}
 
@@ -48,7 +48,7 @@ abbrev pub arity_in : ty.«Type» → Option ℕ
 arity_in t = arity t.def.kind
 
 abbrev arities : List ModuleField → List (Option ℕ)
-arities xs = map arity_in (flat_map types_in xs)
+arities xs = map arity_in (flat_map types_within xs)
 
 abbrev found : Option (Option ℕ) → Option ℕ
 found None = None
@@ -58,18 +58,18 @@ arity_found : (t : Option ty.«Type») → arity_of t ≡ found (option_map arit
 arity_found None = refl
 arity_found (Some t) = refl
 
-arity_read : (xs : List ModuleField) (n : ℕ) → arity_of (slice_get (flat_map types_in xs) n) ≡ found (slice_get (arities xs) n)
-arity_read xs n = arity_found (slice_get (flat_map types_in xs) n) ∙ ap found (sym (slice_get-map arity_in (flat_map types_in xs) n))
+arity_read : (xs : List ModuleField) (n : ℕ) → arity_of (slice_get (flat_map types_within xs) n) ≡ found (slice_get (arities xs) n)
+arity_read xs n = arity_found (slice_get (flat_map types_within xs) n) ∙ ap found (sym (slice_get-map arity_in (flat_map types_within xs) n))
 
-module _ (f : ModuleField → ModuleField) (alike : (x : ModuleField) → map arity_in (types_in (f x)) ≡ map arity_in (types_in x)) where
+module _ (f : ModuleField → ModuleField) (alike : (x : ModuleField) → map arity_in (types_within (f x)) ≡ map arity_in (types_within x)) where
   same_arities : (xs : List ModuleField) → arities (map f xs) ≡ arities xs
   same_arities [] = refl
   same_arities (x ∷ xs) =
-      map-append arity_in (types_in (f x)) (flat_map types_in (map f xs))
+      map-append arity_in (types_within (f x)) (flat_map types_within (map f xs))
       ∙ (ap (λ ns. ns ++ arities (map f xs)) (alike x)
-      ∙ (ap (λ ns. map arity_in (types_in x) ++ ns) (same_arities xs) ∙ sym (map-append arity_in (types_in x) (flat_map types_in xs))))
+      ∙ (ap (λ ns. map arity_in (types_within x) ++ ns) (same_arities xs) ∙ sym (map-append arity_in (types_within x) (flat_map types_within xs))))
 
-  pub same_arity : (xs : List ModuleField) (n : ℕ) → arity_of (slice_get (flat_map types_in (map f xs)) n) ≡ arity_of (slice_get (flat_map types_in xs) n)
+  pub same_arity : (xs : List ModuleField) (n : ℕ) → arity_of (slice_get (flat_map types_within (map f xs)) n) ≡ arity_of (slice_get (flat_map types_within xs) n)
   same_arity xs n = arity_read (map f xs) n ∙ (ap (λ ns. found (slice_get ns n)) (same_arities xs) ∙ sym (arity_read xs n))
 
 -- the lists within parts that are alike in what has names

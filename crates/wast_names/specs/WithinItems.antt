@@ -24,15 +24,15 @@ abbrev pub local_name : Local → Option (List ℕ)
 local_name l = given_name l.name l.id
 
 -- the fields of a struct type, and the parameters of a function type
-abbrev pub fields_of : InnerTypeKind → List (Option (List ℕ))
-fields_of (inner.Func t) = []
-fields_of (inner.Struct t) = map field_name t.fields
-fields_of (inner.Array t) = []
+abbrev pub field_names_of : InnerTypeKind → List (Option (List ℕ))
+field_names_of (inner.Func t) = []
+field_names_of (inner.Struct t) = map field_name t.fields
+field_names_of (inner.Array t) = []
 
-abbrev pub params_of : InnerTypeKind → List (Option (List ℕ))
-params_of (inner.Func t) = map param_name t.params
-params_of (inner.Struct t) = []
-params_of (inner.Array t) = []
+abbrev pub param_names_of : InnerTypeKind → List (Option (List ℕ))
+param_names_of (inner.Func t) = map param_name t.params
+param_names_of (inner.Struct t) = []
+param_names_of (inner.Array t) = []
 
 -- how many parameters a function type has
 abbrev pub arity : InnerTypeKind → Option ℕ
@@ -45,25 +45,25 @@ arity_of None = None
 arity_of (Some t) = arity t.def.kind
 
 -- the types of a field, one by one, as they stand in the type space
-abbrev pub types_in : ModuleField → List ty.«Type»
-types_in (field.Ty t) = t ∷ []
-types_in (field.Rec r) = r.types
-types_in (field.Import i) = []
-types_in (field.Func f) = []
-types_in (field.Table t) = []
-types_in (field.Memory m) = []
-types_in (field.Global g) = []
-types_in (field.Export e) = []
-types_in (field.Start i) = []
-types_in (field.Elem e) = []
-types_in (field.Data d) = []
-types_in (field.Tag t) = []
+abbrev pub types_within : ModuleField → List ty.«Type»
+types_within (field.Ty t) = t ∷ []
+types_within (field.Rec r) = r.types
+types_within (field.Import i) = []
+types_within (field.Func f) = []
+types_within (field.Table t) = []
+types_within (field.Memory m) = []
+types_within (field.Global g) = []
+types_within (field.Export e) = []
+types_within (field.Start i) = []
+types_within (field.Elem e) = []
+types_within (field.Data d) = []
+types_within (field.Tag t) = []
 
 -- how many parameters the function type at an index has, where one stands there
 abbrev pub arity_at : List ModuleField → Option Index → Option ℕ
 arity_at fields None = None
 arity_at fields (Some (index.Id id)) = None
-arity_at fields (Some (index.Num n span)) = arity_of (slice_get (flat_map types_in fields) n)
+arity_at fields (Some (index.Num n span)) = arity_of (slice_get (flat_map types_within fields) n)
 
 abbrev pub nameless : ℕ → List (Option (List ℕ))
 nameless n = replicate n None
@@ -112,8 +112,8 @@ list_of names = where_named (named_from 0 names)
 -- the list of names within a type, within a function and within a tag
 abbrev pub lists_in_type : Within → ty.«Type» → List (Option (List (ℕ × List ℕ)))
 lists_in_type within.Locals t = []
-lists_in_type within.Fields t = list_of (fields_of t.def.kind) ∷ []
-lists_in_type within.Parameters t = list_of (params_of t.def.kind) ∷ []
+lists_in_type within.Fields t = list_of (field_names_of t.def.kind) ∷ []
+lists_in_type within.Parameters t = list_of (param_names_of t.def.kind) ∷ []
 lists_in_type within.TagParameters t = []
 
 abbrev pub lists_in_func : List ModuleField → Within → Func → List (Option (List (ℕ × List ℕ)))

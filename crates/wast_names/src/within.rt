@@ -6,7 +6,7 @@ ghost use Rattle.std.specs.List.{flat_map};
 ghost use Rattle.wasm_out.specs.NameSubsections.{map_entry, InRangeMapEntry};
 ghost use Rattle.wast_names.specs.GivenNames.{named_from};
 ghost use Rattle.wast_names.specs.Names.{counted, names_listed, lists_found, lists_seen, WritesItems};
-ghost use Rattle.wast_names.specs.WithinItems.{param_name, local_name, lists_in_type, lists_in_func, lists_in_tag, lists_in_imported_func, lists_in_imported_tag, lists_in_kind, lists_in_import, lists_within, types_in, arity, arity_of, arity_at, behind, params_used, locals_of, locals_in, fields_of, params_of, inline_params, tag_params};
+ghost use Rattle.wast_names.specs.WithinItems.{param_name, local_name, lists_in_type, lists_in_func, lists_in_tag, lists_in_imported_func, lists_in_imported_tag, lists_in_kind, lists_in_import, lists_within, types_within, arity, arity_of, arity_at, behind, params_used, locals_of, locals_in, field_names_of, param_names_of, inline_params, tag_params};
 
 use crate::name_lists::{Listed, count_found, no_names, none, put_found};
 use crate::name_maps::{NameItems, Own, count_each, put_each};
@@ -35,15 +35,15 @@ fn listed_in_type<'b, 'a>(within: Within, ty: &'b Type<'a>) -> Option<Listed<'b,
     ensures { lists_found result ≡ lists_in_type within ty.now }
 {
     match within {
-        Within::Fields => Some(fields_of(&ty.def.kind)),
-        Within::Parameters => Some(params_of(&ty.def.kind)),
+        Within::Fields => Some(field_names_of(&ty.def.kind)),
+        Within::Parameters => Some(param_names_of(&ty.def.kind)),
         Within::Locals | Within::TagParameters => None,
     }
 }
 
 /// The fields of a struct type.
-fn fields_of<'b, 'a>(kind: &'b InnerTypeKind<'a>) -> Listed<'b, 'a>
-    ensures { names_listed result ≡ named_from 0 (fields_of kind.now) }
+fn field_names_of<'b, 'a>(kind: &'b InnerTypeKind<'a>) -> Listed<'b, 'a>
+    ensures { names_listed result ≡ named_from 0 (field_names_of kind.now) }
 {
     match kind {
         InnerTypeKind::Struct(ty) => Listed::Fields(ty.fields.as_slice()),
@@ -59,8 +59,8 @@ fn params_in<'b, 'a>(ty: &'b FunctionType<'a>) -> Listed<'b, 'a>
 }
 
 /// The parameters of a function type.
-fn params_of<'b, 'a>(kind: &'b InnerTypeKind<'a>) -> Listed<'b, 'a>
-    ensures { names_listed result ≡ named_from 0 (params_of kind.now) }
+fn param_names_of<'b, 'a>(kind: &'b InnerTypeKind<'a>) -> Listed<'b, 'a>
+    ensures { names_listed result ≡ named_from 0 (param_names_of kind.now) }
 {
     match kind {
         InnerTypeKind::Func(ty) => params_in(ty),
@@ -79,8 +79,8 @@ fn arity(kind: &InnerTypeKind) -> Option<u64>
 }
 
 /// The types of a field, one by one.
-fn types_in<'b, 'a>(field: &'b ModuleField<'a>) -> &'b [Type<'a>]
-    ensures { result.now ≡ types_in field.now }
+fn types_within<'b, 'a>(field: &'b ModuleField<'a>) -> &'b [Type<'a>]
+    ensures { result.now ≡ types_within field.now }
 {
     match field {
         ModuleField::Ty(ty) => slice::from_ref(ty),
@@ -100,11 +100,11 @@ fn types_in<'b, 'a>(field: &'b ModuleField<'a>) -> &'b [Type<'a>]
 
 /// How many parameters the function type at an index has, where one stands there. It walks the fields up to that type.
 fn arity_of(fields: &[ModuleField], index: usize) -> Option<u64>
-    ensures { result ≡ arity_of (slice_get (flat_map types_in fields.now) index) }
+    ensures { result ≡ arity_of (slice_get (flat_map types_within fields.now) index) }
 {
     let mut left = index;
     for field in fields {
-        let types = types_in(field);
+        let types = types_within(field);
         if left < types.len() {
             return arity(&types[left].def.kind);
         }

@@ -26,9 +26,9 @@ pub record IsFilled (names : List (Option Name)) (s : NameSpace) : Type 0 where
   pub number : (q : Name) → number_in s q ≡ position_of q names
 
 -- what filling gives: the space, or the position of the first clash
-abbrev pub Fills : List (Option Name) → Result NameSpace ℕ → Type 0
-Fills names (Ok s) = IsFilled names s
-Fills names (Err p) = IsFirstClash names p
+abbrev pub FillsSpace : List (Option Name) → Result NameSpace ℕ → Type 0
+FillsSpace names (Ok s) = IsFilled names s
+FillsSpace names (Err p) = IsFirstClash names p
 
 -- n items without a name, and others after them
 abbrev pub unnamed : ℕ → List (Option Name) → List (Option Name)

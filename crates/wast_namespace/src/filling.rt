@@ -7,7 +7,7 @@ ghost use Rattle.wast_base.specs.Ids.{Name, marked};
 ghost use Rattle.wast_base.specs.Spaces.{name_if};
 ghost use Rattle.wast_namespace.specs.Namespaces.{key_cmp};
 ghost use Rattle.wast_namespace.specs.Places.{entry_of, entries_of};
-ghost use Rattle.wast_namespace.specs.Filling.{ArePositions, names_from, pair_cmp, IsFirstTie, HasFirstClash, Fills, least_of};
+ghost use Rattle.wast_namespace.specs.Filling.{ArePositions, names_from, pair_cmp, IsFirstTie, HasFirstClash, FillsSpace, least_of};
 
 use crate::heads::Heads;
 use crate::namespace::Namespace;
@@ -77,7 +77,7 @@ impl<'a> Gathering<'a> {
 
     /// The name space of the items, or the position of the first item that has the name of an earlier one.
     pub fn filled(self, alloc: Global) -> Result<Result<Namespace<'a>, u32>, AllocError>
-        ensures { IfOk result (Fills self.entry) }
+        ensures { IfOk result (FillsSpace self.entry) }
     {
         let Gathering { mut pairs, count } = self;
         put_in_order(&mut pairs);

@@ -9,7 +9,7 @@ use Rattle.wast_reach.specs.declared.finding.Reaches.{Reaches}
 use Rattle.wast_reach.specs.declared.kinds.FieldKind.{FieldKind}
 use Rattle.wast_reach.specs.declared.kinds.FieldKind.TheVariants as kind
 use Rattle.wast_reach.specs.declared.stretches.Reach.{Reach}
-use Rattle.wast_reach.specs.Kinds.{kind_in, rank_of, kinds, is_of}
+use Rattle.wast_reach.specs.Kinds.{kind_in, kind_rank, kinds, is_of}
 use Rattle.wast_reach.specs.Reaches.{is_reach, reach_of, are_reaches}
 use Rattle.wast_reach.proofs.Reaching.{passed_over}
 
@@ -17,19 +17,19 @@ abbrev nowhere : Reach
 nowhere = record { first = 0; end = 0 }
 
 -- of the kind of the field the reach is the new one, and of each other kind it stays
-pub one_more : (rs : List Reach) (i : ℕ) (new : Reach) (k : FieldKind) (before : List ModuleField) (field : ModuleField) → i ≡ rank_of (kind_in field) → i < length rs
+pub one_more : (rs : List Reach) (i : ℕ) (new : Reach) (k : FieldKind) (before : List ModuleField) (field : ModuleField) → i ≡ kind_rank (kind_in field) → i < length rs
     → (is_reach (is_of k) before (get_or rs i nowhere) ≡ true → is_reach (is_of k) (before ++ field ∷ []) new ≡ true)
-    → is_reach (is_of k) before (get_or rs (rank_of k) nowhere) ≡ true → is_reach (is_of k) (before ++ field ∷ []) (get_or (set rs i new) (rank_of k) nowhere) ≡ true
+    → is_reach (is_of k) before (get_or rs (kind_rank k) nowhere) ≡ true → is_reach (is_of k) (before ++ field ∷ []) (get_or (set rs i new) (kind_rank k) nowhere) ≡ true
 one_more rs i new k before field is lt grows h = by_test (is_of k field) refl
   where
-    by_test : (b : Bool) → is_of k field ≡ b → is_reach (is_of k) (before ++ field ∷ []) (get_or (set rs i new) (rank_of k) nowhere) ≡ true
+    by_test : (b : Bool) → is_of k field ≡ b → is_reach (is_of k) (before ++ field ∷ []) (get_or (set rs i new) (kind_rank k) nowhere) ≡ true
     by_test true own =
-        let same : rank_of k ≡ i = eqb-true (rank_of k) (rank_of (kind_in field)) own ∙ sym is in
-        let found : get_or (set rs i new) (rank_of k) nowhere ≡ new = ap (λ j. get_or (set rs i new) j nowhere) same ∙ get_or-set_same rs i new nowhere lt in
+        let same : kind_rank k ≡ i = eqb-true (kind_rank k) (kind_rank (kind_in field)) own ∙ sym is in
+        let found : get_or (set rs i new) (kind_rank k) nowhere ≡ new = ap (λ j. get_or (set rs i new) j nowhere) same ∙ get_or-set_same rs i new nowhere lt in
         ap (is_reach (is_of k) (before ++ field ∷ [])) found ∙ grows (ap (λ j. is_reach (is_of k) before (get_or rs j nowhere)) (sym same) ∙ h)
     by_test false other =
-        let found : get_or (set rs i new) (rank_of k) nowhere ≡ get_or rs (rank_of k) nowhere = get_or-set_other rs i (rank_of k) new nowhere (λ e. eqb-false (rank_of k) (rank_of (kind_in field)) other (e ∙ is)) in
-        ap (is_reach (is_of k) (before ++ field ∷ [])) found ∙ passed_over (is_of k) before field (get_or rs (rank_of k) nowhere) other h
+        let found : get_or (set rs i new) (kind_rank k) nowhere ≡ get_or rs (kind_rank k) nowhere = get_or-set_other rs i (kind_rank k) new nowhere (λ e. eqb-false (kind_rank k) (kind_rank (kind_in field)) other (e ∙ is)) in
+        ap (is_reach (is_of k) (before ++ field ∷ [])) found ∙ passed_over (is_of k) before field (get_or rs (kind_rank k) nowhere) other h
 
 each_is : (p : FieldKind → Bool) (ks : List FieldKind) → ((k : FieldKind) → p k ≡ true) → list_all p ks ≡ true
 each_is p [] h = refl
@@ -48,11 +48,11 @@ each_passes p ks i d lt h = by_test (p (get_or ks i d)) (λ e. list_all_at p ks 
     by_test false f h = let e = f refl in cc
 
 -- each kind stands at its rank
-at_rank : (k : FieldKind) → get_or kinds (rank_of k) kind.Ty ≡ k
+at_rank : (k : FieldKind) → get_or kinds (kind_rank k) kind.Ty ≡ k
 at_rank kind.Ty = refl
 at_rank k = refl
 
-rank_below : (k : FieldKind) → rank_of k < 12
+rank_below : (k : FieldKind) → kind_rank k < 12
 rank_below kind.Ty = omega arith
 rank_below k = omega arith
 
@@ -61,4 +61,4 @@ pub found_for : (fields : List ModuleField) (rs : Reaches) (k : FieldKind) → a
 unfolding are_reaches
 found_for fields rs k h =
     let p = λ (l : FieldKind). is_reach (is_of l) fields (reach_of rs l) in
-    ap p (sym (at_rank k)) ∙ each_passes p kinds (rank_of k) kind.Ty (rank_below k) h
+    ap p (sym (at_rank k)) ∙ each_passes p kinds (kind_rank k) kind.Ty (rank_below k) h

@@ -21,26 +21,26 @@ kind_in (field.Data d) = kind.Data
 kind_in (field.Tag t) = kind.Tag
 
 -- the place of a kind among the twelve
-abbrev pub rank_of : FieldKind → ℕ
-rank_of kind.Ty = 0
-rank_of kind.Rec = 1
-rank_of kind.Import = 2
-rank_of kind.Func = 3
-rank_of kind.Table = 4
-rank_of kind.Memory = 5
-rank_of kind.Global = 6
-rank_of kind.Export = 7
-rank_of kind.Start = 8
-rank_of kind.Elem = 9
-rank_of kind.Data = 10
-rank_of kind.Tag = 11
+abbrev pub kind_rank : FieldKind → ℕ
+kind_rank kind.Ty = 0
+kind_rank kind.Rec = 1
+kind_rank kind.Import = 2
+kind_rank kind.Func = 3
+kind_rank kind.Table = 4
+kind_rank kind.Memory = 5
+kind_rank kind.Global = 6
+kind_rank kind.Export = 7
+kind_rank kind.Start = 8
+kind_rank kind.Elem = 9
+kind_rank kind.Data = 10
+kind_rank kind.Tag = 11
 
 -- all of them, by their ranks
 abbrev pub kinds : List FieldKind
 kinds = kind.Ty ∷ kind.Rec ∷ kind.Import ∷ kind.Func ∷ kind.Table ∷ kind.Memory ∷ kind.Global ∷ kind.Export ∷ kind.Start ∷ kind.Elem ∷ kind.Data ∷ kind.Tag ∷ []
 
 abbrev pub same_kind : FieldKind → FieldKind → Bool
-same_kind k l = rank_of k == rank_of l
+same_kind k l = kind_rank k == kind_rank l
 
 -- whether a field is of a kind
 abbrev pub is_of : FieldKind → ModuleField → Bool

@@ -2,7 +2,7 @@
 use Rattle.std.specs.Prelude.{nat_le, Bool, ◌&&◌, not, List, length, take, drop, slice_index_or}
 use Rattle.std.specs.List.{list_all, slice_range}
 use Rattle.wast_tree.specs.declared.fields.ModuleField.{ModuleField}
-use Rattle.wast_reach.specs.Kinds.{rank_of, kinds, is_of}
+use Rattle.wast_reach.specs.Kinds.{kind_rank, kinds, is_of}
 use Rattle.wast_reach.specs.declared.kinds.FieldKind.{FieldKind}
 use Rattle.wast_reach.specs.declared.stretches.Reach.{Reach}
 use Rattle.wast_reach.specs.declared.finding.Reaches.{Reaches}
@@ -25,7 +25,7 @@ there r fields = slice_range fields r.first r.end
 
 -- the stretch that was found for a kind
 abbrev pub reach_of : Reaches → FieldKind → Reach
-reach_of rs k = slice_index_or rs.by_rank (rank_of k) (record { first = 0; end = 0 })
+reach_of rs k = slice_index_or rs.by_rank (kind_rank k) (record { first = 0; end = 0 })
 
 -- outside of what was found for a kind, no field is of that kind
 unfoldable pub are_reaches : List ModuleField → Reaches → Bool

@@ -1,7 +1,7 @@
 //! The kinds of fields.
 
 ghost use Rattle.std.specs.Prelude.{◌≡◌, ◌<◌};
-ghost use Rattle.wast_reach.specs.Kinds.{kind_in, rank_of};
+ghost use Rattle.wast_reach.specs.Kinds.{kind_in, kind_rank};
 
 use wast_tree::ModuleField;
 
@@ -57,7 +57,7 @@ impl FieldKind {
 
     /// The number of the kind, below 12. It takes no memory.
     pub fn rank(self) -> usize
-        ensures same { result ≡ rank_of self }
+        ensures same { result ≡ kind_rank self }
         ensures within { result < 12 }
     {
         match self {

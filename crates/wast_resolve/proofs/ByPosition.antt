@@ -12,7 +12,7 @@ use Rattle.wast_map.specs.Mapped.{mapped, mapped_def}
 use Rattle.wast_map.specs.Laws.{all_mapped}
 use Rattle.wast_types.specs.Signatures.{Signature}
 use Rattle.wast_types.specs.ImpliedTypes.{implied}
-use Rattle.wast_types.specs.TypeSpace.{index_for, type_ids, by_id, id_at}
+use Rattle.wast_types.specs.TypeSpace.{index_for, type_ids, index_by_id, index_by_id_at}
 use Rattle.wast_types.specs.Expanders.{LookUp, index_of}
 use Rattle.wast_types.specs.Expanded.{start_of_text, lacks_id, with_type_id, unnamed_type, implied_types, typed, bindings, expanded}
 use Rattle.wast_types.specs.Completed.{completed}
@@ -104,12 +104,12 @@ module _ (n : ℕ) (fields : List ModuleField) (above : greatest_generation fiel
   denotes : (k : ℕ) (id : Id) → slice_get (type_ids (typed n fields)) k ≡ Some (Some id) → new.number space.Ty (name_of id) ≡ Some k
   denotes = id_denotes n fields no_clash
 
-  at_position : (k : ℕ) (id : Option (Option Id)) (i : Option Index) → slice_get (type_ids (typed n fields)) k ≡ id → i ≡ by_id id → is_some i ≡ true → number_at new i ≡ Some (index.Num k start_of_text)
+  at_position : (k : ℕ) (id : Option (Option Id)) (i : Option Index) → slice_get (type_ids (typed n fields)) k ≡ id → i ≡ index_by_id id → is_some i ≡ true → number_at new i ≡ Some (index.Num k start_of_text)
   at_position k None i at is there = absurd (cc (sym there ∙ ap is_some is))
   at_position k (Some None) i at is there = absurd (cc (sym there ∙ ap is_some is))
   at_position k (Some (Some id)) i at is there = ap (number_at new) is ∙ ap (λ o. Some (at_start (numbered_by o id))) (denotes k id at)
 
-  bound_at : (o : Option ℕ) (i : Option Index) → i ≡ id_at o (type_ids (typed n fields)) → is_some i ≡ is_some o → number_at new i ≡ option_map (λ k. index.Num k start_of_text) o
+  bound_at : (o : Option ℕ) (i : Option Index) → i ≡ index_by_id_at o (type_ids (typed n fields)) → is_some i ≡ is_some o → number_at new i ≡ option_map (λ k. index.Num k start_of_text) o
   bound_at None i is there = ap (number_at new) is
   bound_at (Some k) i is there = at_position k (slice_get (type_ids (typed n fields)) k) i refl is there
 

@@ -12,7 +12,7 @@ use Rattle.wast_tree.specs.Items.{item, items_of_type, space_of_kind, items_of_i
 use Rattle.wast_tree.specs.Known.{name_in, names_in}
 use Rattle.wast_tree.specs.Sites.{in_signature}
 use Rattle.wast_types.specs.Signatures.{Signature, signature_of, same_signature}
-use Rattle.wast_types.specs.TypeSpace.{taken_kind, types_in, type_space, has_signature, index_for, ids_in, type_ids, by_id, id_at}
+use Rattle.wast_types.specs.TypeSpace.{taken_kind, types_in, type_space, has_signature, index_for, ids_in, type_ids, index_by_id, index_by_id_at}
 use Rattle.wast_types.specs.Expanders.{index_of}
 use Rattle.wast_types.specs.Expanded.{typed, bindings, expanded}
 use Rattle.wast_types.proofs.AtRest.{types_are_the_space}
@@ -149,13 +149,13 @@ module _ (n : ℕ) (fields : List ModuleField) (free : first_unmet (item_demands
   pub what_is_found : (s : Signature) (i : Index) → index_of (bindings (typed n fields)) s ≡ Some i → HasSignature (scope (expanded n fields)) s i
   what_is_found s i e = by_index (index_for fields s) refl (sym (takes_the_type_at_its_index n fields s) ∙ e)
     where
-      by_slot : (p : ℕ) → index_for fields s ≡ Some p → (o : Option (Option Id)) → slice_get ids p ≡ o → by_id o ≡ Some i → HasSignature (scope (expanded n fields)) s i
+      by_slot : (p : ℕ) → index_for fields s ≡ Some p → (o : Option (Option Id)) → slice_get ids p ≡ o → index_by_id o ≡ Some i → HasSignature (scope (expanded n fields)) s i
       by_slot p at None there is = absurd (cc is)
       by_slot p at (Some None) there is = absurd (cc is)
       by_slot p at (Some (Some id)) there is =
           let t = type_stands s p at in
           record { id = id; is = cc is; number = p; denotes = id_denotes p id there; found = t.0; stands = t.1; same = t.2 }
 
-      by_index : (o : Option ℕ) → index_for fields s ≡ o → id_at o ids ≡ Some i → HasSignature (scope (expanded n fields)) s i
+      by_index : (o : Option ℕ) → index_for fields s ≡ o → index_by_id_at o ids ≡ Some i → HasSignature (scope (expanded n fields)) s i
       by_index None at is = absurd (cc is)
       by_index (Some p) at is = by_slot p at (slice_get ids p) refl is

@@ -5,7 +5,7 @@ use Rattle.std.specs.List.{flat_map, list_all}
 use Rattle.std.proofs.lemmas.List.Folds.{list_all-append}
 use Rattle.wast_types.specs.Signatures.{Signature, same_signature}
 use Rattle.wast_types.specs.NeedingUses.{needed}
-use Rattle.wast_types.specs.ImpliedTypes.{written, is_among, first_new, implied}
+use Rattle.wast_types.specs.ImpliedTypes.{written_signatures, is_among, first_new, implied}
 use Rattle.wast_resolve.specs.Tree.{ValType, ModuleField}
 
 pub both_so : (a b : Bool) → a ≡ true → b ≡ true → (a && b) ≡ true
@@ -37,4 +37,4 @@ abbrev pub values_pass : (ValType → Bool) → Signature → Bool
 values_pass p s = list_all p s.0 && list_all p s.1
 
 pub all_implied : (p : ValType → Bool) (fields : List ModuleField) → list_all (values_pass p) (needed fields) ≡ true → list_all (values_pass p) (implied fields) ≡ true
-all_implied p fields h = all_new (values_pass p) (is_among (written fields)) (needed fields) h
+all_implied p fields h = all_new (values_pass p) (is_among (written_signatures fields)) (needed fields) h

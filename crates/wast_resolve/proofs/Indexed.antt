@@ -11,7 +11,7 @@ use Rattle.wast_map.proofs.Laws.{stands}
 use Rattle.wast_types.specs.NeedingUses.{needed_without, needed_at, needed_in, needed}
 use Rattle.wast_types.specs.Expanded.{expanded}
 use Rattle.wast_types.proofs.Staying.{left_none, right_none}
-use Rattle.wast_types.proofs.Covered.{uses_are_bound}
+use Rattle.wast_types.proofs.HavingTypes.{uses_are_bound}
 use Rattle.wast_resolve.specs.Tree.{Index, FunctionType, ModuleField}
 use Rattle.wast_resolve.specs.Tree.space
 use Rattle.wast_resolve.specs.Resolved.{numbered_at, numbering}

@@ -46,15 +46,15 @@ abbrev pub with_types : Resolution → List (Option Signature) → Resolution
 with_types r types = record { spaces = r.spaces; types = types }
 
 -- what the names of a module are seen as
-pub record Bindings : Type 0 where
+pub record KnownNames : Type 0 where
   pub spaces : List NameSpace
 
-abbrev pub coded_bindings : Coded Bindings
-coded_bindings = code_by (List NameSpace) (coded_list coded_space) (λ b. b.spaces) (λ spaces. record { spaces = spaces }) (λ _. refl)
+abbrev pub coded_names : Coded KnownNames
+coded_names = code_by (List NameSpace) (coded_list coded_space) (λ b. b.spaces) (λ spaces. record { spaces = spaces }) (λ _. refl)
 
-abbrev pub no_bindings : Bindings
-no_bindings = record { spaces = [] }
+abbrev pub no_names : KnownNames
+no_names = record { spaces = [] }
 
 -- what the names make known
-abbrev pub known_to : Bindings → Known
+abbrev pub known_to : KnownNames → Known
 known_to names = known_in names.spaces

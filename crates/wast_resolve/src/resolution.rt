@@ -10,7 +10,7 @@ ghost use Rattle.wast_resolve.specs.Demands.{first_unmet, demands, IsUnresolved}
 ghost use Rattle.wast_resolve.specs.Resolved.{numbered_at};
 ghost use Rattle.wast_resolve.specs.Explicit.{explicit, explicit_from, ids_filled};
 ghost use Rattle.wast_resolve.specs.Finished.{finished};
-ghost use Rattle.wast_resolve.specs.Resolvers.{no_bindings, known_to};
+ghost use Rattle.wast_resolve.specs.Resolvers.{no_names, known_to};
 ghost use Rattle.wast_resolve.specs.LookUps.{IsSettledFor, IsMetBy, AnswersFor};
 
 use crate::imports::in_order;
@@ -29,11 +29,11 @@ pub struct Names<'a> {
 }
 
 impl<'a> Model for Names<'a> {
-    ghost use Rattle.wast_resolve.specs.Resolvers.{Bindings, coded_bindings};
+    ghost use Rattle.wast_resolve.specs.Resolvers.{KnownNames, coded_names};
 
-    ghost Value = { Bindings };
+    ghost Value = { KnownNames };
 
-    ghost coded = { coded_bindings };
+    ghost coded = { coded_names };
 
     ghost view = { λ n. record { spaces = n.resolver.spaces } };
 }
@@ -43,7 +43,7 @@ impl<'a> Names<'a> {
     #[tactic(auto, using(crate::proofs::Trying::nothing_known))]
     pub fn empty(alloc: Global) -> Self
         ensures names { known_to result ≡ known [] }
-        ensures value { result ≡ no_bindings }
+        ensures value { result ≡ no_names }
     {
         Names {
             resolver: Resolver::new(alloc, Vec::new(alloc)),

@@ -3,7 +3,7 @@ use Rattle.std.proofs.Common.{◌≡◌, ◌≢◌, ℕ, List, [], ◌∷◌, �
 use Rattle.std.specs.List.{AllZip}
 use Rattle.std.proofs.lemmas.Bool.{ne_eqb}
 use Rattle.std.proofs.lemmas.Grind.{flat_map-append}
-use Rattle.wast_rows.specs.Lines.{line_feed, before_if, before_lines, onto_first, lines_of, ended, ended_lines}
+use Rattle.wast_rows.specs.Lines.{line_feed, before_if, before_lines, onto_first, lines_of, ended_line, ended_lines}
 use Rattle.wast_rows.specs.Runs.{IsOpen, AnswersText, BeginsAnswer, BeginsText, Feeds}
 
 -- a byte that is no line feed goes onto the first line
@@ -40,9 +40,9 @@ module _ (P : List ℕ → List ℕ → Type 0) where
   Feeds-byte pending byte = record { asked = []; told = []; split = λ rest. ap lines_of (sym (append_assoc pending (byte ∷ []) rest)); answered = tt; shown = refl }
 
   -- a line feed
-  pub Feeds-feed : (pending told : List ℕ) → IsOpen pending → P pending told → Feeds P pending (line_feed ∷ []) [] (ended told)
+  pub Feeds-feed : (pending told : List ℕ) → IsOpen pending → P pending told → Feeds P pending (line_feed ∷ []) [] (ended_line told)
   Feeds-feed pending told no_feed answers =
-      record { asked = pending ∷ []; told = told ∷ []; split = λ rest. lines_of-fed pending rest no_feed; answered = (answers, tt); shown = sym (append-nil (ended told)) }
+      record { asked = pending ∷ []; told = told ∷ []; split = λ rest. lines_of-fed pending rest no_feed; answered = (answers, tt); shown = sym (append-nil (ended_line told)) }
 
   -- some bytes, and then more
   pub Feeds-more : (pending bytes middle more left output after : List ℕ) → Feeds P pending bytes middle output → Feeds P middle more left after
@@ -65,17 +65,17 @@ module _ (P : List ℕ → List ℕ → Type 0) where
       record {
         told = fed.told ++ last.told;
         answered = subst (λ l. AllZip P l (fed.told ++ last.told)) (sym split) (all_zip_append P _ _ _ _ fed.answered last.answered);
-        shown = ap (λ o. o ++ after) fed.shown ∙ ap (λ o. ended_lines fed.told ++ o) last.shown ∙ sym (flat_map-append ended fed.told last.told);
+        shown = ap (λ o. o ++ after) fed.shown ∙ ap (λ o. ended_lines fed.told ++ o) last.shown ∙ sym (flat_map-append ended_line fed.told last.told);
       }
 
   -- an open line
-  pub AnswersText-open : (line told : List ℕ) → line ≢ [] → IsOpen line → P line told → AnswersText P line (ended told)
+  pub AnswersText-open : (line told : List ℕ) → line ≢ [] → IsOpen line → P line told → AnswersText P line (ended_line told)
   AnswersText-open [] told some no_feed answers = absurd (some refl)
   AnswersText-open (byte ∷ line) told some no_feed answers =
       record {
         told = told ∷ [];
         answered = subst (λ l. AllZip P l (told ∷ [])) (sym (lines_of-open byte line no_feed)) (answers, tt);
-        shown = sym (append-nil (ended told));
+        shown = sym (append-nil (ended_line told));
       }
 
   -- the beginning of an answer to what is left begins an answer to the whole
@@ -91,7 +91,7 @@ module _ (P : List ℕ → List ℕ → Type 0) where
         answered = all_zip_append P _ _ _ _ fed.answered last.answered;
         begun = last.begun;
         shown = ap (λ o. o ++ after) fed.shown ∙ ap (λ o. ended_lines fed.told ++ o) last.shown ∙ sym (append_assoc (ended_lines fed.told) (ended_lines last.told) last.part)
-            ∙ ap (λ o. o ++ last.part) (sym (flat_map-append ended fed.told last.told));
+            ∙ ap (λ o. o ++ last.part) (sym (flat_map-append ended_line fed.told last.told));
       }
 
   -- nothing is written

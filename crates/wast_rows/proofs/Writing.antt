@@ -3,7 +3,7 @@ use Rattle.std.proofs.Common.{◌+◌, ◌<◌, suc, add-one, get_or, subst, ◌
 use Rattle.std.proofs.Math.Seq.{take-suc, drop-cons}
 use Rattle.std.specs.Io.KnownBytes.{Appends}
 use Rattle.std.proofs.KnownBytes.{Appends-nil, Appends-trans}
-use Rattle.wast_rows.specs.Lines.{line_feed, ended}
+use Rattle.wast_rows.specs.Lines.{line_feed, ended_line}
 use Rattle.wast_rows.specs.Runs.{IsOpen, WritesOn, BeginsAnswer, BeginsLine, BeginsBytes, BeginsWriter, AnswersLine, AnswersWriter, FeedsWriter}
 use Rattle.wast_rows.proofs.Feeding.{IsOpen-push, Feeds-nil, Feeds-byte, Feeds-feed, Feeds-more, AnswersText-open, AnswersText-more, BeginsText-nil, BeginsText-feed, BeginsText-open, BeginsText-more}
 
@@ -28,7 +28,7 @@ WritesOn-more bytes rest left count a b c so_far written e =
 
 module _ (P : List ℕ → List ℕ → Type 0) where
   -- the beginning of a line that answers a line
-  pub BeginsLine-partly : (line told bytes : List ℕ) (a b : Option (List ℕ)) → P line told → bytes ≡ ended told → BeginsBytes bytes a b → BeginsLine P line a b
+  pub BeginsLine-partly : (line told bytes : List ℕ) (a b : Option (List ℕ)) → P line told → bytes ≡ ended_line told → BeginsBytes bytes a b → BeginsLine P line a b
   BeginsLine-partly line told bytes a b answers e begun =
       let taken = begun.writes_on in
       record { part = taken.part; begun = BeginsAnswer.partly line [] told begun.rest refl answers (sym e ∙ taken.split); appended = taken.appended }
@@ -43,7 +43,7 @@ module _ (P : List ℕ → List ℕ → Type 0) where
 
   pub FeedsWriter-feed : (pending : List ℕ) (a b : Option (List ℕ)) → IsOpen pending → AnswersLine P pending a b → FeedsWriter P pending (line_feed ∷ []) [] a b
   FeedsWriter-feed pending a b no_feed line =
-      record { output = ended line.told; feeds = Feeds-feed P pending line.told no_feed line.answers; appended = line.appended; still_open = tt }
+      record { output = ended_line line.told; feeds = Feeds-feed P pending line.told no_feed line.answers; appended = line.appended; still_open = tt }
 
   pub FeedsWriter-more : (pending bytes middle more left : List ℕ) (a b c : Option (List ℕ)) → FeedsWriter P pending bytes middle a b → FeedsWriter P middle more left b c
       → FeedsWriter P pending (bytes ++ more) left a c
@@ -57,7 +57,7 @@ module _ (P : List ℕ → List ℕ → Type 0) where
 
   -- what is written at the end: for an open line, and after what feeding wrote
   pub AnswersWriter-open : (line : List ℕ) (a b : Option (List ℕ)) → line ≢ [] → IsOpen line → AnswersLine P line a b → AnswersWriter P line a b
-  AnswersWriter-open line a b some no_feed last = record { output = ended last.told; answered = AnswersText-open P line last.told some no_feed last.answers; appended = last.appended }
+  AnswersWriter-open line a b some no_feed last = record { output = ended_line last.told; answered = AnswersText-open P line last.told some no_feed last.answers; appended = last.appended }
 
   pub AnswersWriter-more : (bytes left : List ℕ) (a b c : Option (List ℕ)) → FeedsWriter P [] bytes left a b → AnswersWriter P left b c → AnswersWriter P bytes a c
   AnswersWriter-more bytes left a b c fed last =

@@ -28,13 +28,13 @@ abbrev pub refusal_text : Error → List ℕ
 refusal_text e = refusal_text_at (span_of e) (fault_text (fault_of e))
 
 -- the line tells what encoding answered, which is not that memory was refused
-abbrev pub Tells : Result (Vec ℕ) Error → List ℕ → Type 0
-Tells (Ok bytes) line = line ≡ encode_lower bytes.items
-Tells (Err e) line = (fault_of e ≢ fault.Memory) × (line ≡ refusal_text e)
+abbrev pub TellsAnswer : Result (Vec ℕ) Error → List ℕ → Type 0
+TellsAnswer (Ok bytes) line = line ≡ encode_lower bytes.items
+TellsAnswer (Err e) line = (fault_of e ≢ fault.Memory) × (line ≡ refusal_text e)
 
 -- whether the module is well formed and holds no generated id
-abbrev pub is_encodable : Module → Bool
-is_encodable m = is_well_formed m && (generation_bound m == 0)
+abbrev pub is_ready_at_start : Module → Bool
+is_ready_at_start m = is_well_formed m && (generation_bound m == 0)
 
 -- the line tells some answer that encoding may give for the module, with the counter at 1
 pub record TellsModule (m : Module) (line : List ℕ) : Type 0 where
@@ -42,7 +42,7 @@ pub record TellsModule (m : Module) (line : List ℕ) : Type 0 where
   pub after : Module
   pub counter : ℕ
   pub encodes : Encodes m 1 answer after counter
-  pub tells : Tells answer line
+  pub tells : TellsAnswer answer line
 
 -- the line of a module that can be encoded, and of one that can not
 abbrev pub TellsIf : Bool → Module → List ℕ → Type 0
@@ -53,7 +53,7 @@ TellsIf false m line = line ≡ ill_formed_text
 abbrev pub TellsRow : Option (Result Module Error) → List ℕ → Type 0
 TellsRow None line = line ≡ no_row_text
 TellsRow (Some (Err e)) line = ⊥
-TellsRow (Some (Ok m)) line = TellsIf (is_encodable m) m line
+TellsRow (Some (Ok m)) line = TellsIf (is_ready_at_start m) m line
 
 -- the line answers what was asked, where gives relates the number of a row to its module
 pub data TellsLine (gives : ℕ → Option (Result Module Error) → Type 0) (asked line : List ℕ) : Type 0 where

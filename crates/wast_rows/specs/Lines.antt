@@ -24,9 +24,9 @@ lines_of [] = []
 lines_of (byte ∷ text) = before_lines byte (lines_of text)
 
 -- a line and the line feed that ends it
-abbrev pub ended : List ℕ → List ℕ
-ended line = line ++ (line_feed ∷ [])
+abbrev pub ended_line : List ℕ → List ℕ
+ended_line line = line ++ (line_feed ∷ [])
 
 -- lines, each ended by a line feed
 abbrev pub ended_lines : List (List ℕ) → List ℕ
-ended_lines lines = flat_map ended lines
+ended_lines lines = flat_map ended_line lines

@@ -2,7 +2,7 @@
 use Rattle.std.specs.Prelude.{◌≡◌, ◌≢◌, ℕ, List, [], ◌∷◌, ◌++◌, Option}
 use Rattle.std.specs.List.{AllZip, AllByRecursion}
 use Rattle.std.specs.Io.KnownBytes.{Appends, Consumes, IsAtEnd}
-use Rattle.wast_rows.specs.Lines.{line_feed, lines_of, ended, ended_lines}
+use Rattle.wast_rows.specs.Lines.{line_feed, lines_of, ended_line, ended_lines}
 
 -- a line that no line feed has ended
 abbrev pub IsOpen : List ℕ → Type 0
@@ -17,7 +17,7 @@ pub record AnswersText (P : List ℕ → List ℕ → Type 0) (text output : Lis
 -- the beginning of the answer to the first of some lines
 pub data BeginsAnswer (P : List ℕ → List ℕ → Type 0) (lines : List (List ℕ)) (part : List ℕ) : Type 0 where
   nothing : part ≡ [] → BeginsAnswer P lines part
-  partly : (line : List ℕ) (later : List (List ℕ)) (told rest : List ℕ) → lines ≡ line ∷ later → P line told → ended told ≡ part ++ rest → BeginsAnswer P lines part
+  partly : (line : List ℕ) (later : List (List ℕ)) (told rest : List ℕ) → lines ≡ line ∷ later → P line told → ended_line told ≡ part ++ rest → BeginsAnswer P lines part
 
 -- the output answers the first lines of the text, in order, and may have the beginning of the answer to the next one
 pub record BeginsText (P : List ℕ → List ℕ → Type 0) (text output : List ℕ) : Type 0 where
@@ -86,7 +86,7 @@ pub record BeginsWriter (P : List ℕ → List ℕ → Type 0) (text : List ℕ)
 pub record AnswersLine (P : List ℕ → List ℕ → Type 0) (line : List ℕ) (writer writer_after : Option (List ℕ)) : Type 0 where
   pub told : List ℕ
   pub answers : P line told
-  pub appended : Appends writer writer_after (ended told)
+  pub appended : Appends writer writer_after (ended_line told)
 
 -- the writer took the beginning of the line that answers a line
 pub record BeginsLine (P : List ℕ → List ℕ → Type 0) (line : List ℕ) (writer writer_after : Option (List ℕ)) : Type 0 where

@@ -1,7 +1,7 @@
 //! The line that answers a line.
 
 ghost use Rattle.std.specs.Prelude.{◌≡◌, IfOk, Some, Ok, string_bytes};
-ghost use Rattle.wast_rows.specs.Answers.{TellsLine, TellsRow, Tells, refusal_text, no_row_text, ill_formed_text};
+ghost use Rattle.wast_rows.specs.Answers.{TellsLine, TellsRow, TellsAnswer, refusal_text, no_row_text, ill_formed_text};
 
 use crate::errors::RunError;
 use crate::numbers::number;
@@ -38,7 +38,7 @@ fn refusal(alloc: Global, error: Error<'_>) -> Result<String, AllocError>
 
 /// What encoding answered: bytes in lower case hexadecimal, or why there are none. Want of memory is no answer.
 fn told(alloc: Global, answer: Result<Vec<u8>, Error<'_>>) -> Result<String, RunError>
-    ensures { IfOk result (λ line. Tells answer.entry (string_bytes line)) }
+    ensures { IfOk result (λ line. TellsAnswer answer.entry (string_bytes line)) }
 {
     match answer {
         Ok(bytes) => Ok(hex::encode(alloc, bytes.as_slice())?),

@@ -13,7 +13,7 @@ use Rattle.wast_types.specs.ImpliedTypes.{is_among, first_new}
 use Rattle.wast_base.specs.Filling.{RunsOut}
 use Rattle.wast_types.specs.Expanders.{BoundSignatures, LookUp, index_of, with_more}
 use Rattle.wast_types.specs.Expanded.{nameless, implied_type, implied_types, bindings_in, bindings}
-use Rattle.wast_types.specs.Binding.{State, new_signatures, new_types, next_after, Adds}
+use Rattle.wast_types.specs.Binding.{State, new_signatures, new_types, next_after, AddsTypes}
 
 pub less_runs_out : (m n : ℕ) (e : Error) → m ≤ n → RunsOut m e → RunsOut n e
 less_runs_out m n e le (inl x) = inl x
@@ -85,7 +85,7 @@ implied_types-append n [] ts = ap (λ m. implied_types m ts) (add_zero n)
 implied_types-append n (s ∷ ss) ts = ap (λ ws. implied_type n s ∷ ws) (implied_types-append (n + 1) ss ts ∙ ap (λ m. implied_types (n + 1) ss ++ implied_types m ts) (one_more n (length ss)))
 
 -- uses that need nothing
-pub adds_none : (a : State) → Adds a a []
+pub adds_none : (a : State) → AddsTypes a a []
 adds_none a = record { types = λ s. or_none (index_of a.bound s); fields = sym (append-nil a.implied); counter = add_zero a.next }
   where
     or_none : (o : Option Index) → o ≡ option_or o None
@@ -93,13 +93,13 @@ adds_none a = record { types = λ s. or_none (index_of a.bound s); fields = sym 
     or_none (Some i) = refl
 
 -- the same uses, said in another way
-pub adds_as : {a b : State} {ss ts : List Signature} → ss ≡ ts → Adds a b ss → Adds a b ts
-adds_as {a} {b} e h = subst (λ us. Adds a b us) e h
+pub adds_as : {a b : State} {ss ts : List Signature} → ss ≡ ts → AddsTypes a b ss → AddsTypes a b ts
+adds_as {a} {b} e h = subst (λ us. AddsTypes a b us) e h
 
-pub adds_nothing : (a : State) {ss : List Signature} → ss ≡ [] → Adds a a ss
+pub adds_nothing : (a : State) {ss : List Signature} → ss ≡ [] → AddsTypes a a ss
 adds_nothing a e = adds_as (sym e) (adds_none a)
 
-module _ {a b : State} {ss : List Signature} (h : Adds a b ss) where
+module _ {a b : State} {ss : List Signature} (h : AddsTypes a b ss) where
   -- what is bound once the first are
   bound_then : index_of b.bound ≡ with_more (index_of a.bound) (bindings (new_types a ss))
   bound_then = fun_ext h.types
@@ -121,7 +121,7 @@ module _ {a b : State} {ss : List Signature} (h : Adds a b ss) where
       omega (arith, h.counter)
 
   -- uses after uses
-  pub adds_both : {c : State} {ts : List Signature} → Adds b c ts → Adds a c (ss ++ ts)
+  pub adds_both : {c : State} {ts : List Signature} → AddsTypes b c ts → AddsTypes a c (ss ++ ts)
   adds_both {c} {ts} k = record {
     types = λ s. k.types s ∙ (ap (λ (find : LookUp). with_more find (bindings (new_types b ts)) s) bound_then
         ∙ (with_more_twice (index_of a.bound) (bindings (new_types a ss)) (bindings (new_types b ts)) s

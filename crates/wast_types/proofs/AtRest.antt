@@ -5,7 +5,7 @@ use Rattle.std.proofs.lemmas.List.Concat.{flat_map-append}
 use Rattle.wast_types.specs.Tree.{ValType, ModuleField}
 use Rattle.wast_types.specs.Tree.field
 use Rattle.wast_types.specs.Signatures.{Signature}
-use Rattle.wast_types.specs.ImpliedTypes.{written, is_among, first_new, implied}
+use Rattle.wast_types.specs.ImpliedTypes.{written_signatures, is_among, first_new, implied}
 use Rattle.wast_types.specs.TypeSpace.{types_in, type_space}
 use Rattle.wast_base.specs.Filling.{one_if, given_if, filled, wanted}
 use Rattle.wast_types.specs.Expanders.{LookUp, index_of}
@@ -13,7 +13,7 @@ use Rattle.wast_types.specs.Expanded.{lacks_id, with_type_id, implied_types, typ
 use Rattle.wast_types.specs.Laws.{TypesAreTheSpace, StaysExpanded, WantsNoMore}
 use Rattle.wast_types.proofs.Adding.{types_again}
 use Rattle.wast_types.proofs.Staying.{fields_stay, ty_stays, rec_stays}
-use Rattle.wast_types.proofs.Covered.{uses_are_bound}
+use Rattle.wast_types.proofs.HavingTypes.{uses_are_bound}
 
 -- Ids and bound uses change no type.
 types_given : (b : Bool) (n : ℕ) (x : ModuleField) → types_in (given_if b with_type_id n x) ≡ types_in x
@@ -79,7 +79,7 @@ filled_none {A} wants give m (x ∷ xs) h = none_case (wants x) x xs h (λ k. fi
 
 -- Nothing is implied.
 implied_none : (n : ℕ) (fields : List ModuleField) → implied (expanded n fields) ≡ []
-implied_none n fields = ap (first_new (is_among (written (expanded n fields)))) (uses_are_bound n fields)
+implied_none n fields = ap (first_new (is_among (written_signatures (expanded n fields)))) (uses_are_bound n fields)
 
 pub wants_no_more : WantsNoMore
 wants_no_more n fields = ap (λ ss. wanted lacks_id (expanded n fields) + length ss) (implied_none n fields) ∙ ap (λ k. k + 0) (none_lacks n fields)

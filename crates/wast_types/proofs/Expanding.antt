@@ -13,11 +13,11 @@ use Rattle.wast_types.specs.Tree.field
 use Rattle.wast_types.specs.Signatures.{Signature, same_signature}
 use Rattle.wast_tree.specs.Sites.{in_field, in_module}
 use Rattle.wast_types.specs.NeedingUses.{needed_in, needed}
-use Rattle.wast_types.specs.ImpliedTypes.{written_kind, written_in, written, is_among, first_new, implied}
+use Rattle.wast_types.specs.ImpliedTypes.{written_kind, written_in, written_signatures, is_among, first_new, implied}
 use Rattle.wast_base.specs.Filling.{one_if, given_if, filled, wanted}
 use Rattle.wast_types.specs.Expanders.{BoundSignatures, LookUp, index_of, with_more, Extends}
 use Rattle.wast_types.specs.Expanded.{lacks_id, with_type_id, implied_types, typed, binding_of, bindings_in, bindings, bound_field, expanded, ids_wanted}
-use Rattle.wast_types.specs.Binding.{State, state, new_signatures, new_types, next_after, Adds}
+use Rattle.wast_types.specs.Binding.{State, state, new_signatures, new_types, next_after, AddsTypes}
 use Rattle.wast_types.proofs.Adding.{lookup-append, with_more_twice, adds_as, more_then}
 use Rattle.wast_types.proofs.Needing.{needed_both, needed_each, ty_none, made_type}
 use Rattle.wast_types.proofs.Staying.{ty_stays}
@@ -62,7 +62,7 @@ keys-append : (a b : BoundSignatures) → keys_of (a ++ b) ≡ keys_of a ++ keys
 keys-append a b = map-append (λ (e : Signature × Index). e.0) a b
 
 -- Once each type has an id, all function types are bound.
-keys_of_filled : (n : ℕ) (xs : List ModuleField) → keys_of (bindings (filled lacks_id with_type_id n xs)) ≡ written xs
+keys_of_filled : (n : ℕ) (xs : List ModuleField) → keys_of (bindings (filled lacks_id with_type_id n xs)) ≡ written_signatures xs
 keys_of_filled n [] = refl
 keys_of_filled n (x ∷ xs) =
     let rest : List ModuleField = filled lacks_id with_type_id (n + one_if (lacks_id x)) xs in
@@ -70,7 +70,7 @@ keys_of_filled n (x ∷ xs) =
     ∙ (ap (λ ks. ks ++ keys_of (bindings rest)) (keys_of_type n x (lacks_id x) refl) ∙ ap (λ ks. written_in x ++ ks) (keys_of_filled (n + one_if (lacks_id x)) xs))
 
 -- a signature that some written function type has
-pub written_known : (n : ℕ) (xs : List ModuleField) (s : Signature) → is_some (index_of (bindings (filled lacks_id with_type_id n xs)) s) ≡ is_among (written xs) s
+pub written_known : (n : ℕ) (xs : List ModuleField) (s : Signature) → is_some (index_of (bindings (filled lacks_id with_type_id n xs)) s) ≡ is_among (written_signatures xs) s
 written_known n xs s = is_some-lookup (same_signature s) (bindings (filled lacks_id with_type_id n xs)) ∙ ap (λ ks. is_among ks s) (keys_of_filled n xs)
 
 bound_implied : (find : LookUp) (n : ℕ) (ss : List Signature) → map (bound_field find) (implied_types n ss) ≡ implied_types n ss
@@ -89,8 +89,8 @@ module _ (n m : ℕ) (fs named seen : List ModuleField) (old cx : BoundSignature
   -- what the uses need and no written type has
   new_is_implied : new_signatures cx (needed named) ≡ implied fs
   new_is_implied =
-      let known : (s : Signature) → is_some (index_of cx s) ≡ is_among (written fs) s = λ s. ap is_some (cx_is s) ∙ (ap (λ xs. is_some (index_of (bindings xs) s)) named_is ∙ written_known n fs s) in
-      ap (λ (k : Signature → Bool). first_new k (needed named)) (fun_ext known) ∙ ap (first_new (is_among (written fs))) (ap needed named_is ∙ needed_filled n fs)
+      let known : (s : Signature) → is_some (index_of cx s) ≡ is_among (written_signatures fs) s = λ s. ap is_some (cx_is s) ∙ (ap (λ xs. is_some (index_of (bindings xs) s)) named_is ∙ written_known n fs s) in
+      ap (λ (k : Signature → Bool). first_new k (needed named)) (fun_ext known) ∙ ap (first_new (is_among (written_signatures fs))) (ap needed named_is ∙ needed_filled n fs)
 
   -- the uses of each field after those of the one before it
   in_each : needed named ≡ flat_map (λ x. needed_in (in_field x)) named
@@ -104,9 +104,9 @@ module _ (n m : ℕ) (fs named seen : List ModuleField) (old cx : BoundSignature
   types_are : new_types (state cx none m) (needed named) ≡ implied_types (n + wanted lacks_id fs) (implied fs)
   types_are = ap (implied_types m) new_is_implied ∙ ap (λ k. implied_types k (implied fs)) m_is
 
-  pub lists : {b : State} {uses out : List ModuleField} → Adds (state cx none m) b (flat_map (λ x. needed_in (in_field x)) named) → ((more : BoundSignatures) → uses ≡ map (bound_field (with_more (index_of b.bound) more)) named) → out ≡ uses ++ b.implied → out ≡ expanded n fs
+  pub lists : {b : State} {uses out : List ModuleField} → AddsTypes (state cx none m) b (flat_map (λ x. needed_in (in_field x)) named) → ((more : BoundSignatures) → uses ≡ map (bound_field (with_more (index_of b.bound) more)) named) → out ≡ uses ++ b.implied → out ≡ expanded n fs
   lists {b} {uses} {out} each bound out_is =
-      let adds : Adds (state cx none m) b (needed named) = adds_as (sym in_each) each in
+      let adds : AddsTypes (state cx none m) b (needed named) = adds_as (sym in_each) each in
       let new : List ModuleField = implied_types (n + wanted lacks_id fs) (implied fs) in
       let found : with_more (index_of b.bound) [] ≡ index_of (bindings (typed n fs)) =
       more_then adds [] ∙ (ap (λ bs. with_more (index_of cx) bs) (append-nil (bindings (new_types (state cx none m) (needed named))))

@@ -5,7 +5,7 @@ pub mod Adding
 pub mod OneMore
 pub mod Halfway
 pub mod Expanding
-pub mod Covered
+pub mod HavingTypes
 pub mod InPlace
 pub mod AtRest
 pub mod AtItsIndex

@@ -8,7 +8,7 @@ use Rattle.wast_types.specs.Signatures.{Signature, same_signature}
 use Rattle.wast_types.specs.SignatureLaws.{signatures_equiv}
 use Rattle.wast_types.specs.Expanders.{BoundSignatures, index_of, with_more, Extends}
 use Rattle.wast_types.specs.Expanded.{start_of_text, implied_type, implied_types, bindings}
-use Rattle.wast_types.specs.Binding.{state, new_signatures, Adds}
+use Rattle.wast_types.specs.Binding.{state, new_signatures, AddsTypes}
 use Rattle.wast_types.proofs.Adding.{types_again}
 
 pub now_bound : (old new : BoundSignatures) (s : Signature) (i j : Index) → index_of old s ≡ None → i ≡ j → Extends old new ((s, j) ∷ []) → index_of new s ≡ Some i
@@ -22,7 +22,7 @@ one_binding : (n : ℕ) (s : Signature) → (s, index.Id (generated n start_of_t
 one_binding n s = ap (λ (vs : List ValType). ((vs, s.1), index.Id (generated n start_of_text)) ∷ []) (sym (types_again s.0))
 
 pub adds_one : {old new : BoundSignatures} {xs ys : List ModuleField} {m n : ℕ} {s : Signature} → index_of old s ≡ None → Extends old new ((s, index.Id (generated m start_of_text)) ∷ []) → ys ≡ xs ++ implied_type m s ∷ [] → n ≡ m + 1
-    → Adds (state old xs m) (state new ys n) (s ∷ [])
+    → AddsTypes (state old xs m) (state new ys n) (s ∷ [])
 adds_one {old} {new} {xs} {ys} {m} {n} {s} none types fields counter =
     let one : new_signatures old (s ∷ []) ≡ s ∷ [] = new_one old s none in
     record {

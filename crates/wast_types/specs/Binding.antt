@@ -27,7 +27,7 @@ abbrev pub next_after : State → List Signature → ℕ
 next_after a ss = a.next + length (new_signatures a.bound ss)
 
 -- What stands before and after these have their types: no other type is new.
-pub record Adds (a b : State) (ss : List Signature) : Type 0 where
+pub record AddsTypes (a b : State) (ss : List Signature) : Type 0 where
   pub types : Extends a.bound b.bound (bindings (new_types a ss))
   pub fields : b.implied ≡ a.implied ++ new_types a ss
   pub counter : b.next ≡ next_after a ss

@@ -20,8 +20,8 @@ abbrev pub written_in : ModuleField → List Signature
 written_in x = if_there (λ (t : ty.«Type»). written_kind t.def.kind) (lone_type x)
 
 -- the signatures of the function types that are fields of their own
-abbrev pub written : List ModuleField → List Signature
-written fields = flat_map written_in fields
+abbrev pub written_signatures : List ModuleField → List Signature
+written_signatures fields = flat_map written_in fields
 
 abbrev pub is_among : List Signature → Signature → Bool
 is_among ts s = list_any (same_signature s) ts
@@ -33,7 +33,7 @@ first_new known (s ∷ ss) = if known s then first_new known ss else (s ∷ firs
 
 -- The signatures of the implied types: needed, and not written.
 abbrev pub implied : List ModuleField → List Signature
-implied fields = first_new (is_among (written fields)) (needed fields)
+implied fields = first_new (is_among (written_signatures fields)) (needed fields)
 
 -- whether none has the signature of one before it
 abbrev pub are_distinct : List Signature → Bool

@@ -5,8 +5,8 @@ use Rattle.wast_tree.specs.WrittenOut.{is_written_out}
 use Rattle.wast_types.specs.Tree.{ModuleField}
 use Rattle.wast_types.specs.Signatures.{Signature}
 use Rattle.wast_types.specs.NeedingUses.{needed}
-use Rattle.wast_types.specs.ImpliedTypes.{written, is_among, implied, are_distinct}
-use Rattle.wast_types.specs.TypeSpace.{types_in, type_space, index_for, type_ids, id_at}
+use Rattle.wast_types.specs.ImpliedTypes.{written_signatures, is_among, implied, are_distinct}
+use Rattle.wast_types.specs.TypeSpace.{types_in, type_space, index_for, type_ids, index_by_id_at}
 use Rattle.wast_types.specs.Expanders.{index_of}
 use Rattle.wast_types.specs.Expanded.{typed, bindings, expanded, ids_wanted}
 
@@ -20,11 +20,11 @@ TypesAreTheSpace = (n : ℕ) (fields : List ModuleField) → flat_map types_in (
 
 -- A signature is bound to the id of the type at its index in the type space.
 abbrev pub TakesTheTypeAtItsIndex : Type 0
-TakesTheTypeAtItsIndex = (n : ℕ) (fields : List ModuleField) (s : Signature) → index_of (bindings (typed n fields)) s ≡ id_at (index_for fields s) (type_ids (typed n fields))
+TakesTheTypeAtItsIndex = (n : ℕ) (fields : List ModuleField) (s : Signature) → index_of (bindings (typed n fields)) s ≡ index_by_id_at (index_for fields s) (type_ids (typed n fields))
 
 -- No implied type has the signature of a written one.
 abbrev pub ImpliedAreNew : Type 0
-ImpliedAreNew = (fields : List ModuleField) → list_any (is_among (written fields)) (implied fields) ≡ false
+ImpliedAreNew = (fields : List ModuleField) → list_any (is_among (written_signatures fields)) (implied fields) ≡ false
 
 -- No implied type has the signature of another implied type.
 abbrev pub ImpliedAreDistinct : Type 0

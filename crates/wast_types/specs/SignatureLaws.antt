@@ -26,7 +26,7 @@ use Rattle.wast_types.specs.Tree.index
 use Rattle.wast_types.specs.Tree.abstract
 use Rattle.wast_types.specs.Tree.heap
 use Rattle.wast_types.specs.Tree.value
-use Rattle.wast_types.specs.Signatures.{Signature, rank_of_heap, same_heap, same_ref, same_value, same_values, same_signature}
+use Rattle.wast_types.specs.Signatures.{Signature, heap_rank, same_heap, same_ref, same_value, same_values, same_signature}
 
 -- `==` of the tree answers what is the same as it is written
 name_is : (a b : code.Name) → same_name (named_by a) (named_by b) ≡ names.ghosts.eq a b
@@ -41,7 +41,7 @@ index_is (index.Id a) (index.Id b) = name_is a.name b.name
 index_is (index.Num m p) (index.Id b) = refl
 index_is (index.Id a) (index.Num n q) = refl
 
-rank_is : (a : AbstractHeapType) → rank_of_heap a ≡ tag_of abstract_heaps.the_type a
+rank_is : (a : AbstractHeapType) → heap_rank a ≡ tag_of abstract_heaps.the_type a
 rank_is abstract.Func = refl
 rank_is a = refl
 

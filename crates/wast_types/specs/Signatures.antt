@@ -23,23 +23,23 @@ abbrev pub empty_signature : Signature
 empty_signature = ([], [])
 
 -- the place of a heap type among those that no module defines
-abbrev pub rank_of_heap : AbstractHeapType → ℕ
-rank_of_heap abstract.Func = 0
-rank_of_heap abstract.Extern = 1
-rank_of_heap abstract.Exn = 2
-rank_of_heap abstract.NoExn = 3
-rank_of_heap abstract.Any = 4
-rank_of_heap abstract.Eq = 5
-rank_of_heap abstract.Struct = 6
-rank_of_heap abstract.Array = 7
-rank_of_heap abstract.NoFunc = 8
-rank_of_heap abstract.NoExtern = 9
-rank_of_heap abstract.None = 10
-rank_of_heap abstract.I31 = 11
+abbrev pub heap_rank : AbstractHeapType → ℕ
+heap_rank abstract.Func = 0
+heap_rank abstract.Extern = 1
+heap_rank abstract.Exn = 2
+heap_rank abstract.NoExn = 3
+heap_rank abstract.Any = 4
+heap_rank abstract.Eq = 5
+heap_rank abstract.Struct = 6
+heap_rank abstract.Array = 7
+heap_rank abstract.NoFunc = 8
+heap_rank abstract.NoExtern = 9
+heap_rank abstract.None = 10
+heap_rank abstract.I31 = 11
 
 -- Equality of types, by how two indices are compared.
 abbrev pub same_heap_by : (Index → Index → Bool) → HeapType → HeapType → Bool
-same_heap_by same (heap.Abstract s a) (heap.Abstract t b) = beq s t && rank_of_heap a == rank_of_heap b
+same_heap_by same (heap.Abstract s a) (heap.Abstract t b) = beq s t && heap_rank a == heap_rank b
 same_heap_by same (heap.Concrete i) (heap.Concrete j) = same i j
 same_heap_by same (heap.Abstract s a) (heap.Concrete j) = false
 same_heap_by same (heap.Concrete i) (heap.Abstract t b) = false
@@ -48,13 +48,13 @@ abbrev pub same_ref_by : (Index → Index → Bool) → RefType → RefType → 
 same_ref_by same r q = beq r.nullable q.nullable && same_heap_by same r.heap q.heap
 
 -- the place of a value type among them all
-abbrev pub rank_of : ValType → ℕ
-rank_of value.I32 = 0
-rank_of value.I64 = 1
-rank_of value.F32 = 2
-rank_of value.F64 = 3
-rank_of value.V128 = 4
-rank_of (value.Ref r) = 5
+abbrev pub value_rank : ValType → ℕ
+value_rank value.I32 = 0
+value_rank value.I64 = 1
+value_rank value.F32 = 2
+value_rank value.F64 = 3
+value_rank value.V128 = 4
+value_rank (value.Ref r) = 5
 
 -- the reference type, where it is one
 abbrev pub reference_in : ValType → Option RefType
@@ -72,7 +72,7 @@ same_reference_by same None (Some q) = false
 same_reference_by same (Some r) None = false
 
 abbrev pub same_value_by : (Index → Index → Bool) → ValType → ValType → Bool
-same_value_by same a b = rank_of a == rank_of b && same_reference_by same (reference_in a) (reference_in b)
+same_value_by same a b = value_rank a == value_rank b && same_reference_by same (reference_in a) (reference_in b)
 
 abbrev pub same_values_by : (Index → Index → Bool) → List ValType → List ValType → Bool
 same_values_by same vs ws = pointwise (same_value_by same) vs ws

@@ -38,11 +38,11 @@ ids_in x = map (λ (t : ty.«Type»). t.id) (types_of x)
 abbrev pub type_ids : List ModuleField → List (Option Id)
 type_ids fields = flat_map ids_in fields
 
-abbrev pub by_id : Option (Option Id) → Option Index
-by_id None = None
-by_id (Some None) = None
-by_id (Some (Some id)) = Some (index.Id id)
+abbrev pub index_by_id : Option (Option Id) → Option Index
+index_by_id None = None
+index_by_id (Some None) = None
+index_by_id (Some (Some id)) = Some (index.Id id)
 
-abbrev pub id_at : Option ℕ → List (Option Id) → Option Index
-id_at None ids = None
-id_at (Some k) ids = by_id (slice_get ids k)
+abbrev pub index_by_id_at : Option ℕ → List (Option Id) → Option Index
+index_by_id_at None ids = None
+index_by_id_at (Some k) ids = index_by_id (slice_get ids k)

@@ -11,7 +11,7 @@ ghost use Rattle.wast_types.specs.NeedingUses.{needed_in, inline_signature};
 ghost use Rattle.wast_base.specs.Filling.{RunsOut};
 ghost use Rattle.wast_types.specs.Expanders.{BoundSignatures, LookUp, index_of, with_more, Extends};
 ghost use Rattle.wast_types.specs.Expanded.{start_of_text, implied_type, bound_use, binding, bound_field};
-ghost use Rattle.wast_types.specs.Binding.{state, next_after, Adds};
+ghost use Rattle.wast_types.specs.Binding.{state, next_after, AddsTypes};
 
 use crate::expanders::Expander;
 use crate::keys::{FuncKey, TypeKey, TypeReference};
@@ -40,7 +40,7 @@ pub(crate) trait Bind<'a> {
         gensym: &mut Gensym,
     ) -> Result<(), Error<'a>>
         ensures bound { OnOk result ((more : BoundSignatures) → self.new ≡ bound (with_more (index_of cx.new) more) self.old) }
-        ensures adds { OnOk result (Adds (state cx.old implied.old gensym.old) (state cx.new implied.new gensym.new) (needed self.old)) }
+        ensures adds { OnOk result (AddsTypes (state cx.old implied.old gensym.old) (state cx.new implied.new gensym.new) (needed self.old)) }
         ensures refusal { IfErr result (RunsOut (next_after (state cx.old implied.old gensym.old) (needed self.old))) }
         ensures rising { gensym.old ≤ gensym.new };
 }
@@ -54,7 +54,7 @@ pub(crate) fn bind_each<'a, T: Bind<'a>>(
     gensym: &mut Gensym,
 ) -> Result<(), Error<'a>>
     ensures bound { OnOk result ((more : BoundSignatures) → parts.new ≡ map (T.bound (with_more (index_of cx.new) more)) parts.old) }
-    ensures adds { OnOk result (Adds (state cx.old implied.old gensym.old) (state cx.new implied.new gensym.new) (flat_map T.needed parts.old)) }
+    ensures adds { OnOk result (AddsTypes (state cx.old implied.old gensym.old) (state cx.new implied.new gensym.new) (flat_map T.needed parts.old)) }
     ensures refusal { IfErr result (RunsOut (next_after (state cx.old implied.old gensym.old) (flat_map T.needed parts.old))) }
     ensures rising { gensym.old ≤ gensym.new }
 {
@@ -351,7 +351,7 @@ fn key_to_idx<'a>(
     gensym: &mut Gensym,
 ) -> Result<Index<'a>, Error<'a>>
     ensures index { IfOk result (λ i. index_of cx.new key.entry ≡ Some i) }
-    ensures adds { OnOk result (Adds (state cx.old implied.old gensym.old) (state cx.new implied.new gensym.new) (key.entry ∷ [])) }
+    ensures adds { OnOk result (AddsTypes (state cx.old implied.old gensym.old) (state cx.new implied.new gensym.new) (key.entry ∷ [])) }
     ensures refusal { IfErr result (RunsOut (next_after (state cx.old implied.old gensym.old) (key.entry ∷ []))) }
     ensures rising { gensym.old ≤ gensym.new }
 {

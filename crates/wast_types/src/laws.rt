@@ -8,7 +8,7 @@ ghost use Rattle.wast_types.specs.Laws.{UsesAreBound, TypesAreTheSpace, TakesThe
 /// is written out where the fields are.
 ///
 /// It does nothing: what it ensures holds for each list of fields and each counter.
-#[tactic(auto, using(crate::proofs::Covered::uses_are_bound, crate::proofs::Covered::implied_are_new, crate::proofs::Covered::implied_are_distinct, crate::proofs::AtRest::types_are_the_space, crate::proofs::AtRest::wants_no_more, crate::proofs::AtItsIndex::takes_the_type_at_its_index, crate::proofs::InPlace::stays_written_out))]
+#[tactic(auto, using(crate::proofs::HavingTypes::uses_are_bound, crate::proofs::HavingTypes::implied_are_new, crate::proofs::HavingTypes::implied_are_distinct, crate::proofs::AtRest::types_are_the_space, crate::proofs::AtRest::wants_no_more, crate::proofs::AtItsIndex::takes_the_type_at_its_index, crate::proofs::InPlace::stays_written_out))]
 pub fn expanded_laws()
     ensures bound { UsesAreBound }
     ensures types { TypesAreTheSpace }

@@ -61,8 +61,8 @@ ref_func shared = value.Ref (record { nullable = true; heap = heap.Abstract shar
 abbrev pub field_of : Option Id → ValType → StructField
 field_of id t = record { id = id; name = None; mutable = true; ty = storage.Val t }
 
-abbrev pub body_of : List Instruction → Expression
-body_of instrs = record { instrs = instrs; branch_hints = [] }
+abbrev pub expression_of : List Instruction → Expression
+expression_of instrs = record { instrs = instrs; branch_hints = [] }
 
 -- a module with a generated id in each place for one
 abbrev pub everywhere_generated : Address → List ModuleField
@@ -85,7 +85,7 @@ everywhere_generated a =
           ∷ [];
     })
     ∷ field.Func (record (plain_func (Some (made 6)) 0 (made_index 9) []) {
-      kind = func.Inline (record { id = Some (made 7); name = None; ty = ref_to (made_index 19) } ∷ []) (body_of (instr.call (made_index 8) ∷ []));
+      kind = func.Inline (record { id = Some (made 7); name = None; ty = ref_to (made_index 19) } ∷ []) (expression_of (instr.call (made_index 8) ∷ []));
       ty = record { index = Some (made_index 9); inline = Some (record { params = (Some (made 10), None, value.I32) ∷ []; results = [] }) };
     })
     ∷ export_field a 0 (made_index 11)
@@ -205,8 +205,8 @@ SettledIndices = (a : Address) →
     × (is_well_formed (export_field a 0 (made_index 1) ∷ field.Func (plain_func (Some (made 1)) 0 (by_number 0 0) []) ∷ []) ≡ true)
 
 -- `(func (type 0))`
-abbrev pub bare_func : Func
-bare_func = plain_func None 8 (by_number 0 20) []
+abbrev pub nameless_func : Func
+nameless_func = plain_func None 8 (by_number 0 20) []
 
 -- a type that is defined so, and a function, alone in a module
 abbrev pub def_alone : TypeDef → List ModuleField
@@ -222,7 +222,7 @@ UnsettledIndices =
     × (is_well_formed (func_alone (plain_func None 8 (made_index 1) [])) ≡ false)
     × (is_well_formed (func_alone (plain_func None 8 (by_number 0 20) (instr.call (made_index 1) ∷ []))) ≡ false)
     × (is_well_formed (def_alone (record plain_def { kind = inner.Func (record { params = (Some (made 1), None, value.I32) ∷ []; results = [] }) })) ≡ true)
-    × (is_well_formed (func_alone (record bare_func { kind = func.Inline (record { id = Some (made 1); name = None; ty = value.I32 } ∷ []) (body_of []) })) ≡ true)
+    × (is_well_formed (func_alone (record nameless_func { kind = func.Inline (record { id = Some (made 1); name = None; ty = value.I32 } ∷ []) (expression_of []) })) ≡ true)
 
 -- `(import "m" "m")` in place
 abbrev pub from_m : Address → InlineImport
@@ -240,18 +240,18 @@ is_well_formed_def def = is_well_formed (def_alone def)
 -- local or a result of a shared type, or a branch hint.
 abbrev pub WellFormedFuncs : Type 0
 WellFormedFuncs = (a : Address) →
-    (is_well_formed_func bare_func ≡ true)
-    × (is_well_formed_func (record bare_func { ty = record { index = None; inline = None } }) ≡ true)
-    × (is_well_formed_func (record bare_func { exports = record { names = text a (codes "a") ∷ [] } }) ≡ true)
-    × (is_well_formed_func (record bare_func { kind = func.Import (from_m a) false }) ≡ true)
-    × (is_well_formed_func (record bare_func { kind = func.Import (from_m a) true }) ≡ false)
-    × (is_well_formed_func (record bare_func { kind = func.Inline (record { id = None; name = None; ty = value.I32 } ∷ []) (body_of (instr.Plain (plain.Bare bare.drop) ∷ [])) }) ≡ true)
-    × (is_well_formed_func (record bare_func { kind = func.Inline (record { id = Some (id_at a (codes "x") 20); name = Some (record { name = text a (codes "x") }); ty = value.I32 } ∷ []) (body_of []) }) ≡ true)
-    × (is_well_formed_func (record bare_func { kind = func.Inline (record { id = None; name = None; ty = ref_func true } ∷ []) (body_of []) }) ≡ false)
-    × (is_well_formed_func (record bare_func { ty = record { index = Some (by_number 0 20); inline = Some (record { params = []; results = ref_func false ∷ [] }) } }) ≡ true)
-    × (is_well_formed_func (record bare_func { ty = record { index = None; inline = Some (record { params = []; results = [] }) } }) ≡ true)
-    × (is_well_formed_func (record bare_func { ty = record { index = None; inline = Some (record { params = []; results = ref_func true ∷ [] }) } }) ≡ false)
-    × (is_well_formed_func (record bare_func { kind = func.Inline [] (record { instrs = []; branch_hints = record { instr_index = 0; value = 1 } ∷ [] }) }) ≡ false)
+    (is_well_formed_func nameless_func ≡ true)
+    × (is_well_formed_func (record nameless_func { ty = record { index = None; inline = None } }) ≡ true)
+    × (is_well_formed_func (record nameless_func { exports = record { names = text a (codes "a") ∷ [] } }) ≡ true)
+    × (is_well_formed_func (record nameless_func { kind = func.Import (from_m a) false }) ≡ true)
+    × (is_well_formed_func (record nameless_func { kind = func.Import (from_m a) true }) ≡ false)
+    × (is_well_formed_func (record nameless_func { kind = func.Inline (record { id = None; name = None; ty = value.I32 } ∷ []) (expression_of (instr.Plain (plain.Bare bare.drop) ∷ [])) }) ≡ true)
+    × (is_well_formed_func (record nameless_func { kind = func.Inline (record { id = Some (id_at a (codes "x") 20); name = Some (record { name = text a (codes "x") }); ty = value.I32 } ∷ []) (expression_of []) }) ≡ true)
+    × (is_well_formed_func (record nameless_func { kind = func.Inline (record { id = None; name = None; ty = ref_func true } ∷ []) (expression_of []) }) ≡ false)
+    × (is_well_formed_func (record nameless_func { ty = record { index = Some (by_number 0 20); inline = Some (record { params = []; results = ref_func false ∷ [] }) } }) ≡ true)
+    × (is_well_formed_func (record nameless_func { ty = record { index = None; inline = Some (record { params = []; results = [] }) } }) ≡ true)
+    × (is_well_formed_func (record nameless_func { ty = record { index = None; inline = Some (record { params = []; results = ref_func true ∷ [] }) } }) ≡ false)
+    × (is_well_formed_func (record nameless_func { kind = func.Inline [] (record { instrs = []; branch_hints = record { instr_index = 0; value = 1 } ∷ [] }) }) ≡ false)
 
 -- `(func (param i32) (result i32))` is well formed, also open, with a parent, with references and with names; so are
 -- structs and arrays, also where a field has an id. Not so a shared type, one with a descriptor or what it describes, or one
@@ -273,7 +273,7 @@ WellFormedTypes = (a : Address) →
 
 -- An element segment without a table holds functions, or references of type `funcref`; one with a table holds others too.
 abbrev pub elems_of : Option Index → RefType → ModuleField
-elems_of table ty = field.Elem (record { span = place 1; id = None; name = None; kind = elem.Active table (body_of (instr.global_get (by_number 0 20) ∷ [])); payload = payload.Exprs ty [] })
+elems_of table ty = field.Elem (record { span = place 1; id = None; name = None; kind = elem.Active table (expression_of (instr.global_get (by_number 0 20) ∷ [])); payload = payload.Exprs ty [] })
 
 abbrev pub WellFormedSegments : Type 0
 WellFormedSegments =
@@ -285,7 +285,7 @@ WellFormedSegments =
 
 -- A memory may be shared; a global or a table may not.
 abbrev pub global_of : GlobalType → ModuleField
-global_of ty = field.Global (record { span = place 1; id = None; name = None; exports = record { names = [] }; ty = ty; kind = global.Inline (body_of (instr.global_get (by_number 0 20) ∷ [])) })
+global_of ty = field.Global (record { span = place 1; id = None; name = None; exports = record { names = [] }; ty = ty; kind = global.Inline (expression_of (instr.global_get (by_number 0 20) ∷ [])) })
 
 abbrev pub table_of : TableType → ModuleField
 table_of ty = field.Table (record { span = place 1; id = None; name = None; exports = record { names = [] }; kind = table.Normal ty None })
@@ -321,14 +321,14 @@ StandsInPlace = (a : Address) →
     ∷ wanted space.Func (made_index 3)
     ∷ supported true
     ∷ [])
-    × (in_module (table_in_place funcref true (payload.Exprs (record { nullable = true; heap = heap.Concrete (made_index 2) }) (body_of (instr.ref_func (made_index 1) ∷ []) ∷ [])) ∷ [])
+    × (in_module (table_in_place funcref true (payload.Exprs (record { nullable = true; heap = heap.Concrete (made_index 2) }) (expression_of (instr.ref_func (made_index 1) ∷ []) ∷ [])) ∷ [])
     ≡ supported true
     ∷ wanted space.Func (made_index 1)
     ∷ supported true
     ∷ wanted space.Ty (made_index 2)
     ∷ supported false
     ∷ [])
-    × (in_module (func_alone (record bare_func { kind = func.Import (from_m a) false; ty = record { index = Some (made_index 1); inline = None } }))
+    × (in_module (func_alone (record nameless_func { kind = func.Import (from_m a) false; ty = record { index = Some (made_index 1); inline = None } }))
     ≡ Used (record { index = Some (made_index 1); inline = None })
     ∷ supported true
     ∷ [])
@@ -343,8 +343,8 @@ StandsInSegments =
       span = place 1;
       id = None;
       name = None;
-      kind = elem.Active (Some (made_index 1)) (body_of (instr.global_get (made_index 2) ∷ []));
-      payload = payload.Exprs (record { nullable = true; heap = heap.Concrete (made_index 4) }) (body_of (instr.ref_func (made_index 3) ∷ []) ∷ []);
+      kind = elem.Active (Some (made_index 1)) (expression_of (instr.global_get (made_index 2) ∷ []));
+      payload = payload.Exprs (record { nullable = true; heap = heap.Concrete (made_index 4) }) (expression_of (instr.ref_func (made_index 3) ∷ []) ∷ []);
     }) ∷ [])
     ≡ wanted space.Table (made_index 1)
     ∷ wanted space.Global (made_index 2)
@@ -359,7 +359,7 @@ StandsInSegments =
       id = None;
       name = None;
       exports = record { names = [] };
-      kind = table.Normal (record plain_table_type { elem = record { nullable = true; heap = heap.Concrete (made_index 1) } }) (Some (body_of (instr.ref_func (made_index 2) ∷ [])));
+      kind = table.Normal (record plain_table_type { elem = record { nullable = true; heap = heap.Concrete (made_index 1) } }) (Some (expression_of (instr.ref_func (made_index 2) ∷ [])));
     }) ∷ [])
     ≡ wanted space.Ty (made_index 1) ∷ supported true ∷ wanted space.Func (made_index 2) ∷ supported true ∷ [])
     × (in_module (field.Global (record {
@@ -368,7 +368,7 @@ StandsInSegments =
       name = None;
       exports = record { names = [] };
       ty = record plain_global_type { ty = ref_to (made_index 1) };
-      kind = global.Inline (body_of (instr.global_get (made_index 2) ∷ []));
+      kind = global.Inline (expression_of (instr.global_get (made_index 2) ∷ []));
     }) ∷ [])
     ≡ wanted space.Ty (made_index 1) ∷ supported true ∷ wanted space.Global (made_index 2) ∷ supported true ∷ [])
 
@@ -389,8 +389,8 @@ WrittenOutFields = (a b c d e f : Address) →
     (is_written_out (row27 a b c d e f) ≡ true)
     × (is_written_out (filled_memory a b c d e) ≡ true)
     × (is_written_out (global_of plain_global_type ∷ table_of plain_table_type ∷ []) ≡ true)
-    × (is_written_out (func_alone (record bare_func { exports = record { names = text a (codes "a") ∷ [] } })) ≡ false)
-    × (is_written_out (func_alone (record bare_func { kind = func.Import (from_m a) false })) ≡ false)
+    × (is_written_out (func_alone (record nameless_func { exports = record { names = text a (codes "a") ∷ [] } })) ≡ false)
+    × (is_written_out (func_alone (record nameless_func { kind = func.Import (from_m a) false })) ≡ false)
     × (is_written_out (table_in_place funcref false (payload.Indices []) ∷ []) ≡ false)
     × (is_written_out (memory_in_place a None ∷ []) ≡ false)
 

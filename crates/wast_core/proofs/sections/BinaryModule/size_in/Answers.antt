@@ -1,13 +1,13 @@
 use Rattle.wast_names.specs.Names.{text_seen}
 use Rattle.wast_names.specs.NamesPayload.{name_subsections}
-use Rattle.wast_core.specs.Slots.{kind_of}
+use Rattle.wast_core.specs.Slots.{section_kind}
 use Rattle.wast_core.proofs.Measuring.{measured_extents}
 use Rattle.wast_core.proofs.Sizes.{listed_counted, names_counted}
 use Rattle.wast_core.proofs.sections.BinaryModule.size_in.Goals as goal
 
 pub returns-in-Section : goal.returns-in-Section
 returns-in-Section c =
-    rw c.in-Section.is (listed_counted (kind_of c.in-Section.kind) c.args.self.now.fields.now c.extent.result.count c.extent.result.size c.section_size.result c.extent.ensures c.section_size.ensures.size c.section_size.ensures.within)
+    rw c.in-Section.is (listed_counted (section_kind c.in-Section.kind) c.args.self.now.fields.now c.extent.result.count c.extent.result.size c.section_size.result c.extent.ensures c.section_size.ensures.size c.section_size.ensures.within)
 
 pub returns-in-Names : goal.returns-in-Names
 returns-in-Names c =

@@ -3,7 +3,7 @@ use Rattle.std.specs.List.{flat_map}
 use Rattle.wast_names.specs.GivenNames.{named_from}
 use Rattle.wast_names.specs.WithinItems.{field_name}
 use Rattle.wast_names.proofs.ListedNames.{each_named}
-use Rattle.wast_names.proofs.within.fields_of.Goals as goal
+use Rattle.wast_names.proofs.within.field_names_of.Goals as goal
 
 pub returns-in-Struct : goal.returns-in-Struct
 returns-in-Struct c =

@@ -9,7 +9,7 @@ use Rattle.wast_types.specs.Tree.{ModuleField}
 use Rattle.wast_types.specs.Signatures.{Signature, same_signature}
 use Rattle.wast_types.specs.SignatureLaws.{signatures_equiv}
 use Rattle.wast_types.specs.NeedingUses.{needed_in, needed}
-use Rattle.wast_types.specs.ImpliedTypes.{written, is_among, first_new, implied, are_distinct}
+use Rattle.wast_types.specs.ImpliedTypes.{written_signatures, is_among, first_new, implied, are_distinct}
 use Rattle.wast_base.specs.Filling.{filled, wanted}
 use Rattle.wast_types.specs.Expanders.{index_of}
 use Rattle.wast_types.specs.Expanded.{lacks_id, with_type_id, implied_type, implied_types, typed, bindings_in, bindings}
@@ -20,9 +20,9 @@ use Rattle.wast_types.proofs.Staying.{fields_bound}
 use Rattle.wast_types.proofs.Expanding.{needed_filled, written_known}
 
 -- Each signature is known, or new once.
-covered : (known : Signature → Bool) (ss : List Signature) → list_all (λ t. known t || is_among (first_new known ss) t) ss ≡ true
-covered known [] = refl
-covered known (s ∷ ss) = new_case (known s) known s ss refl (covered known ss) (covered (λ t. known t || same_signature t s) ss)
+known_or_new : (known : Signature → Bool) (ss : List Signature) → list_all (λ t. known t || is_among (first_new known ss) t) ss ≡ true
+known_or_new known [] = refl
+known_or_new known (s ∷ ss) = new_case (known s) known s ss refl (known_or_new known ss) (known_or_new (λ t. known t || same_signature t s) ss)
   where
     new_case : (b : Bool) (known : Signature → Bool) (s : Signature) (ss : List Signature) → known s ≡ b
         → list_all (λ t. known t || is_among (first_new known ss) t) ss ≡ true
@@ -55,7 +55,7 @@ none_known known (s ∷ ss) = new_case (known s) known s ss refl (none_known kno
     new_case false known s ss k p q = ap (λ b. b || list_any known (first_new (λ t. known t || same_signature t s) ss)) k ∙ q
 
 pub implied_are_new : ImpliedAreNew
-implied_are_new fields = none_known (is_among (written fields)) (needed fields)
+implied_are_new fields = none_known (is_among (written_signatures fields)) (needed fields)
 
 -- each is new once
 any_second : (p q : Signature → Bool) (ss : List Signature) → list_any (λ t. p t || q t) ss ≡ false → list_any q ss ≡ false
@@ -80,10 +80,10 @@ all_distinct known (s ∷ ss) =
     new_case false known s ss p q r = ap (λ b. not b && are_distinct (first_new (λ t. known t || same_signature t s) ss)) q ∙ r
 
 pub implied_are_distinct : ImpliedAreDistinct
-implied_are_distinct fields = all_distinct (is_among (written fields)) (needed fields)
+implied_are_distinct fields = all_distinct (is_among (written_signatures fields)) (needed fields)
 
 -- what is found among all types
-known_typed : (n : ℕ) (fields : List ModuleField) (s : Signature) → is_some (index_of (bindings (typed n fields)) s) ≡ (is_among (written fields) s || is_among (implied fields) s)
+known_typed : (n : ℕ) (fields : List ModuleField) (s : Signature) → is_some (index_of (bindings (typed n fields)) s) ≡ (is_among (written_signatures fields) s || is_among (implied fields) s)
 known_typed n fields s =
     let named : List ModuleField = filled lacks_id with_type_id n fields in
     let m : ℕ = n + wanted lacks_id fields in
@@ -106,7 +106,7 @@ needed_typed n fields =
 all_found : (n : ℕ) (fields : List ModuleField) → list_all (λ s. is_some (index_of (bindings (typed n fields)) s)) (needed (typed n fields)) ≡ true
 all_found n fields =
     ap (list_all (λ s. is_some (index_of (bindings (typed n fields)) s))) (needed_typed n fields)
-    ∙ (ap (λ (f : Signature → Bool). list_all f (needed fields)) (fun_ext (known_typed n fields)) ∙ covered (is_among (written fields)) (needed fields))
+    ∙ (ap (λ (f : Signature → Bool). list_all f (needed fields)) (fun_ext (known_typed n fields)) ∙ known_or_new (is_among (written_signatures fields)) (needed fields))
 
 pub uses_are_bound : UsesAreBound
 uses_are_bound n fields = fields_bound (index_of (bindings (typed n fields))) (typed n fields) (all_found n fields)
