@@ -54,7 +54,7 @@ module _ (P : List ℕ → List ℕ → Type 0) where
         split = λ rest. ap (λ b. lines_of (pending ++ b)) (append_assoc bytes more rest) ∙ first.split (more ++ rest) ∙ ap (λ l. first.asked ++ l) (second.split rest)
             ∙ sym (append_assoc first.asked second.asked (lines_of (left ++ rest)));
         answered = all_zip_append P _ _ _ _ first.answered second.answered;
-        shown = ap (λ o. o ++ after) first.shown ∙ ap (λ o. ended_lines first.told ++ o) second.shown ∙ sym (flat_map-append ended first.told second.told);
+        shown = ap (λ o. o ++ after) first.shown ∙ ap (λ o. ended_lines first.told ++ o) second.shown ∙ sym (flat_map-append ended_line first.told second.told);
       }
 
   -- an answer to what is left answers the whole
