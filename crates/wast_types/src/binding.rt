@@ -39,8 +39,10 @@ pub(crate) trait Bind<'a> {
         implied: &mut Seq<ModuleField<'a>>,
         gensym: &mut Gensym,
     ) -> Result<(), Error<'a>>
-        ensures bound { OnOk result ((more : BoundSignatures) → self.new ≡ bound (with_more (index_of cx.new) more) self.old) }
-        ensures adds { OnOk result (AddsTypes (state cx.old implied.old gensym.old) (state cx.new implied.new gensym.new) (needed self.old)) }
+        ensures bound { OnOk result ((more : BoundSignatures) →
+            self.new ≡ bound (with_more (index_of cx.new) more) self.old) }
+        ensures adds { OnOk result (AddsTypes (state cx.old implied.old gensym.old)
+            (state cx.new implied.new gensym.new) (needed self.old)) }
         ensures refusal { IfErr result (RunsOut (next_after (state cx.old implied.old gensym.old) (needed self.old))) }
         ensures rising { gensym.old ≤ gensym.new };
 }
@@ -53,8 +55,10 @@ pub(crate) fn bind_each<'a, T: Bind<'a>>(
     implied: &mut Seq<ModuleField<'a>>,
     gensym: &mut Gensym,
 ) -> Result<(), Error<'a>>
-    ensures bound { OnOk result ((more : BoundSignatures) → parts.new ≡ map (T.bound (with_more (index_of cx.new) more)) parts.old) }
-    ensures adds { OnOk result (AddsTypes (state cx.old implied.old gensym.old) (state cx.new implied.new gensym.new) (flat_map T.needed parts.old)) }
+    ensures bound { OnOk result ((more : BoundSignatures) →
+        parts.new ≡ map (T.bound (with_more (index_of cx.new) more)) parts.old) }
+    ensures adds { OnOk result (AddsTypes (state cx.old implied.old gensym.old)
+        (state cx.new implied.new gensym.new) (flat_map T.needed parts.old)) }
     ensures refusal { IfErr result (RunsOut (next_after (state cx.old implied.old gensym.old) (flat_map T.needed parts.old))) }
     ensures rising { gensym.old ≤ gensym.new }
 {
@@ -351,7 +355,8 @@ fn key_to_idx<'a>(
     gensym: &mut Gensym,
 ) -> Result<Index<'a>, Error<'a>>
     ensures index { IfOk result (λ i. index_of cx.new key.entry ≡ Some i) }
-    ensures adds { OnOk result (AddsTypes (state cx.old implied.old gensym.old) (state cx.new implied.new gensym.new) (key.entry ∷ [])) }
+    ensures adds { OnOk result (AddsTypes (state cx.old implied.old gensym.old)
+        (state cx.new implied.new gensym.new) (key.entry ∷ [])) }
     ensures refusal { IfErr result (RunsOut (next_after (state cx.old implied.old gensym.old) (key.entry ∷ []))) }
     ensures rising { gensym.old ≤ gensym.new }
 {
