@@ -305,7 +305,9 @@ pub fn export_kind(kind: wast_tree::ExportKind) -> wasm_ops::ExportKind
 /// The bytes of instructions.
 fn instrs_bytes<'e>(alloc: Global, instructions: &[Instruction]) -> Result<Vec<u8>, Error<'e>>
     requires { IsTrue (list_all is_encodable_instr instructions.now) }
-    ensures value { IfOk result (λ made. (made.items ≡ flat_map (λ i. instr (meaning.instr i)) instructions.now) × All (λ i. InRangeInstr (meaning.instr i)) instructions.now) }
+    ensures value { IfOk result (λ made.
+        (made.items ≡ flat_map (λ i. instr (meaning.instr i)) instructions.now)
+        × All (λ i. InRangeInstr (meaning.instr i)) instructions.now) }
     ensures refusal { IfErr result (IsRefused (All (λ i. InRangeInstr (meaning.instr i)) instructions.now)) }
 {
     let mut bytes = Vec::new(alloc);
@@ -319,7 +321,9 @@ fn instrs_bytes<'e>(alloc: Global, instructions: &[Instruction]) -> Result<Vec<u
 /// E12 comes where memory is refused. E10 comes only where a number of an instruction is out of range.
 pub fn const_expr<'e>(alloc: Global, expression: &Expression) -> Result<ConstExpr, Error<'e>>
     requires { IsTrue (is_encodable_expression expression.now) }
-    ensures value { IfOk result (λ made. (made ≡ instrs (meaning.expression expression.now)) × InRangeExpression (meaning.expression expression.now)) }
+    ensures value { IfOk result (λ made.
+        (made ≡ instrs (meaning.expression expression.now))
+        × InRangeExpression (meaning.expression expression.now)) }
     ensures refusal { IfErr result (IsRefused (InRangeExpression (meaning.expression expression.now))) }
 {
     let bytes = instrs_bytes(alloc, expression.instrs.as_slice())?;

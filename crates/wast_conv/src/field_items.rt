@@ -53,7 +53,10 @@ fn add_table<'e>(
 ) -> Result<(), Error<'e>>
     requires ty { IsTrue (are_encodable (in_table_type ty.now)) }
     requires init { IsTrue (encodable (if_there in_constant init.now)) }
-    ensures { Adds (InRangeU32 (section.old.count + 1) × InRangeTable (record { ty = meaning.table_type ty.now; init = option_map meaning.expression init.now })) section.old section.new (table_entry (record { ty = meaning.table_type ty.now; init = option_map meaning.expression init.now })) result }
+    ensures { Adds (InRangeU32 (section.old.count + 1)
+        × InRangeTable (record { ty = meaning.table_type ty.now; init = option_map meaning.expression init.now }))
+        section.old section.new
+        (table_entry (record { ty = meaning.table_type ty.now; init = option_map meaning.expression init.now })) result }
 {
     let ty = conv::table_type(ty);
     match init {
@@ -113,7 +116,10 @@ fn add_global<'e>(
 ) -> Result<(), Error<'e>>
     requires ty { IsTrue (are_encodable (in_global_type ty.now)) }
     requires init { IsTrue (is_encodable_expression init.now) }
-    ensures { Adds (InRangeU32 (section.old.count + 1) × InRangeGlobal (record { ty = meaning.global_type ty.now; init = meaning.expression init.now })) section.old section.new (global_entry (record { ty = meaning.global_type ty.now; init = meaning.expression init.now })) result }
+    ensures { Adds (InRangeU32 (section.old.count + 1)
+        × InRangeGlobal (record { ty = meaning.global_type ty.now; init = meaning.expression init.now }))
+        section.old section.new
+        (global_entry (record { ty = meaning.global_type ty.now; init = meaning.expression init.now })) result }
 {
     section.global(&conv::global_type(ty), &conv::const_expr(alloc, init)?)
 }

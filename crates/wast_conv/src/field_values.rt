@@ -40,7 +40,10 @@ fn put_import<S: Sink>(
     out: &mut S,
 ) -> Result<(), Refusal>
     requires { IsTrue (encodable (in_item_kind kind.now)) }
-    ensures { Writes S.rules (InRangeImport (record { «module» = source.now; name = name.now; entity = meaning.entity_type kind.now })) out.old out.new (import_entry (record { «module» = source.now; name = name.now; entity = meaning.entity_type kind.now })) result }
+    ensures { Writes S.rules
+        (InRangeImport (record { «module» = source.now; name = name.now; entity = meaning.entity_type kind.now }))
+        out.old out.new
+        (import_entry (record { «module» = source.now; name = name.now; entity = meaning.entity_type kind.now })) result }
 {
     (Name(source), (Name(name), conv::entity_type(kind))).encode(out)
 }
@@ -64,7 +67,10 @@ impl Spell<Imports<'_>> for Resolved {
 fn put_table<S: Sink>(ty: &TableType, init: &Option<Expression>, out: &mut S) -> Result<(), Refusal>
     requires ty { IsTrue (are_encodable (in_table_type ty.now)) }
     requires init { IsTrue (encodable (if_there in_constant init.now)) }
-    ensures { Writes S.rules (InRangeTable (record { ty = meaning.table_type ty.now; init = option_map meaning.expression init.now })) out.old out.new (table_entry (record { ty = meaning.table_type ty.now; init = option_map meaning.expression init.now })) result }
+    ensures { Writes S.rules
+        (InRangeTable (record { ty = meaning.table_type ty.now; init = option_map meaning.expression init.now }))
+        out.old out.new
+        (table_entry (record { ty = meaning.table_type ty.now; init = option_map meaning.expression init.now })) result }
 {
     let ty = conv::table_type(ty);
     match init {
@@ -109,7 +115,10 @@ impl Spell<Memory<'_>> for Resolved {
 fn put_global<S: Sink>(ty: &GlobalType, init: &Expression, out: &mut S) -> Result<(), Refusal>
     requires ty { IsTrue (are_encodable (in_global_type ty.now)) }
     requires init { IsTrue (is_encodable_expression init.now) }
-    ensures { Writes S.rules (InRangeGlobal (record { ty = meaning.global_type ty.now; init = meaning.expression init.now })) out.old out.new (global_entry (record { ty = meaning.global_type ty.now; init = meaning.expression init.now })) result }
+    ensures { Writes S.rules
+        (InRangeGlobal (record { ty = meaning.global_type ty.now; init = meaning.expression init.now }))
+        out.old out.new
+        (global_entry (record { ty = meaning.global_type ty.now; init = meaning.expression init.now })) result }
 {
     (conv::global_type(ty), By(init, Resolved)).encode(out)
 }

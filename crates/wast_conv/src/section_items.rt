@@ -42,7 +42,8 @@ pub trait SectionItem {
     /// where memory is refused. Then the section stays as it was.
     fn encode<'e>(&self, alloc: Global, section: &mut Self::Section) -> Result<(), Error<'e>>
         requires { IsTrue (is_encodable self.now) }
-        ensures { Adds (InRangeU32 ((Self.Section.built section.old).count + 1) × in_range self.now) (Self.Section.built section.old) (Self.Section.built section.new) (spelling self.now) result };
+        ensures { Adds (InRangeU32 ((Self.Section.built section.old).count + 1) × in_range self.now)
+            (Self.Section.built section.old) (Self.Section.built section.new) (spelling self.now) result };
 
     /// Appends the item's spelling to a sink. It needs a resolved item of a supported form.
     ///

@@ -30,7 +30,10 @@ fn add_elements<'e>(
     requires kind { IsTrue (encodable (in_elem_kind kind.now)) }
     requires elements { AreElements elements.now }
     requires form { IsTrue (has_form (meaning.element_mode kind.now) (kind_in elements.now)) }
-    ensures { Adds (InRangeU32 (section.old.count + 1) × (InRangeElementMode (meaning.element_mode kind.now) × InRangeElements elements.now)) section.old section.new (element_bytes (meaning.element_mode kind.now) (kind_in elements.now) (listed_in elements.now)) result }
+    ensures { Adds (InRangeU32 (section.old.count + 1)
+        × (InRangeElementMode (meaning.element_mode kind.now) × InRangeElements elements.now))
+        section.old section.new
+        (element_bytes (meaning.element_mode kind.now) (kind_in elements.now) (listed_in elements.now)) result }
 {
     match kind {
         ElemKind::Passive => section.passive(elements),
@@ -69,7 +72,9 @@ fn add_data<'e>(
     bytes: &[u8],
 ) -> Result<(), Error<'e>>
     requires { IsTrue (encodable (in_data_kind kind.now)) }
-    ensures { Adds (InRangeU32 (section.old.count + 1) × (InRangeDataMode (meaning.data_mode kind.now) × InRangeU32 (length bytes.now))) section.old section.new (segments.data_bytes (meaning.data_mode kind.now) bytes.now) result }
+    ensures { Adds (InRangeU32 (section.old.count + 1)
+        × (InRangeDataMode (meaning.data_mode kind.now) × InRangeU32 (length bytes.now)))
+        section.old section.new (segments.data_bytes (meaning.data_mode kind.now) bytes.now) result }
 {
     match kind {
         DataKind::Passive => section.passive(bytes),

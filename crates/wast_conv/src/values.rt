@@ -200,7 +200,8 @@ impl Spell<TypeUse<'_, FunctionType<'_>>> for Resolved {
 /// An instruction whose one immediate is an index.
 fn put_index<S: Sink>(op: IndexOp, index: &Index, out: &mut S) -> Result<(), Refusal>
     requires { IsTrue (is_number index.now) }
-    ensures { Writes S.rules (InRangeInstr (index_instr op (meaning.number index.now))) out.old out.new (instr (index_instr op (meaning.number index.now))) result }
+    ensures { Writes S.rules (InRangeInstr (index_instr op (meaning.number index.now)))
+        out.old out.new (instr (index_instr op (meaning.number index.now))) result }
 {
     IndexInstr {
         op,
@@ -212,7 +213,8 @@ fn put_index<S: Sink>(op: IndexOp, index: &Index, out: &mut S) -> Result<(), Ref
 /// A null reference of a heap type.
 fn put_null<S: Sink>(ty: &HeapType, out: &mut S) -> Result<(), Refusal>
     requires { IsTrue (are_encodable (in_heap ty.now)) }
-    ensures { Writes S.rules (InRangeInstr (ref_null_instr (meaning.heap_type ty.now))) out.old out.new (instr (ref_null_instr (meaning.heap_type ty.now))) result }
+    ensures { Writes S.rules (InRangeInstr (ref_null_instr (meaning.heap_type ty.now)))
+        out.old out.new (instr (ref_null_instr (meaning.heap_type ty.now))) result }
 {
     RefNull(conv::heap_type(ty)).encode(out)
 }
@@ -257,7 +259,8 @@ fn put_content<S: Sink>(
 ) -> Result<(), Refusal>
     requires locals { IsTrue (list_all (λ l. are_encodable (in_local l)) locals.now) }
     requires instrs { IsTrue (list_all is_encodable_instr instructions.now) }
-    ensures { Writes S.rules (InRangeContent (meaning.body_of locals.now instructions.now)) out.old out.new (content (meaning.body_of locals.now instructions.now)) result }
+    ensures { Writes S.rules (InRangeContent (meaning.body_of locals.now instructions.now))
+        out.old out.new (content (meaning.body_of locals.now instructions.now)) result }
 {
     (
         Locals(locals, Resolved),
