@@ -6,10 +6,12 @@ use Rattle.wast_deinline.specs.Tree.{FuncKind, ModuleField}
 use Rattle.wast_deinline.specs.Tree.func
 use Rattle.wast_deinline.specs.Tree.field
 
+-- of what a function is made of
 abbrev pub is_exact_kind : FuncKind → Bool
 is_exact_kind (func.Import source exact) = exact
 is_exact_kind (func.Inline locals e) = false
 
+-- of a field
 abbrev pub is_exact : ModuleField → Bool
 is_exact (field.Ty t) = false
 is_exact (field.Rec r) = false
@@ -24,5 +26,6 @@ is_exact (field.Elem e) = false
 is_exact (field.Data d) = false
 is_exact (field.Tag t) = false
 
+-- of any of the fields
 abbrev pub imports_exact : List ModuleField → Bool
 imports_exact fields = list_any is_exact fields

@@ -13,6 +13,7 @@ use Rattle.wast_deinline.specs.Written.{written_out_from, references_wanted, wri
 abbrev pub NothingIsLeft : Type 0
 NothingIsLeft = (n : ℕ) (fields : List ModuleField) → IsTrue (is_written_out (written_out_from n fields))
 
+-- By positions neither.
 abbrev pub NothingIsLeftByPosition : Type 0
 NothingIsLeftByPosition = (fields : List ModuleField) → IsTrue (is_written_out (written_out fields))
 
@@ -20,9 +21,11 @@ NothingIsLeftByPosition = (fields : List ModuleField) → IsTrue (is_written_out
 abbrev pub StaysWritten : Type 0
 StaysWritten = (n : ℕ) (fields : List ModuleField) → IsTrue (is_written_out fields) → written_out_from n fields ≡ fields
 
+-- By positions it stays too.
 abbrev pub StaysByPosition : Type 0
 StaysByPosition = (fields : List ModuleField) → IsTrue (is_written_out fields) → written_out fields ≡ fields
 
+-- It has no item that wants an id.
 abbrev pub WantsNoReference : Type 0
 WantsNoReference = (fields : List ModuleField) → IsTrue (is_written_out fields) → references_wanted fields ≡ 0
 

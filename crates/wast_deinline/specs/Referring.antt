@@ -20,6 +20,7 @@ abbrev pub place_or : Span → Option Id → Span
 place_or span None = span
 place_or span (Some id) = place_of id
 
+-- the number of items of its space that stand before it
 abbrev pub by_position : List Item → Reference
 by_position before s span id = index.Num (length (names_in s before)) (place_or span id)
 

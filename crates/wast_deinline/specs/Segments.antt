@@ -16,6 +16,7 @@ abbrev pub zero : Bool → Instruction
 zero false = instr.i32_const (pos 0)
 zero true = instr.i64_const (pos 0)
 
+-- the offset of a segment in place
 abbrev pub at_zero : Bool → Expression
 at_zero is64 = record { instrs = zero is64 ∷ []; branch_hints = [] }
 
@@ -23,6 +24,7 @@ at_zero is64 = record { instrs = zero is64 ∷ []; branch_hints = [] }
 abbrev pub exactly : Bool → ℕ → Limits
 exactly is64 n = record { is64 = is64; min = n; max = Some n }
 
+-- how many bytes a page has: 65,536 where nothing is said
 abbrev pub page_size : Option ℕ → ℕ
 page_size None = 65536
 page_size (Some exponent) = 2 ^ exponent
@@ -31,13 +33,16 @@ page_size (Some exponent) = 2 ^ exponent
 abbrev pub page_count : List DataVal → Option ℕ → ℕ
 page_count pieces exponent = div_ceil (length (all_bytes pieces)) (page_size exponent)
 
+-- the type of a memory that holds the bytes and has room for no more
 abbrev pub filled_memory_type : Bool → List DataVal → Option ℕ → MemoryType
 filled_memory_type is64 pieces exponent = record { limits = exactly is64 (page_count pieces exponent); shared = false; page_size_log2 = exponent }
 
+-- how many elements stand in place
 abbrev pub element_count : ElemPayload → ℕ
 element_count (payload.Indices is) = length is
 element_count (payload.Exprs ty es) = length es
 
+-- the type of a table that holds the elements and has room for no more
 abbrev pub filled_table_type : RefType → Bool → Bool → ElemPayload → TableType
 filled_table_type ty is64 shared p = record { limits = exactly is64 (element_count p); elem = ty; shared = shared }
 
@@ -45,6 +50,7 @@ filled_table_type ty is64 shared p = record { limits = exactly is64 (element_cou
 abbrev pub data_into : Span → Index → Bool → List DataVal → ModuleField
 data_into span item is64 pieces = field.Data (record { span = span; id = None; name = None; kind = data_kind.Active item (at_zero is64); bytes = pieces })
 
+-- the segment of the elements
 abbrev pub elem_into : Span → Index → Bool → ElemPayload → ModuleField
 elem_into span item is64 p = field.Elem (record { span = span; id = None; name = None; kind = elem.Active (Some item) (at_zero is64); payload = p })
 
@@ -54,6 +60,7 @@ has_bytes (memory.Import source ty) = false
 has_bytes (memory.Normal ty) = false
 has_bytes (memory.Inline is64 pieces exponent) = true
 
+-- whether elements stand in place
 abbrev pub has_elements : TableKind → Bool
 has_elements (table.Import source ty) = false
 has_elements (table.Normal ty init) = false
@@ -63,11 +70,13 @@ has_elements (table.Inline ty is64 shared p) = true
 abbrev pub are_too_many : List DataVal → Bool
 are_too_many pieces = not (nat_lt (length (all_bytes pieces)) (2 ^ 32))
 
+-- of what a memory is made of
 abbrev pub overflows_kind : MemoryKind → Bool
 overflows_kind (memory.Import source ty) = false
 overflows_kind (memory.Normal ty) = false
 overflows_kind (memory.Inline is64 pieces exponent) = are_too_many pieces
 
+-- of a field
 abbrev pub overflows : ModuleField → Bool
 overflows (field.Ty t) = false
 overflows (field.Rec r) = false

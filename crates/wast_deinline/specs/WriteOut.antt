@@ -19,6 +19,7 @@ use Rattle.wast_deinline.specs.Segments.{filled_memory_type, filled_table_type, 
 abbrev pub Reference : Type 0
 Reference = Space → Span → Option Id → Index
 
+-- nothing is exported in place
 abbrev pub no_exports : InlineExport
 no_exports = record { names = [] }
 
@@ -43,6 +44,7 @@ data_in (memory.Import source ty) span item = []
 data_in (memory.Normal ty) span item = []
 data_in (memory.Inline is64 pieces exponent) span item = data_into span item is64 pieces ∷ []
 
+-- the segment of the elements in place, if there are any
 abbrev pub elem_in : TableKind → Span → Index → List ModuleField
 elem_in (table.Import source ty) span item = []
 elem_in (table.Normal ty init) span item = []
@@ -53,20 +55,24 @@ abbrev pub func_alone : Func → FuncKind → ModuleField
 func_alone f (func.Import source exact) = import_of f.span f.id f.name source (kind.Func f.ty)
 func_alone f (func.Inline locals e) = field.Func (record f { exports = no_exports; kind = func.Inline locals e })
 
+-- a table, or the import that stands for it
 abbrev pub table_alone : Table → TableKind → ModuleField
 table_alone t (table.Import source ty) = import_of t.span t.id None source (kind.Table ty)
 table_alone t (table.Normal ty init) = field.Table (record t { exports = no_exports; kind = table.Normal ty init })
 table_alone t (table.Inline ty is64 shared p) = field.Table (record t { exports = no_exports; kind = table.Normal (filled_table_type ty is64 shared p) None })
 
+-- a memory, or the import that stands for it
 abbrev pub memory_alone : Memory → MemoryKind → ModuleField
 memory_alone m (memory.Import source ty) = import_of m.span m.id None source (kind.Memory ty)
 memory_alone m (memory.Normal ty) = field.Memory (record m { exports = no_exports; kind = memory.Normal ty })
 memory_alone m (memory.Inline is64 pieces exponent) = field.Memory (record m { exports = no_exports; kind = memory.Normal (filled_memory_type is64 pieces exponent) })
 
+-- a global, or the import that stands for it
 abbrev pub global_alone : Global → GlobalKind → ModuleField
 global_alone g (global.Import source) = import_of g.span g.id None source (kind.Global g.ty)
 global_alone g (global.Inline e) = field.Global (record g { exports = no_exports; kind = global.Inline e })
 
+-- a tag, or the import that stands for it
 abbrev pub tag_alone : Tag → TagKind → ModuleField
 tag_alone t (tag_kind.Import source) = import_of t.span t.id None source (kind.Tag t.ty)
 tag_alone t tag_kind.Inline = field.Tag (record t { exports = no_exports; kind = tag_kind.Inline })

@@ -29,6 +29,7 @@ abbrev pub written_after : List Item → List ModuleField → List ModuleField
 written_after before [] = []
 written_after before (f ∷ fs) = write_out (by_position before) f ++ written_after (before ++ items_in f) fs
 
+-- The list that writing out gives by positions.
 abbrev pub written_out : List ModuleField → List ModuleField
 written_out fields = written_after [] fields
 

@@ -13,9 +13,11 @@ pub record Countdown : Type 0 where
   pub ahead : List (Option ℕ)
   pub found : Option Told
 
+-- a finder, as a countdown
 abbrev pub countdown : Finder → Countdown
 countdown f = record { ahead = f.ahead; found = option_map told f.found }
 
+-- how many items of the space of this one come before its first clash
 abbrev pub ahead_of : List (Option ℕ) → Item → Option ℕ
 ahead_of ahead x = slice_index_or ahead (rank_of x.space) None
 

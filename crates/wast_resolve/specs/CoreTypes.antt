@@ -22,6 +22,7 @@ index_of (Bare m) = []
 index_of (Clause n holds) = []
 index_of (Supported holds) = []
 
+-- those of a list
 abbrev pub indices_of : List Ask → List Index
 indices_of asks = flat_map index_of asks
 

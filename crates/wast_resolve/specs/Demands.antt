@@ -30,9 +30,11 @@ abbrev pub new_name_by : (Name → Cause) → List (Option Name) → Option Mark
 new_name_by fault earlier None = []
 new_name_by fault earlier (Some m) = one_demand (fault m.0) m.1 (not (is_borne m.0 earlier))
 
+-- E2, for what is called by this word
 abbrev pub new_name_in : List ℕ → List (Option Name) → Option Mark → List Demand
 new_name_in word earlier id = new_name_by (λ name. Duplicate word) earlier id
 
+-- E3, for what is called by this word
 abbrev pub new_field_name_in : List ℕ → List (Option Name) → Option Mark → List Demand
 new_field_name_in word earlier id = new_name_by (λ name. DuplicateField word (text_of name)) earlier id
 
@@ -44,6 +46,7 @@ own_demand before x = new_name_in (word_of x.space) (names_in x.space before) x.
 abbrev pub field_demand : List (Option Mark) → Option Mark → List Demand
 field_demand before id = new_field_name_in (codes "field") (map name_if before) id
 
+-- those of all fields of a struct
 abbrev pub field_demands : List (Option Mark) → List Demand
 field_demands ids = each_after field_demand [] ids
 
@@ -51,6 +54,7 @@ field_demands ids = each_after field_demand [] ids
 abbrev pub item_demand : List Item → Item → List Demand
 item_demand before x = own_demand before x ++ field_demands x.fields
 
+-- those of all items
 abbrev pub item_demands : List Item → List Demand
 item_demands xs = each_after item_demand [] xs
 
@@ -61,6 +65,7 @@ ask_demand k (Bare m) = []
 ask_demand k (Clause n holds) = []
 ask_demand k (Supported holds) = []
 
+-- those of all that is asked
 abbrev pub ask_demands : Known → List Ask → List Demand
 ask_demands k asks = flat_map (ask_demand k) asks
 
@@ -70,6 +75,7 @@ match_with same place None = one_demand OutOfBounds place false
 match_with same place (Some None) = one_demand NotFunc place false
 match_with same place (Some (Some s)) = one_demand NoMatch place (same s)
 
+-- of an inline type, and of the index beside it
 abbrev pub match_demands : Scope → Index → FunctionType → List Demand
 match_demands c i t = match_with (matches c.known t) (span_of_index i) (type_at c.types (denoted (c.known.number space.Ty) i))
 
@@ -90,6 +96,7 @@ site_demand c (Asked a) = ask_demand c.known a
 site_demand c (Used u) = use_demand c u
 site_demand c (Declared before m) = new_name_in (codes "local") before m
 
+-- those of all sites
 abbrev pub site_demands : Scope → List Site → List Demand
 site_demands c sites = flat_map (site_demand c) sites
 
@@ -110,26 +117,33 @@ demands fields = order_demands fields ++ name_demands fields
 abbrev pub space_counts : List Item → List ℕ
 space_counts xs = map (λ s. length (names_in s xs)) spaces
 
+-- the fields of each item
 abbrev pub field_counts : List Item → List ℕ
 field_counts xs = map (λ x. length x.fields) xs
 
+-- of each space, and of each item
 abbrev pub item_counts : List Item → List ℕ
 item_counts xs = space_counts xs ++ field_counts xs
 
+-- the ids of the locals; what is imported in place has none
 abbrev pub kind_marks : FuncKind → List (Option Mark)
 kind_marks (func.Import import exact) = []
 kind_marks (func.Inline locals e) = local_marks locals
 
+-- the ids of the parameters of an inline type, and of the locals after them
 abbrev pub declared : Option FunctionType → FuncKind → List (Option Mark)
 declared inline k = param_marks inline ++ kind_marks k
 
+-- the parameters and locals of a function
 abbrev pub local_counts_in : ModuleField → List ℕ
 local_counts_in (field.Func f) = length (declared f.ty.inline f.kind) ∷ []
 local_counts_in x = []
 
+-- of each function
 abbrev pub local_counts : List ModuleField → List ℕ
 local_counts fields = flat_map local_counts_in fields
 
+-- of items, of their fields, and of parameters and locals
 abbrev pub counts : List ModuleField → List ℕ
 counts fields = item_counts (items fields) ++ local_counts fields
 

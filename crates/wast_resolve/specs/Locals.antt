@@ -29,6 +29,7 @@ marks f g xs ys = map f xs ++ map g ys
 abbrev pub marks_of : List (Option Id × Option NameAnnotation × ValType) → List Local → List (Option Mark)
 marks_of params locals = marks (λ p. marked p.0) (λ l. marked l.id) params locals
 
+-- what they are called
 abbrev pub names : List (Option Mark) → List (Option Name)
 names ms = map name_if ms
 

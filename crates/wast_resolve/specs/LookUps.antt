@@ -19,9 +19,11 @@ is_settled k (Bare m) = true
 is_settled k (Clause n holds) = true
 is_settled k (Supported holds) = true
 
+-- each of all that is asked
 abbrev pub are_settled : Known → List Ask → Bool
 are_settled k asks = list_all (is_settled k) asks
 
+-- an index that is wanted in this space, where it is a generated id, is known
 abbrev pub IsSettledFor : Known → Space → Index → Type 0
 IsSettledFor k s i = IsTrue (are_settled k (in_index s i))
 

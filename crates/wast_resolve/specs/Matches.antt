@@ -6,6 +6,7 @@ use Rattle.wast_resolve.specs.Tree.{Index, FunctionType}
 use Rattle.wast_resolve.specs.Tree.space
 use Rattle.wast_resolve.specs.Scopes.{denoted}
 
+-- two numbers that are there, and are one
 abbrev pub same_number : Option ℕ → Option ℕ → Bool
 same_number None None = false
 same_number None (Some n) = false

@@ -11,6 +11,7 @@ use Rattle.wast_resolve.specs.declared.resolver.Ns.TheVariants as ns
 use Rattle.wast_namespace.specs.Namespaces.{NameSpace, coded_space, empty_from, number_in}
 use Rattle.wast_resolve.specs.Scopes.{Scope}
 
+-- the index space of a name space
 abbrev pub space_of : Ns → Space
 space_of ns.Func = space.Func
 space_of ns.Table = space.Table
@@ -32,9 +33,11 @@ pub record Resolution : Type 0 where
   pub spaces : List NameSpace
   pub types : List (Option Signature)
 
+-- what a resolver makes known
 abbrev pub known_of : Resolution → Known
 known_of r = known_in r.spaces
 
+-- what demands read of a resolver
 abbrev pub scope_of : Resolution → Scope
 scope_of r = record { known = known_of r; types = r.types }
 
@@ -42,6 +45,7 @@ scope_of r = record { known = known_of r; types = r.types }
 abbrev pub without_types : List NameSpace → Resolution
 without_types spaces = record { spaces = spaces; types = [] }
 
+-- with the function types by position
 abbrev pub with_types : Resolution → List (Option Signature) → Resolution
 with_types r types = record { spaces = r.spaces; types = types }
 
@@ -49,9 +53,11 @@ with_types r types = record { spaces = r.spaces; types = types }
 pub record KnownNames : Type 0 where
   pub spaces : List NameSpace
 
+-- names are given by their name spaces
 abbrev pub coded_names : Coded KnownNames
 coded_names = code_by (List NameSpace) (coded_list coded_space) (λ b. b.spaces) (λ spaces. record { spaces = spaces }) (λ _. refl)
 
+-- no name in any space
 abbrev pub no_names : KnownNames
 no_names = record { spaces = [] }
 

@@ -16,10 +16,12 @@ signatures_in x = map (λ t. taken_kind t.def.kind) (types_of x)
 abbrev pub signatures : List ModuleField → List (Option Signature)
 signatures fields = flat_map signatures_in fields
 
+-- what items make known, and the function types by position
 pub record Scope : Type 0 where
   pub known : Known
   pub types : List (Option Signature)
 
+-- that of a list of fields
 abbrev pub scope : List ModuleField → Scope
 scope fields = record { known = known (items fields); types = signatures fields }
 

@@ -12,10 +12,12 @@ abbrev pub written_id : Option Id → Option Id
 written_id None = None
 written_id (Some id) = cond (is_generated (name_of id)) None (Some id)
 
+-- a number, without its place; an id as it is
 abbrev pub at_start : Index → Index
 at_start (index.Num n span) = index.Num n start_of_text
 at_start (index.Id id) = index.Id id
 
+-- a type use, its index without its place
 abbrev pub stripped_use : TypeUse FunctionType → TypeUse FunctionType
 stripped_use u = record u { index = option_map at_start u.index }
 

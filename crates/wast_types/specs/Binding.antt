@@ -12,9 +12,11 @@ pub record State : Type 0 where
   pub implied : List ModuleField
   pub next : ℕ
 
+-- these three together
 abbrev pub state : BoundSignatures → List ModuleField → ℕ → State
 state bound implied next = record { bound = bound; implied = implied; next = next }
 
+-- those that are not bound, each once
 abbrev pub new_signatures : BoundSignatures → List Signature → List Signature
 new_signatures bound ss = first_new (λ s. is_some (index_of bound s)) ss
 

@@ -20,9 +20,11 @@ abbrev pub is_unnamed : Option ty.«Type» → Bool
 is_unnamed None = false
 is_unnamed (Some t) = is_none t.id
 
+-- whether a field is a type that wants an id
 abbrev pub lacks_id : ModuleField → Bool
 lacks_id x = is_unnamed (lone_type x)
 
+-- a type of its own, with the id of a generation; another field as it is
 abbrev pub with_type_id : ℕ → ModuleField → ModuleField
 with_type_id n (field.Ty t) = field.Ty (record t { id = Some (generated n t.span) })
 with_type_id n x = x
@@ -31,6 +33,7 @@ with_type_id n x = x
 abbrev pub nameless : ValType → Option Id × Option NameAnnotation × ValType
 nameless v = (None, None, v)
 
+-- the definition of the type of a signature
 abbrev pub def_of : Signature → Bool → TypeDef
 def_of s is_shared = record {
   kind = inner.Func (record { params = map nameless s.0; results = s.1 });
@@ -41,15 +44,19 @@ def_of s is_shared = record {
   final_type = None;
 }
 
+-- where what no text has stands
 abbrev pub start_of_text : Span
 start_of_text = record { offset = 0 }
 
+-- the type of a signature, without an id
 abbrev pub unnamed_type : Signature → ModuleField
 unnamed_type s = field.Ty (record { span = start_of_text; id = None; name = None; def = def_of s false })
 
+-- the same, with the id of a generation
 abbrev pub implied_type : ℕ → Signature → ModuleField
 implied_type n s = with_type_id n (unnamed_type s)
 
+-- one for each signature, their generations rising by one
 abbrev pub implied_types : ℕ → List Signature → List ModuleField
 implied_types n [] = []
 implied_types n (s ∷ ss) = implied_type n s ∷ implied_types (n + 1) ss
@@ -65,9 +72,11 @@ binding_of (inner.Func t) (Some id) = (signature_of t, index.Id id) ∷ []
 binding_of (inner.Struct t) id = []
 binding_of (inner.Array t) id = []
 
+-- what a field binds: a function type of its own, to its id
 abbrev pub bindings_in : ModuleField → BoundSignatures
 bindings_in x = if_there (λ (t : ty.«Type»). binding_of t.def.kind t.id) (lone_type x)
 
+-- what all fields bind
 abbrev pub bindings : List ModuleField → BoundSignatures
 bindings fields = flat_map bindings_in fields
 
@@ -76,6 +85,7 @@ abbrev pub bound_index : LookUp → Option Index → Option FunctionType → Opt
 bound_index find None inline = find (inline_signature inline)
 bound_index find (Some i) inline = Some i
 
+-- a type use, with the index of its type
 abbrev pub bound_use : LookUp → TypeUse FunctionType → TypeUse FunctionType
 bound_use find u = record u { index = bound_index find u.index u.inline }
 
@@ -83,6 +93,7 @@ bound_use find u = record u { index = bound_index find u.index u.inline }
 abbrev pub binding : LookUp → Change
 binding find = record { index = λ s i. i; used = bound_use find; id = λ o. o }
 
+-- a field, its type uses bound
 abbrev pub bound_field : LookUp → ModuleField → ModuleField
 bound_field find x = mapped (binding find) x
 

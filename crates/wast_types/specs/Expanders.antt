@@ -21,6 +21,7 @@ index_of bindings s = lookup (same_signature s) bindings
 abbrev pub with_more : LookUp → BoundSignatures → LookUp
 with_more find more s = option_or (find s) (index_of more s)
 
+-- the new list finds what the old one does, and else what these do
 abbrev pub Extends : BoundSignatures → BoundSignatures → BoundSignatures → Type 0
 Extends old new more = (s : Signature) → index_of new s ≡ with_more (index_of old) more s
 

@@ -23,6 +23,7 @@ written_in x = if_there (λ (t : ty.«Type»). written_kind t.def.kind) (lone_ty
 abbrev pub written_signatures : List ModuleField → List Signature
 written_signatures fields = flat_map written_in fields
 
+-- whether one of these is the signature
 abbrev pub is_among : List Signature → Signature → Bool
 is_among ts s = list_any (same_signature s) ts
 

@@ -34,6 +34,7 @@ ImpliedAreDistinct = (fields : List ModuleField) → IsTrue (are_distinct (impli
 abbrev pub StaysExpanded : Type 0
 StaysExpanded = (m n : ℕ) (fields : List ModuleField) → expanded m (expanded n fields) ≡ expanded n fields
 
+-- An expanded list wants no more ids.
 abbrev pub WantsNoMore : Type 0
 WantsNoMore = (n : ℕ) (fields : List ModuleField) → ids_wanted (expanded n fields) ≡ 0
 

@@ -14,6 +14,7 @@ abbrev pub needed_without : Option Index → Option FunctionType → List Signat
 needed_without None inline = inline_signature inline ∷ []
 needed_without (Some i) inline = []
 
+-- of a type use
 abbrev pub needed_by_use : TypeUse FunctionType → List Signature
 needed_by_use u = needed_without u.index u.inline
 
@@ -27,5 +28,6 @@ needed_at (Declared before m) = []
 abbrev pub needed_in : List Site → List Signature
 needed_in sites = flat_map needed_at sites
 
+-- of all fields, in the order of their sites
 abbrev pub needed : List ModuleField → List Signature
 needed fields = needed_in (in_module fields)

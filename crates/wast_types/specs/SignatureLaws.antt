@@ -67,12 +67,15 @@ value_is v w = refl
 same_value_is : same_value ≡ values.ghosts.eq
 same_value_is = fun_ext (λ v. fun_ext (value_is v))
 
+-- the same of lists of value types
 pub same_values_are : (vs ws : List ValType) → same_values vs ws ≡ pointwise values.ghosts.eq vs ws
 same_values_are vs ws = ap (λ (same : ValType → ValType → Bool). pointwise same vs ws) same_value_is
 
+-- equality of lists of value types is an equivalence
 pub values_equiv : IsEquivalence same_values
 values_equiv = lists_equiv (subst IsEquivalence (sym same_value_is) equal.laws-law)
 
+-- equality of signatures is an equivalence
 pub signatures_equiv : IsEquivalence same_signature
 signatures_equiv = and_equiv (on_equiv (λ (s : Signature). s.0) values_equiv) (on_equiv (λ (s : Signature). s.1) values_equiv)
 
@@ -83,5 +86,6 @@ signature_fed F s = fed.slice F s.0 ++ fed.slice F s.1
 values_alike : Alike same_values (fed.slice hashed.ghosts.hash_input)
 values_alike = items_Alike (record { fed = λ v w h. alike.respects_eq-law v w (sym (value_is v w) ∙ h) })
 
+-- equal signatures are hashed alike
 pub signatures_alike : Alike same_signature (signature_fed hashed.ghosts.hash_input)
 signatures_alike = and-Alike (on_Alike (λ (s : Signature). s.0) values_alike) (on_Alike (λ (s : Signature). s.1) values_alike)

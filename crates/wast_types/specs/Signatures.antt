@@ -12,9 +12,11 @@ use Rattle.wast_types.specs.Tree.value
 abbrev pub Signature : Type 0
 Signature = List ValType × List ValType
 
+-- the type of a parameter, without its names
 abbrev pub type_of_param : Option Id × Option NameAnnotation × ValType → ValType
 type_of_param p = p.2
 
+-- the signature of a function type
 abbrev pub signature_of : FunctionType → Signature
 signature_of t = (map type_of_param t.params, t.results)
 
@@ -44,6 +46,7 @@ same_heap_by same (heap.Concrete i) (heap.Concrete j) = same i j
 same_heap_by same (heap.Abstract s a) (heap.Concrete j) = false
 same_heap_by same (heap.Concrete i) (heap.Abstract t b) = false
 
+-- of reference types
 abbrev pub same_ref_by : (Index → Index → Bool) → RefType → RefType → Bool
 same_ref_by same r q = beq r.nullable q.nullable && same_heap_by same r.heap q.heap
 
@@ -65,18 +68,22 @@ reference_in value.F64 = None
 reference_in value.V128 = None
 reference_in (value.Ref r) = Some r
 
+-- of reference types that may be missing
 abbrev pub same_reference_by : (Index → Index → Bool) → Option RefType → Option RefType → Bool
 same_reference_by same None None = true
 same_reference_by same (Some r) (Some q) = same_ref_by same r q
 same_reference_by same None (Some q) = false
 same_reference_by same (Some r) None = false
 
+-- of value types
 abbrev pub same_value_by : (Index → Index → Bool) → ValType → ValType → Bool
 same_value_by same a b = value_rank a == value_rank b && same_reference_by same (reference_in a) (reference_in b)
 
+-- of lists of value types
 abbrev pub same_values_by : (Index → Index → Bool) → List ValType → List ValType → Bool
 same_values_by same vs ws = pointwise (same_value_by same) vs ws
 
+-- of signatures
 abbrev pub same_signature_by : (Index → Index → Bool) → Signature → Signature → Bool
 same_signature_by same s t = same_values_by same s.0 t.0 && same_values_by same s.1 t.1
 
@@ -84,14 +91,18 @@ same_signature_by same s t = same_values_by same s.0 t.0 && same_values_by same 
 abbrev pub same_heap : HeapType → HeapType → Bool
 same_heap a b = same_heap_by same_index a b
 
+-- of reference types, as they are written
 abbrev pub same_ref : RefType → RefType → Bool
 same_ref r q = same_ref_by same_index r q
 
+-- of value types, as they are written
 abbrev pub same_value : ValType → ValType → Bool
 same_value a b = same_value_by same_index a b
 
+-- of lists of value types, as they are written
 abbrev pub same_values : List ValType → List ValType → Bool
 same_values vs ws = same_values_by same_index vs ws
 
+-- of signatures, as they are written
 abbrev pub same_signature : Signature → Signature → Bool
 same_signature s t = same_signature_by same_index s t

@@ -20,9 +20,11 @@ abbrev pub types_in : ModuleField → List (Option Signature)
 types_in (field.Ty t) = taken_kind t.def.kind ∷ []
 types_in x = map (λ t. None) (types_of x)
 
+-- the signatures of all types, by their positions
 abbrev pub type_space : List ModuleField → List (Option Signature)
 type_space fields = flat_map types_in fields ++ map Some (implied fields)
 
+-- whether a type is one of functions with this signature
 abbrev pub has_signature : Signature → Option Signature → Bool
 has_signature s None = false
 has_signature s (Some t) = same_signature s t
@@ -35,14 +37,17 @@ index_for fields s = position (has_signature s) (type_space fields)
 abbrev pub ids_in : ModuleField → List (Option Id)
 ids_in x = map (λ (t : ty.«Type»). t.id) (types_of x)
 
+-- those of all fields
 abbrev pub type_ids : List ModuleField → List (Option Id)
 type_ids fields = flat_map ids_in fields
 
+-- the index that a type with an id is referred to by
 abbrev pub index_by_id : Option (Option Id) → Option Index
 index_by_id None = None
 index_by_id (Some None) = None
 index_by_id (Some (Some id)) = Some (index.Id id)
 
+-- that of the type at a position
 abbrev pub index_by_id_at : Option ℕ → List (Option Id) → Option Index
 index_by_id_at None ids = None
 index_by_id_at (Some k) ids = index_by_id (slice_get ids k)
