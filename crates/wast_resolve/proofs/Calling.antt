@@ -8,10 +8,10 @@ use Rattle.wast_base.specs.declared.faults.Error.{Error}
 use Rattle.wast_tree.specs.Sites.{Ask, Wants, Supported, if_there, in_id, in_index, in_descriptor, in_inner, in_def}
 use Rattle.wast_resolve.specs.Tree.{Id, Index, Space, TypeDef}
 use Rattle.wast_resolve.specs.Tree.space
-use Rattle.wast_resolve.specs.CoreTypes.{Calls, none_left, answered, refused, index_of, indices_of, CallsOn, HasNeeds}
+use Rattle.wast_resolve.specs.CoreTypes.{Calls, none_left, answered, refused, index_asked, indices_of, CallsOn, HasNeeds}
 
 pub indices-append : (xs ys : List Ask) → indices_of (xs ++ ys) ≡ indices_of xs ++ indices_of ys
-indices-append xs ys = flat_map-append index_of xs ys
+indices-append xs ys = flat_map-append index_asked xs ys
 
 pub calls_both : {C : Type 0} {called : C → Index → C → Index → Result ℕ Error → Type 0} {a b c : C} {is js ks ls : List Index} {x : Unit {0}} {result : Result (Unit {0}) Error}
     → Calls called a is b js (Ok x) → Calls called b ks c ls result → Calls called a (is ++ ks) c (js ++ ls) result

@@ -16,15 +16,15 @@ pub data Calls {C : Type 0} (called : C → Index → C → Index → Result ℕ
   refused : {a b : C} {i j : Index} {is : List Index} {e : Error} → called a i b j (Err e) → Calls called a (i ∷ is) b (j ∷ is) (Err e)
 
 -- the indices among what is asked
-abbrev pub index_of : Ask → List Index
-index_of (Wants s i) = i ∷ []
-index_of (Bare m) = []
-index_of (Clause n holds) = []
-index_of (Supported holds) = []
+abbrev pub index_asked : Ask → List Index
+index_asked (Wants s i) = i ∷ []
+index_asked (Bare m) = []
+index_asked (Clause n holds) = []
+index_asked (Supported holds) = []
 
 -- those of a list
 abbrev pub indices_of : List Ask → List Index
-indices_of asks = flat_map index_of asks
+indices_of asks = flat_map index_asked asks
 
 -- what stands in a part of a type, before and after the calls on its indices
 pub record CallsOn {C : Type 0} (called : C → Index → C → Index → Result ℕ Error → Type 0) (old : C) (before : List Ask) (new : C) (after : List Ask) (result : Result (Unit {0}) Error) : Type 0 where
