@@ -109,7 +109,7 @@ module _ {xs ys : List ModuleField} (h : LookAlike xs ys) where
 
   pub alike_implied : implied xs ≡ implied ys
   alike_implied =
-      ap (λ (ss : List Signature). first_new (is_among ss) (needed xs)) (alike (λ l. l.writes)) ∙ ap (λ (ss : List Signature). first_new (is_among (implied_types.written ys)) ss) alike_needed
+      ap (λ (ss : List Signature). first_new (is_among ss) (needed xs)) (alike (λ l. l.writes)) ∙ ap (λ (ss : List Signature). first_new (is_among (implied_types.written_signatures ys)) ss) alike_needed
 
   alike_type_space : type_space xs ≡ type_space ys
   alike_type_space = ap (λ ts. ts ++ map Some (implied xs)) (alike (λ l. l.types)) ∙ ap (λ (ss : List Signature). flat_map types_in ys ++ map Some ss) alike_implied
