@@ -3,7 +3,7 @@
 use Rattle.std.proofs.Common.{◌≡◌, Bool, true, ◌&&◌, List, [], refl, sym, ◌∙◌}
 use Rattle.std.specs.Prelude.{is_some}
 use Rattle.wast_base.specs.Ids.{is_number}
-use Rattle.wast_tree.specs.Sites.{Ask, Wants, Bare, Clause, Supported, Site, Asked, Used, Declared, asking, in_type, in_rec, in_type_use, in_use, in_func, in_func_kind, param_marks, in_table_kind, in_memory_kind, in_global, in_field, in_module, asked_in, asked}
+use Rattle.wast_tree.specs.Sites.{Ask, Wants, Unasked, Clause, Supported, Site, Asked, Used, Declared, asking, in_type, in_rec, in_type_use, in_use, in_func, in_func_kind, param_marks, in_table_kind, in_memory_kind, in_global, in_field, in_module, asked_in, asked}
 use Rattle.wast_tree.specs.Known.{Known}
 use Rattle.wast_tree.specs.WellFormed.{is_kept, are_kept}
 use Rattle.wast_tree.specs.Resolved.{is_numbered, are_numbered, is_resolved_site, is_resolved}
@@ -19,7 +19,7 @@ use Rattle.wast_conv.proofs.Standing.{asking_passes, behind_none}
 
 ask_ready : (k : Known) (a : Ask) → is_kept k a ≡ true → is_numbered a ≡ true → is_encodable_ask a ≡ true
 ask_ready k (Wants s i) kept numbered = numbered
-ask_ready k (Bare m) kept numbered = refl
+ask_ready k (Unasked m) kept numbered = refl
 ask_ready k (Clause n holds) kept numbered = kept
 ask_ready k (Supported holds) kept numbered = kept
 
@@ -46,7 +46,7 @@ fields_ready k fields kept resolved written =
 
 ask_numbered : (a : Ask) → is_encodable_ask a ≡ true → is_numbered a ≡ true
 ask_numbered (Wants s i) h = h
-ask_numbered (Bare m) h = refl
+ask_numbered (Unasked m) h = refl
 ask_numbered (Clause n holds) h = refl
 ask_numbered (Supported holds) h = refl
 

@@ -3,7 +3,7 @@
 use Rattle.std.specs.Prelude.{Bool, true, ◌&&◌, is_some, List, [], Option, Some, None}
 use Rattle.std.specs.List.{list_all}
 use Rattle.wast_base.specs.Ids.{is_number}
-use Rattle.wast_tree.specs.Sites.{Ask, Wants, Bare, Clause, Supported, Site, Asked, Used, Declared, start, in_type, in_type_use, in_instr, in_instrs, in_func_kind, in_table_kind, in_global, in_import, in_elem, in_data_kind, in_tag_type, in_field}
+use Rattle.wast_tree.specs.Sites.{Ask, Wants, Unasked, Clause, Supported, Site, Asked, Used, Declared, start, in_type, in_type_use, in_instr, in_instrs, in_func_kind, in_table_kind, in_global, in_import, in_elem, in_data_kind, in_tag_type, in_field}
 use Rattle.wast_tree.specs.Resolved.{is_resolved_site}
 use Rattle.wast_tree.specs.WrittenOut.{is_written_func, is_written_table, is_written_memory, is_written_global, is_written_field}
 use Rattle.wast_conv.specs.Tree.{Index, TypeUse, FunctionType, Instruction, Expression, FuncKind, Imports, Table, Memory, Global, Tag, Elem, Data, ModuleField}
@@ -11,7 +11,7 @@ use Rattle.wast_conv.specs.Tree.ty
 
 abbrev pub is_encodable_ask : Ask → Bool
 is_encodable_ask (Wants s i) = is_number i
-is_encodable_ask (Bare m) = true
+is_encodable_ask (Unasked m) = true
 is_encodable_ask (Clause n holds) = holds
 is_encodable_ask (Supported holds) = holds
 

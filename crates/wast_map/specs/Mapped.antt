@@ -20,7 +20,7 @@ use Rattle.wast_map.specs.Tree.elem
 use Rattle.wast_map.specs.Tree.payload
 use Rattle.wast_map.specs.Tree.data_kind
 use Rattle.wast_map.specs.Tree.field
-use Rattle.wast_tree.specs.Sites.{Here, start, behind, param_marks, local_marks, body_here, exported_space, Ask, Wants, Bare, Clause, Supported, Site, Asked, Used, Declared}
+use Rattle.wast_tree.specs.Sites.{Here, start, behind, param_marks, local_marks, body_here, exported_space, Ask, Wants, Unasked, Clause, Supported, Site, Asked, Used, Declared}
 
 -- what an index becomes where one of a space is wanted
 abbrev pub Indices : Type 0
@@ -249,7 +249,7 @@ mapped f (field.Tag t) = field.Tag (mapped_tag f t)
 -- What stands in a mapped part.
 abbrev pub mapped_ask : Indices → Ask → Ask
 mapped_ask f (Wants s i) = Wants s (f s i)
-mapped_ask f (Bare m) = Bare m
+mapped_ask f (Unasked m) = Unasked m
 mapped_ask f (Clause n holds) = Clause n holds
 mapped_ask f (Supported holds) = Supported holds
 
@@ -266,7 +266,7 @@ KeepsMarks f = (u : TypeUse FunctionType) → param_marks (f.used u).inline ≡ 
 -- At a site, two changes after one another are a third.
 abbrev pub JoinsAsk : Indices → Indices → Indices → Ask → Type 0
 JoinsAsk h g f (Wants s i) = g s (h s i) ≡ f s i
-JoinsAsk h g f (Bare m) = ⊤
+JoinsAsk h g f (Unasked m) = ⊤
 JoinsAsk h g f (Clause n holds) = ⊤
 JoinsAsk h g f (Supported holds) = ⊤
 

@@ -9,7 +9,7 @@ use Rattle.wast_base.specs.Ids.{Name, name_of, is_number}
 use Rattle.wast_base.specs.Faults.{Cause}
 use Rattle.wast_base.specs.Spaces.{is_settled_index}
 use Rattle.wast_tree.specs.Items.{items}
-use Rattle.wast_tree.specs.Sites.{Ask, Wants, Bare, Clause, Supported, Site, Asked, Used, Declared, in_type_use, asked_in, asked, in_module}
+use Rattle.wast_tree.specs.Sites.{Ask, Wants, Unasked, Clause, Supported, Site, Asked, Used, Declared, in_type_use, asked_in, asked, in_module}
 use Rattle.wast_tree.specs.Known.{Known, known}
 use Rattle.wast_tree.specs.Generations.{generation_in, greatest_item, greatest_asked, greatest_generation}
 use Rattle.wast_tree.specs.WellFormed.{is_kept, are_kept, is_well_formed}
@@ -49,7 +49,7 @@ module _ (k : Known) where
   below_ask : (a : Ask) → generation_in (mapped_ask (numbered_at k) a) ≤ generation_in a
   below_ask (Wants s (index.Num n span)) = omega arith
   below_ask (Wants s (index.Id id)) = below_index id (k.number s (name_of id)) s
-  below_ask (Bare m) = omega arith
+  below_ask (Unasked m) = omega arith
   below_ask (Clause n holds) = omega arith
   below_ask (Supported holds) = omega arith
 
@@ -68,7 +68,7 @@ module _ (k : Known) where
   module _ (l : Known) where
     kept_ask : (a : Ask) → is_kept k a ≡ true → is_numbered (mapped_ask (numbered_at k) a) ≡ true → is_kept l (mapped_ask (numbered_at k) a) ≡ true
     kept_ask (Wants s i) h n = number_settles (l.number s) (numbered_at k s i) n
-    kept_ask (Bare m) h n = refl
+    kept_ask (Unasked m) h n = refl
     kept_ask (Clause n holds) h m = h
     kept_ask (Supported holds) h m = h
 

@@ -6,7 +6,7 @@ use Rattle.wast_base.specs.Ids.{Name, name_of, generation_of}
 use Rattle.wast_base.specs.Filling.{one_if, given_if, filled, wanted}
 use Rattle.wast_tree.specs.Items.{items}
 use Rattle.wast_tree.specs.Known.{Known, known}
-use Rattle.wast_tree.specs.Sites.{Ask, Wants, Bare, Clause, Supported, asked, in_module}
+use Rattle.wast_tree.specs.Sites.{Ask, Wants, Unasked, Clause, Supported, asked, in_module}
 use Rattle.wast_tree.specs.Generations.{generation_in, greatest_asked, greatest_generation}
 use Rattle.wast_map.specs.Mapped.{mapped, mapped_def}
 use Rattle.wast_map.specs.Laws.{all_mapped}
@@ -79,7 +79,7 @@ module _ (k l : Known) (n : ℕ) (alike : (q : Name) (s : Space) → generation_
   ask_alike : (a : Ask) → generation_in a < n → SameAsk k l a
   ask_alike (Wants s (index.Num m p)) lt = refl
   ask_alike (Wants s (index.Id id)) lt = ap (λ o. numbered_by o id) (alike (name_of id) s lt)
-  ask_alike (Bare m) lt = tt
+  ask_alike (Unasked m) lt = tt
   ask_alike (Clause m holds) lt = tt
   ask_alike (Supported holds) lt = tt
 

@@ -1,7 +1,7 @@
 -- Lists are told alike, generated ids and places of type uses aside, where each index that stands in them is numbered alike and
 -- where their type uses are bound to indices that are numbered alike.
 use Rattle.std.proofs.Common.{◌≡◌, List, [], ◌∷◌, Option, Some, None, option_map, refl, sym, ap, ◌∙◌}
-use Rattle.wast_tree.specs.Sites.{Ask, Wants, Bare, Clause, Supported, Site, Asked, Used, Declared, if_there, in_index, in_signature, in_module, asked_in, asked}
+use Rattle.wast_tree.specs.Sites.{Ask, Wants, Unasked, Clause, Supported, Site, Asked, Used, Declared, if_there, in_index, in_signature, in_module, asked_in, asked}
 use Rattle.wast_tree.specs.Known.{Known}
 use Rattle.wast_map.specs.Mapped.{Change, same, then, mapped_signature, JoinsAsk, Joins, Each}
 use Rattle.wast_map.specs.Laws.{all_mapped}
@@ -56,7 +56,7 @@ module _ (k l : Known) where
 
     site_alike : (s : Site) → Same (asked_in s) → Joins same (telling k find) (telling l other) s
     site_alike (Asked (Wants s i)) h = h.0
-    site_alike (Asked (Bare m)) h = tt
+    site_alike (Asked (Unasked m)) h = tt
     site_alike (Asked (Clause n holds)) h = tt
     site_alike (Asked (Supported holds)) h = tt
     site_alike (Used u) h = use_alike u h

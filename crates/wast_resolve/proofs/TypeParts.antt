@@ -5,7 +5,7 @@ use Rattle.std.specs.List.{flat_map}
 use Rattle.std.proofs.lemmas.List.{length-append, map-append}
 use Rattle.wast_resolve.specs.Tree.{Id, Index}
 use Rattle.wast_resolve.specs.Tree.space
-use Rattle.wast_tree.specs.Sites.{Ask, Wants, Bare, Clause, Supported, if_there, in_id, in_index, in_descriptor}
+use Rattle.wast_tree.specs.Sites.{Ask, Wants, Unasked, Clause, Supported, if_there, in_id, in_index, in_descriptor}
 use Rattle.wast_map.specs.Mapped.{Indices}
 use Rattle.wast_resolve.specs.CoreTypes.{indices_of, blank}
 use Rattle.wast_resolve.proofs.Calling.{indices-append}
@@ -13,7 +13,7 @@ use Rattle.wast_resolve.proofs.Calling.{indices-append}
 -- what is asked, of types
 abbrev pub as_type : Ask → Ask
 as_type (Wants s i) = Wants space.Ty i
-as_type (Bare m) = Bare m
+as_type (Unasked m) = Unasked m
 as_type (Clause n holds) = Clause n holds
 as_type (Supported holds) = Supported holds
 

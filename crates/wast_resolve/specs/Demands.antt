@@ -10,7 +10,7 @@ use Rattle.wast_base.specs.Faults.{Cause, Duplicate, DuplicateField, OutOfBounds
 use Rattle.wast_base.specs.declared.faults.Error.{Error}
 use Rattle.wast_base.specs.Spaces.{spaces, word_of, name_if, is_borne}
 use Rattle.wast_tree.specs.Items.{Item, items}
-use Rattle.wast_tree.specs.Sites.{Ask, Wants, Bare, Clause, Supported, Site, Asked, Used, Declared, in_type_use, param_marks, local_marks, in_module}
+use Rattle.wast_tree.specs.Sites.{Ask, Wants, Unasked, Clause, Supported, Site, Asked, Used, Declared, in_type_use, param_marks, local_marks, in_module}
 use Rattle.wast_tree.specs.Known.{Known, names_in}
 use Rattle.wast_types.specs.Signatures.{Signature}
 use Rattle.wast_deinline.specs.Segments.{overflows}
@@ -61,7 +61,7 @@ item_demands xs = each_after item_demand [] xs
 -- An id where an index is wanted denotes an item of the space.
 abbrev pub ask_demand : Known → Ask → List Demand
 ask_demand k (Wants s i) = known_index (k.number s) (word_of s) i
-ask_demand k (Bare m) = []
+ask_demand k (Unasked m) = []
 ask_demand k (Clause n holds) = []
 ask_demand k (Supported holds) = []
 

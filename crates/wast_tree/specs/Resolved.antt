@@ -3,12 +3,12 @@ use Rattle.std.specs.Prelude.{Bool, true, ◌&&◌, is_some, List}
 use Rattle.std.specs.List.{list_all}
 use Rattle.wast_base.specs.Ids.{is_number}
 use Rattle.wast_tree.specs.Tree.{ModuleField}
-use Rattle.wast_tree.specs.Sites.{Ask, Wants, Bare, Clause, Supported, Site, Asked, Used, Declared, in_type_use, asked, in_module}
+use Rattle.wast_tree.specs.Sites.{Ask, Wants, Unasked, Clause, Supported, Site, Asked, Used, Declared, in_type_use, asked, in_module}
 
 -- no id is left where an index is wanted
 abbrev pub is_numbered : Ask → Bool
 is_numbered (Wants s i) = is_number i
-is_numbered (Bare m) = true
+is_numbered (Unasked m) = true
 is_numbered (Clause n holds) = true
 is_numbered (Supported holds) = true
 

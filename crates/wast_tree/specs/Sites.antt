@@ -29,7 +29,7 @@ pub data Ask : Type 0 where
   -- an index, a number or an id, where one of this space is wanted
   Wants : Space → Index → Ask
   -- an id of which nothing is asked
-  Bare : Mark → Ask
+  Unasked : Mark → Ask
   -- the clause of "well formed" of this number, and whether it holds here
   Clause : ℕ → Bool → Ask
   -- whether what stands here is a form that the tree supports today
@@ -80,7 +80,7 @@ at_index s i = asking (in_index s i)
 
 -- an id
 abbrev pub in_id : Id → List Ask
-in_id id = Bare (mark_of id) ∷ []
+in_id id = Unasked (mark_of id) ∷ []
 
 -- what is referred to is not shared
 abbrev pub in_heap : HeapType → List Ask

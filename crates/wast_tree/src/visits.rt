@@ -5,7 +5,7 @@ ghost use Rattle.std.specs.Prelude.{◌≡◌, Bool, List, Option};
 ghost use Rattle.std.specs.Prelude.{flat_map};
 ghost use Rattle.wast_base.specs.Ids.{Mark, mark_of};
 ghost use Rattle.wast_tree.specs.Items.{Item, item, fields_of, items_of_type, items_of_import, items_in, items};
-ghost use Rattle.wast_tree.specs.Sites.{Ask, Wants, Bare, Clause, Supported, Here, if_there, in_index, in_id, in_heap, in_ref, in_val, in_storage, in_param, in_signature, in_struct_field, in_struct, in_array, in_inner, in_descriptor, in_def, in_type, in_rec, in_type_use, in_instr, in_instrs, in_expression, in_constant, in_local, in_func_kind, in_func, in_field, in_module, asked};
+ghost use Rattle.wast_tree.specs.Sites.{Ask, Wants, Unasked, Clause, Supported, Here, if_there, in_index, in_id, in_heap, in_ref, in_val, in_storage, in_param, in_signature, in_struct_field, in_struct, in_array, in_inner, in_descriptor, in_def, in_type, in_rec, in_type_use, in_instr, in_instrs, in_expression, in_constant, in_local, in_func_kind, in_func, in_field, in_module, asked};
 ghost use Rattle.wast_tree.specs.Visits.{Visits};
 
 use crate::fields::{Func, FuncKind, Local, ModuleField};
@@ -38,7 +38,7 @@ pub(crate) trait Visitor {
 
     /// An id of which nothing is asked.
     fn id(&mut self, id: &Id<'_>)
-        ensures { told self.old (Bare (mark_of id.now)) self.new };
+        ensures { told self.old (Unasked (mark_of id.now)) self.new };
 
     /// Whether the clause of this number of "well formed" holds.
     fn clause(&mut self, number: u8, holds: bool)

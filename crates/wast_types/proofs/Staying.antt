@@ -4,7 +4,7 @@ use Rattle.std.proofs.Common.{◌≡◌, List, [], ◌∷◌, ◌++◌, map, ref
 use Rattle.std.specs.List.{list_all}
 use Rattle.std.specs.Cmp.{first_so, second_so}
 use Rattle.std.proofs.lemmas.List.Folds.{list_all-append}
-use Rattle.wast_tree.specs.Sites.{Wants, Bare, Clause, Supported, Site, Asked, Used, Declared, in_field, in_module}
+use Rattle.wast_tree.specs.Sites.{Wants, Unasked, Clause, Supported, Site, Asked, Used, Declared, in_field, in_module}
 use Rattle.wast_types.specs.Tree.{Index, FunctionType, Rec, ModuleField}
 use Rattle.wast_types.specs.Tree.ty
 use Rattle.wast_types.specs.Tree.field
@@ -33,7 +33,7 @@ module _ (find : LookUp) where
   site_stays : (s : Site) → needed_at s ≡ [] → Joins same (binding find) same s
   site_stays (Used u) h = ap (λ (i : Option Index). record u { index = i }) (index_stays u.index u.inline h)
   site_stays (Asked (Wants s i)) h = refl
-  site_stays (Asked (Bare m)) h = tt
+  site_stays (Asked (Unasked m)) h = tt
   site_stays (Asked (Clause n holds)) h = tt
   site_stays (Asked (Supported holds)) h = tt
   site_stays (Declared before m) h = tt

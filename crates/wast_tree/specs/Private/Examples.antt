@@ -21,7 +21,7 @@ use Rattle.wast_tree.specs.Tree.bytes
 use Rattle.wast_tree.specs.Tree.field
 use Rattle.wast_base.specs.Ids.{Name, Written, Generated, Mark, mark_of, generated, same_id, same_index}
 use Rattle.wast_tree.specs.Items.{items}
-use Rattle.wast_tree.specs.Sites.{Wants, Bare, Clause, Supported, Site, Asked, Used, Declared, in_module, asked}
+use Rattle.wast_tree.specs.Sites.{Wants, Unasked, Clause, Supported, Site, Asked, Used, Declared, in_module, asked}
 use Rattle.wast_tree.specs.Known.{known}
 use Rattle.wast_tree.specs.WellFormed.{is_well_formed}
 use Rattle.wast_tree.specs.WrittenOut.{is_written_out}
@@ -155,18 +155,18 @@ StandsEverywhere = (a : Address) →
     ∷ supported false
     ∷ wanted space.Ty (made_index 5)
     ∷ supported false
-    ∷ Asked (Bare (made_mark 2))
+    ∷ Asked (Unasked (made_mark 2))
     ∷ wanted space.Ty (made_index 12)
     ∷ wanted space.Ty (made_index 13)
     ∷ supported true
-    ∷ Asked (Bare (made_mark 15))
+    ∷ Asked (Unasked (made_mark 15))
     ∷ wanted space.Ty (made_index 16)
     ∷ supported true
     ∷ wanted space.Ty (made_index 18)
     ∷ supported true
     ∷ Used (record { index = Some (made_index 9); inline = Some (record { params = (Some (made 10), None, value.I32) ∷ []; results = [] }) })
     ∷ wanted space.Ty (made_index 19)
-    ∷ Asked (Bare (made_mark 7))
+    ∷ Asked (Unasked (made_mark 7))
     ∷ Declared [] (Some (made_mark 10))
     ∷ Declared (Some (Generated 10) ∷ []) (Some (made_mark 7))
     ∷ wanted space.Func (made_index 8)
