@@ -19,21 +19,24 @@ pub record Body : Type 0 where
 abbrev pub LocalRun : Type 0
 LocalRun = ℕ × ValType
 
+-- both are set, or neither is
 abbrev pub is_same_flag : Bool → Bool → Bool
 is_same_flag true true = true
 is_same_flag false false = true
 is_same_flag a b = false
 
--- the same heap types, references and value types: of one form, with the same numbers
+-- the same heap types: of one form, with the same numbers
 abbrev pub is_same_heap_type : HeapType → HeapType → Bool
 is_same_heap_type (heap.Abstract s a) (heap.Abstract t b) = is_same_flag s t && (abstract_byte a == abstract_byte b)
 is_same_heap_type (heap.Concrete m) (heap.Concrete n) = m == n
 is_same_heap_type (heap.Exact m) (heap.Exact n) = m == n
 is_same_heap_type h k = false
 
+-- the same reference types
 abbrev pub is_same_ref_type : RefType → RefType → Bool
 is_same_ref_type r s = is_same_flag r.nullable s.nullable && is_same_heap_type r.heap_type s.heap_type
 
+-- the same value types
 abbrev pub is_same_type : ValType → ValType → Bool
 is_same_type val.I32 val.I32 = true
 is_same_type val.I64 val.I64 = true
@@ -48,6 +51,7 @@ abbrev pub in_front : Bool → ValType → LocalRun → List LocalRun → List L
 in_front true t r rs = (r.0 + 1, t) ∷ rs
 in_front false t r rs = (1, t) ∷ (r ∷ rs)
 
+-- one local more in front of runs
 abbrev pub with_local : ValType → List LocalRun → List LocalRun
 with_local t [] = (1, t) ∷ []
 with_local t (r ∷ rs) = in_front (is_same_type t r.1) t r rs
@@ -57,6 +61,7 @@ abbrev pub local_runs : List ValType → List LocalRun
 local_runs [] = []
 local_runs (t ∷ ts) = with_local t (local_runs ts)
 
+-- a run: how many locals, and their type
 abbrev pub local_run : LocalRun → List ℕ
 local_run r = unsigned r.0 ++ val_type r.1
 
@@ -64,6 +69,7 @@ local_run r = unsigned r.0 ++ val_type r.1
 abbrev pub InRangeRun : LocalRun → Type 0
 InRangeRun r = InRangeU32 r.0 × InRangeValType r.1
 
+-- the locals of a body, as runs
 abbrev pub locals : List ValType → List ℕ
 locals types = vec local_run (local_runs types)
 

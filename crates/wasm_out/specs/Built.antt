@@ -10,9 +10,11 @@ pub record Built : Type 0 where
   pub count : ℕ
   pub bytes : List ℕ
 
+-- a builder without items
 abbrev pub empty : Built
 empty = record { count = 0; bytes = [] }
 
+-- one item more
 abbrev pub built_with : Built → List ℕ → Built
 built_with b item = record { count = b.count + 1; bytes = b.bytes ++ item }
 

@@ -10,6 +10,7 @@ abbrev pub data_in : {O : Type 0} → (O → List ℕ) → DataMode O → List �
 data_in spell mode.Passive bytes = kept_bytes bytes
 data_in spell (mode.Active memory offset) bytes = placed_bytes memory (spell offset) bytes
 
+-- the number of the memory and the offset are in range
 abbrev pub InRangeDataIn : {O : Type 0} → (O → Type 0) → DataMode O → Type 0
 InRangeDataIn InRange mode.Passive = Unit {0}
 InRangeDataIn InRange (mode.Active memory offset) = InRangeU32 memory × InRange offset

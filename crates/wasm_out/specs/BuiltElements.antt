@@ -17,6 +17,7 @@ segment_bytes spell mode.Passive kind list = passive_bytes kind list
 segment_bytes spell mode.Declared kind list = declared_bytes kind list
 segment_bytes spell (mode.Active table offset) kind list = active_bytes table (spell offset) kind list
 
+-- the number of the table and the offset are in range
 abbrev pub InRangeMode : {O : Type 0} → (O → Type 0) → SegmentMode O → Type 0
 InRangeMode InRange mode.Passive = Unit {0}
 InRangeMode InRange mode.Declared = Unit {0}
@@ -38,15 +39,17 @@ is_form (mode.Active table offset) kind = has_active_form table kind
 abbrev pub ended : List ℕ → List ℕ
 ended bytes = bytes ++ 0x0b ∷ []
 
--- the kind of the elements that a builder is given, and their list
+-- the kind of the elements that a builder is given
 abbrev pub kind_in : Elements → ElementKind
 kind_in (elements.Functions functions) = kind.Functions
 kind_in (elements.Expressions ty expressions) = kind.Expressions ty
 
+-- the list of elements, behind its count
 abbrev pub listed_in : Elements → List ℕ
 listed_in (elements.Functions functions) = vec unsigned functions.items
 listed_in (elements.Expressions ty expressions) = vec ended expressions.items
 
+-- the numbers in it and its count are in range
 abbrev pub InRangeElements : Elements → Type 0
 InRangeElements (elements.Functions functions) = InRangeVec InRangeU32 functions.items
 InRangeElements (elements.Expressions ty expressions) = InRangeRefType ty × InRangeU32 (length expressions.items)

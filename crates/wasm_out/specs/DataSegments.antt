@@ -10,6 +10,7 @@ pub data DataMode : Type 0 where
   Kept : DataMode
   Placed : ℕ → List Instr → DataMode
 
+-- a segment: where its bytes stand, and the bytes
 pub record DataEntry : Type 0 where
   pub mode : DataMode
   pub bytes : List ℕ
@@ -18,6 +19,7 @@ pub record DataEntry : Type 0 where
 abbrev pub counted_bytes : List ℕ → List ℕ
 counted_bytes bytes = unsigned (length bytes) ++ bytes
 
+-- a passive segment
 abbrev pub kept_bytes : List ℕ → List ℕ
 kept_bytes bytes = 0x01 ∷ counted_bytes bytes
 
@@ -26,10 +28,12 @@ abbrev pub placed_bytes : ℕ → List ℕ → List ℕ → List ℕ
 placed_bytes zero offset bytes = 0x00 ∷ (offset ++ counted_bytes bytes)
 placed_bytes (suc n) offset bytes = 0x02 ∷ (unsigned (suc n) ++ (offset ++ counted_bytes bytes))
 
+-- a segment, by where its bytes stand
 abbrev pub data_bytes : DataMode → List ℕ → List ℕ
 data_bytes Kept bytes = kept_bytes bytes
 data_bytes (Placed memory offset) bytes = placed_bytes memory (expression offset) bytes
 
+-- the spelling of a segment
 abbrev pub data_entry : DataEntry → List ℕ
 data_entry d = data_bytes d.mode d.bytes
 
@@ -38,6 +42,7 @@ abbrev pub InRangeDataMode : DataMode → Type 0
 InRangeDataMode Kept = Unit {0}
 InRangeDataMode (Placed memory offset) = InRangeU32 memory × InRangeExpression offset
 
+-- the same of a segment
 abbrev pub InRangeDataEntry : DataEntry → Type 0
 InRangeDataEntry d = InRangeDataMode d.mode × InRangeU32 (length d.bytes)
 
@@ -46,6 +51,7 @@ abbrev pub is_covered_data_mode : DataMode → Bool
 is_covered_data_mode Kept = true
 is_covered_data_mode (Placed memory offset) = is_covered_expression offset
 
+-- the same of a segment
 abbrev pub is_covered_data_entry : DataEntry → Bool
 is_covered_data_entry d = is_covered_data_mode d.mode
 
@@ -54,5 +60,6 @@ abbrev pub HasRowsDataMode : DataMode → Type 0
 HasRowsDataMode Kept = Unit {0}
 HasRowsDataMode (Placed memory offset) = HasRowsExpression offset
 
+-- the same of a segment
 abbrev pub HasRowsDataEntry : DataEntry → Type 0
 HasRowsDataEntry d = HasRowsDataMode d.mode

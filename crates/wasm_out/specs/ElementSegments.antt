@@ -24,24 +24,27 @@ pub data ElementMode : Type 0 where
   Declared : ElementMode
   Active : Option ℕ → List Instr → ElementMode
 
+-- a segment: where its elements stand, and the elements
 pub record ElementEntry : Type 0 where
   pub mode : ElementMode
   pub items : ElementItems
 
--- the kind of elements, and their list
+-- the kind of elements
 abbrev pub kind_of : ElementItems → ElementKind
 kind_of (Indices functions) = kind.Functions
 kind_of (Expressions ty expressions) = kind.Expressions ty
 
+-- the list of elements, behind its count
 abbrev pub listed : ElementItems → List ℕ
 listed (Indices functions) = vec unsigned functions
 listed (Expressions ty expressions) = vec expression expressions
 
--- a segment by the kind of elements and the bytes of their list
+-- a passive segment, by the kind of elements and the bytes of their list
 abbrev pub passive_bytes : ElementKind → List ℕ → List ℕ
 passive_bytes kind.Functions list = 0x01 ∷ 0x00 ∷ list
 passive_bytes (kind.Expressions ty) list = 0x05 ∷ (ref_type ty ++ list)
 
+-- a segment that only declares its elements
 abbrev pub declared_bytes : ElementKind → List ℕ → List ℕ
 declared_bytes kind.Functions list = 0x03 ∷ 0x00 ∷ list
 declared_bytes (kind.Expressions ty) list = 0x07 ∷ (ref_type ty ++ list)
@@ -53,32 +56,38 @@ active_bytes (Some table) offset kind.Functions list = 0x02 ∷ (unsigned table 
 active_bytes None offset (kind.Expressions ty) list = 0x04 ∷ (offset ++ list)
 active_bytes (Some table) offset (kind.Expressions ty) list = 0x06 ∷ (unsigned table ++ (offset ++ (ref_type ty ++ list)))
 
+-- a segment, by where its elements stand
 abbrev pub element_bytes : ElementMode → ElementKind → List ℕ → List ℕ
 element_bytes Passive kind list = passive_bytes kind list
 element_bytes Declared kind list = declared_bytes kind list
 element_bytes (Active table offset) kind list = active_bytes table (expression offset) kind list
 
+-- the spelling of a segment
 abbrev pub element_entry : ElementEntry → List ℕ
 element_entry e = element_bytes e.mode (kind_of e.items) (listed e.items)
 
--- numbers and counts are in range
+-- Numbers and counts are in range: that of a table, where one is written.
 abbrev pub InRangeTable : Option ℕ → Type 0
 InRangeTable None = Unit {0}
 InRangeTable (Some table) = InRangeU32 table
 
+-- those of the table and the offset of an active segment
 abbrev pub InRangeElementMode : ElementMode → Type 0
 InRangeElementMode Passive = Unit {0}
 InRangeElementMode Declared = Unit {0}
 InRangeElementMode (Active table offset) = InRangeTable table × InRangeExpression offset
 
+-- those of the type of the expressions
 abbrev pub InRangeElementKind : ElementKind → Type 0
 InRangeElementKind kind.Functions = Unit {0}
 InRangeElementKind (kind.Expressions ty) = InRangeRefType ty
 
+-- those of the elements, and how many there are
 abbrev pub InRangeListed : ElementItems → Type 0
 InRangeListed (Indices functions) = InRangeVec InRangeU32 functions
 InRangeListed (Expressions ty expressions) = InRangeVec InRangeExpression expressions
 
+-- those of a segment
 abbrev pub InRangeElementEntry : ElementEntry → Type 0
 InRangeElementEntry e = InRangeElementMode e.mode × (InRangeElementKind (kind_of e.items) × InRangeListed e.items)
 
@@ -88,6 +97,7 @@ is_func (heap.Abstract shared ty) = not shared && (abstract_byte ty == abstract_
 is_func (heap.Concrete index) = false
 is_func (heap.Exact index) = false
 
+-- `funcref`
 abbrev pub is_funcref : RefType → Bool
 is_funcref r = r.nullable && is_func r.heap_type
 
@@ -97,20 +107,24 @@ has_active_form (Some table) kind = true
 has_active_form None kind.Functions = true
 has_active_form None (kind.Expressions ty) = is_funcref ty
 
+-- where the elements stand has a form for their kind: what is not active has one for each
 abbrev pub has_form : ElementMode → ElementKind → Bool
 has_form Passive kind = true
 has_form Declared kind = true
 has_form (Active table offset) kind = has_active_form table kind
 
+-- the encoder covers the offset
 abbrev pub is_covered_element_mode : ElementMode → Bool
 is_covered_element_mode Passive = true
 is_covered_element_mode Declared = true
 is_covered_element_mode (Active table offset) = is_covered_expression offset
 
+-- the encoder covers the type of the expressions
 abbrev pub is_covered_element_kind : ElementKind → Bool
 is_covered_element_kind kind.Functions = true
 is_covered_element_kind (kind.Expressions ty) = is_covered_ref_type ty
 
+-- the encoder covers the expressions
 abbrev pub is_covered_listed : ElementItems → Bool
 is_covered_listed (Indices functions) = true
 is_covered_listed (Expressions ty expressions) = list_all is_covered_expression expressions
@@ -126,9 +140,11 @@ HasRowsElementMode Passive = Unit {0}
 HasRowsElementMode Declared = Unit {0}
 HasRowsElementMode (Active table offset) = HasRowsExpression offset
 
+-- the same of the elements
 abbrev pub HasRowsListed : ElementItems → Type 0
 HasRowsListed (Indices functions) = Unit {0}
 HasRowsListed (Expressions ty expressions) = All HasRowsExpression expressions
 
+-- the same of a segment
 abbrev pub HasRowsElementEntry : ElementEntry → Type 0
 HasRowsElementEntry e = HasRowsElementMode e.mode × HasRowsListed e.items

@@ -58,33 +58,40 @@ pub data NameContent : Type 0 where
   Direct : List (ℕ × List ℕ) → NameContent
   Indirect : List (ℕ × List (ℕ × List ℕ)) → NameContent
 
+-- a subsection: what its names are names of, and the names
 pub record NameSubsection : Type 0 where
   pub of : Named
   pub content : NameContent
 
+-- an entry of a map of name maps: an index and a name map
 abbrev pub map_entry : ℕ × List (ℕ × List ℕ) → List ℕ
 map_entry e = unsigned e.0 ++ vec name_entry e.1
 
+-- the bytes of what a subsection holds
 abbrev pub name_content : NameContent → List ℕ
 name_content (One text) = name text
 name_content (Direct names) = vec name_entry names
 name_content (Indirect maps) = vec map_entry maps
 
+-- the spelling of a subsection
 abbrev pub name_subsection : NameSubsection → List ℕ
 name_subsection s = subsection s.of (name_content s.content)
 
--- the numbers, counts and lengths in a subsection are in range
+-- Numbers, counts and lengths are in range: those of a name map's entry.
 abbrev pub InRangeNameEntry : ℕ × List ℕ → Type 0
 InRangeNameEntry e = InRangeU32 e.0 × InRangeName e.1
 
+-- those of an entry of a map of name maps
 abbrev pub InRangeMapEntry : ℕ × List (ℕ × List ℕ) → Type 0
 InRangeMapEntry e = InRangeU32 e.0 × InRangeVec InRangeNameEntry e.1
 
+-- those of what a subsection holds
 abbrev pub InRangeNameContent : NameContent → Type 0
 InRangeNameContent (One text) = InRangeName text
 InRangeNameContent (Direct names) = InRangeVec InRangeNameEntry names
 InRangeNameContent (Indirect maps) = InRangeVec InRangeMapEntry maps
 
+-- those of a subsection, and its length
 abbrev pub InRangeNameSubsection : NameSubsection → Type 0
 InRangeNameSubsection s = InRangeSized InRangeNameContent name_content s.content
 

@@ -51,6 +51,7 @@ pub record GlobalEntry : Type 0 where
   pub ty : GlobalType
   pub init : List Instr
 
+-- the name of an export, and the kind and the index of the item
 pub record ExportEntry : Type 0 where
   pub name : List ℕ
   pub kind : ExportKind
@@ -70,6 +71,7 @@ Entry Elements = ElementEntry
 Entry Code = Body
 Entry Data = DataEntry
 
+-- a type, or a group behind 0x4e and the number of its types
 abbrev pub type_entry : TypeEntry → List ℕ
 type_entry (Single t) = sub_type t
 type_entry (Group ts) = 0x4e ∷ vec sub_type ts
@@ -83,6 +85,7 @@ abbrev pub table_bytes : TableType → Option (List Instr) → List ℕ
 table_bytes ty None = table_type ty
 table_bytes ty (Some init) = 0x40 ∷ 0x00 ∷ (table_type ty ++ expression init)
 
+-- the spelling of a table
 abbrev pub table_entry : TableEntry → List ℕ
 table_entry t = table_bytes t.ty t.init
 
@@ -112,26 +115,33 @@ entry Elements e = element_entry e
 entry Code b = body b
 entry Data d = data_entry d
 
+-- Numbers, counts and lengths are in range: those of a type or a group.
 abbrev pub InRangeTypeEntry : TypeEntry → Type 0
 InRangeTypeEntry (Single t) = InRangeSubType t
 InRangeTypeEntry (Group ts) = InRangeVec InRangeSubType ts
 
+-- those of an import
 abbrev pub InRangeImport : ImportEntry → Type 0
 InRangeImport i = InRangeName i.«module» × (InRangeName i.name × InRangeEntityType i.entity)
 
+-- those of what the elements of a table are at first
 abbrev pub InRangeInit : Option (List Instr) → Type 0
 InRangeInit None = Unit {0}
 InRangeInit (Some init) = InRangeExpression init
 
+-- those of a table
 abbrev pub InRangeTable : TableEntry → Type 0
 InRangeTable t = InRangeTableType t.ty × InRangeInit t.init
 
+-- those of a global
 abbrev pub InRangeGlobal : GlobalEntry → Type 0
 InRangeGlobal g = InRangeGlobalType g.ty × InRangeExpression g.init
 
+-- those of an export
 abbrev pub InRangeExport : ExportEntry → Type 0
 InRangeExport e = InRangeName e.name × InRangeU32 e.index
 
+-- those of a body
 abbrev pub InRangeBody : Body → Type 0
 InRangeBody b = InRangeSized InRangeContent content b
 
@@ -149,12 +159,14 @@ InRangeEntry Elements e = InRangeElementEntry e
 InRangeEntry Code b = InRangeBody b
 InRangeEntry Data d = InRangeDataEntry d
 
+-- the kinds of parts: sections of a list, and those that hold something else
 pub data PartKind : Type 0 where
   Custom : PartKind
   Start : PartKind
   DataCount : PartKind
   Listed : SectionKind → PartKind
 
+-- a custom section: its name, and bytes of any content
 pub record CustomPart : Type 0 where
   pub name : List ℕ
   pub bytes : List ℕ
@@ -170,18 +182,21 @@ PartItems (Listed kind) = List (Entry kind)
 abbrev pub custom : CustomPart → List ℕ
 custom c = name c.name ++ c.bytes
 
+-- what stands behind the length of a part
 abbrev pub payload : (kind : PartKind) → PartItems kind → List ℕ
 payload Custom c = custom c
 payload Start n = unsigned n
 payload DataCount n = unsigned n
 payload (Listed kind) items = vec (entry kind) items
 
+-- the numbers, counts and lengths in it are in range
 abbrev pub InRangePartItems : (kind : PartKind) → PartItems kind → Type 0
 InRangePartItems Custom c = InRangeName c.name
 InRangePartItems Start n = InRangeU32 n
 InRangePartItems DataCount n = InRangeU32 n
 InRangePartItems (Listed kind) items = InRangeVec (InRangeEntry kind) items
 
+-- the ids of sections, by kind
 abbrev pub section_id : SectionKind → ℕ
 section_id Types = 1
 section_id Imports = 2
@@ -195,12 +210,14 @@ section_id Elements = 9
 section_id Code = 10
 section_id Data = 11
 
+-- the ids of parts, by kind
 abbrev pub part_id : PartKind → ℕ
 part_id Custom = 0
 part_id Start = 8
 part_id DataCount = 12
 part_id (Listed kind) = section_id kind
 
+-- a section of a module: its kind, and what it holds
 pub record Part : Type 0 where
   pub kind : PartKind
   pub items : PartItems kind
@@ -209,8 +226,10 @@ pub record Part : Type 0 where
 abbrev pub section : ℕ → List ℕ → List ℕ
 section id bytes = id ∷ (unsigned (length bytes) ++ bytes)
 
+-- the spelling of a part
 abbrev pub part : Part → List ℕ
 part p = section (part_id p.kind) (payload p.kind p.items)
 
+-- its numbers, counts and lengths are in range, and its own length
 abbrev pub InRangePart : Part → Type 0
 InRangePart p = InRangeSized (InRangePartItems p.kind) (payload p.kind) p.items

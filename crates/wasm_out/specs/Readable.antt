@@ -11,6 +11,7 @@ use Rattle.wasm_out.specs.Parts.{SectionKind, Types, Imports, Functions, Tables,
 use Rattle.wasm_out.specs.DataSegments.{is_covered_data_entry, HasRowsDataEntry}
 use Rattle.wasm_out.specs.ElementSegments.{is_covered_element_entry, HasRowsElementEntry}
 
+-- the encoder covers a type, or each type of a group
 abbrev pub is_covered_type_entry : TypeEntry → Bool
 is_covered_type_entry (Single t) = is_covered_sub_type t
 is_covered_type_entry (Group ts) = list_all is_covered_sub_type ts
@@ -20,6 +21,7 @@ abbrev pub is_covered_init : Option (List Instr) → Bool
 is_covered_init None = true
 is_covered_init (Some init) = is_covered_expression init
 
+-- the instructions of that are rows of the table
 abbrev pub HasRowsInit : Option (List Instr) → Type 0
 HasRowsInit None = Unit {0}
 HasRowsInit (Some init) = HasRowsExpression init
@@ -72,6 +74,7 @@ pub record IsReadable (kind : SectionKind) (e : Entry kind) : Type 0 where
   pub rows : HasRows kind e
   pub name : HasUtf8Name kind e
 
+-- what is asked of what a part holds
 abbrev pub AreReadable : (kind : PartKind) → PartItems kind → Type 0
 AreReadable Custom c = IsTrue (is_utf8 c.name)
 AreReadable Start n = Unit {0}
@@ -88,11 +91,13 @@ pub record IsSpellable (kind : SectionKind) (e : Entry kind) : Type 0 where
   pub covered : IsTrue (is_covered_entry kind e)
   pub rows : HasRows kind e
 
+-- what a part holds has one spelling
 abbrev pub AreSpellable : (kind : PartKind) → PartItems kind → Type 0
 AreSpellable Custom c = InRangeName c.name
 AreSpellable Start n = InRangeU32 n
 AreSpellable DataCount n = InRangeU32 n
 AreSpellable (Listed kind) items = InRangeVec (IsSpellable kind) items
 
+-- a part has one spelling
 abbrev pub IsSpellablePart : Part → Type 0
 IsSpellablePart p = InRangeSized (AreSpellable p.kind) (payload p.kind) p.items

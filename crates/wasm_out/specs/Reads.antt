@@ -8,6 +8,7 @@ use Rattle.wasm_out.specs.Readable.{IsReadablePart}
 abbrev pub header : List ℕ
 header = 0x00 ∷ 0x61 ∷ 0x73 ∷ 0x6d ∷ 0x01 ∷ 0x00 ∷ 0x00 ∷ 0x00 ∷ []
 
+-- bytes that are read as these parts: their spelling behind the header
 pub record Reads (bytes : List ℕ) (parts : List Part) : Type 0 where
   pub in_range : All InRangePart parts
   pub readable : All IsReadablePart parts

@@ -24,6 +24,7 @@ pub data Cause : Type 0 where
   Memory : Cause
   Component : Cause
 
+-- a fault, by the bytes of its texts
 abbrev pub cause_of : Fault → Cause
 cause_of (fault.ImportAfter kind) = ImportAfter kind.now
 cause_of (fault.Duplicate kind) = Duplicate kind.now
@@ -39,13 +40,15 @@ cause_of (fault.Uncovered f) = Uncovered f
 cause_of fault.Memory = Memory
 cause_of fault.Component = Component
 
--- what an error says, and where
+-- what an error says
 abbrev pub fault_of : Error → Fault
 fault_of e = e.fault
 
+-- where the fault of an error stands
 abbrev pub span_of : Error → Option Span
 span_of e = e.span
 
+-- the number of a fault, from E1 to E13
 abbrev pub fault_number : Fault → ℕ
 fault_number (fault.ImportAfter kind) = 1
 fault_number (fault.Duplicate kind) = 2
@@ -69,16 +72,19 @@ is_placed fault.Memory = false
 is_placed fault.Component = false
 is_placed f = true
 
--- a fault of the text at its place, and a refusal, which has none
+-- a fault of the text at its place
 abbrev pub placed : Span → Fault → Error
 placed span fault = record { span = Some span; fault = fault }
 
+-- a refusal, which has no place
 abbrev pub refused : Fault → Error
 refused fault = record { span = None; fault = fault }
 
+-- E10
 abbrev pub too_large : Error
 too_large = refused fault.TooLarge
 
+-- E12
 abbrev pub out_of_memory : Error
 out_of_memory = refused fault.Memory
 
@@ -87,13 +93,16 @@ pub data Told : Type 0 where
   At : Cause → Span → Told
   Nowhere : Cause → Told
 
+-- a fault, at a place where there is one
 abbrev pub told_at : Cause → Option Span → Told
 told_at fault (Some span) = At fault span
 told_at fault None = Nowhere fault
 
+-- what an error tells
 abbrev pub told : Error → Told
 told e = told_at (cause_of e.fault) e.span
 
+-- what the text of E11 calls a form
 abbrev pub form_text : Form → List ℕ
 form_text form.StackSwitching = codes "stack switching"
 form_text form.Shared = codes "shared type"
@@ -105,10 +114,11 @@ form_text form.ArrayMemArg = codes "array memory argument"
 form_text form.TargetArch = codes "target architecture"
 form_text form.Beyond = codes "instruction beyond the table"
 
--- the end of the text on an unknown name, and on a struct without named fields
+-- the end of the text on an unknown name
 unfoldable pub unknown_text : List ℕ → List ℕ
 unknown_text name = codes ": failed to find name `$" ++ (name ++ codes "`")
 
+-- the end of the text on a struct without named fields
 unfoldable pub unnamed_text : ℕ → List ℕ
 unnamed_text n = codes "` in a struct without named fields, type index " ++ decimal n
 

@@ -3,10 +3,12 @@ use Rattle.std.specs.Prelude.{◌≡◌, ℕ, ◌+◌, ◌≤◌, ◌^◌, ◌�
 use Rattle.wast_base.specs.Faults.{too_large, out_of_memory}
 use Rattle.wast_base.specs.declared.faults.Error.{Error}
 
+-- how many ids an item takes that may want one
 abbrev pub one_if : Bool → ℕ
 one_if true = 1
 one_if false = 0
 
+-- an item that may want an id, given the next one where it does
 abbrev pub given_if : {A : Type 0} → Bool → (ℕ → A → A) → ℕ → A → A
 given_if true give n x = give n x
 given_if false give n x = x

@@ -14,9 +14,11 @@ pub data Name : Type 0 where
   Written : List ℕ → Name
   Generated : ℕ → Name
 
+-- the same bytes
 abbrev pub same_text : List ℕ → List ℕ → Bool
 same_text a b = pointwise ◌==◌ a b
 
+-- the same text, or the same generation
 abbrev pub same_name : Name → Name → Bool
 same_name (Written a) (Written b) = same_text a b
 same_name (Generated a) (Generated b) = a == b
@@ -33,18 +35,21 @@ abbrev pub generation_of : Name → ℕ
 generation_of (Written text) = 0
 generation_of (Generated n) = n
 
+-- whether a name is a generated one
 abbrev pub is_generated : Name → Bool
 is_generated (Written text) = false
 is_generated (Generated n) = true
 
--- what an id is called, and where it stands
+-- a name, without where its text lies
 abbrev pub named_by : code.Name → Name
 named_by (name.Written text) = Written text.now
 named_by (name.Generated n) = Generated n
 
+-- what an id is called
 abbrev pub name_of : Id → Name
 name_of id = named_by id.name
 
+-- where an id stands
 abbrev pub place_of : Id → Span
 place_of id = id.span
 
@@ -52,16 +57,19 @@ place_of id = id.span
 abbrev pub Mark : Type 0
 Mark = Name × Span
 
+-- what an id is called, at its place
 abbrev pub mark_of : Id → Mark
 mark_of id = (name_of id, place_of id)
 
+-- the same of an id that may be missing
 abbrev pub marked : Option Id → Option Mark
 marked id = option_map mark_of id
 
--- a written id, and a generated one
+-- a written id
 abbrev pub written : Bor (List ℕ) → Span → Id
 written text span = record { name = name.Written text; span = span }
 
+-- a generated id
 abbrev pub generated : ℕ → Span → Id
 generated n span = record { name = name.Generated n; span = span }
 
@@ -81,6 +89,7 @@ abbrev pub span_of_index : Index → Span
 span_of_index (index.Num n span) = span
 span_of_index (index.Id id) = place_of id
 
+-- whether an index is a number
 abbrev pub is_number : Index → Bool
 is_number (index.Num n span) = true
 is_number (index.Id id) = false

@@ -28,6 +28,7 @@ rank_of space.Elem = 5
 rank_of space.Data = 6
 rank_of space.Ty = 7
 
+-- whether two spaces are the same
 abbrev pub same_space : Space → Space → Bool
 same_space s t = rank_of s == rank_of t
 
@@ -35,6 +36,7 @@ same_space s t = rank_of s == rank_of t
 abbrev pub name_if : Option Mark → Option Name
 name_if mark = option_map (λ m. m.0) mark
 
+-- whether an item has this name
 abbrev pub is_called : Name → Option Name → Bool
 is_called name None = false
 is_called name (Some other) = same_name name other
@@ -43,6 +45,7 @@ is_called name (Some other) = same_name name other
 abbrev pub position_of : Name → List (Option Name) → Option ℕ
 position_of name names = position (is_called name) names
 
+-- whether some item has this name
 abbrev pub is_borne : Name → List (Option Name) → Bool
 is_borne name names = is_some (position_of name names)
 

@@ -9,20 +9,24 @@ use Rattle.wast_tree.specs.WrittenOut.{is_written_func, is_written_table, is_wri
 use Rattle.wast_conv.specs.Tree.{Index, TypeUse, FunctionType, Instruction, Expression, FuncKind, Imports, Table, Memory, Global, Tag, Elem, Data, ModuleField}
 use Rattle.wast_conv.specs.Tree.ty
 
+-- what is asked in them: an index is a number, a clause holds, and a form is supported
 abbrev pub is_encodable_ask : Ask → Bool
 is_encodable_ask (Wants s i) = is_number i
 is_encodable_ask (Unasked m) = true
 is_encodable_ask (Clause n holds) = holds
 is_encodable_ask (Supported holds) = holds
 
+-- all that is asked in a part
 abbrev pub are_encodable : List Ask → Bool
 are_encodable asks = list_all is_encodable_ask asks
 
+-- a type use has an index, too
 abbrev pub is_encodable_site : Site → Bool
 is_encodable_site (Asked a) = is_encodable_ask a
 is_encodable_site (Used u) = is_some u.index && are_encodable (in_type_use u)
 is_encodable_site (Declared before m) = true
 
+-- all sites of a part
 abbrev pub encodable : List Site → Bool
 encodable sites = list_all is_encodable_site sites
 
@@ -34,6 +38,7 @@ is_encodable_instr i = encodable (in_instr start i)
 abbrev pub is_encodable_expression : Expression → Bool
 is_encodable_expression e = encodable (in_instrs start e.instrs)
 
+-- a type, as a field or in a group
 abbrev pub is_encodable_type : ty.«Type» → Bool
 is_encodable_type t = are_encodable (in_type t)
 
@@ -45,24 +50,31 @@ is_encodable_type_use u = is_resolved_site (Used u)
 abbrev pub is_encodable_kind : FuncKind → Bool
 is_encodable_kind k = encodable (in_func_kind [] k) && is_written_func k
 
+-- an import
 abbrev pub is_encodable_import : Imports → Bool
 is_encodable_import i = encodable (in_import i.items)
 
+-- a table
 abbrev pub is_encodable_table : Table → Bool
 is_encodable_table t = encodable (in_table_kind t.kind) && is_written_table t.kind
 
+-- a memory
 abbrev pub is_encodable_memory : Memory → Bool
 is_encodable_memory m = is_written_memory m.kind
 
+-- a global
 abbrev pub is_encodable_global : Global → Bool
 is_encodable_global g = encodable (in_global g) && is_written_global g.kind
 
+-- a tag
 abbrev pub is_encodable_tag : Tag → Bool
 is_encodable_tag t = encodable (in_tag_type t.ty)
 
+-- an element segment
 abbrev pub is_encodable_elem : Elem → Bool
 is_encodable_elem e = encodable (in_elem e)
 
+-- a data segment
 abbrev pub is_encodable_data : Data → Bool
 is_encodable_data d = encodable (in_data_kind d.kind)
 
@@ -70,6 +82,7 @@ is_encodable_data d = encodable (in_data_kind d.kind)
 abbrev pub is_encodable_field : ModuleField → Bool
 is_encodable_field x = encodable (in_field x) && is_written_field x
 
+-- a list of fields
 abbrev pub is_encodable : List ModuleField → Bool
 is_encodable fields = list_all is_encodable_field fields
 
@@ -77,6 +90,7 @@ is_encodable fields = list_all is_encodable_field fields
 abbrev pub are_resolved : List Site → Bool
 are_resolved sites = list_all is_resolved_site sites
 
+-- an index that may be missing
 abbrev pub is_number_if : Option Index → Bool
 is_number_if None = true
 is_number_if (Some i) = is_number i

@@ -7,10 +7,12 @@ use Rattle.wast_conv.specs.Meaning as meaning
 use Rattle.wast_conv.specs.declared.section_items.RecOrType.{RecOrType}
 use Rattle.wast_conv.specs.declared.section_items.RecOrType.TheVariants as entry
 
+-- a type on its own, or a group of types
 abbrev pub entry_of : RecOrType → TypeEntry
 entry_of (entry.Ty t) = Single (meaning.sub_type t.now.def)
 entry_of (entry.Rec r) = meaning.group_of r.now
 
+-- the encoder may be handed it
 abbrev pub is_encodable_entry : RecOrType → Bool
 is_encodable_entry (entry.Ty t) = is_encodable_type t.now
 is_encodable_entry (entry.Rec r) = are_encodable (in_rec r.now)

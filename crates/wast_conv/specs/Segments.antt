@@ -33,6 +33,7 @@ seen_mode offset_of mode.Passive = Passive
 seen_mode offset_of mode.Declared = Declared
 seen_mode offset_of (mode.Active table offset) = Active table (offset_of offset)
 
+-- where a data segment stands, by what gives the offset
 abbrev pub seen_data : {O : Type 0} → (O → List Instr) → segments.DataMode O → DataMode
 seen_data offset_of data_mode.Passive = Kept
 seen_data offset_of (data_mode.Active memory offset) = Placed memory (offset_of offset)

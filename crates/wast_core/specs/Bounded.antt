@@ -31,6 +31,7 @@ InRangeHeld name fields (slot.After kind) = Unit {0}
 InRangeHeld name fields slot.AfterLast = Unit {0}
 InRangeHeld name fields slot.Names = InRangeNames name fields
 
+-- the numbers, counts and lengths in the parts of a place are in range, and those held there
 abbrev pub InRangeSlot : Option (List ℕ) → List ModuleField → Slot → Type 0
 InRangeSlot name fields s = All InRangePart (in_slot name fields s) × InRangeHeld name fields s
 

@@ -18,6 +18,7 @@ pub record IsExtent (kind : SectionKind) (fields : List ModuleField) (count size
   pub counted : count ≡ length (entries kind fields)
   pub sized : size ≡ length (payload_of kind (entries kind fields))
 
+-- the same, as a test
 abbrev pub is_extent : SectionKind → List ModuleField → ℕ → ℕ → Bool
 is_extent kind fields count size = (count == length (entries kind fields)) && (size == length (payload_of kind (entries kind fields)))
 

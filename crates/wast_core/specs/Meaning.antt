@@ -36,6 +36,7 @@ pub record Contribution : Type 0 where
   pub code : List Body
   pub «data» : List DataEntry
 
+-- a field that puts nothing into any section
 abbrev pub nothing : Contribution
 nothing = record {
   types = [];
@@ -52,42 +53,55 @@ nothing = record {
   «data» = [];
 }
 
+-- what a field of each kind contributes: a type is one entry
 abbrev pub of_type : ty.«Type» → Contribution
 of_type t = record nothing { types = Single (sub_type t.def) ∷ [] }
 
+-- a group is one entry, whatever its types
 abbrev pub of_rec : Rec → Contribution
 of_rec r = record nothing { types = group_of r ∷ [] }
 
+-- an import is one entry
 abbrev pub of_import : tree.Imports → Contribution
 of_import i = record nothing { imports = import_entry i ∷ [] }
 
+-- a function is its type among the functions, and its body in the code
 abbrev pub of_func : Func → Contribution
 of_func f = record nothing { functions = type_index f.ty ∷ []; code = body f.kind ∷ [] }
 
+-- a table is one entry
 abbrev pub of_table : Table → Contribution
 of_table t = record nothing { tables = table_entry t ∷ [] }
 
+-- a memory is one entry
 abbrev pub of_memory : Memory → Contribution
 of_memory m = record nothing { memories = memory_entry m ∷ [] }
 
+-- a global is one entry
 abbrev pub of_global : Global → Contribution
 of_global g = record nothing { globals = global_entry g ∷ [] }
 
+-- a tag is one entry
 abbrev pub of_tag : Tag → Contribution
 of_tag t = record nothing { tags = tag_entry t ∷ [] }
 
+-- an export is one entry
 abbrev pub of_export : Export → Contribution
 of_export e = record nothing { exports = export_entry e ∷ [] }
 
+-- a start field is its function
 abbrev pub of_start : Index → Contribution
 of_start i = record nothing { starts = number i ∷ [] }
 
+-- an element segment is one entry
 abbrev pub of_elem : Elem → Contribution
 of_elem e = record nothing { elements = element_entry e ∷ [] }
 
+-- a data segment is one entry
 abbrev pub of_data : tree.Data → Contribution
 of_data d = record nothing { «data» = data_entry d ∷ [] }
 
+-- what a field contributes
 abbrev pub contributed : ModuleField → Contribution
 contributed (field.Ty t) = of_type t
 contributed (field.Rec r) = of_rec r
@@ -116,9 +130,11 @@ of_kind Elements c = c.elements
 of_kind Code c = c.code
 of_kind Data c = c.«data»
 
+-- the entries of a field in the section of a kind
 abbrev pub entries_in : (kind : SectionKind) → ModuleField → List (Entry kind)
 entries_in kind f = of_kind kind (contributed f)
 
+-- the entries of a list of fields in the section of a kind
 abbrev pub entries : (kind : SectionKind) → List ModuleField → List (Entry kind)
 entries kind fields = flat_map (entries_in kind) fields
 
@@ -131,6 +147,7 @@ listed kind (item ∷ items) = record { kind = Listed kind; items = item ∷ ite
 abbrev pub start_part : ℕ → Part
 start_part n = record { kind = Start; items = n }
 
+-- the start sections of a field
 abbrev pub starts_in : ModuleField → List Part
 starts_in f = map start_part (contributed f).starts
 

@@ -13,6 +13,7 @@ is_well_formed_kind (kind.Text fs) = fields.is_well_formed fs
 is_well_formed_kind (kind.Binary pieces) = true
 is_well_formed_kind (kind.Refused e) = true
 
+-- a module is well formed where its fields are
 abbrev pub is_well_formed : Module → Bool
 is_well_formed m = is_well_formed_kind m.kind
 

@@ -5,6 +5,7 @@ use Rattle.wast_reach.specs.Kinds.{is_of}
 use Rattle.wast_reach.specs.declared.kinds.FieldKind.TheVariants as kind
 use Rattle.wast_core.specs.Tree.{ModuleField}
 
+-- whether a field can have an entry in the section of a kind
 abbrev pub puts : SectionKind → ModuleField → Bool
 puts Types f = is_of kind.Ty f || is_of kind.Rec f
 puts Imports f = is_of kind.Import f

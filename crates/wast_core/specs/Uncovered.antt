@@ -20,9 +20,11 @@ uncovered_in (field.Elem e) = []
 uncovered_in (field.Data d) = []
 uncovered_in (field.Tag t) = []
 
+-- those in a list of fields, in their order
 abbrev pub uncovered : List ModuleField → List Form
 uncovered fields = flat_map uncovered_in fields
 
+-- the one that is answered
 abbrev pub first : List Form → Option Form
 first [] = None
 first (form ∷ forms) = Some form

@@ -5,10 +5,11 @@ use Rattle.wast_core.specs.Tree.{ImportItems, ModuleField}
 use Rattle.wast_core.specs.Tree.import_items
 use Rattle.wast_core.specs.Tree.field
 
--- the names that a field puts into the sections are UTF-8
+-- the module and the name by which an item is imported are UTF-8
 abbrev pub HasUtf8Items : ImportItems → Type 0
 HasUtf8Items (import_items.Single source name sig) = IsTrue (is_utf8 source.now) × IsTrue (is_utf8 name.now)
 
+-- the names that a field puts into the sections are UTF-8
 abbrev pub HasUtf8Names : ModuleField → Type 0
 HasUtf8Names (field.Ty t) = Unit {0}
 HasUtf8Names (field.Rec r) = Unit {0}

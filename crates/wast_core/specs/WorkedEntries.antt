@@ -18,6 +18,7 @@ use Rattle.wast_core.specs.Tree.bytes
 use Rattle.wast_core.specs.Tree.memory
 use Rattle.wast_core.specs.Tree.field
 
+-- `funcref`
 abbrev pub funcref : RefType
 funcref = record { nullable = true; heap = heap.Abstract false abstract.Func }
 
@@ -25,6 +26,7 @@ funcref = record { nullable = true; heap = heap.Abstract false abstract.Func }
 abbrev pub one_funcref : TableType
 one_funcref = record { limits = record { is64 = false; min = 1; max = None }; elem = funcref; shared = false }
 
+-- a constant expression of one instruction
 abbrev pub one_instr : Instruction → Expression
 one_instr i = record { instrs = i ∷ []; branch_hints = [] }
 
@@ -32,10 +34,11 @@ one_instr i = record { instrs = i ∷ []; branch_hints = [] }
 abbrev pub import_of : Address → Address → List ℕ → ItemKind → ModuleField
 import_of a b name k = field.Import (record { span = place 9; items = import_items.Single (text a (codes "e")) (text b name) (record { span = place 17; id = None; name = None; kind = k }) })
 
--- `(elem ..)` and `(data ..)`
+-- `(elem ..)`
 abbrev pub elem_of : ElemKind → ElemPayload → ModuleField
 elem_of k q = field.Elem (record { span = place 40; id = None; name = None; kind = k; payload = q })
 
+-- `(data ..)`
 abbrev pub data_of : Address → DataKind → List ℕ → ModuleField
 data_of a k letters = field.Data (record { span = place 60; id = None; name = None; kind = k; bytes = bytes.«String» (text a letters) ∷ [] })
 

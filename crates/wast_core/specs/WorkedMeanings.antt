@@ -30,13 +30,15 @@ Row27 = (a b c d e f : Address) →
 abbrev pub HasBytes : List ModuleField → List ℕ → Type 0
 HasBytes fields bytes = (is_well_formed fields ≡ true) × (flat_map part (meaning None fields) ≡ bytes)
 
--- the sections of one type `(func)`, of one function of that type, and of its empty body
+-- the type section of one type `(func)`
 abbrev pub one_type : List ℕ
 one_type = 0x01 ∷ 0x04 ∷ 0x01 ∷ 0x60 ∷ 0x00 ∷ 0x00 ∷ []
 
+-- the function section of one function of type 0
 abbrev pub one_func : List ℕ
 one_func = 0x03 ∷ 0x02 ∷ 0x01 ∷ 0x00 ∷ []
 
+-- the code section of one empty body
 abbrev pub one_body : List ℕ
 one_body = 0x0a ∷ 0x04 ∷ 0x01 ∷ 0x02 ∷ 0x00 ∷ 0x0b ∷ []
 
@@ -58,10 +60,11 @@ Row8 =
 abbrev pub Row24 : Type 0
 Row24 = HasBytes (func_at 8 (Some (by_number 5 20)) None ∷ []) (0x03 ∷ 0x02 ∷ 0x01 ∷ 0x05 ∷ one_body)
 
--- `(type (func))` at 8 and `(func (type 0))` at 22
+-- `(type (func))` at 8
 abbrev pub first_type : ModuleField
 first_type = field.Ty (plain_type None 8)
 
+-- `(func (type 0))` at 22
 abbrev pub first_func : ModuleField
 first_func = field.Func (plain_func None 22 (by_number 0 34) [])
 

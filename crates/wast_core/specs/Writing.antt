@@ -48,6 +48,7 @@ abbrev pub PutsFields : {S : Type 0} → SinkRules S → Option (List ℕ) → L
 PutsFields rules name fields old new (Ok x) = IsCovered fields × rules.appended old new (bytes_of name fields) × InRangeModule name fields
 PutsFields rules name fields old new (Err e) = rules.appended old new [] × IsNotPut (first (uncovered fields)) rules old name fields e
 
+-- the same of what a module holds, which is a text module
 abbrev pub PutsModule : {S : Type 0} → SinkRules S → Option (List ℕ) → ModuleKind → S → S → Result (Unit {0}) Error → Type 0
 PutsModule rules name (kind.Text fields) old new result = PutsFields rules name fields old new result
 PutsModule rules name (kind.Binary pieces) old new result = ⊥

@@ -7,6 +7,7 @@ use Rattle.wast_tree.specs.WrittenOut.{is_written_out}
 use Rattle.wast_map.specs.Tree.{Id, ModuleField}
 use Rattle.wast_map.specs.Mapped.{Change, same, then, mapped, mapped_site, KeepsMarks, Joins, AreJoint, Each}
 
+-- a list of fields, changed
 abbrev pub all_mapped : Change → List ModuleField → List ModuleField
 all_mapped f fields = map (mapped f) fields
 
@@ -26,6 +27,7 @@ MapsJoin = (h g f : Change) → AreJoint h g f → (fields : List ModuleField) �
 abbrev pub MapsTwice : Type 0
 MapsTwice = (h g : Change) → KeepsMarks h → (fields : List ModuleField) → all_mapped g (all_mapped h fields) ≡ all_mapped (then h g) fields
 
+-- Changes that are the same at each site and at the ids of items give the same list.
 abbrev pub MapsAlike : Type 0
 MapsAlike = (f g : Change) → ((o : Option Id) → f.id o ≡ g.id o) → (fields : List ModuleField) → Each (Joins same f g) (in_module fields) → all_mapped f fields ≡ all_mapped g fields
 

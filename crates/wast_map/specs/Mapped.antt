@@ -26,6 +26,7 @@ use Rattle.wast_tree.specs.Sites.{Here, start, behind, param_marks, local_marks,
 abbrev pub Indices : Type 0
 Indices = Space → Index → Index
 
+-- what an index, a type use and the id of an item become
 pub record Change : Type 0 where
   pub index : Indices
   -- a type use, with what stands in it
@@ -270,6 +271,7 @@ JoinsAsk h g f (Unasked m) = ⊤
 JoinsAsk h g f (Clause n holds) = ⊤
 JoinsAsk h g f (Supported holds) = ⊤
 
+-- The same at a site.
 abbrev pub Joins : Change → Change → Change → Site → Type 0
 Joins h g f (Asked a) = JoinsAsk h.index g.index f.index a
 Joins h g f (Used u) = g.used (h.used u) ≡ f.used u

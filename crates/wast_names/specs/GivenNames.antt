@@ -3,15 +3,17 @@ use Rattle.std.specs.Prelude.{ℕ, ◌+◌, List, [], ◌∷◌, Option, Some, N
 use Rattle.wast_base.specs.Ids.{Name, Written, Generated, name_of}
 use Rattle.wast_names.specs.Tree.{Id, NameAnnotation}
 
--- a name is the annotation, else a written id, never a generated one
+-- the text of a written name; a generated one has none
 abbrev pub written_text : Name → Option (List ℕ)
 written_text (Written text) = Some text
 written_text (Generated n) = None
 
+-- the text of an id, where one is written
 abbrev pub id_text : Option Id → Option (List ℕ)
 id_text None = None
 id_text (Some id) = written_text (name_of id)
 
+-- a name is the annotation, else a written id, never a generated one
 abbrev pub given_name : Option NameAnnotation → Option Id → Option (List ℕ)
 given_name (Some annotation) id = Some annotation.name.now
 given_name None id = id_text id

@@ -12,6 +12,7 @@ use Rattle.wast_names.specs.declared.within.Within.TheVariants as within
 abbrev pub is_either : FieldKind → FieldKind → ModuleField → Bool
 is_either k l f = is_of k f || is_of l f
 
+-- whether a field can have items of a space
 abbrev pub has_items : Space → ModuleField → Bool
 has_items space.Func f = is_either kind.Import kind.Func f
 has_items space.Table f = is_either kind.Import kind.Table f
@@ -22,6 +23,7 @@ has_items space.Elem f = is_of kind.Elem f
 has_items space.Data f = is_of kind.Data f
 has_items space.Ty f = is_either kind.Ty kind.Rec f
 
+-- whether a field can have lists of names within its items
 abbrev pub has_lists : Within → ModuleField → Bool
 has_lists within.Locals f = is_either kind.Import kind.Func f
 has_lists within.Fields f = is_either kind.Ty kind.Rec f

@@ -18,6 +18,7 @@ use Rattle.wast_names.specs.NamesPayload.{type_name}
 use Rattle.wast_names.specs.WithinItems.{param_name, field_name, local_name, where_named, lists_in_type}
 use Rattle.wast_names.specs.Tree.{Space}
 
+-- a text that may be missing
 abbrev pub text_seen : Option (Bor (List ℕ)) → Option (List ℕ)
 text_seen text = option_map (λ t. t.now) text
 
@@ -35,6 +36,7 @@ counted n = min n (2 ^ 64 - 1)
 abbrev pub entry_spelling : {A : Type 0} → (A → List ℕ) → ℕ × A → List ℕ
 entry_spelling spell e = unsigned e.0 ++ spell e.1
 
+-- its position is in range, and so is what it holds
 abbrev pub InRangeEntryOf : {A : Type 0} → (A → Type 0) → ℕ × A → Type 0
 InRangeEntryOf InRange e = InRangeU32 e.0 × InRange e.1
 
@@ -49,6 +51,7 @@ abbrev pub map_bytes : {A : Type 0} → ℕ → (ℕ × A → List ℕ) → List
 map_bytes id entry [] = []
 map_bytes id entry (e ∷ es) = id ∷ sized (vec entry) (e ∷ es)
 
+-- the count and the length of a map are in range, and so are its entries
 abbrev pub InRangeMap : {A : Type 0} → (ℕ × A → List ℕ) → (ℕ × A → Type 0) → List (ℕ × A) → Type 0
 InRangeMap entry InRange [] = Unit {0}
 InRangeMap entry InRange (e ∷ es) = InRangeSized (InRangeVec InRange) (vec entry) (e ∷ es)

@@ -17,9 +17,11 @@ use Rattle.wast_names.specs.WithinItems.{lists_within}
 use Rattle.wasm_out.specs.NameSubsections.{Named, One, Direct, Indirect, NameSubsection, InRangeNameSubsection}
 use Rattle.wasm_out.specs.NameSubsections as named
 
+-- a type, with its name
 abbrev pub type_name : ty.«Type» → Space × Option (List ℕ)
 type_name t = (space.Ty, given_name t.name t.id)
 
+-- what is imported, with its space and its name
 abbrev pub import_names : ImportItems → List (Space × Option (List ℕ))
 import_names (import_items.Single source name sig) = (space_of_kind sig.kind, given_name sig.name sig.id) ∷ []
 
@@ -46,6 +48,7 @@ given_name_in s p = if same_space s p.0 then p.1 ∷ [] else []
 abbrev pub names_given : Space → ModuleField → List (Option (List ℕ))
 names_given s f = flat_map (given_name_in s) (item_names_in f)
 
+-- the items of a space that have a name, by their positions
 abbrev pub named_items : Space → List ModuleField → List (ℕ × List ℕ)
 named_items s fields = named_from 0 (flat_map (names_given s) fields)
 
@@ -77,6 +80,7 @@ named_within within.Fields = named.Fields
 named_within within.Parameters = named.Parameters
 named_within within.TagParameters = named.TagParameters
 
+-- the items that have names within, by their positions
 abbrev pub named_lists : Within → List ModuleField → List (ℕ × List (ℕ × List ℕ))
 named_lists w fields = named_from 0 (flat_map (lists_within fields w) fields)
 
@@ -85,6 +89,7 @@ abbrev pub map_names : List ModuleField → NameMap → List NameSubsection
 map_names fields (map_of.Items s) = direct (named_of s) (named_items s fields)
 map_names fields (map_of.Within w) = indirect (named_within w) (named_lists w fields)
 
+-- the subsection of the name of the module, where it has one
 abbrev pub module_name : Option (List ℕ) → List NameSubsection
 module_name None = []
 module_name (Some text) = record { of = named.Whole; content = One text } ∷ []

@@ -14,21 +14,25 @@ use Rattle.wast_names.specs.declared.within.Within.{Within}
 use Rattle.wast_names.specs.declared.within.Within.TheVariants as within
 use Rattle.wast_names.specs.GivenNames.{given_name, named_from}
 
+-- the name of a parameter
 abbrev pub param_name : Option Id × Option NameAnnotation × ValType → Option (List ℕ)
 param_name p = given_name p.1 p.0
 
+-- the name of a field of a struct
 abbrev pub field_name : StructField → Option (List ℕ)
 field_name f = given_name f.name f.id
 
+-- the name of a local
 abbrev pub local_name : Local → Option (List ℕ)
 local_name l = given_name l.name l.id
 
--- the fields of a struct type, and the parameters of a function type
+-- the names of the fields of a struct type
 abbrev pub field_names_of : InnerTypeKind → List (Option (List ℕ))
 field_names_of (inner.Func t) = []
 field_names_of (inner.Struct t) = map field_name t.fields
 field_names_of (inner.Array t) = []
 
+-- the names of the parameters of a function type
 abbrev pub param_names_of : InnerTypeKind → List (Option (List ℕ))
 param_names_of (inner.Func t) = map param_name t.params
 param_names_of (inner.Struct t) = []
@@ -40,6 +44,7 @@ arity (inner.Func t) = Some (length t.params)
 arity (inner.Struct t) = None
 arity (inner.Array t) = None
 
+-- the same of a type that may be missing
 abbrev pub arity_of : Option ty.«Type» → Option ℕ
 arity_of None = None
 arity_of (Some t) = arity t.def.kind
@@ -65,6 +70,7 @@ arity_at fields None = None
 arity_at fields (Some (index.Id id)) = None
 arity_at fields (Some (index.Num n span)) = arity_of (slice_get (flat_map types_within fields) n)
 
+-- parameters without names
 abbrev pub nameless : ℕ → List (Option (List ℕ))
 nameless n = replicate n None
 
@@ -77,6 +83,7 @@ params_or arity None = option_map nameless arity
 abbrev pub params_used : List ModuleField → TypeUse FunctionType → Option (List (Option (List ℕ)))
 params_used fields u = params_or (arity_at fields u.index) u.inline
 
+-- the names of the locals of a function
 abbrev pub locals_in : FuncKind → List (Option (List ℕ))
 locals_in (func.Import import exact) = []
 locals_in (func.Inline locals e) = map local_name locals
@@ -95,9 +102,11 @@ abbrev pub params_if : Option FunctionType → List (Option (List ℕ))
 params_if None = []
 params_if (Some t) = map param_name t.params
 
+-- the names of the parameters in a type use
 abbrev pub inline_params : TypeUse FunctionType → List (Option (List ℕ))
 inline_params u = params_if u.inline
 
+-- the names of the parameters of a tag
 abbrev pub tag_params : TagType → List (Option (List ℕ))
 tag_params (tag.Exception u) = inline_params u
 
@@ -106,41 +115,46 @@ abbrev pub where_named : List (ℕ × List ℕ) → Option (List (ℕ × List �
 where_named [] = None
 where_named (e ∷ es) = Some (e ∷ es)
 
+-- the names in a list, by their positions, where there is one
 abbrev pub list_of : List (Option (List ℕ)) → Option (List (ℕ × List ℕ))
 list_of names = where_named (named_from 0 names)
 
--- the list of names within a type, within a function and within a tag
+-- the list of names within a type
 abbrev pub lists_in_type : Within → ty.«Type» → List (Option (List (ℕ × List ℕ)))
 lists_in_type within.Locals t = []
 lists_in_type within.Fields t = list_of (field_names_of t.def.kind) ∷ []
 lists_in_type within.Parameters t = list_of (param_names_of t.def.kind) ∷ []
 lists_in_type within.TagParameters t = []
 
+-- within a function
 abbrev pub lists_in_func : List ModuleField → Within → Func → List (Option (List (ℕ × List ℕ)))
 lists_in_func fields within.Locals f = list_of (locals_of fields f) ∷ []
 lists_in_func fields within.Fields f = []
 lists_in_func fields within.Parameters f = []
 lists_in_func fields within.TagParameters f = []
 
+-- within a tag
 abbrev pub lists_in_tag : Within → TagType → List (Option (List (ℕ × List ℕ)))
 lists_in_tag within.Locals t = []
 lists_in_tag within.Fields t = []
 lists_in_tag within.Parameters t = []
 lists_in_tag within.TagParameters t = list_of (tag_params t) ∷ []
 
--- within an imported function those of its inline type; an imported tag has a position, and no list
+-- within an imported function: those of its inline type
 abbrev pub lists_in_imported_func : Within → TypeUse FunctionType → List (Option (List (ℕ × List ℕ)))
 lists_in_imported_func within.Locals u = list_of (inline_params u) ∷ []
 lists_in_imported_func within.Fields u = []
 lists_in_imported_func within.Parameters u = []
 lists_in_imported_func within.TagParameters u = []
 
+-- within an imported tag, which has a position, and no list
 abbrev pub lists_in_imported_tag : Within → List (Option (List (ℕ × List ℕ)))
 lists_in_imported_tag within.Locals = []
 lists_in_imported_tag within.Fields = []
 lists_in_imported_tag within.Parameters = []
 lists_in_imported_tag within.TagParameters = None ∷ []
 
+-- within what is imported
 abbrev pub lists_in_kind : Within → ItemKind → List (Option (List (ℕ × List ℕ)))
 lists_in_kind w (kind.Func u) = lists_in_imported_func w u
 lists_in_kind w (kind.Table t) = []
@@ -148,6 +162,7 @@ lists_in_kind w (kind.Memory t) = []
 lists_in_kind w (kind.Global t) = []
 lists_in_kind w (kind.Tag t) = lists_in_imported_tag w
 
+-- within an import
 abbrev pub lists_in_import : Within → ImportItems → List (Option (List (ℕ × List ℕ)))
 lists_in_import w (import_items.Single source name sig) = lists_in_kind w sig.kind
 

@@ -38,10 +38,11 @@ name_section fields = flat_map part (names_part (name_subsections None fields))
 abbrev pub HasNames : List ModuleField → List ℕ → Type 0
 HasNames fields bytes = name_section fields ≡ 0x00 ∷ (5 + length bytes) ∷ 0x04 ∷ 0x6e ∷ 0x61 ∷ 0x6d ∷ 0x65 ∷ bytes
 
--- `i32`, with a name or without one; `i64` as a local
+-- a parameter of type `i32`, with a name or without one
 abbrev pub i32_param : Option Id → Option NameAnnotation → Option Id × Option NameAnnotation × ValType
 i32_param id name = (id, name, val.I32)
 
+-- a local of type `i64`
 abbrev pub i64_local : Option Id → Local
 i64_local id = record { id = id; name = None; ty = val.I64 }
 
@@ -91,10 +92,11 @@ NoFunctionType = (a : Address) → name_section (field.Ty (type_of None (struct_
 abbrev pub GeneratedField : Type 0
 GeneratedField = name_section (field.Ty (type_of None (struct_with (Some (generated 7 (place 31))))) ∷ []) ≡ []
 
--- `(type (func (param i32)))`, and `(type 0)` beside an inline type or alone
+-- `(type (func (param i32)))`
 abbrev pub takes_i32 : ModuleField
 takes_i32 = field.Ty (type_of None (inner.Func (takes (i32_param None None ∷ []))))
 
+-- `(type 0)`, beside an inline type or alone
 abbrev pub typed : Option FunctionType → TypeUse FunctionType
 typed inline = record { index = Some (by_number 0 51); inline = inline }
 
@@ -120,7 +122,7 @@ global_of id =
       kind = global.Inline (record { instrs = instr.i64_const (negsuc 0) ∷ []; branch_hints = [] });
     })
 
--- `(table .. 0 funcref)`, `(elem .. func)` and `(data ..)`
+-- `(table .. 0 funcref)`
 abbrev pub table_of : Option Id → ModuleField
 table_of id =
     field.Table (record {
@@ -131,9 +133,11 @@ table_of id =
       kind = table.Normal (record { limits = record { is64 = false; min = 0; max = None }; elem = record { nullable = true; heap = heap.Abstract false abstract.Func }; shared = false }) None;
     })
 
+-- `(elem .. func)`
 abbrev pub elem_of : Option Id → ModuleField
 elem_of id = field.Elem (record { span = place 20; id = id; name = None; kind = elem.Passive; payload = payload.Indices [] })
 
+-- `(data ..)`
 abbrev pub data_of : Option Id → ModuleField
 data_of id = field.Data (record { span = place 9; id = id; name = None; kind = data_kind.Passive; bytes = [] })
 

@@ -12,6 +12,7 @@ pub record Demand : Type 0 where
   pub place : Span
   pub met : Bool
 
+-- a list of one demand
 abbrev pub one_demand : Cause → Span → Bool → List Demand
 one_demand fault place met = record { fault = fault; place = place; met = met } ∷ []
 
@@ -24,6 +25,7 @@ first_unmet (d ∷ ds) = if d.met then first_unmet ds else Some (d.fault, d.plac
 abbrev pub unknown : List ℕ → Mark → Bool → List Demand
 unknown word m met = one_demand (Unknown word (text_of m.0)) m.1 met
 
+-- an index that is an id denotes something; of a number nothing is demanded
 abbrev pub known_index : (Name → Option ℕ) → List ℕ → Index → List Demand
 known_index number word (index.Num n span) = []
 known_index number word (index.Id id) = unknown word (mark_of id) (is_some (number (name_of id)))

@@ -14,10 +14,12 @@ use Rattle.wast_namespace.specs.FirstUnmet.{Demand, one_demand}
 abbrev pub Key : Type 0
 Key = List ℕ × Option ℕ
 
+-- the generation of a name, where it is generated
 abbrev pub generation_if : Name → Option ℕ
 generation_if (Written text) = None
 generation_if (Generated n) = Some n
 
+-- a name as a key
 abbrev pub key_of : Name → Key
 key_of name = (text_of name, generation_if name)
 
@@ -25,10 +27,12 @@ key_of name = (text_of name, generation_if name)
 abbrev pub key_cmp : Key → Key → Ordering
 key_cmp a b = ordering_then (slice_cmp nat_cmp a.0 b.0) (option_cmp nat_cmp a.1 b.1)
 
+-- a name space: the number of each name, and how many items it has
 pub record NameSpace : Type 0 where
   pub names : FinMap key_cmp ℕ
   pub count : ℕ
 
+-- name spaces are told apart by their names and their counts
 abbrev pub coded_space : Coded NameSpace
 coded_space = code_by (FinMap key_cmp ℕ × ℕ) (coded× (code (coded× (coded_list coded_ℕ) (coded_option coded_ℕ)) coded_ℕ) coded_ℕ) (λ s. (s.names, s.count)) (λ p. record { names = p.0; count = p.1 }) (λ _. refl)
 
@@ -40,6 +44,7 @@ empty_from count = record { names = empty; count = count }
 abbrev pub number_in : NameSpace → Name → Option ℕ
 number_in s name = get s.names (key_of name)
 
+-- one more item, without a name
 abbrev pub counted : NameSpace → NameSpace
 counted s = record { names = s.names; count = s.count + 1 }
 
@@ -56,9 +61,11 @@ registered s (Some m) = counted (named s m.0 s.count)
 abbrev pub is_new : NameSpace → Name → Bool
 is_new s name = not (is_some (number_in s name))
 
+-- the name of one more item is new, where it has one
 abbrev pub new_item : NameSpace → List ℕ → Option Mark → List Demand
 new_item s word None = []
 new_item s word (Some m) = one_demand (Duplicate word) m.1 (is_new s m.0)
 
+-- the name of one more field of a struct is new
 abbrev pub new_name : NameSpace → List ℕ → Mark → List Demand
 new_name s word m = one_demand (DuplicateField word (text_of m.0)) m.1 (is_new s m.0)

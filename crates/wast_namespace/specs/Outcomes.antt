@@ -15,6 +15,7 @@ abbrev pub Gives : {T : Type 0} → (memory : Type 0) → Option (Cause × Span)
 Gives memory unmet want (Ok x) = (unmet ≡ None) × (x ≡ want)
 Gives memory unmet want (Err e) = Answers memory ⊥ (told e) unmet
 
+-- the new value after a fault that has a place, and the old one after a refusal
 abbrev pub after_told : {S : Type 0} → Told → S → S → S
 after_told (At fault place) new old = new
 after_told (Nowhere fault) new old = old

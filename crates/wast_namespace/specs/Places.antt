@@ -10,6 +10,7 @@ use Rattle.wast_namespace.specs.Namespaces.{Key, key_of, key_cmp}
 abbrev pub key_at : Id × ℕ → Key
 key_at e = key_of (name_of e.0)
 
+-- a pair: a name as a key, and its number
 abbrev pub entry_of : Id × ℕ → Key × ℕ
 entry_of e = (key_at e, e.1)
 

@@ -39,6 +39,7 @@ kind_rank kind.Tag = 11
 abbrev pub kinds : List FieldKind
 kinds = kind.Ty ∷ kind.Rec ∷ kind.Import ∷ kind.Func ∷ kind.Table ∷ kind.Memory ∷ kind.Global ∷ kind.Export ∷ kind.Start ∷ kind.Elem ∷ kind.Data ∷ kind.Tag ∷ []
 
+-- whether two kinds are the same
 abbrev pub same_kind : FieldKind → FieldKind → Bool
 same_kind k l = kind_rank k == kind_rank l
 

@@ -12,10 +12,11 @@ use Rattle.wast_core.specs.Headline.{Encodes}
 use Rattle.wast_core.specs.Modules.{is_well_formed, generation_bound}
 use Rattle.wast_rows.specs.Numerals.{IsNumber, IsNoNumber}
 
--- the texts of the lines that tell no bytes
+-- the line of a number that is no row
 abbrev pub no_row_text : List ℕ
 no_row_text = codes "no row"
 
+-- the line of a module that is not well formed
 abbrev pub ill_formed_text : List ℕ
 ill_formed_text = codes "ill formed"
 
@@ -24,6 +25,7 @@ abbrev pub refusal_text_at : Option Span → List ℕ → List ℕ
 refusal_text_at (Some span) text = codes "fault at " ++ (decimal span.offset ++ (codes ": " ++ text))
 refusal_text_at None text = codes "refused: " ++ text
 
+-- the line of an error
 abbrev pub refusal_text : Error → List ℕ
 refusal_text e = refusal_text_at (span_of e) (fault_text (fault_of e))
 

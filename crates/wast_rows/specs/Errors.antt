@@ -3,6 +3,7 @@ use Rattle.std.specs.Prelude.{ℕ, List, codes}
 use Rattle.wast_rows.specs.declared.errors.RunError.{RunError}
 use Rattle.wast_rows.specs.declared.errors.RunError.TheVariants.{Read, Write, Memory}
 
+-- what an error of a run says
 abbrev pub error_text : RunError → List ℕ
 error_text Read = codes "the input could not be read"
 error_text Write = codes "the output could not be written"

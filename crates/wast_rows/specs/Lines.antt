@@ -16,9 +16,11 @@ abbrev pub before_if : Bool → ℕ → List (List ℕ) → List (List ℕ)
 before_if true byte lines = [] ∷ lines
 before_if false byte lines = onto_first byte lines
 
+-- a byte in front of lines
 abbrev pub before_lines : ℕ → List (List ℕ) → List (List ℕ)
 before_lines byte lines = before_if (byte == line_feed) byte lines
 
+-- the lines of a text
 abbrev pub lines_of : List ℕ → List (List ℕ)
 lines_of [] = []
 lines_of (byte ∷ text) = before_lines byte (lines_of text)

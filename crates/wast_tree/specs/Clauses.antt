@@ -27,10 +27,12 @@ is_func abstract.NoExtern = false
 is_func abstract.None = false
 is_func abstract.I31 = false
 
+-- the heap type of functions
 abbrev pub is_func_heap : HeapType → Bool
 is_func_heap (heap.Abstract shared ty) = not shared && is_func ty
 is_func_heap (heap.Concrete i) = false
 
+-- `funcref`
 abbrev pub is_funcref : RefType → Bool
 is_funcref r = r.nullable && is_func_heap r.heap
 
@@ -39,6 +41,7 @@ abbrev pub holds_functions : ElemPayload → Bool
 holds_functions (payload.Indices is) = true
 holds_functions (payload.Exprs ty es) = is_funcref ty
 
+-- an index is there, or else this holds
 abbrev pub is_some_or : Option Index → Bool → Bool
 is_some_or None other = other
 is_some_or (Some i) other = true

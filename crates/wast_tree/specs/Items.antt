@@ -25,9 +25,11 @@ fields_of (inner.Func t) = []
 fields_of (inner.Struct t) = t.fields
 fields_of (inner.Array t) = []
 
+-- an item of a space, by its id and its fields
 abbrev pub item : Space → Option Id → List StructField → Item
 item s id fields = record { space = s; id = marked id; fields = field_ids fields }
 
+-- a type is an item, with its fields
 abbrev pub items_of_type : ty.«Type» → List Item
 items_of_type t = item space.Ty t.id (fields_of t.def.kind) ∷ []
 
@@ -39,6 +41,7 @@ space_of_kind (kind.Memory t) = space.Memory
 space_of_kind (kind.Global t) = space.Global
 space_of_kind (kind.Tag t) = space.Tag
 
+-- what is imported is an item of its space
 abbrev pub items_of_import : ImportItems → List Item
 items_of_import (import_items.Single source name sig) = item (space_of_kind sig.kind) sig.id [] ∷ []
 

@@ -9,6 +9,7 @@ use Rattle.wast_tree.specs.Items.{Item}
 abbrev pub name_in : Space → Item → List (Option Name)
 name_in s x = if same_space s x.space then name_if x.id ∷ [] else []
 
+-- the names of all items of a space, in their order
 abbrev pub names_in : Space → List Item → List (Option Name)
 names_in s xs = flat_map (name_in s) xs
 
@@ -16,5 +17,6 @@ names_in s xs = flat_map (name_in s) xs
 pub record Known : Type 0 where
   pub number : Space → Name → Option ℕ
 
+-- what items make known: a name denotes the first that bears it
 abbrev pub known : List Item → Known
 known xs = record { number = λ s name. position_of name (names_in s xs) }

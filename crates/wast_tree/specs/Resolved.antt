@@ -12,9 +12,11 @@ is_numbered (Unasked m) = true
 is_numbered (Clause n holds) = true
 is_numbered (Supported holds) = true
 
+-- the same of a list
 abbrev pub are_numbered : List Ask → Bool
 are_numbered asks = list_all is_numbered asks
 
+-- the same of all that is asked in a list of fields
 abbrev pub has_numbers : List ModuleField → Bool
 has_numbers fields = are_numbered (asked (in_module fields))
 
@@ -24,5 +26,6 @@ is_resolved_site (Asked a) = is_numbered a
 is_resolved_site (Used u) = is_some u.index && are_numbered (in_type_use u)
 is_resolved_site (Declared before m) = true
 
+-- a list of fields as resolving leaves it
 abbrev pub is_resolved : List ModuleField → Bool
 is_resolved fields = list_all is_resolved_site (in_module fields)

@@ -25,6 +25,7 @@ use Rattle.wast_base.specs.Ids.{Name, Mark, mark_of, marked}
 use Rattle.wast_base.specs.Spaces.{name_if}
 use Rattle.wast_tree.specs.Clauses.{is_page_exponent, suits}
 
+-- what stands beside the items of a module, and is asked of it
 pub data Ask : Type 0 where
   -- an index, a number or an id, where one of this space is wanted
   Wants : Space → Index → Ask
@@ -35,6 +36,7 @@ pub data Ask : Type 0 where
   -- whether what stands here is a form that the tree supports today
   Supported : Bool → Ask
 
+-- where something is asked: alone, in a type use, or of a parameter or a local
 pub data Site : Type 0 where
   -- what is asked of the names of the module alone
   Asked : Ask → Site
@@ -71,10 +73,11 @@ abbrev pub if_there : {S A : Type 0} → (A → List S) → Option A → List S
 if_there f None = []
 if_there f (Some x) = f x
 
--- an index of a space, and the same as a site
+-- an index of a space
 abbrev pub in_index : Space → Index → List Ask
 in_index s i = Wants s i ∷ []
 
+-- an index of a space, as a site
 abbrev pub at_index : Space → Index → List Site
 at_index s i = asking (in_index s i)
 
@@ -316,5 +319,6 @@ asked_in (Asked a) = a ∷ []
 asked_in (Used u) = in_type_use u
 asked_in (Declared before m) = []
 
+-- all that is asked at some sites
 abbrev pub asked : List Site → List Ask
 asked sites = flat_map asked_in sites

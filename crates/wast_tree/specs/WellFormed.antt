@@ -14,6 +14,7 @@ is_kept k (Unasked m) = true
 is_kept k (Clause n holds) = holds
 is_kept k (Supported holds) = holds
 
+-- the same of a list
 abbrev pub are_kept : Known → List Ask → Bool
 are_kept k asks = list_all (is_kept k) asks
 

@@ -21,19 +21,23 @@ use Rattle.wast_base.specs.Ids.{written}
 abbrev pub Address : Type 0
 Address = ℕ × ℕ
 
+-- a text that lies there
 abbrev pub text : Address → List ℕ → Bor (List ℕ)
 text a t = record { ref_ptr = a; now = t }
 
+-- a place in the text of a module
 abbrev pub place : ℕ → Span
 place n = record { offset = n }
 
--- an id that is written at n, alone and as an index, and a number at n
+-- an id that is written at n
 abbrev pub id_at : Address → List ℕ → ℕ → Id
 id_at a t n = written (text a t) (place n)
 
+-- an index that is an id
 abbrev pub by_id : Address → List ℕ → ℕ → Index
 by_id a t n = index.Id (id_at a t n)
 
+-- an index that is a number
 abbrev pub by_number : ℕ → ℕ → Index
 by_number k n = index.Num k (place n)
 
@@ -60,13 +64,15 @@ plain_func id n type instrs = record {
 abbrev pub plain_export : Address → ℕ → Index → Export
 plain_export a n item = record { span = place (n + 1); name = text a (codes "a"); kind = export.Func; item = item }
 
--- `(type $t (func))`, `(func $f (type ..) ..)` and `(export "a" (func ..))`, which begin at n
+-- `(type $t (func))`, which begins at n
 abbrev pub type_field : Address → ℕ → ModuleField
 type_field a n = field.Ty (plain_type (Some (id_at a (codes "t") (n + 6))) n)
 
+-- `(func $f (type ..) ..)`, which begins at n
 abbrev pub func_field : Address → ℕ → Index → List Instruction → ModuleField
 func_field a n type instrs = field.Func (plain_func (Some (id_at a (codes "f") (n + 6))) n type instrs)
 
+-- `(export "a" (func ..))`, which begins at n
 abbrev pub export_field : Address → ℕ → Index → ModuleField
 export_field a n item = field.Export (plain_export a n item)
 
@@ -86,10 +92,11 @@ row31 a b c d e = type_field a 8 ∷ export_field b 25 (by_id c (codes "g") 43) 
 abbrev pub row32 : (a b : Address) → List ModuleField
 row32 a b = type_field a 8 ∷ type_field b 25 ∷ []
 
--- a global that holds an `i32`, and a memory of at least one page
+-- the type of a global that holds an `i32`
 abbrev pub plain_global_type : GlobalType
 plain_global_type = record { ty = value.I32; mutable = false; shared = false }
 
+-- the type of a memory of at least one page
 abbrev pub plain_memory_type : MemoryType
 plain_memory_type = record { limits = record { is64 = false; min = 1; max = None }; shared = false; page_size_log2 = None }
 
@@ -107,13 +114,14 @@ plain_data a n filled start = record {
   bytes = bytes.«String» (text a (codes "a")) ∷ [];
 }
 
--- `(import "e" "g" (global $g i32))` and `(memory $m 1)`, which begin at n
+-- `(import "e" "g" (global $g i32))`, which begins at n
 abbrev pub import_field : Address → ℕ → ModuleField
 import_field a n = field.Import (record {
   span = place (n + 1);
   items = import_items.Single (text a (codes "e")) (text a (codes "g")) (record { span = place (n + 17); id = Some (id_at a (codes "g") (n + 24)); name = None; kind = kind.Global plain_global_type });
 })
 
+-- `(memory $m 1)`, which begins at n
 abbrev pub memory_field : Address → ℕ → ModuleField
 memory_field a n = field.Memory (plain_memory (Some (id_at a (codes "m") (n + 8))) n)
 

@@ -28,13 +28,15 @@ use Rattle.wast_tree.specs.WrittenOut.{is_written_out}
 use Rattle.wast_tree.specs.Generations.{generation_or_zero, generation_in, greatest_generation}
 use Rattle.wast_tree.specs.WorkedModules.{Address, text, place, id_at, by_id, by_number, plain_def, plain_type, plain_func, export_field, row27_with, row27, row31, row32, plain_global_type, plain_memory_type, plain_memory, filled_memory}
 
--- a generated id, alone, as an index and as what it is called at its place
+-- a generated id
 abbrev pub made : ℕ → Id
 made n = generated n (place 0)
 
+-- a generated id as an index
 abbrev pub made_index : ℕ → Index
 made_index n = index.Id (made n)
 
+-- what a generated id is called at its place
 abbrev pub made_mark : ℕ → Mark
 made_mark n = mark_of (made n)
 
@@ -50,10 +52,11 @@ SameIds = (a b : Address) →
     × (same_index (by_number 3 1) (by_number 4 1) ≡ false)
     × (same_index (by_number 3 1) (made_index 3) ≡ false)
 
--- `(ref null ..)` of an index, and of an abstract heap type
+-- `(ref null ..)` of an index
 abbrev pub ref_to : Index → ValType
 ref_to i = value.Ref (record { nullable = true; heap = heap.Concrete i })
 
+-- `(ref null func)`, of shared functions or not
 abbrev pub ref_func : Bool → ValType
 ref_func shared = value.Ref (record { nullable = true; heap = heap.Abstract shared abstract.Func })
 
@@ -61,6 +64,7 @@ ref_func shared = value.Ref (record { nullable = true; heap = heap.Abstract shar
 abbrev pub field_of : Option Id → ValType → StructField
 field_of id t = record { id = id; name = None; mutable = true; ty = storage.Val t }
 
+-- a constant expression of these instructions
 abbrev pub expression_of : List Instruction → Expression
 expression_of instrs = record { instrs = instrs; branch_hints = [] }
 
@@ -91,10 +95,11 @@ everywhere_generated a =
     ∷ export_field a 0 (made_index 11)
     ∷ []
 
--- an index where one is wanted, and what is supported or not
+-- an index where one is wanted
 abbrev pub wanted : Space → Index → Site
 wanted s i = Asked (Wants s i)
 
+-- a form that is supported, or not
 abbrev pub supported : Bool → Site
 supported holds = Asked (Supported holds)
 
@@ -190,6 +195,7 @@ KnownInRows = (a b c d e f : Address) →
     × (number_known (row32 a b) space.Ty (Written (codes "t")) ≡ Some 0)
     × (number_known (field.Ty (plain_type None 0) ∷ row32 a b) space.Ty (Written (codes "t")) ≡ Some 1)
 
+-- The worked modules are well formed, also where a name clashes or denotes nothing.
 abbrev pub WellFormedRows : Type 0
 WellFormedRows = (a b c d e f : Address) →
     (is_well_formed (row27 a b c d e f) ≡ true)
@@ -208,10 +214,11 @@ SettledIndices = (a : Address) →
 abbrev pub nameless_func : Func
 nameless_func = plain_func None 8 (by_number 0 20) []
 
--- a type that is defined so, and a function, alone in a module
+-- a type that is defined so, alone in a module
 abbrev pub def_alone : TypeDef → List ModuleField
 def_alone def = field.Ty (record (plain_type None 8) { def = def }) ∷ []
 
+-- a function alone in a module
 abbrev pub func_alone : Func → List ModuleField
 func_alone f = field.Func f ∷ []
 
@@ -228,10 +235,11 @@ UnsettledIndices =
 abbrev pub from_m : Address → InlineImport
 from_m a = record { «module» = text a (codes "m"); field = text a (codes "m") }
 
--- whether a function, or a type that is defined so, is well formed alone in a module
+-- whether a function is well formed alone in a module
 abbrev pub is_well_formed_func : Func → Bool
 is_well_formed_func f = is_well_formed (func_alone f)
 
+-- whether a type that is defined so is well formed alone in a module
 abbrev pub is_well_formed_def : TypeDef → Bool
 is_well_formed_def def = is_well_formed (def_alone def)
 
@@ -271,10 +279,11 @@ WellFormedTypes = (a : Address) →
     × (is_well_formed_def (record plain_def { kind = inner.Array (record { mutable = false; ty = storage.I8 }) }) ≡ true)
     × (is_well_formed_def (record plain_def { kind = inner.Array (record { mutable = false; ty = storage.Val (ref_func true) }) }) ≡ false)
 
--- An element segment without a table holds functions, or references of type `funcref`; one with a table holds others too.
+-- an active segment of no expressions of this type
 abbrev pub elems_of : Option Index → RefType → ModuleField
 elems_of table ty = field.Elem (record { span = place 1; id = None; name = None; kind = elem.Active table (expression_of (instr.global_get (by_number 0 20) ∷ [])); payload = payload.Exprs ty [] })
 
+-- An element segment without a table holds functions, or references of type `funcref`; one with a table holds others too.
 abbrev pub WellFormedSegments : Type 0
 WellFormedSegments =
     (is_well_formed (elems_of None (record { nullable = true; heap = heap.Abstract false abstract.Func }) ∷ []) ≡ true)
@@ -283,16 +292,19 @@ WellFormedSegments =
     × (is_well_formed (elems_of (Some (by_number 0 20)) (record { nullable = true; heap = heap.Abstract false abstract.Extern }) ∷ []) ≡ true)
     × (is_well_formed (elems_of (Some (by_number 0 20)) (record { nullable = true; heap = heap.Abstract true abstract.Extern }) ∷ []) ≡ false)
 
--- A memory may be shared; a global or a table may not.
+-- a global of this type
 abbrev pub global_of : GlobalType → ModuleField
 global_of ty = field.Global (record { span = place 1; id = None; name = None; exports = record { names = [] }; ty = ty; kind = global.Inline (expression_of (instr.global_get (by_number 0 20) ∷ [])) })
 
+-- a table of this type
 abbrev pub table_of : TableType → ModuleField
 table_of ty = field.Table (record { span = place 1; id = None; name = None; exports = record { names = [] }; kind = table.Normal ty None })
 
+-- `1 funcref`
 abbrev pub plain_table_type : TableType
 plain_table_type = record { limits = record { is64 = false; min = 1; max = None }; elem = record { nullable = true; heap = heap.Abstract false abstract.Func }; shared = false }
 
+-- A memory may be shared; a global or a table may not.
 abbrev pub WellFormedEntities : Type 0
 WellFormedEntities =
     (is_well_formed (global_of plain_global_type ∷ []) ≡ true)
@@ -301,13 +313,15 @@ WellFormedEntities =
     × (is_well_formed (table_of (record plain_table_type { shared = true }) ∷ []) ≡ false)
     × (is_well_formed (field.Memory (record (plain_memory None 0) { kind = memory.Normal (record plain_memory_type { shared = true }) }) ∷ []) ≡ true)
 
--- `(table funcref (elem ..))`, and `(memory (data "a"))` with pages of 2 to the exponent
+-- `(table funcref (elem ..))`
 abbrev pub table_in_place : RefType → Bool → ElemPayload → ModuleField
 table_in_place ty shared elements = field.Table (record { span = place 1; id = None; name = None; exports = record { names = [] }; kind = table.Inline ty false shared elements })
 
+-- `(memory (data "a"))`, with pages of 2 to the exponent
 abbrev pub memory_in_place : Address → Option ℕ → ModuleField
 memory_in_place a exponent = field.Memory (record (plain_memory None 0) { kind = memory.Inline false (bytes.«String» (text a (codes "a")) ∷ []) exponent })
 
+-- `funcref`
 abbrev pub funcref : RefType
 funcref = record { nullable = true; heap = heap.Abstract false abstract.Func }
 
