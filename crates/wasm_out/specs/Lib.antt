@@ -5,7 +5,7 @@ pub mod BuiltElements
 pub mod DataSegments
 pub mod ElementSegments
 pub mod WorkedBytes
-pub mod NameSubsections
+pub mod NameSectionBytes
 pub mod Parts
 pub mod Readable
 pub mod Reads

@@ -4,9 +4,9 @@ ghost use Rattle.std.specs.Prelude.{◌≡◌, ◌+◌, ◌==◌, ◌++◌, [], 
 ghost use Rattle.wasm_ops.specs.Leb128.{unsigned};
 ghost use Rattle.wasm_ops.specs.Spelling.{InRangeU32, InRangeSized, name, InRangeName};
 ghost use Rattle.wasm_out.specs.Built.{Adds, Appends, behind_count, empty};
-ghost use Rattle.wasm_out.specs.NameSubsections.{AppendsNames, name_entry, subsection, name_payload};
+ghost use Rattle.wasm_out.specs.NameSectionBytes.{AppendsNames, name_entry, subsection, name_payload};
 ghost use Rattle.wasm_out.specs.Parts.{section};
-ghost use Rattle.wasm_out.specs.NameSubsections as named;
+ghost use Rattle.wasm_out.specs.NameSectionBytes as named;
 
 use crate::built_items::BuiltItems;
 use crate::sections::{CUSTOM_ID, Section};

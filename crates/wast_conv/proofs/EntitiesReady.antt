@@ -11,17 +11,17 @@ use Rattle.wast_conv.proofs.EachPasses.{both_pass, both_true, both_lists}
 use Rattle.wast_conv.proofs.Standing.{asking_passes}
 use Rattle.wast_conv.proofs.TypesReady.{heap_covered, val_covered}
 
-pub table_covered : (t : TableType) → are_encodable (in_table_type t) ≡ true → is_covered_table_type (meaning.table_type t) ≡ true
+pub table_covered : (t : TableType) → are_encodable (in_table_type t) ≡ true → is_covered_table_type (meaning.as_table_type t) ≡ true
 table_covered t e =
     let both = both_lists is_encodable_ask (in_ref t.elem) _ e in
     both_true (not t.shared) _ (both_pass (not t.shared) true both.1).0 (heap_covered t.elem.heap both.0)
 
-pub global_covered : (t : GlobalType) → are_encodable (in_global_type t) ≡ true → is_covered_global_type (meaning.global_type t) ≡ true
+pub global_covered : (t : GlobalType) → are_encodable (in_global_type t) ≡ true → is_covered_global_type (meaning.as_global_type t) ≡ true
 global_covered t e =
     let both = both_lists is_encodable_ask (in_val t.ty) _ e in
     both_true (not t.shared) _ (both_pass (not t.shared) true both.1).0 (val_covered t.ty both.0)
 
-pub kind_covered : (k : ItemKind) → encodable (in_item_kind k) ≡ true → is_covered_entity_type (meaning.entity_type k) ≡ true
+pub kind_covered : (k : ItemKind) → encodable (in_item_kind k) ≡ true → is_covered_entity_type (meaning.as_entity_type k) ≡ true
 kind_covered (kind.Func u) e = refl
 kind_covered (kind.Table t) e = table_covered t (sym (asking_passes (in_table_type t)) ∙ e)
 kind_covered (kind.Memory t) e = refl

@@ -24,44 +24,44 @@ use Rattle.wast_conv.proofs.Standing.{asking_passes, ready_instrs}
 use Rattle.wast_conv.proofs.TypesReady.{heap_covered}
 
 -- each instruction is a row of the table
-instr_row : (i : Instruction) → HasRow (meaning.instr i)
+instr_row : (i : Instruction) → HasRow (meaning.as_instr i)
 unfolding kinds_of table
 instr_row i = grind (arith)
 
-pub instrs_rows : (is : List Instruction) → All HasRow (map meaning.instr is)
-instrs_rows is = All-map HasRow meaning.instr is (all_each (λ i. HasRow (meaning.instr i)) instr_row is)
+pub instrs_rows : (is : List Instruction) → All HasRow (map meaning.as_instr is)
+instrs_rows is = All-map HasRow meaning.as_instr is (all_each (λ i. HasRow (meaning.as_instr i)) instr_row is)
 
 -- those that the encoder takes are covered
-instr_covered : (i : Instruction) → is_encodable_instr i ≡ true → is_covered_instr (meaning.instr i) ≡ true
+instr_covered : (i : Instruction) → is_encodable_instr i ≡ true → is_covered_instr (meaning.as_instr i) ≡ true
 instr_covered (instruction.ref_null h) e = both_true _ true (heap_covered h (sym (asking_passes (in_heap h)) ∙ e)) refl
 instr_covered i e = refl
 
-pub instrs_covered : (is : List Instruction) → list_all is_encodable_instr is ≡ true → list_all is_covered_instr (map meaning.instr is) ≡ true
-instrs_covered is h = each_becomes is_encodable_instr meaning.instr is_covered_instr instr_covered is h
+pub instrs_covered : (is : List Instruction) → list_all is_encodable_instr is ≡ true → list_all is_covered_instr (map meaning.as_instr is) ≡ true
+instrs_covered is h = each_becomes is_encodable_instr meaning.as_instr is_covered_instr instr_covered is h
 
-pub expression_covered : (e : Expression) → is_encodable_expression e ≡ true → is_covered_expression (meaning.expression e) ≡ true
+pub expression_covered : (e : Expression) → is_encodable_expression e ≡ true → is_covered_expression (meaning.as_expression e) ≡ true
 expression_covered e h = instrs_covered e.instrs (ready_instrs e h)
 
 -- the bytes of a constant expression
-pub spells_expression : (is : List Instruction) (bytes : List ℕ) → list_all is_encodable_instr is ≡ true → (bytes ≡ flat_map (λ i. instr (meaning.instr i)) is) × All (λ i. InRangeInstr (meaning.instr i)) is → SpellsInstrs bytes
+pub spells_expression : (is : List Instruction) (bytes : List ℕ) → list_all is_encodable_instr is ≡ true → (bytes ≡ flat_map (λ i. instr (meaning.as_instr i)) is) × All (λ i. InRangeInstr (meaning.as_instr i)) is → SpellsInstrs bytes
 spells_expression is bytes h p = record {
-  list = map meaning.instr is;
-  in_range = is_expression (map meaning.instr is) (instrs_covered is h) (All-map InRangeInstr meaning.instr is p.1) (instrs_rows is);
-  spelled = p.0 ∙ sym (flat_map-map instr meaning.instr is);
+  list = map meaning.as_instr is;
+  in_range = is_expression (map meaning.as_instr is) (instrs_covered is h) (All-map InRangeInstr meaning.as_instr is p.1) (instrs_rows is);
+  spelled = p.0 ∙ sym (flat_map-map instr meaning.as_instr is);
 }
 
-pub expression_made : (is : List Instruction) (bytes : List ℕ) → (bytes ≡ flat_map (λ i. instr (meaning.instr i)) is) × All (λ i. InRangeInstr (meaning.instr i)) is → (bytes ≡ instrs (map meaning.instr is)) × InRangeExpression (map meaning.instr is)
-expression_made is bytes p = (p.0 ∙ sym (flat_map-map instr meaning.instr is), All-map InRangeInstr meaning.instr is p.1)
+pub expression_made : (is : List Instruction) (bytes : List ℕ) → (bytes ≡ flat_map (λ i. instr (meaning.as_instr i)) is) × All (λ i. InRangeInstr (meaning.as_instr i)) is → (bytes ≡ instrs (map meaning.as_instr is)) × InRangeExpression (map meaning.as_instr is)
+expression_made is bytes p = (p.0 ∙ sym (flat_map-map instr meaning.as_instr is), All-map InRangeInstr meaning.as_instr is p.1)
 
-pub expression_refused : (is : List Instruction) (e : Error) → IsRefused (All (λ i. InRangeInstr (meaning.instr i)) is) e → IsRefused (InRangeExpression (map meaning.instr is)) e
-expression_refused is e r = elim r [ inl m ↦ inl m | inr l ↦ inr (l.0, λ h. l.1 (all_unmap InRangeInstr meaning.instr is h)) ]
+pub expression_refused : (is : List Instruction) (e : Error) → IsRefused (All (λ i. InRangeInstr (meaning.as_instr i)) is) e → IsRefused (InRangeExpression (map meaning.as_instr is)) e
+expression_refused is e r = elim r [ inl m ↦ inl m | inr l ↦ inr (l.0, λ h. l.1 (all_unmap InRangeInstr meaning.as_instr is h)) ]
 
 -- an expression, of a list of its instructions
 pub expression_written : {S A : Type 0} (rules : SinkRules S) (a b : S) (xs is : List Instruction) (r : Result A Refusal) → xs ≡ is
-    → Writes rules (All (λ i. InRangeInstr (meaning.instr i)) xs × Unit {0}) a b (flat_map (λ i. instr (meaning.instr i)) xs ++ 0x0b ∷ []) r
-    → Writes rules (InRangeExpression (map meaning.instr is)) a b (expression (map meaning.instr is)) r
+    → Writes rules (All (λ i. InRangeInstr (meaning.as_instr i)) xs × Unit {0}) a b (flat_map (λ i. instr (meaning.as_instr i)) xs ++ 0x0b ∷ []) r
+    → Writes rules (InRangeExpression (map meaning.as_instr is)) a b (expression (map meaning.as_instr is)) r
 expression_written rules a b xs is r e p =
-    written_as rules (All (λ i. InRangeInstr (meaning.instr i)) xs × Unit {0}) (InRangeExpression (map meaning.instr is)) a b (flat_map (λ i. instr (meaning.instr i)) xs ++ 0x0b ∷ []) (expression (map meaning.instr is)) r
-    (λ h. All-map InRangeInstr meaning.instr is (subst (All (λ i. InRangeInstr (meaning.instr i))) e h.0))
-    (λ h. (subst (All (λ i. InRangeInstr (meaning.instr i))) (sym e) (all_unmap InRangeInstr meaning.instr is h), tt))
-    (ap (λ ys. flat_map (λ i. instr (meaning.instr i)) ys ++ 0x0b ∷ []) e ∙ ap (λ (bytes : List ℕ). bytes ++ 0x0b ∷ []) (sym (flat_map-map instr meaning.instr is))) p
+    written_as rules (All (λ i. InRangeInstr (meaning.as_instr i)) xs × Unit {0}) (InRangeExpression (map meaning.as_instr is)) a b (flat_map (λ i. instr (meaning.as_instr i)) xs ++ 0x0b ∷ []) (expression (map meaning.as_instr is)) r
+    (λ h. All-map InRangeInstr meaning.as_instr is (subst (All (λ i. InRangeInstr (meaning.as_instr i))) e h.0))
+    (λ h. (subst (All (λ i. InRangeInstr (meaning.as_instr i))) (sym e) (all_unmap InRangeInstr meaning.as_instr is h), tt))
+    (ap (λ ys. flat_map (λ i. instr (meaning.as_instr i)) ys ++ 0x0b ∷ []) e ∙ ap (λ (bytes : List ℕ). bytes ++ 0x0b ∷ []) (sym (flat_map-map instr meaning.as_instr is))) p

@@ -38,19 +38,19 @@ use Rattle.wast_conv.proofs.TypesReady.{heap_covered}
 
 -- ---- elements
 
-pub are_payload : (ty : types.RefType) (xs es : List Expression) (r : RefType) (v : Vec (List ℕ)) → are_encodable (in_ref ty) ≡ true → r ≡ meaning.ref_type ty → xs ≡ es → AreExpressions xs v.items → ArePayload (payload.Exprs ty es) (elements.Expressions r v)
+pub are_payload : (ty : types.RefType) (xs es : List Expression) (r : RefType) (v : Vec (List ℕ)) → are_encodable (in_ref ty) ≡ true → r ≡ meaning.as_ref_type ty → xs ≡ es → AreExpressions xs v.items → ArePayload (payload.Exprs ty es) (elements.Expressions r v)
 are_payload ty xs es r v covered is same made =
-    let value : v.items ≡ map (λ e. instrs (meaning.expression e)) es = made.value ∙ ap (map (λ e. instrs (meaning.expression e))) same in
-    let counted : length (map meaning.expression es) ≡ length v.items = length-map es meaning.expression ∙ sym (ap length value ∙ length-map es (λ e. instrs (meaning.expression e))) in record {
+    let value : v.items ≡ map (λ e. instrs (meaning.as_expression e)) es = made.value ∙ ap (map (λ e. instrs (meaning.as_expression e))) same in
+    let counted : length (map meaning.as_expression es) ≡ length v.items = length-map es meaning.as_expression ∙ sym (ap length value ∙ length-map es (λ e. instrs (meaning.as_expression e))) in record {
       kind = ap kinds.Expressions is;
-      list = ap (vec ended) value ∙ sym (vec_mapped ended (λ e. instrs (meaning.expression e)) es) ∙ vec_mapped expression meaning.expression es;
+      list = ap (vec ended) value ∙ sym (vec_mapped ended (λ e. instrs (meaning.as_expression e)) es) ∙ vec_mapped expression meaning.as_expression es;
       ready = rw is (heap_covered ty.heap covered);
-      in_range = λ h. (subst InRangeRefType is h.0, (subst InRangeU32 (sym counted) h.1, All-map InRangeExpression meaning.expression es (subst (All (λ e. InRangeExpression (meaning.expression e))) same made.in_range)));
+      in_range = λ h. (subst InRangeRefType is h.0, (subst InRangeU32 (sym counted) h.1, All-map InRangeExpression meaning.as_expression es (subst (All (λ e. InRangeExpression (meaning.as_expression e))) same made.in_range)));
       built = λ h. (subst InRangeRefType (sym is) h.0, subst InRangeU32 counted h.1.0);
     }
 
-pub payload_refused : (ty : types.RefType) (xs es : List Expression) (e : Error) → xs ≡ es → IsRefused (All (λ x. InRangeExpression (meaning.expression x)) xs) e → IsRefused (InRangeListed (meaning.element_items (payload.Exprs ty es))) e
-payload_refused ty xs es e same r = elim r [ inl m ↦ inl m | inr l ↦ inr (l.0, λ h. l.1 (subst (All (λ x. InRangeExpression (meaning.expression x))) (sym same) (all_unmap InRangeExpression meaning.expression es h.1))) ]
+pub payload_refused : (ty : types.RefType) (xs es : List Expression) (e : Error) → xs ≡ es → IsRefused (All (λ x. InRangeExpression (meaning.as_expression x)) xs) e → IsRefused (InRangeListed (meaning.as_element_items (payload.Exprs ty es))) e
+payload_refused ty xs es e same r = elim r [ inl m ↦ inl m | inr l ↦ inr (l.0, λ h. l.1 (subst (All (λ x. InRangeExpression (meaning.as_expression x))) (sym same) (all_unmap InRangeExpression meaning.as_expression es h.1))) ]
 
 -- ---- where they stand
 
@@ -75,14 +75,14 @@ mode_form f mode.Declared k = refl
 mode_form f (mode.Active table offset) k = refl
 
 -- `funcref` becomes `funcref`
-heap_form : (h : HeapType) → tree.is_func_heap h ≡ true → is_func (meaning.heap_type h) ≡ true
+heap_form : (h : HeapType) → tree.is_func_heap h ≡ true → is_func (meaning.as_heap_type h) ≡ true
 heap_form h e = grind (arith, common_steps)
 
-funcref_form : (b : Bool) (h : HeapType) → (b && tree.is_func_heap h) ≡ true → (b && is_func (meaning.heap_type h)) ≡ true
+funcref_form : (b : Bool) (h : HeapType) → (b && tree.is_func_heap h) ≡ true → (b && is_func (meaning.as_heap_type h)) ≡ true
 funcref_form true h e = heap_form h e
 funcref_form false h e = absurd cc
 
-pub suits_form : (k : ElemKind) (p : ElemPayload) → tree.suits k p ≡ true → has_form (meaning.element_mode k) (kind_of (meaning.element_items p)) ≡ true
+pub suits_form : (k : ElemKind) (p : ElemPayload) → tree.suits k p ≡ true → has_form (meaning.as_element_mode k) (kind_of (meaning.as_element_items p)) ≡ true
 suits_form elem.Passive p e = refl
 suits_form elem.Declared p e = refl
 suits_form (elem.Active (Some table) offset) p e = refl
@@ -91,17 +91,17 @@ suits_form (elem.Active None offset) (payload.Exprs ty es) e = funcref_form ty.n
 
 -- a segment, of its mode, its kind and the bytes of its list
 pub segment_written : {S A O : Type 0} (rules : SinkRules S) (a b : S) (f : O → List Instr) (m : SegmentMode O) (k : ElemKind) (p : ElemPayload) (kind : ElementKind) (InList : Type 0) (list : List ℕ) (r : Result A Refusal)
-    → seen_mode f m ≡ meaning.element_mode k → kind ≡ kind_of (meaning.element_items p) → list ≡ listed (meaning.element_items p) → (InList → InRangeListed (meaning.element_items p)) → (InRangeListed (meaning.element_items p) → InList)
+    → seen_mode f m ≡ meaning.as_element_mode k → kind ≡ kind_of (meaning.as_element_items p) → list ≡ listed (meaning.as_element_items p) → (InList → InRangeListed (meaning.as_element_items p)) → (InRangeListed (meaning.as_element_items p) → InList)
     → Writes rules (InRangeMode (λ o. InRangeExpression (f o)) m × (InRangeElementKind kind × InList)) a b (segment_bytes (λ o. expression (f o)) m kind list) r
-    → Writes rules (InRangeElementMode (meaning.element_mode k) × (InRangeElementKind (kind_of (meaning.element_items p)) × InRangeListed (meaning.element_items p))) a b (element_bytes (meaning.element_mode k) (kind_of (meaning.element_items p)) (listed (meaning.element_items p))) r
+    → Writes rules (InRangeElementMode (meaning.as_element_mode k) × (InRangeElementKind (kind_of (meaning.as_element_items p)) × InRangeListed (meaning.as_element_items p))) a b (element_bytes (meaning.as_element_mode k) (kind_of (meaning.as_element_items p)) (listed (meaning.as_element_items p))) r
 segment_written rules a b f m k p kind InList list r same is are into back h =
-    let items = meaning.element_items p in
-    let stands = meaning.element_mode k in
+    let items = meaning.as_element_items p in
+    let stands = meaning.as_element_mode k in
     written_as rules (InRangeMode (λ o. InRangeExpression (f o)) m × (InRangeElementKind kind × InList)) (InRangeElementMode stands × (InRangeElementKind (kind_of items) × InRangeListed items)) a b (segment_bytes (λ o. expression (f o)) m kind list) (element_bytes stands (kind_of items) (listed items)) r
     (λ x. (subst InRangeElementMode same (mode_in_range f m x.0), (subst InRangeElementKind is x.1.0, into x.1.1)))
     (λ x. (range_of_mode f m (subst InRangeElementMode (sym same) x.0), (subst InRangeElementKind (sym is) x.1.0, back x.1.1)))
     (mode_bytes f m kind list ∙ ap (λ x. element_bytes x kind list) same ∙ ap (λ x. element_bytes stands x list) is ∙ ap (element_bytes stands (kind_of items)) are) h
 
 -- the form of a segment of this kind
-pub has_its_form : {O : Type 0} (f : O → List Instr) (m : SegmentMode O) (k : ElemKind) (p : ElemPayload) (kind : ElementKind) → seen_mode f m ≡ meaning.element_mode k → kind ≡ kind_of (meaning.element_items p) → tree.suits k p ≡ true → is_form m kind ≡ true
-has_its_form f m k p kind same is e = mode_form f m kind ∙ ap (λ x. has_form x kind) same ∙ ap (has_form (meaning.element_mode k)) is ∙ suits_form k p e
+pub has_its_form : {O : Type 0} (f : O → List Instr) (m : SegmentMode O) (k : ElemKind) (p : ElemPayload) (kind : ElementKind) → seen_mode f m ≡ meaning.as_element_mode k → kind ≡ kind_of (meaning.as_element_items p) → tree.suits k p ≡ true → is_form m kind ≡ true
+has_its_form f m k p kind same is e = mode_form f m kind ∙ ap (λ x. has_form x kind) same ∙ ap (has_form (meaning.as_element_mode k)) is ∙ suits_form k p e

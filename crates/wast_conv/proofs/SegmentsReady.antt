@@ -14,7 +14,7 @@ use Rattle.wast_conv.specs.Tree.elem
 use Rattle.wast_conv.specs.Tree.payload
 use Rattle.wast_conv.specs.Tree.data_kind
 use Rattle.wast_conv.specs.Encodable.{are_encodable, is_encodable_site, encodable, is_encodable_expression, is_encodable_elem}
-use Rattle.wast_conv.specs.FieldEntries.{element_mode, element_items, data_mode}
+use Rattle.wast_conv.specs.FieldEntries.{as_element_mode, as_element_items, as_data_mode}
 use Rattle.wast_conv.specs.Meaning as meaning
 use Rattle.wast_conv.proofs.EachPasses.{both_pass, both_true, both_lists, each_passes, each_then, each_becomes}
 use Rattle.wast_conv.proofs.Expressions.{instrs_rows, expression_covered}
@@ -45,40 +45,40 @@ elem_parts x e =
 pub offset_ready : (ss : List Site) (offset : Expression) → encodable (ss ++ in_constant offset) ≡ true → is_encodable_expression offset ≡ true
 offset_ready ss offset e = constant_ready offset (both_lists is_encodable_site ss (in_constant offset) e).1
 
-mode_covered : (k : ElemKind) → encodable (in_elem_kind k) ≡ true → is_covered_element_mode (element_mode k) ≡ true
+mode_covered : (k : ElemKind) → encodable (in_elem_kind k) ≡ true → is_covered_element_mode (as_element_mode k) ≡ true
 mode_covered elem.Passive e = refl
 mode_covered elem.Declared e = refl
 mode_covered (elem.Active table offset) e = expression_covered offset (offset_ready (if_there (at_index space.Table) table) offset e)
 
-kind_covered : (q : ElemPayload) → encodable (in_payload q) ≡ true → is_covered_element_kind (kind_of (element_items q)) ≡ true
+kind_covered : (q : ElemPayload) → encodable (in_payload q) ≡ true → is_covered_element_kind (kind_of (as_element_items q)) ≡ true
 kind_covered (payload.Indices is) e = refl
 kind_covered (payload.Exprs ty es) e = heap_covered ty.heap (exprs_parts ty es e).1
 
-items_covered : (q : ElemPayload) → encodable (in_payload q) ≡ true → is_covered_listed (element_items q) ≡ true
+items_covered : (q : ElemPayload) → encodable (in_payload q) ≡ true → is_covered_listed (as_element_items q) ≡ true
 items_covered (payload.Indices is) e = refl
 items_covered (payload.Exprs ty es) e =
-    each_becomes is_encodable_expression meaning.expression is_covered_expression expression_covered es (exprs_parts ty es e).0
+    each_becomes is_encodable_expression meaning.as_expression is_covered_expression expression_covered es (exprs_parts ty es e).0
 
-pub elem_covered : (x : Elem) → is_encodable_elem x ≡ true → is_covered_element_entry (meaning.element_entry x) ≡ true
+pub elem_covered : (x : Elem) → is_encodable_elem x ≡ true → is_covered_element_entry (meaning.as_element x) ≡ true
 elem_covered x e =
     let parts = elem_parts x e in
     both_true _ _ (suits_form x.kind x.payload parts.fits)
     (both_true _ _ (mode_covered x.kind parts.stands) (both_true _ _ (kind_covered x.payload parts.holds) (items_covered x.payload parts.holds)))
 
-pub mode_rows : (k : ElemKind) → HasRowsElementMode (element_mode k)
+pub mode_rows : (k : ElemKind) → HasRowsElementMode (as_element_mode k)
 mode_rows elem.Passive = tt
 mode_rows elem.Declared = tt
 mode_rows (elem.Active table offset) = instrs_rows offset.instrs
 
-pub items_rows : (q : ElemPayload) → HasRowsListed (element_items q)
+pub items_rows : (q : ElemPayload) → HasRowsListed (as_element_items q)
 items_rows (payload.Indices is) = tt
-items_rows (payload.Exprs ty es) = All-map HasRowsExpression meaning.expression es (all_each (λ x. HasRowsExpression (meaning.expression x)) (λ x. instrs_rows x.instrs) es)
+items_rows (payload.Exprs ty es) = All-map HasRowsExpression meaning.as_expression es (all_each (λ x. HasRowsExpression (meaning.as_expression x)) (λ x. instrs_rows x.instrs) es)
 
 -- the same of segments of data
-pub place_covered : (k : DataKind) → encodable (in_data_kind k) ≡ true → is_covered_data_mode (data_mode k) ≡ true
+pub place_covered : (k : DataKind) → encodable (in_data_kind k) ≡ true → is_covered_data_mode (as_data_mode k) ≡ true
 place_covered data_kind.Passive e = refl
 place_covered (data_kind.Active memory offset) e = expression_covered offset (offset_ready (at_index space.Memory memory) offset e)
 
-pub place_rows : (k : DataKind) → HasRowsDataMode (data_mode k)
+pub place_rows : (k : DataKind) → HasRowsDataMode (as_data_mode k)
 place_rows data_kind.Passive = tt
 place_rows (data_kind.Active memory offset) = instrs_rows offset.instrs

@@ -30,14 +30,14 @@ in_range_unmapped P f xs h = (subst InRangeU32 (length-map xs f) h.0, all_unmap 
 
 -- a body, of its locals and its instructions
 pub body_written : {S A : Type 0} (rules : SinkRules S) (a b : S) (ls : List Local) (is : List Instruction) (r : Result A Refusal)
-    → Writes rules (InRangeVec InRangeValType (map (λ l. meaning.val_type l.ty) ls) × (All (λ i. InRangeInstr (meaning.instr i)) is × Unit {0})) a b (locals (map (λ l. meaning.val_type l.ty) ls) ++ (flat_map (λ i. instr (meaning.instr i)) is ++ (0x0b ∷ []))) r
+    → Writes rules (InRangeVec InRangeValType (map (λ l. meaning.as_val_type l.ty) ls) × (All (λ i. InRangeInstr (meaning.as_instr i)) is × Unit {0})) a b (locals (map (λ l. meaning.as_val_type l.ty) ls) ++ (flat_map (λ i. instr (meaning.as_instr i)) is ++ (0x0b ∷ []))) r
     → Writes rules (InRangeContent (meaning.body_of ls is)) a b (content (meaning.body_of ls is)) r
 body_written rules a b ls is r p =
-    let front = locals (map (λ l. meaning.val_type l.ty) ls) in
-    written_as rules (InRangeVec InRangeValType (map (λ l. meaning.val_type l.ty) ls) × (All (λ i. InRangeInstr (meaning.instr i)) is × Unit {0})) (InRangeContent (meaning.body_of ls is)) a b
-    (front ++ (flat_map (λ i. instr (meaning.instr i)) is ++ (0x0b ∷ []))) (content (meaning.body_of ls is)) r
-    (λ h. record { locals = h.0; instrs = All-map InRangeInstr meaning.instr is h.1.0 }) (λ h. (h.locals, (all_unmap InRangeInstr meaning.instr is h.instrs, tt)))
-    (ap (λ (bytes : List ℕ). front ++ (bytes ++ 0x0b ∷ [])) (sym (flat_map-map instr meaning.instr is))) p
+    let front = locals (map (λ l. meaning.as_val_type l.ty) ls) in
+    written_as rules (InRangeVec InRangeValType (map (λ l. meaning.as_val_type l.ty) ls) × (All (λ i. InRangeInstr (meaning.as_instr i)) is × Unit {0})) (InRangeContent (meaning.body_of ls is)) a b
+    (front ++ (flat_map (λ i. instr (meaning.as_instr i)) is ++ (0x0b ∷ []))) (content (meaning.body_of ls is)) r
+    (λ h. record { locals = h.0; instrs = All-map InRangeInstr meaning.as_instr is h.1.0 }) (λ h. (h.locals, (all_unmap InRangeInstr meaning.as_instr is h.instrs, tt)))
+    (ap (λ (bytes : List ℕ). front ++ (bytes ++ 0x0b ∷ [])) (sym (flat_map-map instr meaning.as_instr is))) p
 
 -- a byte and a list, of what the items become
 pub list_written : {S R A B : Type 0} (rules : SinkRules S) (a b : S) (byte : ℕ) (spell : B → List ℕ) (InRange : B → Type 0) (f : A → B) (xs ys : List A) (r : Result R Refusal) → xs ≡ ys
@@ -49,19 +49,19 @@ list_written rules a b byte spell InRange f xs ys r e p =
 
 -- a function type, of lists of its parameters and results
 pub function_written : {S A : Type 0} (rules : SinkRules S) (a b : S) (t : FunctionType) (ps : List (Option Id × Option NameAnnotation × ValType)) (rs : List ValType) (r : Result A Refusal) → ps ≡ t.params → rs ≡ t.results
-    → Writes rules (Unit {0} × (InRangeVec (λ p. InRangeValType (meaning.val_type p.2)) ps × InRangeVec (λ u. InRangeValType (meaning.val_type u)) rs)) a b (0x60 ∷ (vec (λ p. val_type (meaning.val_type p.2)) ps ++ vec (λ u. val_type (meaning.val_type u)) rs)) r
-    → Writes rules (InRangeFuncType (meaning.func_type t)) a b (func_type (meaning.func_type t)) r
+    → Writes rules (Unit {0} × (InRangeVec (λ p. InRangeValType (meaning.as_val_type p.2)) ps × InRangeVec (λ u. InRangeValType (meaning.as_val_type u)) rs)) a b (0x60 ∷ (vec (λ p. val_type (meaning.as_val_type p.2)) ps ++ vec (λ u. val_type (meaning.as_val_type u)) rs)) r
+    → Writes rules (InRangeFuncType (meaning.as_func_type t)) a b (func_type (meaning.as_func_type t)) r
 function_written rules a b t ps rs r e f p =
-    let param : Option Id × Option NameAnnotation × ValType → ops.ValType = λ q. meaning.val_type q.2 in
+    let param : Option Id × Option NameAnnotation × ValType → ops.ValType = λ q. meaning.as_val_type q.2 in
     let front : List (Option Id × Option NameAnnotation × ValType) → List ℕ = λ qs. vec (λ q. val_type (param q)) qs in
-    let back : List ValType → List ℕ = λ us. vec (λ u. val_type (meaning.val_type u)) us in
+    let back : List ValType → List ℕ = λ us. vec (λ u. val_type (meaning.as_val_type u)) us in
     let InFront : List (Option Id × Option NameAnnotation × ValType) → Type 0 = λ qs. InRangeVec (λ q. InRangeValType (param q)) qs in
-    let InBack : List ValType → Type 0 = λ us. InRangeVec (λ u. InRangeValType (meaning.val_type u)) us in
-    written_as rules (Unit {0} × (InFront ps × InBack rs)) (InRangeFuncType (meaning.func_type t)) a b (0x60 ∷ (front ps ++ back rs)) (func_type (meaning.func_type t)) r
-    (λ h. (in_range_mapped InRangeValType param t.params (subst InFront e h.1.0), in_range_mapped InRangeValType meaning.val_type t.results (subst InBack f h.1.1)))
-    (λ h. (tt, (subst InFront (sym e) (in_range_unmapped InRangeValType param t.params h.0), subst InBack (sym f) (in_range_unmapped InRangeValType meaning.val_type t.results h.1))))
+    let InBack : List ValType → Type 0 = λ us. InRangeVec (λ u. InRangeValType (meaning.as_val_type u)) us in
+    written_as rules (Unit {0} × (InFront ps × InBack rs)) (InRangeFuncType (meaning.as_func_type t)) a b (0x60 ∷ (front ps ++ back rs)) (func_type (meaning.as_func_type t)) r
+    (λ h. (in_range_mapped InRangeValType param t.params (subst InFront e h.1.0), in_range_mapped InRangeValType meaning.as_val_type t.results (subst InBack f h.1.1)))
+    (λ h. (tt, (subst InFront (sym e) (in_range_unmapped InRangeValType param t.params h.0), subst InBack (sym f) (in_range_unmapped InRangeValType meaning.as_val_type t.results h.1))))
     (ap (λ qs. 0x60 ∷ (front qs ++ back rs)) e ∙ ap (λ us. 0x60 ∷ (front t.params ++ back us)) f
-    ∙ ap (λ (bs : List ℕ). 0x60 ∷ (bs ++ back t.results)) (vec_mapped val_type param t.params) ∙ ap (λ (bs : List ℕ). 0x60 ∷ (vec val_type (map param t.params) ++ bs)) (vec_mapped val_type meaning.val_type t.results))
+    ∙ ap (λ (bs : List ℕ). 0x60 ∷ (bs ++ back t.results)) (vec_mapped val_type param t.params) ∙ ap (λ (bs : List ℕ). 0x60 ∷ (vec val_type (map param t.params) ++ bs)) (vec_mapped val_type meaning.as_val_type t.results))
     p
 
 -- the bytes of a type below others, as its lists are spelled
@@ -80,12 +80,12 @@ final_is (Some b) = refl
 
 -- a type, of a list of the types above it
 pub sub_written : {S A : Type 0} (rules : SinkRules S) (a b : S) (d : TypeDef) (ps : List Index) (bytes : List ℕ) (r : Result A Refusal) → ps ≡ d.parents
-    → bytes ≡ sub_bytes (is_final d.final_type) (map meaning.number ps) (composite_inner_type (meaning.inner_type d.kind))
-    → Writes rules (Unit {0} × (InRangeVec (λ i. InRangeU32 (meaning.number i)) ps × InRangeCompositeInnerType (meaning.inner_type d.kind))) a b bytes r
-    → Writes rules (InRangeSubType (meaning.sub_type d)) a b (sub_type (meaning.sub_type d)) r
+    → bytes ≡ sub_bytes (is_final d.final_type) (map meaning.number ps) (composite_inner_type (meaning.as_inner_type d.kind))
+    → Writes rules (Unit {0} × (InRangeVec (λ i. InRangeU32 (meaning.number i)) ps × InRangeCompositeInnerType (meaning.as_inner_type d.kind))) a b bytes r
+    → Writes rules (InRangeSubType (meaning.as_sub_type d)) a b (sub_type (meaning.as_sub_type d)) r
 sub_written rules a b d ps bytes r e is p =
-    let composite = composite_inner_type (meaning.inner_type d.kind) in
-    written_as rules (Unit {0} × (InRangeVec (λ i. InRangeU32 (meaning.number i)) ps × InRangeCompositeInnerType (meaning.inner_type d.kind))) (InRangeSubType (meaning.sub_type d)) a b bytes (sub_type (meaning.sub_type d)) r
+    let composite = composite_inner_type (meaning.as_inner_type d.kind) in
+    written_as rules (Unit {0} × (InRangeVec (λ i. InRangeU32 (meaning.number i)) ps × InRangeCompositeInnerType (meaning.as_inner_type d.kind))) (InRangeSubType (meaning.as_sub_type d)) a b bytes (sub_type (meaning.as_sub_type d)) r
     (λ h. (in_range_mapped InRangeU32 meaning.number d.parents (subst (InRangeVec (λ i. InRangeU32 (meaning.number i))) e h.1.0), h.1.1))
     (λ h. (tt, (subst (InRangeVec (λ i. InRangeU32 (meaning.number i))) (sym e) (in_range_unmapped InRangeU32 meaning.number d.parents h.0), h.1)))
     (is ∙ ap (λ qs. sub_bytes (is_final d.final_type) (map meaning.number qs) composite) e) p

@@ -47,30 +47,30 @@ number_of (Some i) h = (both_pass (is_number i) _ h).0
 
 -- ---- what the encoder takes becomes a covered value
 
-pub heap_covered : (h : HeapType) → are_encodable (in_heap h) ≡ true → is_covered_heap_type (meaning.heap_type h) ≡ true
+pub heap_covered : (h : HeapType) → are_encodable (in_heap h) ≡ true → is_covered_heap_type (meaning.as_heap_type h) ≡ true
 heap_covered (heap.Abstract shared ty) e = (both_pass (not shared) true e).0
 heap_covered (heap.Concrete i) e = refl
 
-pub val_covered : (t : ValType) → are_encodable (in_val t) ≡ true → is_covered_val_type (meaning.val_type t) ≡ true
+pub val_covered : (t : ValType) → are_encodable (in_val t) ≡ true → is_covered_val_type (meaning.as_val_type t) ≡ true
 val_covered t e = grind (arith, common_steps, heap_covered)
 
-pub storage_covered : (t : StorageType) → are_encodable (in_storage t) ≡ true → is_covered_storage_type (meaning.storage_type t) ≡ true
+pub storage_covered : (t : StorageType) → are_encodable (in_storage t) ≡ true → is_covered_storage_type (meaning.as_storage_type t) ≡ true
 storage_covered t e = grind (arith, common_steps, val_covered)
 
-param_covered : (p : Option Id × Option NameAnnotation × ValType) → are_encodable (in_param p) ≡ true → is_covered_val_type (meaning.val_type p.2) ≡ true
+param_covered : (p : Option Id × Option NameAnnotation × ValType) → are_encodable (in_param p) ≡ true → is_covered_val_type (meaning.as_val_type p.2) ≡ true
 param_covered p e = val_covered p.2 (sym (behind_id p.0 (in_val p.2)) ∙ e)
 
-field_covered : (f : StructField) → are_encodable (in_struct_field f) ≡ true → is_covered_field_type (meaning.field_type f) ≡ true
+field_covered : (f : StructField) → are_encodable (in_struct_field f) ≡ true → is_covered_field_type (meaning.as_field_type f) ≡ true
 field_covered f e = storage_covered f.ty (sym (behind_id f.id (in_storage f.ty)) ∙ e)
 
-inner_covered : (t : InnerTypeKind) → are_encodable (in_inner t) ≡ true → is_covered_composite_inner_type (meaning.inner_type t) ≡ true
+inner_covered : (t : InnerTypeKind) → are_encodable (in_inner t) ≡ true → is_covered_composite_inner_type (meaning.as_inner_type t) ≡ true
 inner_covered (inner.Func t) e =
     let a = signature_parts is_encodable_ask t e in
-    both_true (list_all is_covered_val_type (map (λ p. meaning.val_type p.2) t.params)) (list_all is_covered_val_type (map meaning.val_type t.results))
-    (each_becomes (λ p. are_encodable (in_param p)) (λ p. meaning.val_type p.2) is_covered_val_type param_covered t.params a.0)
-    (each_becomes (λ v. are_encodable (in_val v)) meaning.val_type is_covered_val_type val_covered t.results a.1)
+    both_true (list_all is_covered_val_type (map (λ p. meaning.as_val_type p.2) t.params)) (list_all is_covered_val_type (map meaning.as_val_type t.results))
+    (each_becomes (λ p. are_encodable (in_param p)) (λ p. meaning.as_val_type p.2) is_covered_val_type param_covered t.params a.0)
+    (each_becomes (λ v. are_encodable (in_val v)) meaning.as_val_type is_covered_val_type val_covered t.results a.1)
 inner_covered (inner.Struct t) e =
-    each_becomes (λ f. are_encodable (in_struct_field f)) meaning.field_type is_covered_field_type field_covered t.fields
+    each_becomes (λ f. are_encodable (in_struct_field f)) meaning.as_field_type is_covered_field_type field_covered t.fields
     (sym (each_passes is_encodable_ask in_struct_field t.fields) ∙ e)
 inner_covered (inner.Array t) e = storage_covered t.ty e
 
@@ -82,24 +82,24 @@ no_descriptor (Some i) e = absurd (no_form (is_number i) e)
     no_form true e = cc
     no_form false e = cc
 
-pub def_covered : (d : TypeDef) → are_encodable (in_def d) ≡ true → is_covered_sub_type (meaning.sub_type d) ≡ true
+pub def_covered : (d : TypeDef) → are_encodable (in_def d) ≡ true → is_covered_sub_type (meaning.as_sub_type d) ≡ true
 def_covered d e =
     let parts = def_parts is_encodable_ask d e in
-    both_true _ (is_covered_composite_inner_type (meaning.inner_type d.kind))
+    both_true _ (is_covered_composite_inner_type (meaning.as_inner_type d.kind))
     (both_true (not d.shared) _ (both_pass (not d.shared) true parts.shared).0
     (both_true _ _ (no_descriptor d.descriptor parts.descriptor) (no_descriptor d.describes parts.describes)))
     (inner_covered d.kind parts.kind)
 
 -- ---- what a function or a group becomes
 
-pub local_covered : (l : Local) → are_encodable (in_local l) ≡ true → is_covered_val_type (meaning.val_type l.ty) ≡ true
+pub local_covered : (l : Local) → are_encodable (in_local l) ≡ true → is_covered_val_type (meaning.as_val_type l.ty) ≡ true
 local_covered l e = val_covered l.ty (both_lists is_encodable_ask (in_val l.ty) _ e).0
 
 pub locals_covered : (ls : List Local)
-    → list_all (λ l. are_encodable (in_local l)) ls ≡ true → list_all is_covered_val_type (map (λ l. meaning.val_type l.ty) ls) ≡ true
-locals_covered ls e = each_becomes (λ l. are_encodable (in_local l)) (λ l. meaning.val_type l.ty) is_covered_val_type local_covered ls e
+    → list_all (λ l. are_encodable (in_local l)) ls ≡ true → list_all is_covered_val_type (map (λ l. meaning.as_val_type l.ty) ls) ≡ true
+locals_covered ls e = each_becomes (λ l. are_encodable (in_local l)) (λ l. meaning.as_val_type l.ty) is_covered_val_type local_covered ls e
 
-pub types_covered : (r : Rec) → are_encodable (in_rec r) ≡ true → list_all is_covered_sub_type (map (λ t. meaning.sub_type t.def) r.types) ≡ true
+pub types_covered : (r : Rec) → are_encodable (in_rec r) ≡ true → list_all is_covered_sub_type (map (λ t. meaning.as_sub_type t.def) r.types) ≡ true
 types_covered r e =
-    each_becomes is_encodable_type (λ t. meaning.sub_type t.def) is_covered_sub_type (λ t h. def_covered t.def h) r.types
+    each_becomes is_encodable_type (λ t. meaning.as_sub_type t.def) is_covered_sub_type (λ t h. def_covered t.def h) r.types
     (sym (each_passes is_encodable_ask in_type r.types) ∙ e)

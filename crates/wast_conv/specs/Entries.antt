@@ -8,9 +8,9 @@ use Rattle.wast_conv.specs.declared.section_items.RecOrType.{RecOrType}
 use Rattle.wast_conv.specs.declared.section_items.RecOrType.TheVariants as entry
 
 -- a type on its own, or a group of types
-abbrev pub entry_of : RecOrType → TypeEntry
-entry_of (entry.Ty t) = Single (meaning.sub_type t.now.def)
-entry_of (entry.Rec r) = meaning.group_of r.now
+abbrev pub as_type_entry : RecOrType → TypeEntry
+as_type_entry (entry.Ty t) = Single (meaning.as_sub_type t.now.def)
+as_type_entry (entry.Rec r) = meaning.as_group r.now
 
 -- the encoder may be handed it
 abbrev pub is_encodable_entry : RecOrType → Bool

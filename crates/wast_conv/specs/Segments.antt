@@ -11,21 +11,21 @@ use Rattle.wasm_out.specs.declared.elements.SegmentMode.TheVariants as mode
 use Rattle.wasm_out.specs.declared.data_segments.DataMode as segments
 use Rattle.wasm_out.specs.declared.data_segments.DataMode.TheVariants as data_mode
 use Rattle.wast_conv.specs.Tree.{Expression, ElemPayload}
-use Rattle.wast_conv.specs.FieldEntries.{element_items}
-use Rattle.wast_conv.specs.Values.{expression}
+use Rattle.wast_conv.specs.FieldEntries.{as_element_items}
+use Rattle.wast_conv.specs.Values.{as_expression}
 
 -- constant expressions, each with its instructions in range
 pub record AreExpressions (es : List Expression) (made : List (List ℕ)) : Type 0 where
-  pub value : made ≡ map (λ e. instrs (expression e)) es
-  pub in_range : All (λ e. InRangeExpression (expression e)) es
+  pub value : made ≡ map (λ e. instrs (as_expression e)) es
+  pub in_range : All (λ e. InRangeExpression (as_expression e)) es
 
 -- the elements are those of the payload: of their kind, with their bytes, and in range where they are
 pub record ArePayload (p : ElemPayload) (e : Elements) : Type 0 where
-  pub kind : kind_in e ≡ kind_of (element_items p)
-  pub list : listed_in e ≡ listed (element_items p)
+  pub kind : kind_in e ≡ kind_of (as_element_items p)
+  pub list : listed_in e ≡ listed (as_element_items p)
   pub ready : AreElements e
-  pub in_range : InRangeElements e → InRangeElementKind (kind_of (element_items p)) × InRangeListed (element_items p)
-  pub built : InRangeElementKind (kind_of (element_items p)) × InRangeListed (element_items p) → InRangeElements e
+  pub in_range : InRangeElements e → InRangeElementKind (kind_of (as_element_items p)) × InRangeListed (as_element_items p)
+  pub built : InRangeElementKind (kind_of (as_element_items p)) × InRangeListed (as_element_items p) → InRangeElements e
 
 -- where a segment stands, by what gives the offset
 abbrev pub seen_mode : {O : Type 0} → (O → List Instr) → SegmentMode O → ElementMode

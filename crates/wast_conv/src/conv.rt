@@ -78,7 +78,7 @@ impl Convert for Index<'_> {
 }
 
 fn abstract_type(ty: wast_tree::AbstractHeapType) -> wasm_ops::AbstractHeapType
-    ensures { result ≡ meaning.abstract_type ty }
+    ensures { result ≡ meaning.as_abstract_type ty }
 {
     match ty {
         wast_tree::AbstractHeapType::Func => wasm_ops::AbstractHeapType::Func,
@@ -99,7 +99,7 @@ fn abstract_type(ty: wast_tree::AbstractHeapType) -> wasm_ops::AbstractHeapType
 /// What a reference refers to (binary format, heap types). It needs a resolved index.
 pub fn heap_type(ty: &wast_tree::HeapType) -> wasm_ops::HeapType
     requires { IsTrue (are_numbered (in_heap ty.now)) }
-    ensures { result ≡ meaning.heap_type ty.now }
+    ensures { result ≡ meaning.as_heap_type ty.now }
 {
     match ty {
         wast_tree::HeapType::Abstract { shared, ty } => wasm_ops::HeapType::Abstract {
@@ -113,7 +113,7 @@ pub fn heap_type(ty: &wast_tree::HeapType) -> wasm_ops::HeapType
 /// A reference type (binary format, reference types). It needs a resolved index.
 pub fn ref_type(ty: &wast_tree::RefType) -> wasm_ops::RefType
     requires { IsTrue (are_numbered (in_ref ty.now)) }
-    ensures { result ≡ meaning.ref_type ty.now }
+    ensures { result ≡ meaning.as_ref_type ty.now }
 {
     wasm_ops::RefType {
         nullable: ty.nullable,
@@ -124,7 +124,7 @@ pub fn ref_type(ty: &wast_tree::RefType) -> wasm_ops::RefType
 /// A value type (binary format, value types). It needs a resolved index.
 pub fn val_type(ty: &wast_tree::ValType) -> wasm_ops::ValType
     requires { IsTrue (are_numbered (in_val ty.now)) }
-    ensures { result ≡ meaning.val_type ty.now }
+    ensures { result ≡ meaning.as_val_type ty.now }
 {
     match ty {
         wast_tree::ValType::I32 => wasm_ops::ValType::I32,
@@ -139,7 +139,7 @@ pub fn val_type(ty: &wast_tree::ValType) -> wasm_ops::ValType
 /// What a field of a struct or an element of an array holds (binary format, composite types). It needs a resolved index.
 pub fn storage_type(ty: &wast_tree::StorageType) -> wasm_ops::StorageType
     requires { IsTrue (are_numbered (in_storage ty.now)) }
-    ensures { result ≡ meaning.storage_type ty.now }
+    ensures { result ≡ meaning.as_storage_type ty.now }
 {
     match ty {
         wast_tree::StorageType::I8 => wasm_ops::StorageType::I8,
@@ -151,7 +151,7 @@ pub fn storage_type(ty: &wast_tree::StorageType) -> wasm_ops::StorageType
 /// A field of a struct (binary format, composite types). It needs a resolved index.
 pub fn field_type(field: &wast_tree::StructField) -> wasm_ops::FieldType
     requires { IsTrue (are_numbered (in_struct_field field.now)) }
-    ensures { result ≡ meaning.field_type field.now }
+    ensures { result ≡ meaning.as_field_type field.now }
 {
     wasm_ops::FieldType {
         element_type: storage_type(&field.ty),
@@ -162,7 +162,7 @@ pub fn field_type(field: &wast_tree::StructField) -> wasm_ops::FieldType
 /// An array type (binary format, composite types). It needs a resolved index.
 pub fn array_type(ty: &wast_tree::ArrayType) -> wasm_ops::ArrayType
     requires { IsTrue (are_numbered (in_array ty.now)) }
-    ensures { result ≡ meaning.array_type ty.now }
+    ensures { result ≡ meaning.as_array_type ty.now }
 {
     wasm_ops::ArrayType(wasm_ops::FieldType {
         element_type: storage_type(&ty.ty),
@@ -173,7 +173,7 @@ pub fn array_type(ty: &wast_tree::ArrayType) -> wasm_ops::ArrayType
 impl Convert for wast_tree::ValType<'_> {
     type Out = wasm_ops::ValType;
 
-    ghost becomes = { meaning.val_type };
+    ghost becomes = { meaning.as_val_type };
 
     ghost is_ready = { λ t. are_numbered (in_val t) };
 
@@ -190,7 +190,7 @@ impl<'a> Convert
     ) {
     type Out = wasm_ops::ValType;
 
-    ghost becomes = { λ p. meaning.val_type p.2 };
+    ghost becomes = { λ p. meaning.as_val_type p.2 };
 
     ghost is_ready = { λ p. are_numbered (in_param p) };
 
@@ -202,7 +202,7 @@ impl<'a> Convert
 impl Convert for wast_tree::StructField<'_> {
     type Out = wasm_ops::FieldType;
 
-    ghost becomes = { meaning.field_type };
+    ghost becomes = { meaning.as_field_type };
 
     ghost is_ready = { λ f. are_numbered (in_struct_field f) };
 
@@ -215,7 +215,7 @@ impl Convert for wast_tree::StructField<'_> {
 /// The only error is out of memory.
 pub fn func_type<'e>(alloc: Global, ty: &FunctionType) -> Result<FuncType, Error<'e>>
     requires { IsTrue (are_numbered (in_signature ty.now)) }
-    ensures value { IfOk result (λ made. made ≡ meaning.func_type ty.now) }
+    ensures value { IfOk result (λ made. made ≡ meaning.as_func_type ty.now) }
     ensures refusal { IfErr result (λ e. e ≡ out_of_memory) }
 {
     let params = converted(alloc, ty.params.as_slice())?;
@@ -226,7 +226,7 @@ pub fn func_type<'e>(alloc: Global, ty: &FunctionType) -> Result<FuncType, Error
 /// A struct type: its fields (binary format, composite types). It needs resolved indices. The only error is out of memory.
 pub fn struct_type<'e>(alloc: Global, ty: &wast_tree::StructType) -> Result<StructType, Error<'e>>
     requires { IsTrue (are_numbered (in_struct ty.now)) }
-    ensures value { IfOk result (λ made. made ≡ meaning.struct_type ty.now) }
+    ensures value { IfOk result (λ made. made ≡ meaning.as_struct_type ty.now) }
     ensures refusal { IfErr result (λ e. e ≡ out_of_memory) }
 {
     let fields = converted(alloc, ty.fields.as_slice())?;
@@ -235,7 +235,7 @@ pub fn struct_type<'e>(alloc: Global, ty: &wast_tree::StructType) -> Result<Stru
 
 fn inner_type<'e>(alloc: Global, kind: &InnerTypeKind) -> Result<CompositeInnerType, Error<'e>>
     requires { IsTrue (are_numbered (in_inner kind.now)) }
-    ensures value { IfOk result (λ made. made ≡ meaning.inner_type kind.now) }
+    ensures value { IfOk result (λ made. made ≡ meaning.as_inner_type kind.now) }
     ensures refusal { IfErr result (λ e. e ≡ out_of_memory) }
 {
     match kind {
@@ -259,7 +259,7 @@ pub(crate) fn optional_index(optional: &Option<Index>) -> Option<u32>
 /// needs resolved indices. The only error is out of memory.
 pub fn sub_type<'e>(alloc: Global, ty: &TypeDef) -> Result<SubType, Error<'e>>
     requires { IsTrue (are_numbered (in_def ty.now)) }
-    ensures value { IfOk result (λ made. made ≡ meaning.sub_type ty.now) }
+    ensures value { IfOk result (λ made. made ≡ meaning.as_sub_type ty.now) }
     ensures refusal { IfErr result (λ e. e ≡ out_of_memory) }
 {
     let inner = inner_type(alloc, &ty.kind)?;
@@ -279,7 +279,7 @@ pub fn sub_type<'e>(alloc: Global, ty: &TypeDef) -> Result<SubType, Error<'e>>
 /// Each type of a group. The only error is out of memory.
 pub(crate) fn group<'e>(alloc: Global, types: &[Type]) -> Result<Seq<SubType>, Error<'e>>
     requires { IsTrue (list_all (λ t. are_numbered (in_type t)) types.now) }
-    ensures value { IfOk result (λ made. made ≡ map (λ t. meaning.sub_type t.def) types.now) }
+    ensures value { IfOk result (λ made. made ≡ map (λ t. meaning.as_sub_type t.def) types.now) }
     ensures refusal { IfErr result (λ e. e ≡ out_of_memory) }
 {
     let mut made = Seq::new(alloc);
@@ -291,7 +291,7 @@ pub(crate) fn group<'e>(alloc: Global, types: &[Type]) -> Result<Seq<SubType>, E
 
 /// The kind of what is exported (binary format, export section).
 pub fn export_kind(kind: wast_tree::ExportKind) -> wasm_ops::ExportKind
-    ensures { result ≡ meaning.export_kind kind }
+    ensures { result ≡ meaning.as_export_kind kind }
 {
     match kind {
         wast_tree::ExportKind::Func => wasm_ops::ExportKind::Func,
@@ -306,9 +306,9 @@ pub fn export_kind(kind: wast_tree::ExportKind) -> wasm_ops::ExportKind
 fn instrs_bytes<'e>(alloc: Global, instructions: &[Instruction]) -> Result<Vec<u8>, Error<'e>>
     requires { IsTrue (list_all is_encodable_instr instructions.now) }
     ensures value { IfOk result (λ made.
-        (made.items ≡ flat_map (λ i. instr (meaning.instr i)) instructions.now)
-        × All (λ i. InRangeInstr (meaning.instr i)) instructions.now) }
-    ensures refusal { IfErr result (IsRefused (All (λ i. InRangeInstr (meaning.instr i)) instructions.now)) }
+        (made.items ≡ flat_map (λ i. instr (meaning.as_instr i)) instructions.now)
+        × All (λ i. InRangeInstr (meaning.as_instr i)) instructions.now) }
+    ensures refusal { IfErr result (IsRefused (All (λ i. InRangeInstr (meaning.as_instr i)) instructions.now)) }
 {
     let mut bytes = Vec::new(alloc);
     Each(instructions, Resolved).encode(&mut bytes)?;
@@ -322,9 +322,9 @@ fn instrs_bytes<'e>(alloc: Global, instructions: &[Instruction]) -> Result<Vec<u
 pub fn const_expr<'e>(alloc: Global, expression: &Expression) -> Result<ConstExpr, Error<'e>>
     requires { IsTrue (is_encodable_expression expression.now) }
     ensures value { IfOk result (λ made.
-        (made ≡ instrs (meaning.expression expression.now))
-        × InRangeExpression (meaning.expression expression.now)) }
-    ensures refusal { IfErr result (IsRefused (InRangeExpression (meaning.expression expression.now))) }
+        (made ≡ instrs (meaning.as_expression expression.now))
+        × InRangeExpression (meaning.as_expression expression.now)) }
+    ensures refusal { IfErr result (IsRefused (InRangeExpression (meaning.as_expression expression.now))) }
 {
     let bytes = instrs_bytes(alloc, expression.instrs.as_slice())?;
     Ok(ConstExpr::raw(bytes))

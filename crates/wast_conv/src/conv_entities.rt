@@ -13,7 +13,7 @@ use wast_tree::{FunctionType, ItemKind, TypeUse};
 /// A table type (binary format, table types). It needs a resolved index.
 pub fn table_type(ty: &wast_tree::TableType) -> wasm_ops::TableType
     requires { IsTrue (are_numbered (in_table_type ty.now)) }
-    ensures { result ≡ meaning.table_type ty.now }
+    ensures { result ≡ meaning.as_table_type ty.now }
 {
     wasm_ops::TableType {
         element_type: ref_type(&ty.elem),
@@ -26,7 +26,7 @@ pub fn table_type(ty: &wast_tree::TableType) -> wasm_ops::TableType
 
 /// A memory type (binary format, memory types).
 pub fn memory_type(ty: &wast_tree::MemoryType) -> wasm_ops::MemoryType
-    ensures { result ≡ meaning.memory_type ty.now }
+    ensures { result ≡ meaning.as_memory_type ty.now }
 {
     wasm_ops::MemoryType {
         minimum: ty.limits.min,
@@ -40,7 +40,7 @@ pub fn memory_type(ty: &wast_tree::MemoryType) -> wasm_ops::MemoryType
 /// A global type (binary format, global types). It needs a resolved index.
 pub fn global_type(ty: &wast_tree::GlobalType) -> wasm_ops::GlobalType
     requires { IsTrue (are_numbered (in_global_type ty.now)) }
-    ensures { result ≡ meaning.global_type ty.now }
+    ensures { result ≡ meaning.as_global_type ty.now }
 {
     wasm_ops::GlobalType {
         val_type: val_type(&ty.ty),
@@ -63,7 +63,7 @@ pub(crate) fn type_index(type_use: &TypeUse<FunctionType>) -> u32
 /// A tag type (binary format, tag types). It needs a type use that has an index, and resolved indices.
 pub fn tag_type(ty: &wast_tree::TagType) -> wasm_ops::TagType
     requires { IsTrue (are_resolved (in_tag_type ty.now)) }
-    ensures { result ≡ meaning.tag_type ty.now }
+    ensures { result ≡ meaning.as_tag_type ty.now }
 {
     match ty {
         wast_tree::TagType::Exception(type_use) => wasm_ops::TagType {
@@ -75,7 +75,7 @@ pub fn tag_type(ty: &wast_tree::TagType) -> wasm_ops::TagType
 /// The type of an imported item (binary format, external types). It needs resolved indices, and one in each type use.
 pub fn entity_type(kind: &ItemKind) -> EntityType
     requires { IsTrue (are_resolved (in_item_kind kind.now)) }
-    ensures { result ≡ meaning.entity_type kind.now }
+    ensures { result ≡ meaning.as_entity_type kind.now }
 {
     match kind {
         ItemKind::Func(type_use) => EntityType::Function(type_index(type_use)),

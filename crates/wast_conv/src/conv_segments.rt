@@ -22,7 +22,7 @@ use wast_tree::{DataVal, ElemPayload, Error, Expression, Seq};
 fn const_exprs<'e>(alloc: Global, expressions: &[Expression]) -> Result<Seq<ConstExpr>, Error<'e>>
     requires { IsTrue (list_all is_encodable_expression expressions.now) }
     ensures value { IfOk result (AreExpressions expressions.now) }
-    ensures refusal { IfErr result (IsRefused (All (λ e. InRangeExpression (meaning.expression e)) expressions.now)) }
+    ensures refusal { IfErr result (IsRefused (All (λ e. InRangeExpression (meaning.as_expression e)) expressions.now)) }
 {
     let mut made = Seq::new(alloc);
     for expression in expressions {
@@ -37,7 +37,7 @@ fn const_exprs<'e>(alloc: Global, expressions: &[Expression]) -> Result<Seq<Cons
 pub(crate) fn elements<'e>(alloc: Global, payload: &ElemPayload) -> Result<Elements, Error<'e>>
     requires { IsTrue (encodable (in_payload payload.now)) }
     ensures value { IfOk result (ArePayload payload.now) }
-    ensures refusal { IfErr result (IsRefused (InRangeListed (meaning.element_items payload.now))) }
+    ensures refusal { IfErr result (IsRefused (InRangeListed (meaning.as_element_items payload.now))) }
 {
     match payload {
         ElemPayload::Indices(functions) => {

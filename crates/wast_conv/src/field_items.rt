@@ -24,9 +24,9 @@ use wast_tree::{
 impl SectionItem for Imports<'_> {
     type Section = ImportSection;
 
-    ghost spelling = { λ item. import_entry (meaning.import_entry item) };
+    ghost spelling = { λ item. import_entry (meaning.as_import item) };
 
-    ghost in_range = { λ item. InRangeImport (meaning.import_entry item) };
+    ghost in_range = { λ item. InRangeImport (meaning.as_import item) };
 
     ghost is_encodable = { is_encodable_import };
 
@@ -54,9 +54,9 @@ fn add_table<'e>(
     requires ty { IsTrue (are_encodable (in_table_type ty.now)) }
     requires init { IsTrue (encodable (if_there in_constant init.now)) }
     ensures { Adds (InRangeU32 (section.old.count + 1)
-        × InRangeTable (record { ty = meaning.table_type ty.now; init = option_map meaning.expression init.now }))
+        × InRangeTable (record { ty = meaning.as_table_type ty.now; init = option_map meaning.as_expression init.now }))
         section.old section.new
-        (table_entry (record { ty = meaning.table_type ty.now; init = option_map meaning.expression init.now })) result }
+        (table_entry (record { ty = meaning.as_table_type ty.now; init = option_map meaning.as_expression init.now })) result }
 {
     let ty = conv::table_type(ty);
     match init {
@@ -68,9 +68,9 @@ fn add_table<'e>(
 impl SectionItem for Table<'_> {
     type Section = TableSection;
 
-    ghost spelling = { λ item. table_entry (meaning.table_entry item) };
+    ghost spelling = { λ item. table_entry (meaning.as_table item) };
 
-    ghost in_range = { λ item. InRangeTable (meaning.table_entry item) };
+    ghost in_range = { λ item. InRangeTable (meaning.as_table item) };
 
     ghost is_encodable = { is_encodable_table };
 
@@ -89,9 +89,9 @@ impl SectionItem for Table<'_> {
 impl SectionItem for Memory<'_> {
     type Section = MemorySection;
 
-    ghost spelling = { λ item. entities.memory_type (meaning.memory_entry item) };
+    ghost spelling = { λ item. entities.memory_type (meaning.as_memory item) };
 
-    ghost in_range = { λ item. InRangeMemoryType (meaning.memory_entry item) };
+    ghost in_range = { λ item. InRangeMemoryType (meaning.as_memory item) };
 
     ghost is_encodable = { is_encodable_memory };
 
@@ -117,9 +117,9 @@ fn add_global<'e>(
     requires ty { IsTrue (are_encodable (in_global_type ty.now)) }
     requires init { IsTrue (is_encodable_expression init.now) }
     ensures { Adds (InRangeU32 (section.old.count + 1)
-        × InRangeGlobal (record { ty = meaning.global_type ty.now; init = meaning.expression init.now }))
+        × InRangeGlobal (record { ty = meaning.as_global_type ty.now; init = meaning.as_expression init.now }))
         section.old section.new
-        (global_entry (record { ty = meaning.global_type ty.now; init = meaning.expression init.now })) result }
+        (global_entry (record { ty = meaning.as_global_type ty.now; init = meaning.as_expression init.now })) result }
 {
     section.global(&conv::global_type(ty), &conv::const_expr(alloc, init)?)
 }
@@ -127,9 +127,9 @@ fn add_global<'e>(
 impl SectionItem for wast_tree::Global<'_> {
     type Section = GlobalSection;
 
-    ghost spelling = { λ item. global_entry (meaning.global_entry item) };
+    ghost spelling = { λ item. global_entry (meaning.as_global item) };
 
-    ghost in_range = { λ item. InRangeGlobal (meaning.global_entry item) };
+    ghost in_range = { λ item. InRangeGlobal (meaning.as_global item) };
 
     ghost is_encodable = { is_encodable_global };
 
@@ -148,9 +148,9 @@ impl SectionItem for wast_tree::Global<'_> {
 impl SectionItem for Tag<'_> {
     type Section = TagSection;
 
-    ghost spelling = { λ item. entities.tag_type (meaning.tag_entry item) };
+    ghost spelling = { λ item. entities.tag_type (meaning.as_tag item) };
 
-    ghost in_range = { λ item. InRangeTagType (meaning.tag_entry item) };
+    ghost in_range = { λ item. InRangeTagType (meaning.as_tag item) };
 
     ghost is_encodable = { is_encodable_tag };
 

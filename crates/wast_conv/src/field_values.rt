@@ -20,9 +20,9 @@ use wast_tree::{
 
 /// A constant expression, with its end (binary format, expressions).
 impl Spell<Expression<'_>> for Resolved {
-    ghost spelling = { λ _ e. expression (meaning.expression e) };
+    ghost spelling = { λ _ e. expression (meaning.as_expression e) };
 
-    ghost in_range = { λ _ e. InRangeExpression (meaning.expression e) };
+    ghost in_range = { λ _ e. InRangeExpression (meaning.as_expression e) };
 
     ghost is_ready = { λ _ e. is_encodable_expression e };
 
@@ -41,18 +41,18 @@ fn put_import<S: Sink>(
 ) -> Result<(), Refusal>
     requires { IsTrue (encodable (in_item_kind kind.now)) }
     ensures { Writes S.rules
-        (InRangeImport (record { «module» = source.now; name = name.now; entity = meaning.entity_type kind.now }))
+        (InRangeImport (record { «module» = source.now; name = name.now; entity = meaning.as_entity_type kind.now }))
         out.old out.new
-        (import_entry (record { «module» = source.now; name = name.now; entity = meaning.entity_type kind.now })) result }
+        (import_entry (record { «module» = source.now; name = name.now; entity = meaning.as_entity_type kind.now })) result }
 {
     (Name(source), (Name(name), conv::entity_type(kind))).encode(out)
 }
 
 /// An entry of the import section (binary format, import section).
 impl Spell<Imports<'_>> for Resolved {
-    ghost spelling = { λ _ i. import_entry (meaning.import_entry i) };
+    ghost spelling = { λ _ i. import_entry (meaning.as_import i) };
 
-    ghost in_range = { λ _ i. InRangeImport (meaning.import_entry i) };
+    ghost in_range = { λ _ i. InRangeImport (meaning.as_import i) };
 
     ghost is_ready = { λ _ i. is_encodable_import i };
 
@@ -68,9 +68,9 @@ fn put_table<S: Sink>(ty: &TableType, init: &Option<Expression>, out: &mut S) ->
     requires ty { IsTrue (are_encodable (in_table_type ty.now)) }
     requires init { IsTrue (encodable (if_there in_constant init.now)) }
     ensures { Writes S.rules
-        (InRangeTable (record { ty = meaning.table_type ty.now; init = option_map meaning.expression init.now }))
+        (InRangeTable (record { ty = meaning.as_table_type ty.now; init = option_map meaning.as_expression init.now }))
         out.old out.new
-        (table_entry (record { ty = meaning.table_type ty.now; init = option_map meaning.expression init.now })) result }
+        (table_entry (record { ty = meaning.as_table_type ty.now; init = option_map meaning.as_expression init.now })) result }
 {
     let ty = conv::table_type(ty);
     match init {
@@ -81,9 +81,9 @@ fn put_table<S: Sink>(ty: &TableType, init: &Option<Expression>, out: &mut S) ->
 
 /// An entry of the table section (binary format, table section).
 impl Spell<Table<'_>> for Resolved {
-    ghost spelling = { λ _ t. table_entry (meaning.table_entry t) };
+    ghost spelling = { λ _ t. table_entry (meaning.as_table t) };
 
-    ghost in_range = { λ _ t. InRangeTable (meaning.table_entry t) };
+    ghost in_range = { λ _ t. InRangeTable (meaning.as_table t) };
 
     ghost is_ready = { λ _ t. is_encodable_table t };
 
@@ -97,9 +97,9 @@ impl Spell<Table<'_>> for Resolved {
 
 /// An entry of the memory section (binary format, memory section).
 impl Spell<Memory<'_>> for Resolved {
-    ghost spelling = { λ _ m. entities.memory_type (meaning.memory_entry m) };
+    ghost spelling = { λ _ m. entities.memory_type (meaning.as_memory m) };
 
-    ghost in_range = { λ _ m. InRangeMemoryType (meaning.memory_entry m) };
+    ghost in_range = { λ _ m. InRangeMemoryType (meaning.as_memory m) };
 
     ghost is_ready = { λ _ m. is_encodable_memory m };
 
@@ -116,18 +116,18 @@ fn put_global<S: Sink>(ty: &GlobalType, init: &Expression, out: &mut S) -> Resul
     requires ty { IsTrue (are_encodable (in_global_type ty.now)) }
     requires init { IsTrue (is_encodable_expression init.now) }
     ensures { Writes S.rules
-        (InRangeGlobal (record { ty = meaning.global_type ty.now; init = meaning.expression init.now }))
+        (InRangeGlobal (record { ty = meaning.as_global_type ty.now; init = meaning.as_expression init.now }))
         out.old out.new
-        (global_entry (record { ty = meaning.global_type ty.now; init = meaning.expression init.now })) result }
+        (global_entry (record { ty = meaning.as_global_type ty.now; init = meaning.as_expression init.now })) result }
 {
     (conv::global_type(ty), By(init, Resolved)).encode(out)
 }
 
 /// An entry of the global section (binary format, global section).
 impl Spell<Global<'_>> for Resolved {
-    ghost spelling = { λ _ g. global_entry (meaning.global_entry g) };
+    ghost spelling = { λ _ g. global_entry (meaning.as_global g) };
 
-    ghost in_range = { λ _ g. InRangeGlobal (meaning.global_entry g) };
+    ghost in_range = { λ _ g. InRangeGlobal (meaning.as_global g) };
 
     ghost is_ready = { λ _ g. is_encodable_global g };
 
@@ -141,9 +141,9 @@ impl Spell<Global<'_>> for Resolved {
 
 /// An entry of the tag section (binary format, tag section).
 impl Spell<Tag<'_>> for Resolved {
-    ghost spelling = { λ _ t. entities.tag_type (meaning.tag_entry t) };
+    ghost spelling = { λ _ t. entities.tag_type (meaning.as_tag t) };
 
-    ghost in_range = { λ _ t. InRangeTagType (meaning.tag_entry t) };
+    ghost in_range = { λ _ t. InRangeTagType (meaning.as_tag t) };
 
     ghost is_ready = { λ _ t. is_encodable_tag t };
 

@@ -82,11 +82,11 @@ pub enum RecOrType<'b, 'a> {
 }
 
 impl Encode for RecOrType<'_, '_> {
-    ghost use Rattle.wast_conv.specs.Entries.{entry_of, is_encodable_entry};
+    ghost use Rattle.wast_conv.specs.Entries.{as_type_entry, is_encodable_entry};
 
-    ghost spelling = { λ item. type_entry (entry_of item) };
+    ghost spelling = { λ item. type_entry (as_type_entry item) };
 
-    ghost in_range = { λ item. InRangeTypeEntry (entry_of item) };
+    ghost in_range = { λ item. InRangeTypeEntry (as_type_entry item) };
 
     ghost is_ready = { is_encodable_entry };
 
@@ -101,11 +101,11 @@ impl Encode for RecOrType<'_, '_> {
 impl SectionItem for RecOrType<'_, '_> {
     type Section = TypeSection;
 
-    ghost use Rattle.wast_conv.specs.Entries.{entry_of, is_encodable_entry};
+    ghost use Rattle.wast_conv.specs.Entries.{as_type_entry, is_encodable_entry};
 
-    ghost spelling = { λ item. type_entry (entry_of item) };
+    ghost spelling = { λ item. type_entry (as_type_entry item) };
 
-    ghost in_range = { λ item. InRangeTypeEntry (entry_of item) };
+    ghost in_range = { λ item. InRangeTypeEntry (as_type_entry item) };
 
     ghost is_encodable = { is_encodable_entry };
 
@@ -149,9 +149,9 @@ impl SectionItem for FuncSectionTy<'_, '_> {
 impl SectionItem for Export<'_> {
     type Section = ExportSection;
 
-    ghost spelling = { λ item. export_entry (meaning.export_entry item) };
+    ghost spelling = { λ item. export_entry (meaning.as_export item) };
 
-    ghost in_range = { λ item. InRangeExport (meaning.export_entry item) };
+    ghost in_range = { λ item. InRangeExport (meaning.as_export item) };
 
     ghost is_encodable = { λ item. is_number item.item };
 

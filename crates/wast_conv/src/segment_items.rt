@@ -29,11 +29,11 @@ fn add_elements<'e>(
 ) -> Result<(), Error<'e>>
     requires kind { IsTrue (encodable (in_elem_kind kind.now)) }
     requires elements { AreElements elements.now }
-    requires form { IsTrue (has_form (meaning.element_mode kind.now) (kind_in elements.now)) }
+    requires form { IsTrue (has_form (meaning.as_element_mode kind.now) (kind_in elements.now)) }
     ensures { Adds (InRangeU32 (section.old.count + 1)
-        × (InRangeElementMode (meaning.element_mode kind.now) × InRangeElements elements.now))
+        × (InRangeElementMode (meaning.as_element_mode kind.now) × InRangeElements elements.now))
         section.old section.new
-        (element_bytes (meaning.element_mode kind.now) (kind_in elements.now) (listed_in elements.now)) result }
+        (element_bytes (meaning.as_element_mode kind.now) (kind_in elements.now) (listed_in elements.now)) result }
 {
     match kind {
         ElemKind::Passive => section.passive(elements),
@@ -48,9 +48,9 @@ fn add_elements<'e>(
 impl SectionItem for Elem<'_> {
     type Section = ElementSection;
 
-    ghost spelling = { λ item. element_entry (meaning.element_entry item) };
+    ghost spelling = { λ item. element_entry (meaning.as_element item) };
 
-    ghost in_range = { λ item. InRangeElementEntry (meaning.element_entry item) };
+    ghost in_range = { λ item. InRangeElementEntry (meaning.as_element item) };
 
     ghost is_encodable = { is_encodable_elem };
 
@@ -73,8 +73,8 @@ fn add_data<'e>(
 ) -> Result<(), Error<'e>>
     requires { IsTrue (encodable (in_data_kind kind.now)) }
     ensures { Adds (InRangeU32 (section.old.count + 1)
-        × (InRangeDataMode (meaning.data_mode kind.now) × InRangeU32 (length bytes.now)))
-        section.old section.new (segments.data_bytes (meaning.data_mode kind.now) bytes.now) result }
+        × (InRangeDataMode (meaning.as_data_mode kind.now) × InRangeU32 (length bytes.now)))
+        section.old section.new (segments.data_bytes (meaning.as_data_mode kind.now) bytes.now) result }
 {
     match kind {
         DataKind::Passive => section.passive(bytes),
@@ -88,9 +88,9 @@ fn add_data<'e>(
 impl SectionItem for Data<'_> {
     type Section = DataSection;
 
-    ghost spelling = { λ item. segments.data_entry (meaning.data_entry item) };
+    ghost spelling = { λ item. segments.data_entry (meaning.as_data item) };
 
-    ghost in_range = { λ item. InRangeDataEntry (meaning.data_entry item) };
+    ghost in_range = { λ item. InRangeDataEntry (meaning.as_data item) };
 
     ghost is_encodable = { is_encodable_data };
 

@@ -21,7 +21,7 @@ use wast_tree::{Data, DataKind, DataVal, Elem, ElemKind, ElemPayload, Expression
 /// Where a segment of elements stands.
 fn mode_of<'b, 'a>(kind: &'b ElemKind<'a>) -> SegmentMode<By<'b, Expression<'a>, Resolved>>
     requires { IsTrue (encodable (in_elem_kind kind.now)) }
-    ensures same { seen_mode (λ b. meaning.expression b.0.now) result ≡ meaning.element_mode kind.now }
+    ensures same { seen_mode (λ b. meaning.as_expression b.0.now) result ≡ meaning.as_element_mode kind.now }
     ensures ready { IsTrue (is_ready_mode (λ b. is_encodable_expression b.0.now) result) }
 {
     match kind {
@@ -35,9 +35,9 @@ fn mode_of<'b, 'a>(kind: &'b ElemKind<'a>) -> SegmentMode<By<'b, Expression<'a>,
 
 /// An entry of the element section (binary format, element section).
 impl Spell<Elem<'_>> for Resolved {
-    ghost spelling = { λ _ e. element_entry (meaning.element_entry e) };
+    ghost spelling = { λ _ e. element_entry (meaning.as_element e) };
 
-    ghost in_range = { λ _ e. InRangeElementEntry (meaning.element_entry e) };
+    ghost in_range = { λ _ e. InRangeElementEntry (meaning.as_element e) };
 
     ghost is_ready = { λ _ e. is_encodable_elem e };
 
@@ -79,7 +79,7 @@ impl Spell<DataVal<'_>> for Resolved {
 /// Where a segment of data stands.
 fn data_mode_of<'b, 'a>(kind: &'b DataKind<'a>) -> DataMode<By<'b, Expression<'a>, Resolved>>
     requires { IsTrue (encodable (in_data_kind kind.now)) }
-    ensures same { seen_data (λ b. meaning.expression b.0.now) result ≡ meaning.data_mode kind.now }
+    ensures same { seen_data (λ b. meaning.as_expression b.0.now) result ≡ meaning.as_data_mode kind.now }
     ensures ready { IsTrue (is_ready_data (λ b. is_encodable_expression b.0.now) result) }
 {
     match kind {
@@ -92,9 +92,9 @@ fn data_mode_of<'b, 'a>(kind: &'b DataKind<'a>) -> DataMode<By<'b, Expression<'a
 
 /// An entry of the data section (binary format, data section).
 impl Spell<Data<'_>> for Resolved {
-    ghost spelling = { λ _ d. data_entry (meaning.data_entry d) };
+    ghost spelling = { λ _ d. data_entry (meaning.as_data d) };
 
-    ghost in_range = { λ _ d. InRangeDataEntry (meaning.data_entry d) };
+    ghost in_range = { λ _ d. InRangeDataEntry (meaning.as_data d) };
 
     ghost is_ready = { λ _ d. is_encodable_data d };
 

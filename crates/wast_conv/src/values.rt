@@ -50,9 +50,9 @@ impl Spell<Index<'_>> for Resolved {
 
 /// A value type (binary format, value types).
 impl Spell<ValType<'_>> for Resolved {
-    ghost spelling = { λ _ t. spelling.val_type (meaning.val_type t) };
+    ghost spelling = { λ _ t. spelling.val_type (meaning.as_val_type t) };
 
-    ghost in_range = { λ _ t. InRangeValType (meaning.val_type t) };
+    ghost in_range = { λ _ t. InRangeValType (meaning.as_val_type t) };
 
     ghost is_ready = { λ _ t. are_encodable (in_val t) };
 
@@ -63,9 +63,9 @@ impl Spell<ValType<'_>> for Resolved {
 
 /// A parameter, by its type (binary format, composite types).
 impl<'a> Spell<(Option<Id<'a>>, Option<NameAnnotation<'a>>, ValType<'a>)> for Resolved {
-    ghost spelling = { λ _ p. spelling.val_type (meaning.val_type p.2) };
+    ghost spelling = { λ _ p. spelling.val_type (meaning.as_val_type p.2) };
 
-    ghost in_range = { λ _ p. InRangeValType (meaning.val_type p.2) };
+    ghost in_range = { λ _ p. InRangeValType (meaning.as_val_type p.2) };
 
     ghost is_ready = { λ _ p. are_encodable (in_param p) };
 
@@ -80,9 +80,9 @@ impl<'a> Spell<(Option<Id<'a>>, Option<NameAnnotation<'a>>, ValType<'a>)> for Re
 
 /// A function type (binary format, composite types).
 impl Spell<FunctionType<'_>> for Resolved {
-    ghost spelling = { λ _ t. spelling.func_type (meaning.func_type t) };
+    ghost spelling = { λ _ t. spelling.func_type (meaning.as_func_type t) };
 
-    ghost in_range = { λ _ t. InRangeFuncType (meaning.func_type t) };
+    ghost in_range = { λ _ t. InRangeFuncType (meaning.as_func_type t) };
 
     ghost is_ready = { λ _ t. are_encodable (in_signature t) };
 
@@ -95,9 +95,9 @@ impl Spell<FunctionType<'_>> for Resolved {
 
 /// A field of a struct (binary format, composite types).
 impl Spell<StructField<'_>> for Resolved {
-    ghost spelling = { λ _ f. spelling.field_type (meaning.field_type f) };
+    ghost spelling = { λ _ f. spelling.field_type (meaning.as_field_type f) };
 
-    ghost in_range = { λ _ f. InRangeFieldType (meaning.field_type f) };
+    ghost in_range = { λ _ f. InRangeFieldType (meaning.as_field_type f) };
 
     ghost is_ready = { λ _ f. are_encodable (in_struct_field f) };
 
@@ -108,9 +108,9 @@ impl Spell<StructField<'_>> for Resolved {
 
 /// A struct type (binary format, composite types).
 impl Spell<StructType<'_>> for Resolved {
-    ghost spelling = { λ _ t. spelling.struct_type (meaning.struct_type t) };
+    ghost spelling = { λ _ t. spelling.struct_type (meaning.as_struct_type t) };
 
-    ghost in_range = { λ _ t. InRangeStructType (meaning.struct_type t) };
+    ghost in_range = { λ _ t. InRangeStructType (meaning.as_struct_type t) };
 
     ghost is_ready = { λ _ t. are_encodable (in_struct t) };
 
@@ -121,9 +121,9 @@ impl Spell<StructType<'_>> for Resolved {
 
 /// An array type (binary format, composite types).
 impl Spell<ArrayType<'_>> for Resolved {
-    ghost spelling = { λ _ t. spelling.array_type (meaning.array_type t) };
+    ghost spelling = { λ _ t. spelling.array_type (meaning.as_array_type t) };
 
-    ghost in_range = { λ _ t. InRangeArrayType (meaning.array_type t) };
+    ghost in_range = { λ _ t. InRangeArrayType (meaning.as_array_type t) };
 
     ghost is_ready = { λ _ t. are_encodable (in_array t) };
 
@@ -134,9 +134,9 @@ impl Spell<ArrayType<'_>> for Resolved {
 
 /// A composite type (binary format, composite types).
 impl Spell<InnerTypeKind<'_>> for Resolved {
-    ghost spelling = { λ _ k. spelling.composite_inner_type (meaning.inner_type k) };
+    ghost spelling = { λ _ k. spelling.composite_inner_type (meaning.as_inner_type k) };
 
-    ghost in_range = { λ _ k. InRangeCompositeInnerType (meaning.inner_type k) };
+    ghost in_range = { λ _ k. InRangeCompositeInnerType (meaning.as_inner_type k) };
 
     ghost is_ready = { λ _ k. are_encodable (in_inner k) };
 
@@ -152,9 +152,9 @@ impl Spell<InnerTypeKind<'_>> for Resolved {
 /// What a type is defined as (binary format, recursive types). A final type with no types above it is written as its
 /// composite type alone.
 impl Spell<TypeDef<'_>> for Resolved {
-    ghost spelling = { λ _ d. spelling.sub_type (meaning.sub_type d) };
+    ghost spelling = { λ _ d. spelling.sub_type (meaning.as_sub_type d) };
 
-    ghost in_range = { λ _ d. InRangeSubType (meaning.sub_type d) };
+    ghost in_range = { λ _ d. InRangeSubType (meaning.as_sub_type d) };
 
     ghost is_ready = { λ _ d. are_encodable (in_def d) };
 
@@ -173,9 +173,9 @@ impl Spell<TypeDef<'_>> for Resolved {
 
 /// A type, by what it is defined as (binary format, recursive types).
 impl Spell<Type<'_>> for Resolved {
-    ghost spelling = { λ _ t. spelling.sub_type (meaning.sub_type t.def) };
+    ghost spelling = { λ _ t. spelling.sub_type (meaning.as_sub_type t.def) };
 
-    ghost in_range = { λ _ t. InRangeSubType (meaning.sub_type t.def) };
+    ghost in_range = { λ _ t. InRangeSubType (meaning.as_sub_type t.def) };
 
     ghost is_ready = { λ _ t. is_encodable_type t };
 
@@ -213,17 +213,17 @@ fn put_index<S: Sink>(op: IndexOp, index: &Index, out: &mut S) -> Result<(), Ref
 /// A null reference of a heap type.
 fn put_null<S: Sink>(ty: &HeapType, out: &mut S) -> Result<(), Refusal>
     requires { IsTrue (are_encodable (in_heap ty.now)) }
-    ensures { Writes S.rules (InRangeInstr (ref_null_instr (meaning.heap_type ty.now)))
-        out.old out.new (instr (ref_null_instr (meaning.heap_type ty.now))) result }
+    ensures { Writes S.rules (InRangeInstr (ref_null_instr (meaning.as_heap_type ty.now)))
+        out.old out.new (instr (ref_null_instr (meaning.as_heap_type ty.now))) result }
 {
     RefNull(conv::heap_type(ty)).encode(out)
 }
 
 /// An instruction (binary format, instructions).
 impl Spell<Instruction<'_>> for Resolved {
-    ghost spelling = { λ _ i. instr (meaning.instr i) };
+    ghost spelling = { λ _ i. instr (meaning.as_instr i) };
 
-    ghost in_range = { λ _ i. InRangeInstr (meaning.instr i) };
+    ghost in_range = { λ _ i. InRangeInstr (meaning.as_instr i) };
 
     ghost is_ready = { λ _ i. is_encodable_instr i };
 
@@ -242,7 +242,7 @@ impl Spell<Instruction<'_>> for Resolved {
 
 /// A local, by its type (binary format, code section).
 impl LocalType<Local<'_>> for Resolved {
-    ghost ty = { λ _ l. meaning.val_type l.ty };
+    ghost ty = { λ _ l. meaning.as_val_type l.ty };
 
     ghost is_ready = { λ _ l. are_encodable (in_local l) };
 
@@ -271,9 +271,9 @@ fn put_content<S: Sink>(
 
 /// What stands behind the length of a body (binary format, code section).
 impl Spell<FuncKind<'_>> for Resolved {
-    ghost spelling = { λ _ k. content (meaning.body k) };
+    ghost spelling = { λ _ k. content (meaning.as_body k) };
 
-    ghost in_range = { λ _ k. InRangeContent (meaning.body k) };
+    ghost in_range = { λ _ k. InRangeContent (meaning.as_body k) };
 
     ghost is_ready = { λ _ k. is_encodable_kind k };
 
@@ -289,9 +289,9 @@ impl Spell<FuncKind<'_>> for Resolved {
 
 /// An entry of the export section (binary format, export section).
 impl Spell<Export<'_>> for Resolved {
-    ghost spelling = { λ _ e. export_entry (meaning.export_entry e) };
+    ghost spelling = { λ _ e. export_entry (meaning.as_export e) };
 
-    ghost in_range = { λ _ e. InRangeExport (meaning.export_entry e) };
+    ghost in_range = { λ _ e. InRangeExport (meaning.as_export e) };
 
     ghost is_ready = { λ _ e. is_number e.item };
 

@@ -6,7 +6,7 @@ use Rattle.std.specs.List.{flat_map}
 use Rattle.std.proofs.lemmas.Grind.{common_steps}
 use mathlib.Core.Path.{fun_ext}
 use Rattle.wasm_ops.proofs.Everywhere.{all_both}
-use Rattle.wasm_out.specs.NameSubsections.{InRangeNameSubsection}
+use Rattle.wasm_out.specs.NameSectionBytes.{InRangeNameSubsection}
 use Rattle.wasm_out.specs.Parts.{SectionKind, Part, part, InRangePart}
 use Rattle.wasm_out.specs.Reads.{header}
 use Rattle.wast_tree.specs.Generations.{greatest_generation}
@@ -21,8 +21,8 @@ use Rattle.wast_core.specs.Tree.{ModuleField}
 use Rattle.wast_core.specs.declared.slots.Slot.{Slot}
 use Rattle.wast_core.specs.declared.slots.Slot.TheVariants as slot
 use Rattle.wast_core.specs.Slots.{section_kind, order}
-use Rattle.wast_names.specs.NamesPayload.{name_subsections}
-use Rattle.wast_names.specs.NameSection.{names_part}
+use Rattle.wast_names.specs.ModuleNames.{name_subsections}
+use Rattle.wast_names.specs.NamesPart.{names_part}
 use Rattle.wast_core.specs.Meaning.{Contribution, start_part, starts_in, contributed, of_kind, entries_in, entries, listed, in_slot, parts}
 use Rattle.wast_core.specs.Bounded.{InRangeHeld, InRangeSlot, InRangeModule, IsWritable}
 use Rattle.wast_core.specs.Headline.{IsMet}
@@ -30,7 +30,7 @@ use Rattle.wast_core.specs.Laws.{MeansWhatIsWritten}
 use Rattle.wast_core.proofs.Stripping.{type_told, group_told, import_told, use_told, body_told, table_told, global_type_stays, value_told, mode_told, items_told, place_told, tag_told}
 use Rattle.wast_core.proofs.StrippedNames.{keeps_names}
 use Rattle.wast_names.proofs.Each.{each_like}
-use Rattle.wast_names.proofs.SameNames.{same_subsections}
+use Rattle.wast_names.proofs.SameNameSection.{same_subsections}
 
 -- What is read of a field.
 same_contributed : (x : ModuleField) → contributed (mapped stripping x) ≡ contributed x

@@ -7,9 +7,9 @@ use Rattle.wast_conv.specs.Encodable.{is_encodable}
 use Rattle.wast_core.specs.Extents.{payload_of, IsExtent, is_extent}
 use Rattle.wast_core.specs.Measured.{is_measured}
 use Rattle.wast_core.specs.Meaning.{entries}
-use Rattle.wast_names.specs.Names.{text_seen}
-use Rattle.wast_names.specs.NamesPayload.{name_subsections}
-use Rattle.wast_names.specs.NameSection.{names_payload_of}
+use Rattle.wast_names.specs.FoundNames.{text_seen}
+use Rattle.wast_names.specs.ModuleNames.{name_subsections}
+use Rattle.wast_names.specs.NamesPart.{names_payload_of}
 use Rattle.wast_core.specs.declared.sections.BinaryModule.{BinaryModule}
 use Rattle.wast_conv.proofs.EachPasses.{both_pass}
 use Rattle.wast_reach.specs.Reaches.{are_reaches}

@@ -9,7 +9,7 @@ use lib.Utf8.{encode}
 use Rattle.wasm_ops.proofs.Everywhere.{all_each, all_one, all_both, all_tested, all_in_flat}
 use Rattle.wast_tree.specs.Sites.{if_there, in_rec, in_import, in_constant, in_func_kind, in_table_type, in_table_kind, in_global_type, in_global_kind, in_global}
 use Rattle.wast_tree.specs.WrittenOut.{is_written_func, is_written_table, is_written_global}
-use Rattle.wasm_out.specs.NameSubsections.{NameSubsection}
+use Rattle.wasm_out.specs.NameSectionBytes.{NameSubsection}
 use Rattle.wasm_out.specs.Parts.{SectionKind, Types, Imports, Functions, Tables, Memories, Tags, Globals, Exports, Elements, Code, Data, Single, Entry, Listed, InRangePart}
 use Rattle.wasm_out.specs.Readable.{is_covered_init, HasRowsInit, is_covered_entry, HasRows, HasUtf8Name, IsReadable, IsReadablePart}
 use Rattle.wasm_out.specs.Reads.{Reads}
@@ -29,8 +29,8 @@ use Rattle.wast_conv.specs.FieldEntries.{imported, table_of, value_of}
 use Rattle.wast_core.specs.Meaning as meaning
 use Rattle.wast_core.specs.Meaning.{Contribution, of_type, of_rec, of_import, of_func, of_table, of_memory, of_global, of_export, of_start, of_elem, of_data, of_tag, of_kind, contributed, entries_in, entries, listed, start_part, starts_in, in_slot, parts}
 use Rattle.wast_core.specs.Utf8Names.{HasUtf8Items, HasUtf8Names}
-use Rattle.wast_names.specs.NamesPayload.{name_subsections}
-use Rattle.wast_names.specs.NameSection.{names_part}
+use Rattle.wast_names.specs.ModuleNames.{name_subsections}
+use Rattle.wast_names.specs.NamesPart.{names_part}
 use Rattle.wast_core.specs.Slots.{section_kind, order}
 use Rattle.wast_conv.proofs.EachPasses.{both_pass, both_true}
 use Rattle.wast_conv.proofs.EntitiesReady.{table_covered, global_covered, kind_covered}
@@ -51,11 +51,11 @@ nothing_more k = All-nil (IsReadable k)
 import_read : (i : ImportItems) → encodable (in_import i) ≡ true → HasUtf8Items i → All (IsReadable Imports) (imported i ∷ [])
 import_read (import_items.Single source name sig) e h = plain Imports (imported (import_items.Single source name sig)) (kind_covered sig.kind e) tt h
 
-init_covered : (o : Option Expression) → encodable (if_there in_constant o) ≡ true → is_covered_init (option_map meaning.expression o) ≡ true
+init_covered : (o : Option Expression) → encodable (if_there in_constant o) ≡ true → is_covered_init (option_map meaning.as_expression o) ≡ true
 init_covered None e = refl
 init_covered (Some x) e = expression_covered x (constant_ready x e)
 
-init_rows : (o : Option Expression) → HasRowsInit (option_map meaning.expression o)
+init_rows : (o : Option Expression) → HasRowsInit (option_map meaning.as_expression o)
 init_rows None = tt
 init_rows (Some x) = instrs_rows x.instrs
 
@@ -67,22 +67,22 @@ table_read (table.Normal ty init) e w =
     plain Tables (table_of (table.Normal ty init)) (both_true _ _ (table_covered ty both.0) (init_covered init both.1)) (init_rows init) tt
 
 global_read : (t : GlobalType) (k : GlobalKind) → are_encodable (in_global_type t) ≡ true → encodable (in_global_kind k) ≡ true → is_written_global k ≡ true
-    → All (IsReadable Globals) (record { ty = meaning.global_type t; init = value_of k } ∷ [])
+    → All (IsReadable Globals) (record { ty = meaning.as_global_type t; init = value_of k } ∷ [])
 global_read t (global.Import import) e f w = absurd cc
 global_read t (global.Inline x) e f w =
-    plain Globals (record { ty = meaning.global_type t; init = meaning.expression x }) (both_true _ _ (global_covered t e) (expression_covered x (constant_ready x f))) (instrs_rows x.instrs) tt
+    plain Globals (record { ty = meaning.as_global_type t; init = meaning.as_expression x }) (both_true _ _ (global_covered t e) (expression_covered x (constant_ready x f))) (instrs_rows x.instrs) tt
 
-code_read : (k : FuncKind) → encodable (in_func_kind [] k) ≡ true → is_written_func k ≡ true → All (IsReadable Code) (meaning.body k ∷ [])
+code_read : (k : FuncKind) → encodable (in_func_kind [] k) ≡ true → is_written_func k ≡ true → All (IsReadable Code) (meaning.as_body k ∷ [])
 code_read (func.Import import exact) e w = absurd cc
 code_read (func.Inline locals x) e w =
     let both = body_parts [] locals x e in
     plain Code (meaning.body_of locals x.instrs) (both_true _ _ (locals_covered locals both.0) (instrs_covered x.instrs both.1)) (instrs_rows x.instrs) tt
 
-elem_read : (x : Elem) → is_encodable_elem x ≡ true → All (IsReadable Elements) (meaning.element_entry x ∷ [])
-elem_read x e = plain Elements (meaning.element_entry x) (elem_covered x e) (mode_rows x.kind, items_rows x.payload) tt
+elem_read : (x : Elem) → is_encodable_elem x ≡ true → All (IsReadable Elements) (meaning.as_element x ∷ [])
+elem_read x e = plain Elements (meaning.as_element x) (elem_covered x e) (mode_rows x.kind, items_rows x.payload) tt
 
-data_read : (x : tree.Data) → is_encodable_data x ≡ true → All (IsReadable Data) (meaning.data_entry x ∷ [])
-data_read x e = plain Data (meaning.data_entry x) (place_covered x.kind e) (place_rows x.kind) tt
+data_read : (x : tree.Data) → is_encodable_data x ≡ true → All (IsReadable Data) (meaning.as_data x ∷ [])
+data_read x e = plain Data (meaning.as_data x) (place_covered x.kind e) (place_rows x.kind) tt
 
 -- ---- what a field puts into the sections is readable
 
@@ -90,11 +90,11 @@ abbrev AreReadable : Contribution → Type 0
 AreReadable c = (k : SectionKind) → All (IsReadable k) (of_kind k c)
 
 type_readable : (t : ty.«Type») → is_encodable_type t ≡ true → AreReadable (of_type t)
-type_readable t e Types = plain Types (Single (meaning.sub_type t.def)) (def_covered t.def e) tt tt
+type_readable t e Types = plain Types (Single (meaning.as_sub_type t.def)) (def_covered t.def e) tt tt
 type_readable t e k = nothing_more k
 
 rec_readable : (r : Rec) → are_encodable (in_rec r) ≡ true → AreReadable (of_rec r)
-rec_readable r e Types = plain Types (meaning.group_of r) (types_covered r e) tt tt
+rec_readable r e Types = plain Types (meaning.as_group r) (types_covered r e) tt tt
 rec_readable r e k = nothing_more k
 
 import_readable : (i : tree.Imports) → is_encodable_import i ≡ true → HasUtf8Items i.items → AreReadable (of_import i)
@@ -115,7 +115,7 @@ table_readable t e Tables =
 table_readable t e k = nothing_more k
 
 memory_readable : (m : Memory) → AreReadable (of_memory m)
-memory_readable m Memories = plain Memories (meaning.memory_entry m) refl tt tt
+memory_readable m Memories = plain Memories (meaning.as_memory m) refl tt tt
 memory_readable m k = nothing_more k
 
 global_readable : (g : Global) → is_encodable_global g ≡ true → AreReadable (of_global g)
@@ -126,7 +126,7 @@ global_readable g e Globals =
 global_readable g e k = nothing_more k
 
 export_readable : (x : Export) → IsTrue (is_utf8 x.name.now) → AreReadable (of_export x)
-export_readable x h Exports = plain Exports (meaning.export_entry x) refl tt h
+export_readable x h Exports = plain Exports (meaning.as_export x) refl tt h
 export_readable x h k = nothing_more k
 
 start_readable : (i : Index) → AreReadable (of_start i)
@@ -142,7 +142,7 @@ data_readable x e Data = data_read x e
 data_readable x e k = nothing_more k
 
 tag_readable : (t : Tag) → AreReadable (of_tag t)
-tag_readable t Tags = plain Tags (meaning.tag_entry t) refl tt tt
+tag_readable t Tags = plain Tags (meaning.as_tag t) refl tt tt
 tag_readable t k = nothing_more k
 
 field_readable : (f : ModuleField) → IsTrue (is_encodable_field f) → HasUtf8Names f → AreReadable (contributed f)

@@ -11,15 +11,15 @@ use Rattle.wasm_ops.specs.declared.sink.Refusal.{Refusal}
 use Rattle.wasm_ops.proofs.Everywhere.{flat_one, flat_in_flat, all_in_flat, all_of_flat}
 use Rattle.wasm_ops.proofs.Sinking.{written_as}
 use Rattle.wasm_ops.proofs.Numbers.{unsigned_fits, unsigned-nonempty}
-use Rattle.wasm_out.specs.NameSubsections.{NameSubsection, name_subsection, name_payload}
+use Rattle.wasm_out.specs.NameSectionBytes.{NameSubsection, name_subsection, name_payload}
 use Rattle.wasm_out.specs.Parts.{SectionKind, Entry, entry, Custom, Listed, Part, part, InRangePart, section_id, section}
 use Rattle.wasm_out.specs.Reads.{header}
 use Rattle.wast_core.specs.Tree.{ModuleField}
 use Rattle.wast_core.specs.Bounded.{bytes_of}
 use Rattle.wast_core.specs.Extents.{payload_of, IsExtent, section_size}
-use Rattle.wast_names.specs.Names.{counted}
+use Rattle.wast_names.specs.FoundNames.{counted}
 use Rattle.wast_core.specs.Meaning.{entries, listed, start_part, in_slot, parts}
-use Rattle.wast_names.specs.NameSection.{names_part, names_payload_of}
+use Rattle.wast_names.specs.NamesPart.{names_part, names_payload_of}
 use Rattle.wast_core.specs.Slots.{order}
 
 -- a length in range has at most five bytes

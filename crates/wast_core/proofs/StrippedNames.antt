@@ -19,9 +19,9 @@ use Rattle.wast_core.specs.Tree.func
 use Rattle.wast_core.specs.Tree.field
 use Rattle.wast_names.specs.GivenNames.{written_text, id_text, given_name}
 use Rattle.wast_names.specs.WithinItems.{arity, types_within, arity_at, params_or, local_name, locals_in, behind, locals_of, tag_params, lists_in_type}
-use Rattle.wast_names.specs.NamesPayload.{type_name, import_names, item_names_in}
+use Rattle.wast_names.specs.ModuleNames.{type_name, import_names, item_names_in}
 use Rattle.wast_names.proofs.Each.{each_like}
-use Rattle.wast_names.proofs.SameNames.{SameLists, SameInKind, SameInImport, KeepsNames, arity_in, same_arity, in_type, in_func, in_tag, in_imported_func}
+use Rattle.wast_names.proofs.SameNameSection.{SameLists, SameInKind, SameInImport, KeepsNames, arity_in, same_arity, in_type, in_func, in_tag, in_imported_func}
 use Rattle.wast_core.proofs.Stripping.{each_alike, def_stays}
 
 -- The names of items.

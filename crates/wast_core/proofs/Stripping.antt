@@ -20,8 +20,8 @@ use Rattle.wast_core.specs.Tree.global
 use Rattle.wast_core.specs.Tree.elem
 use Rattle.wast_core.specs.Tree.payload
 use Rattle.wast_core.specs.Tree.data_kind
-use Rattle.wast_conv.specs.FieldEntries.{group_of, imported, table_of, value_of}
-use Rattle.wast_core.specs.Meaning.{number, val_type, sub_type, type_index, tag_type, entity_type, instr, expression, body, element_mode, element_items, data_mode}
+use Rattle.wast_conv.specs.FieldEntries.{as_group, imported, table_of, value_of}
+use Rattle.wast_core.specs.Meaning.{number, as_val_type, as_sub_type, type_index, as_tag_type, as_entity_type, as_instr, as_expression, as_body, as_element_mode, as_element_items, as_data_mode}
 
 -- what is read of each of a list
 pub each_alike : {A B : Type 0} (f : A → A) (g : A → B) → ((x : A) → g (f x) ≡ g x) → (xs : List A) → map g (map f xs) ≡ map g xs
@@ -44,11 +44,11 @@ table_type_stays t = (table_type_at t).still
 pub global_type_stays : (t : GlobalType) → mapped_global_type stripping.index t ≡ t
 global_type_stays t = (global_type_at t).still
 
-pub type_told : (t : ty.«Type») → sub_type (mapped_def stripping.index t.def) ≡ sub_type t.def
-type_told t = ap sub_type (def_stays t)
+pub type_told : (t : ty.«Type») → as_sub_type (mapped_def stripping.index t.def) ≡ as_sub_type t.def
+type_told t = ap as_sub_type (def_stays t)
 
-pub group_told : (ts : List ty.«Type») → map (λ t. sub_type t.def) (map (mapped_type stripping) ts) ≡ map (λ t. sub_type t.def) ts
-group_told ts = each_alike (mapped_type stripping) (λ t. sub_type t.def) type_told ts
+pub group_told : (ts : List ty.«Type») → map (λ t. as_sub_type t.def) (map (mapped_type stripping) ts) ≡ map (λ t. as_sub_type t.def) ts
+group_told ts = each_alike (mapped_type stripping) (λ t. as_sub_type t.def) type_told ts
 
 -- A type use is read as a number.
 number_told : (i : Option Index) → unwrap_or (option_map number (option_map at_start i)) 0 ≡ unwrap_or (option_map number i) 0
@@ -59,33 +59,33 @@ number_told (Some (index.Id id)) = refl
 pub use_told : (u : TypeUse FunctionType) → type_index (stripped_use u) ≡ type_index u
 use_told u = number_told u.index
 
-pub tag_told : (t : TagType) → tag_type (mapped_tag_type stripping t) ≡ tag_type t
+pub tag_told : (t : TagType) → as_tag_type (mapped_tag_type stripping t) ≡ as_tag_type t
 tag_told t = grind (arith, common_steps, use_told)
 
-entity_told : (k : ItemKind) → entity_type (mapped_item_kind stripping k) ≡ entity_type k
+entity_told : (k : ItemKind) → as_entity_type (mapped_item_kind stripping k) ≡ as_entity_type k
 entity_told k = grind (arith, common_steps, use_told, table_type_stays, global_type_stays, tag_told)
 
 pub import_told : (i : ImportItems) → imported (mapped_import_items stripping i) ≡ imported i
 import_told i = grind (arith, common_steps, entity_told)
 
 -- Bodies.
-instr_told : (h : Here) (i : Instruction) → instr (mapped_instr stripping h i) ≡ instr i
+instr_told : (h : Here) (i : Instruction) → as_instr (mapped_instr stripping h i) ≡ as_instr i
 instr_told h i = grind (arith, common_steps, heap_stays)
 
-instrs_told : (h : Here) (is : List Instruction) → map instr (mapped_instrs stripping h is) ≡ map instr is
+instrs_told : (h : Here) (is : List Instruction) → map as_instr (mapped_instrs stripping h is) ≡ map as_instr is
 instrs_told h [] = refl
 instrs_told h (i ∷ is) = λ t. instr_told h i t ∷ instrs_told (behind h i) is t
 
-constant_told : (e : Expression) → expression (mapped_constant stripping e) ≡ expression e
+constant_told : (e : Expression) → as_expression (mapped_constant stripping e) ≡ as_expression e
 constant_told e = instrs_told start e.instrs
 
-constants_told : (es : List Expression) → map expression (map (mapped_constant stripping) es) ≡ map expression es
-constants_told es = each_alike (mapped_constant stripping) expression constant_told es
+constants_told : (es : List Expression) → map as_expression (map (mapped_constant stripping) es) ≡ map as_expression es
+constants_told es = each_alike (mapped_constant stripping) as_expression constant_told es
 
-locals_told : (ls : List Local) → map (λ l. val_type l.ty) (map (mapped_local stripping) ls) ≡ map (λ l. val_type l.ty) ls
-locals_told ls = each_alike (mapped_local stripping) (λ l. val_type l.ty) (λ l. ap val_type (val_at l.ty).still) ls
+locals_told : (ls : List Local) → map (λ l. as_val_type l.ty) (map (mapped_local stripping) ls) ≡ map (λ l. as_val_type l.ty) ls
+locals_told ls = each_alike (mapped_local stripping) (λ l. as_val_type l.ty) (λ l. ap as_val_type (val_at l.ty).still) ls
 
-pub body_told : (params : List (Option Mark)) (k : FuncKind) → body (mapped_func_kind stripping params k) ≡ body k
+pub body_told : (params : List (Option Mark)) (k : FuncKind) → as_body (mapped_func_kind stripping params k) ≡ as_body k
 body_told params (func.Import import exact) = refl
 body_told params (func.Inline locals e) = λ t. record { locals = locals_told locals t; instrs = instrs_told (body_here (params ++ local_marks locals)) e.instrs t }
 
@@ -96,14 +96,14 @@ table_told k = grind (arith, common_steps, table_type_stays, ref_stays, constant
 pub value_told : (k : GlobalKind) → value_of (mapped_global_kind stripping k) ≡ value_of k
 value_told k = grind (arith, common_steps, constant_told)
 
-pub mode_told : (k : ElemKind) → element_mode (mapped_elem_kind stripping k) ≡ element_mode k
+pub mode_told : (k : ElemKind) → as_element_mode (mapped_elem_kind stripping k) ≡ as_element_mode k
 mode_told k = grind (arith, common_steps, constant_told)
 
 numbers_told : (is : List Index) → map number (map (λ i. i) is) ≡ map number is
 numbers_told is = each_alike (λ i. i) number (λ i. refl) is
 
-pub items_told : (p : ElemPayload) → element_items (mapped_payload stripping p) ≡ element_items p
+pub items_told : (p : ElemPayload) → as_element_items (mapped_payload stripping p) ≡ as_element_items p
 items_told p = grind (arith, common_steps, numbers_told, constants_told, ref_stays)
 
-pub place_told : (k : DataKind) → data_mode (mapped_data_kind stripping k) ≡ data_mode k
+pub place_told : (k : DataKind) → as_data_mode (mapped_data_kind stripping k) ≡ as_data_mode k
 place_told k = grind (arith, common_steps, constant_told)

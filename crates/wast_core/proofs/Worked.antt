@@ -11,7 +11,7 @@ use Rattle.wasm_ops.specs.Leb128.{unsigned, unsigned_in}
 use Rattle.wasm_ops.specs.Spelling.{InRangeValType, InRangeU32, InRangeVec}
 use Rattle.wasm_ops.specs.Table.{InRangeInstr}
 use Rattle.wasm_ops.proofs.Everywhere.{all_each, all_one, all_both, all_of_flat, all_tested}
-use Rattle.wasm_out.specs.NameSubsections.{InRangeNameEntry, InRangeNameSubsection}
+use Rattle.wasm_out.specs.NameSectionBytes.{InRangeNameEntry, InRangeNameSubsection}
 use Rattle.wasm_out.specs.Parts.{Types, Functions, Exports, Code, InRangeEntry, InRangePart}
 use Rattle.wasm_out.specs.Reads.{Reads}
 use Rattle.wasm_out.specs.WorkedBytes as out
@@ -26,7 +26,7 @@ use Rattle.wast_core.specs.declared.slots.Slot.TheVariants as slot
 use Rattle.wast_core.specs.Bounded.{InRangeHeld, InRangeSlot, InRangeModule, IsBounded}
 use Rattle.wast_core.specs.Meaning.{in_slot, parts, meaning}
 use Rattle.wast_core.specs.Utf8Names.{HasUtf8Names}
-use Rattle.wast_names.specs.NamesPayload.{InRangeNames, name_subsections}
+use Rattle.wast_names.specs.ModuleNames.{InRangeNames, name_subsections}
 use Rattle.wast_core.specs.Slots.{order}
 use Rattle.wast_core.specs.WorkedMeanings.{Row1, Row2, Row8, Row24, Row27, AnnotatedFunction, SecondNamed, LongSection}
 use Rattle.wast_core.proofs.Readings.{reads_module}

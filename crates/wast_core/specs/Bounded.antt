@@ -11,7 +11,7 @@ use Rattle.wast_core.specs.Meaning.{in_slot, parts}
 use Rattle.wast_core.specs.Slots.{order}
 use Rattle.wast_core.specs.declared.slots.Slot.{Slot}
 use Rattle.wast_core.specs.declared.slots.Slot.TheVariants as slot
-use Rattle.wast_names.specs.NamesPayload.{InRangeNames}
+use Rattle.wast_names.specs.ModuleNames.{InRangeNames}
 
 -- the bytes of a resolved list, of a module with this name
 abbrev pub bytes_of : Option (List ℕ) → List ModuleField → List ℕ

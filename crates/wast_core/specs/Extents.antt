@@ -5,8 +5,8 @@ use Rattle.wasm_ops.specs.Spelling.{vec}
 use Rattle.wasm_out.specs.Parts.{SectionKind, Entry, entry}
 use Rattle.wast_core.specs.Tree.{ModuleField}
 use Rattle.wast_core.specs.Meaning.{entries}
-use Rattle.wast_names.specs.NamesPayload.{name_subsections}
-use Rattle.wast_names.specs.NameSection.{names_payload_of}
+use Rattle.wast_names.specs.ModuleNames.{name_subsections}
+use Rattle.wast_names.specs.NamesPart.{names_payload_of}
 
 -- what stands behind the length of a section; nothing where it has no entries and is left out
 abbrev pub payload_of : (kind : SectionKind) → List (Entry kind) → List ℕ

@@ -13,13 +13,13 @@ use Rattle.wasm_out.specs.ElementSegments.{ElementEntry}
 use Rattle.wasm_out.specs.Parts.{SectionKind, Types, Imports, Functions, Tables, Memories, Tags, Globals, Exports, Elements, Code, Data, Entry, TypeEntry, Single, ImportEntry, TableEntry, GlobalEntry, ExportEntry, Start, Listed, Part}
 use Rattle.wast_resolve.specs.Explicit.{by_positions}
 use Rattle.wast_resolve.specs.Resolved.{resolved}
-use Rattle.wast_names.specs.NamesPayload.{name_subsections}
-use Rattle.wast_names.specs.NameSection.{names_part}
+use Rattle.wast_names.specs.ModuleNames.{name_subsections}
+use Rattle.wast_names.specs.NamesPart.{names_part}
 use Rattle.wast_core.specs.declared.slots.Slot.{Slot}
 use Rattle.wast_core.specs.declared.slots.Slot.TheVariants as slot
 use Rattle.wast_core.specs.Slots.{section_kind, order}
-pub use Rattle.wast_conv.specs.Values.{number, abstract_type, heap_type, ref_type, val_type, storage_type, field_type, struct_type, array_type, func_type, inner_type, sub_type, type_index, table_type, memory_type, global_type, tag_type, entity_type, instr, expression, body_of, body, export_kind}
-pub use Rattle.wast_conv.specs.FieldEntries.{group_of, import_entry, table_entry, memory_entry, global_entry, tag_entry, export_entry, element_items, element_mode, element_entry, data_mode, data_entry}
+pub use Rattle.wast_conv.specs.Values.{number, as_abstract_type, as_heap_type, as_ref_type, as_val_type, as_storage_type, as_field_type, as_struct_type, as_array_type, as_func_type, as_inner_type, as_sub_type, type_index, as_table_type, as_memory_type, as_global_type, as_tag_type, as_entity_type, as_instr, as_expression, body_of, as_body, as_export_kind}
+pub use Rattle.wast_conv.specs.FieldEntries.{as_group, as_import, as_table, as_memory, as_global, as_tag, as_export, as_element_items, as_element_mode, as_element, as_data_mode, as_data}
 
 -- what a field puts into the sections: the entries of those that are lists, and the functions of start sections
 pub record Contribution : Type 0 where
@@ -55,39 +55,39 @@ nothing = record {
 
 -- what a field of each kind contributes: a type is one entry
 abbrev pub of_type : ty.«Type» → Contribution
-of_type t = record nothing { types = Single (sub_type t.def) ∷ [] }
+of_type t = record nothing { types = Single (as_sub_type t.def) ∷ [] }
 
 -- a group is one entry, whatever its types
 abbrev pub of_rec : Rec → Contribution
-of_rec r = record nothing { types = group_of r ∷ [] }
+of_rec r = record nothing { types = as_group r ∷ [] }
 
 -- an import is one entry
 abbrev pub of_import : tree.Imports → Contribution
-of_import i = record nothing { imports = import_entry i ∷ [] }
+of_import i = record nothing { imports = as_import i ∷ [] }
 
 -- a function is its type among the functions, and its body in the code
 abbrev pub of_func : Func → Contribution
-of_func f = record nothing { functions = type_index f.ty ∷ []; code = body f.kind ∷ [] }
+of_func f = record nothing { functions = type_index f.ty ∷ []; code = as_body f.kind ∷ [] }
 
 -- a table is one entry
 abbrev pub of_table : Table → Contribution
-of_table t = record nothing { tables = table_entry t ∷ [] }
+of_table t = record nothing { tables = as_table t ∷ [] }
 
 -- a memory is one entry
 abbrev pub of_memory : Memory → Contribution
-of_memory m = record nothing { memories = memory_entry m ∷ [] }
+of_memory m = record nothing { memories = as_memory m ∷ [] }
 
 -- a global is one entry
 abbrev pub of_global : Global → Contribution
-of_global g = record nothing { globals = global_entry g ∷ [] }
+of_global g = record nothing { globals = as_global g ∷ [] }
 
 -- a tag is one entry
 abbrev pub of_tag : Tag → Contribution
-of_tag t = record nothing { tags = tag_entry t ∷ [] }
+of_tag t = record nothing { tags = as_tag t ∷ [] }
 
 -- an export is one entry
 abbrev pub of_export : Export → Contribution
-of_export e = record nothing { exports = export_entry e ∷ [] }
+of_export e = record nothing { exports = as_export e ∷ [] }
 
 -- a start field is its function
 abbrev pub of_start : Index → Contribution
@@ -95,11 +95,11 @@ of_start i = record nothing { starts = number i ∷ [] }
 
 -- an element segment is one entry
 abbrev pub of_elem : Elem → Contribution
-of_elem e = record nothing { elements = element_entry e ∷ [] }
+of_elem e = record nothing { elements = as_element e ∷ [] }
 
 -- a data segment is one entry
 abbrev pub of_data : tree.Data → Contribution
-of_data d = record nothing { «data» = data_entry d ∷ [] }
+of_data d = record nothing { «data» = as_data d ∷ [] }
 
 -- what a field contributes
 abbrev pub contributed : ModuleField → Contribution

@@ -3,7 +3,7 @@ use Rattle.std.specs.Prelude.{Bool, ◌&&◌}
 use Rattle.wasm_out.specs.Parts.{Types, Imports, Functions, Tables, Memories, Tags, Globals, Exports, Elements, Code, Data}
 use Rattle.wast_conv.specs.Encodable.{is_encodable}
 use Rattle.wast_core.specs.Extents.{is_extent, is_names_size}
-use Rattle.wast_names.specs.Names.{text_seen}
+use Rattle.wast_names.specs.FoundNames.{text_seen}
 use Rattle.wast_reach.specs.Reaches.{are_reaches}
 use Rattle.wast_core.specs.declared.sections.BinaryModule.{BinaryModule}
 

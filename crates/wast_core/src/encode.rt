@@ -9,7 +9,7 @@ ghost use Rattle.wast_conv.specs.Encodable.{is_encodable};
 ghost use Rattle.wast_core.specs.Headline.{Encodes, joined, name_of_module};
 ghost use Rattle.wast_core.specs.Meaning.{parts};
 ghost use Rattle.wast_core.specs.Modules.{IsReady};
-ghost use Rattle.wast_names.specs.Names.{text_seen};
+ghost use Rattle.wast_names.specs.FoundNames.{text_seen};
 ghost use Rattle.wast_core.specs.Writing.{IsEncodable, IsAtRest, EncodesResolved, PutsModule};
 
 use crate::covered;

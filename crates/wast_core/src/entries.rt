@@ -9,7 +9,7 @@ ghost use Rattle.wasm_out.specs.Parts.{entry, InRangeEntry, part, InRangePart};
 ghost use Rattle.wast_conv.specs.Encodable.{is_encodable_field, is_encodable};
 ghost use Rattle.wast_core.specs.Extents.{IsExtent};
 ghost use Rattle.wast_core.specs.Meaning.{entries_in, entries, listed, starts_in};
-ghost use Rattle.wast_names.specs.Names.{counted};
+ghost use Rattle.wast_names.specs.FoundNames.{counted};
 ghost use Rattle.wast_core.specs.Putting.{puts};
 ghost use Rattle.wast_reach.specs.Reaches.{is_reach, are_reaches};
 ghost use Rattle.wast_tree.specs.declared.fields.ModuleField.{ModuleField};

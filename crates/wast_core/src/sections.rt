@@ -9,7 +9,7 @@ ghost use Rattle.wast_conv.specs.Encodable.{is_encodable};
 ghost use Rattle.wast_core.specs.Extents.{IsExtent, section_size};
 ghost use Rattle.wast_core.specs.Measured.{is_measured};
 ghost use Rattle.wast_core.specs.Meaning.{in_slot};
-ghost use Rattle.wast_names.specs.Names.{counted, text_seen};
+ghost use Rattle.wast_names.specs.FoundNames.{counted, text_seen};
 ghost use Rattle.wast_core.specs.Slots.{section_kind};
 
 use crate::entries::{Extent, extent_of, put_section, put_starts, start_fields, starts_size};

@@ -1,7 +1,7 @@
 pub mod Each
-pub mod HavingNames
+pub mod FieldsWithoutNames
 pub mod ListedNames
 pub mod NameEntries
 pub mod NameMaps
 pub mod NamesComputed
-pub mod SameNames
+pub mod SameNameSection

@@ -13,7 +13,7 @@ use Rattle.wasm_ops.specs.Sinks.{SinkRules, Writes}
 use Rattle.wasm_ops.proofs.Everywhere.{all_left, all_right}
 use Rattle.wasm_ops.proofs.Sinking.{written_as}
 use Rattle.wast_names.specs.GivenNames.{named_from}
-use Rattle.wast_names.specs.Names.{counted}
+use Rattle.wast_names.specs.FoundNames.{counted}
 use Rattle.wast_names.specs.WithinItems.{where_named, nameless, behind, param_name, local_name}
 use Rattle.wast_names.specs.Tree.{Id, NameAnnotation, ValType, Local}
 use Rattle.wast_names.proofs.NameEntries.{named_append, as_many}

@@ -11,7 +11,7 @@ use Rattle.wasm_ops.specs.Spelling.{InRangeU32}
 use Rattle.wasm_ops.proofs.Everywhere.{all_left, all_right, all_one, flat_one}
 use Rattle.wasm_ops.proofs.Sinking.{cut_back, written_as, one_written}
 use Rattle.wast_names.specs.GivenNames.{named_from}
-use Rattle.wast_names.specs.Names.{counted, entry_spelling, InRangeEntryOf, WritesItems}
+use Rattle.wast_names.specs.FoundNames.{counted, entry_spelling, InRangeEntryOf, WritesItems}
 
 -- items after others are counted on from these
 pub named_append : {A : Type 0} (n : ℕ) (xs ys : List (Option A)) → named_from n (xs ++ ys) ≡ named_from n xs ++ named_from (n + length xs) ys

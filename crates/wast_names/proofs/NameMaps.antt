@@ -12,16 +12,16 @@ use Rattle.wasm_ops.specs.Spelling.{InRangeSized, InRangeU32, sized, InRangeName
 use Rattle.wasm_ops.specs.Sinks.{SinkRules, Writes, AppendLaws}
 use Rattle.wasm_ops.proofs.Everywhere.{all_left, all_right, all_one, flat_one, all_in_flat, all_of_flat, flat_in_flat}
 use Rattle.wasm_ops.proofs.Sinking.{written_as, one_written}
-use Rattle.wasm_out.specs.NameSubsections.{Named, Direct, Indirect, NameSubsection, subsection_id, name_payload, name_entry, map_entry, name_content, name_subsection, InRangeNameEntry, InRangeMapEntry, InRangeNameSubsection}
+use Rattle.wasm_out.specs.NameSectionBytes.{Named, Direct, Indirect, NameSubsection, subsection_id, name_payload, name_entry, map_entry, name_content, name_subsection, InRangeNameEntry, InRangeMapEntry, InRangeNameSubsection}
 use Rattle.wasm_out.specs.Parts.{Part, Custom, part, InRangePart}
 use Rattle.wasm_ops.proofs.Numbers.{unsigned-nonempty}
 use Rattle.wast_base.specs.Spaces.{same_space}
-use Rattle.wast_names.specs.NameSection.{names_part, names_payload_of}
+use Rattle.wast_names.specs.NamesPart.{names_part, names_payload_of}
 use Rattle.wast_names.specs.Tree.{Space}
 use Rattle.wast_names.specs.Tree.space
 use Rattle.wast_names.specs.Tree.ty
-use Rattle.wast_names.specs.Names.{counted, InRangeMap, map_bytes}
-use Rattle.wast_names.specs.NamesPayload.{given_name_in, type_name, direct, indirect}
+use Rattle.wast_names.specs.FoundNames.{counted, InRangeMap, map_bytes}
+use Rattle.wast_names.specs.ModuleNames.{given_name_in, type_name, direct, indirect}
 
 -- the names of a group's types
 pub group_names : (s : Space) (types : List ty.«Type») (items : List (Space × Option (List ℕ))) → map type_name types ≡ items → flat_map (given_name_in s) items ≡ flat_map (λ t. given_name_in s (type_name t)) types

@@ -1,8 +1,8 @@
 pub mod GivenNames
-pub mod HavingNames
-pub mod Names
-pub mod NameSection
-pub mod NamesPayload
+pub mod FieldsWithNames
+pub mod FoundNames
+pub mod NamesPart
+pub mod ModuleNames
 pub mod Tree
 pub mod WithinItems
 pub mod WorkedNames

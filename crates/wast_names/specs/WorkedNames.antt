@@ -4,8 +4,8 @@ use Rattle.std.specs.List.{flat_map}
 use Rattle.wasm_out.specs.Parts.{part}
 use Rattle.wast_base.specs.Ids.{generated}
 use Rattle.wast_tree.specs.WorkedModules.{Address, text, place, id_at, by_number, plain_def, plain_type, plain_func, plain_memory}
-use Rattle.wast_names.specs.NameSection.{names_part}
-use Rattle.wast_names.specs.NamesPayload.{name_subsections}
+use Rattle.wast_names.specs.NamesPart.{names_part}
+use Rattle.wast_names.specs.ModuleNames.{name_subsections}
 use Rattle.wast_names.specs.Tree.{Id, NameAnnotation, ValType, FunctionType, TypeUse, InnerTypeKind, Local, ItemKind, ModuleField}
 use Rattle.wast_names.specs.Tree.ty
 use Rattle.wast_names.specs.Tree.value as val

@@ -2,10 +2,10 @@
 
 ghost use Rattle.std.specs.Prelude.{◌≡◌, ◌+◌, ℕ, [], length, true, All, IfOk};
 ghost use Rattle.std.specs.List.{flat_map};
-ghost use Rattle.wasm_out.specs.NameSubsections.{map_entry, name_entry, InRangeMapEntry, InRangeNameEntry};
+ghost use Rattle.wasm_out.specs.NameSectionBytes.{map_entry, name_entry, InRangeMapEntry, InRangeNameEntry};
 ghost use Rattle.wasm_ops.specs.Spelling.{vec, InRangeVec};
 ghost use Rattle.wast_names.specs.GivenNames.{named_from};
-ghost use Rattle.wast_names.specs.Names.{counted, names_listed, lists_found, WritesItems};
+ghost use Rattle.wast_names.specs.FoundNames.{counted, names_listed, lists_found, WritesItems};
 ghost use Rattle.wast_names.specs.WithinItems.{param_name, field_name, local_name};
 
 use crate::name_maps::{Entries, HasName, Own, count_each, put_entry};

@@ -4,9 +4,9 @@ ghost use Rattle.std.specs.Prelude.{◌≡◌, ◌+◌, ℕ, List, [], ◌∷◌
 ghost use Rattle.std.specs.List.{flat_map};
 ghost use Rattle.std.specs.Option.{option_to_list};
 ghost use Rattle.wasm_ops.specs.Sinks.{Writes};
-ghost use Rattle.wasm_out.specs.NameSubsections.{name_entry, InRangeNameEntry};
+ghost use Rattle.wasm_out.specs.NameSectionBytes.{name_entry, InRangeNameEntry};
 ghost use Rattle.wast_names.specs.GivenNames.{named_from};
-ghost use Rattle.wast_names.specs.Names.{counted, text_seen, WritesItems, map_bytes, InRangeMap, entry_spelling, InRangeEntryOf};
+ghost use Rattle.wast_names.specs.FoundNames.{counted, text_seen, WritesItems, map_bytes, InRangeMap, entry_spelling, InRangeEntryOf};
 
 use wasm_ops::{Encode, Name, Refusal, Sink, WithLength};
 

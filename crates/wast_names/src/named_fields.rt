@@ -3,8 +3,8 @@
 ghost use Rattle.std.specs.Prelude.{◌≡◌, List, IsTrue};
 ghost use Rattle.std.specs.List.{flat_map};
 ghost use Rattle.wast_reach.specs.Reaches.{is_reach, are_reaches};
-ghost use Rattle.wast_names.specs.HavingNames.{is_either, has_items, has_lists};
-ghost use Rattle.wast_names.specs.NamesPayload.{names_given};
+ghost use Rattle.wast_names.specs.FieldsWithNames.{is_either, has_items, has_lists};
+ghost use Rattle.wast_names.specs.ModuleNames.{names_given};
 ghost use Rattle.wast_names.specs.Tree.{ModuleField};
 ghost use Rattle.wast_names.specs.WithinItems.{lists_within};
 

@@ -4,13 +4,13 @@ ghost use Rattle.std.specs.Prelude.{◌≡◌, length, true, All, IfOk, IfErr, I
 ghost use Rattle.std.specs.List.{flat_map};
 ghost use Rattle.wasm_ops.specs.Sinks.{Writes};
 ghost use Rattle.wasm_ops.specs.declared.sink.Refusal.TheVariants as refusal;
-ghost use Rattle.wasm_out.specs.NameSubsections.{name_entry, name_subsection, subsection_id, InRangeNameEntry, InRangeNameSubsection};
+ghost use Rattle.wasm_out.specs.NameSectionBytes.{name_entry, name_subsection, subsection_id, InRangeNameEntry, InRangeNameSubsection};
 ghost use Rattle.wasm_out.specs.Parts.{part, InRangePart};
 ghost use Rattle.wast_reach.specs.Reaches.{are_reaches};
-ghost use Rattle.wast_names.specs.NameSection.{names_part, names_payload_of};
+ghost use Rattle.wast_names.specs.NamesPart.{names_part, names_payload_of};
 ghost use Rattle.wast_names.specs.GivenNames.{id_text, given_name, named_from};
-ghost use Rattle.wast_names.specs.Names.{text_seen, items_seen, counted, WritesItems};
-ghost use Rattle.wast_names.specs.NamesPayload.{type_name, import_names, item_names_in, given_name_in, names_given, named_of, named_within, map_names, module_name, name_subsections, InRangeNames};
+ghost use Rattle.wast_names.specs.FoundNames.{text_seen, items_seen, counted, WritesItems};
+ghost use Rattle.wast_names.specs.ModuleNames.{type_name, import_names, item_names_in, given_name_in, names_given, named_of, named_within, map_names, module_name, name_subsections, InRangeNames};
 
 use crate::name_maps::{NameItems, count_each, put_each, put_map, put_name};
 use crate::named_fields::{with_items, with_lists};

@@ -3,9 +3,9 @@
 
 ghost use Rattle.std.specs.Prelude.{◌≡◌, ◌+◌, ℕ, List, length, map, slice_get, IfOk};
 ghost use Rattle.std.specs.List.{flat_map};
-ghost use Rattle.wasm_out.specs.NameSubsections.{map_entry, InRangeMapEntry};
+ghost use Rattle.wasm_out.specs.NameSectionBytes.{map_entry, InRangeMapEntry};
 ghost use Rattle.wast_names.specs.GivenNames.{named_from};
-ghost use Rattle.wast_names.specs.Names.{counted, names_listed, lists_found, lists_seen, WritesItems};
+ghost use Rattle.wast_names.specs.FoundNames.{counted, names_listed, lists_found, lists_seen, WritesItems};
 ghost use Rattle.wast_names.specs.WithinItems.{param_name, local_name, lists_in_type, lists_in_func, lists_in_tag, lists_in_imported_func, lists_in_imported_tag, lists_in_kind, lists_in_import, lists_within, types_within, arity, arity_of, arity_at, behind, params_used, locals_of, locals_in, field_names_of, param_names_of, inline_params, tag_params};
 
 use crate::name_lists::{Listed, count_found, no_names, none, put_found};

@@ -1,7 +1,7 @@
 use Rattle.std.proofs.Common.{◌≡◌, ◌<◌, ◌++◌, ap, ◌∙◌, subst, arith}
 use Rattle.std.specs.Prelude.{All}
 use Rattle.wast_core.specs.Bounded.{bytes_of, InRangeModule}
-use Rattle.wast_names.specs.Names.{text_seen}
+use Rattle.wast_names.specs.FoundNames.{text_seen}
 use Rattle.wast_core.proofs.Readings.{reads_module}
 use Rattle.std.proofs.Common.{length, List, ℕ, sym, inl, inr}
 use Rattle.std.proofs.lemmas.Result.{err_from_is_err_and}

@@ -1,6 +1,6 @@
 use Rattle.std.proofs.Common.{sym, ap, ◌∙◌}
 use Rattle.wast_core.specs.Headline.{name_of_module}
-use Rattle.wast_names.specs.Names.{text_seen}
+use Rattle.wast_names.specs.FoundNames.{text_seen}
 use Rattle.wast_core.specs.Uncovered.{first, uncovered}
 use Rattle.wast_core.proofs.EncodedFields.{fields_encoded}
 use Rattle.wast_core.proofs.encode.encode_resolved.Goals as goal

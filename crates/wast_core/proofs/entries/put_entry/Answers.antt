@@ -22,15 +22,15 @@ encode-requires-in-Func-field g c = (func_ready c.in-Func-field.func (subst (λ 
 -- the one entry of a field
 pub returns-in-Ty : goal.returns-in-Ty
 returns-in-Ty g c =
-    rw (c.in-Types.is, c.in-Ty.is) (one_written g.S.Sink.rules (entry Types) (InRangeEntry Types) c.args.out.now c.encode.new.out (Single (meaning.sub_type c.in-Ty.ty.def)) c.encode.result c.encode.ensures)
+    rw (c.in-Types.is, c.in-Ty.is) (one_written g.S.Sink.rules (entry Types) (InRangeEntry Types) c.args.out.now c.encode.new.out (Single (meaning.as_sub_type c.in-Ty.ty.def)) c.encode.result c.encode.ensures)
 
 pub returns-in-Rec : goal.returns-in-Rec
 returns-in-Rec g c =
-    rw (c.in-Types.is, c.in-Rec.is) (one_written g.S.Sink.rules (entry Types) (InRangeEntry Types) c.args.out.now c.encode-in-Rec.new.out (meaning.group_of c.in-Rec.rec) c.encode-in-Rec.result c.encode-in-Rec.ensures)
+    rw (c.in-Types.is, c.in-Rec.is) (one_written g.S.Sink.rules (entry Types) (InRangeEntry Types) c.args.out.now c.encode-in-Rec.new.out (meaning.as_group c.in-Rec.rec) c.encode-in-Rec.result c.encode-in-Rec.ensures)
 
 pub returns-in-Import : goal.returns-in-Import
 returns-in-Import g c =
-    rw (c.in-Imports.is, c.in-Import.is) (one_written g.S.Sink.rules (entry Imports) (InRangeEntry Imports) c.args.out.now c.encode-in-Import.new.out (meaning.import_entry c.in-Import.imports) c.encode-in-Import.result c.encode-in-Import.ensures)
+    rw (c.in-Imports.is, c.in-Import.is) (one_written g.S.Sink.rules (entry Imports) (InRangeEntry Imports) c.args.out.now c.encode-in-Import.new.out (meaning.as_import c.in-Import.imports) c.encode-in-Import.result c.encode-in-Import.ensures)
 
 pub returns-in-Func : goal.returns-in-Func
 returns-in-Func g c =
@@ -38,35 +38,35 @@ returns-in-Func g c =
 
 pub returns-in-Table : goal.returns-in-Table
 returns-in-Table g c =
-    rw (c.in-Tables.is, c.in-Table.is) (one_written g.S.Sink.rules (entry Tables) (InRangeEntry Tables) c.args.out.now c.encode-in-Table.new.out (meaning.table_entry c.in-Table.table) c.encode-in-Table.result c.encode-in-Table.ensures)
+    rw (c.in-Tables.is, c.in-Table.is) (one_written g.S.Sink.rules (entry Tables) (InRangeEntry Tables) c.args.out.now c.encode-in-Table.new.out (meaning.as_table c.in-Table.table) c.encode-in-Table.result c.encode-in-Table.ensures)
 
 pub returns-in-Memory : goal.returns-in-Memory
 returns-in-Memory g c =
-    rw (c.in-Memories.is, c.in-Memory.is) (one_written g.S.Sink.rules (entry Memories) (InRangeEntry Memories) c.args.out.now c.encode-in-Memory.new.out (meaning.memory_entry c.in-Memory.memory) c.encode-in-Memory.result c.encode-in-Memory.ensures)
+    rw (c.in-Memories.is, c.in-Memory.is) (one_written g.S.Sink.rules (entry Memories) (InRangeEntry Memories) c.args.out.now c.encode-in-Memory.new.out (meaning.as_memory c.in-Memory.memory) c.encode-in-Memory.result c.encode-in-Memory.ensures)
 
 pub returns-in-Tag : goal.returns-in-Tag
 returns-in-Tag g c =
-    rw (c.in-Tags.is, c.in-Tag.is) (one_written g.S.Sink.rules (entry Tags) (InRangeEntry Tags) c.args.out.now c.encode-in-Tag.new.out (meaning.tag_entry c.in-Tag.tag) c.encode-in-Tag.result c.encode-in-Tag.ensures)
+    rw (c.in-Tags.is, c.in-Tag.is) (one_written g.S.Sink.rules (entry Tags) (InRangeEntry Tags) c.args.out.now c.encode-in-Tag.new.out (meaning.as_tag c.in-Tag.tag) c.encode-in-Tag.result c.encode-in-Tag.ensures)
 
 pub returns-in-Global : goal.returns-in-Global
 returns-in-Global g c =
-    rw (c.in-Globals.is, c.in-Global.is) (one_written g.S.Sink.rules (entry Globals) (InRangeEntry Globals) c.args.out.now c.encode-in-Global.new.out (meaning.global_entry c.in-Global.global) c.encode-in-Global.result c.encode-in-Global.ensures)
+    rw (c.in-Globals.is, c.in-Global.is) (one_written g.S.Sink.rules (entry Globals) (InRangeEntry Globals) c.args.out.now c.encode-in-Global.new.out (meaning.as_global c.in-Global.global) c.encode-in-Global.result c.encode-in-Global.ensures)
 
 pub returns-in-Export : goal.returns-in-Export
 returns-in-Export g c =
-    rw (c.in-Exports.is, c.in-Export.is) (one_written g.S.Sink.rules (entry Exports) (InRangeEntry Exports) c.args.out.now c.encode-in-Export.new.out (meaning.export_entry c.in-Export.export) c.encode-in-Export.result c.encode-in-Export.ensures)
+    rw (c.in-Exports.is, c.in-Export.is) (one_written g.S.Sink.rules (entry Exports) (InRangeEntry Exports) c.args.out.now c.encode-in-Export.new.out (meaning.as_export c.in-Export.export) c.encode-in-Export.result c.encode-in-Export.ensures)
 
 pub returns-in-Elem : goal.returns-in-Elem
 returns-in-Elem g c =
-    rw (c.in-Elements.is, c.in-Elem.is) (one_written g.S.Sink.rules (entry Elements) (InRangeEntry Elements) c.args.out.now c.encode-in-Elem.new.out (meaning.element_entry c.in-Elem.elem) c.encode-in-Elem.result c.encode-in-Elem.ensures)
+    rw (c.in-Elements.is, c.in-Elem.is) (one_written g.S.Sink.rules (entry Elements) (InRangeEntry Elements) c.args.out.now c.encode-in-Elem.new.out (meaning.as_element c.in-Elem.elem) c.encode-in-Elem.result c.encode-in-Elem.ensures)
 
 pub returns-in-Func-field : goal.returns-in-Func-field
 returns-in-Func-field g c =
-    rw (c.in-Code.is, c.in-Func-field.is) (one_written g.S.Sink.rules (entry Code) (InRangeEntry Code) c.args.out.now c.encode-in-Func-field.new.out (meaning.body c.in-Func-field.func.kind) c.encode-in-Func-field.result c.encode-in-Func-field.ensures)
+    rw (c.in-Code.is, c.in-Func-field.is) (one_written g.S.Sink.rules (entry Code) (InRangeEntry Code) c.args.out.now c.encode-in-Func-field.new.out (meaning.as_body c.in-Func-field.func.kind) c.encode-in-Func-field.result c.encode-in-Func-field.ensures)
 
 pub returns-in-Data-field : goal.returns-in-Data-field
 returns-in-Data-field g c =
-    rw (c.in-Data.is, c.in-Data-field.is) (one_written g.S.Sink.rules (entry Data) (InRangeEntry Data) c.args.out.now c.encode-in-Data-field.new.out (meaning.data_entry c.in-Data-field.«data») c.encode-in-Data-field.result c.encode-in-Data-field.ensures)
+    rw (c.in-Data.is, c.in-Data-field.is) (one_written g.S.Sink.rules (entry Data) (InRangeEntry Data) c.args.out.now c.encode-in-Data-field.new.out (meaning.as_data c.in-Data-field.«data») c.encode-in-Data-field.result c.encode-in-Data-field.ensures)
 
 -- or none
 pub returns-in_default : goal.returns-in_default

@@ -5,7 +5,7 @@ use Rattle.wasm_out.specs.Parts.{part}
 use Rattle.wast_core.specs.Tree.{ModuleField}
 use Rattle.wast_conv.specs.Encodable.{is_encodable_field}
 use Rattle.wast_core.specs.Meaning.{starts_in}
-use Rattle.wast_names.specs.Names.{counted}
+use Rattle.wast_names.specs.FoundNames.{counted}
 use Rattle.wast_names.proofs.Each.{each_more}
 use Rattle.wast_conv.proofs.EachPasses.{item_passes}
 use Rattle.wast_core.proofs.Sizes.{starts_more, all_summed}

@@ -1,7 +1,7 @@
 use Rattle.std.proofs.Common.{refl}
-use Rattle.wasm_out.specs.NameSubsections.{name_entry, map_entry, InRangeNameEntry, InRangeMapEntry}
+use Rattle.wasm_out.specs.NameSectionBytes.{name_entry, map_entry, InRangeNameEntry, InRangeMapEntry}
 use Rattle.wasm_ops.specs.Spelling.{vec, InRangeVec}
-use Rattle.wast_names.specs.Names.{names_listed, entry_spelling, InRangeEntryOf}
+use Rattle.wast_names.specs.FoundNames.{names_listed, entry_spelling, InRangeEntryOf}
 use Rattle.wast_names.proofs.NameEntries.{entry_as}
 use Rattle.wast_names.proofs.ListedNames.{is_named}
 use Rattle.wast_names.proofs.name_lists.put_found.Goals as goal

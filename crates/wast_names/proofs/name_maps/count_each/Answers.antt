@@ -1,6 +1,6 @@
 use Rattle.std.proofs.Common.{◌∙◌, take, sym, ap, refl, length}
 use Rattle.std.specs.List.{flat_map}
-use Rattle.wast_names.specs.Names.{counted}
+use Rattle.wast_names.specs.FoundNames.{counted}
 use Rattle.wast_names.specs.GivenNames.{named_from}
 use Rattle.wast_names.proofs.Each.{each_more}
 use Rattle.wast_names.proofs.NameEntries.{count_more}

@@ -1,7 +1,7 @@
 use Rattle.std.proofs.Common.{◌≡◌, length}
 use Rattle.std.specs.Prelude.{take}
 use Rattle.std.specs.List.{flat_map}
-use Rattle.wast_names.specs.Names.{counted}
+use Rattle.wast_names.specs.FoundNames.{counted}
 use Rattle.wast_names.specs.GivenNames.{named_from}
 use Rattle.wast_names.proofs.name_maps.count_each.Given as goal
 

@@ -1,6 +1,6 @@
 use Rattle.std.proofs.Common.{◌+◌, length, take, drop, sym, ap, subst, refl, arith, length-append, Ok, ℕ}
 use Rattle.std.specs.List.{flat_map}
-use Rattle.wast_names.specs.Names.{WritesItems}
+use Rattle.wast_names.specs.FoundNames.{WritesItems}
 use Rattle.wast_names.proofs.Each.{each_more, each_around}
 use Rattle.wast_names.proofs.NameEntries.{names_after, names_kept, names_back}
 use Rattle.wast_names.proofs.name_maps.put_each.Goals as goal

@@ -1,7 +1,7 @@
 use Rattle.std.proofs.Common.{◌≡◌, ◌+◌, length, Ok}
 use Rattle.std.specs.Prelude.{take}
 use Rattle.std.specs.List.{flat_map}
-use Rattle.wast_names.specs.Names.{counted, WritesItems}
+use Rattle.wast_names.specs.FoundNames.{counted, WritesItems}
 use Rattle.wast_names.proofs.name_maps.put_each.Given as goal
 
 abbrev pub invariant-loop-part : goal.invariant-loop-part

@@ -2,7 +2,7 @@ use Rattle.std.proofs.Common.{[], refl, inr, arith, Ok, Err}
 use Rattle.std.proofs.lemmas.List.Elements.{All-head}
 use Rattle.std.proofs.lemmas.Result.{err_from_is_err_and}
 use Rattle.wasm_ops.specs.Spelling.{InRangeU32}
-use Rattle.wast_names.specs.Names.{InRangeEntryOf}
+use Rattle.wast_names.specs.FoundNames.{InRangeEntryOf}
 use Rattle.wast_names.proofs.NameEntries.{entry_written}
 use Rattle.wast_names.proofs.name_maps.put_entry.Goals as goal
 

@@ -1,8 +1,8 @@
 use Rattle.std.proofs.Common.{refl}
-use Rattle.wasm_out.specs.NameSubsections.{name_entry, InRangeNameEntry}
+use Rattle.wasm_out.specs.NameSectionBytes.{name_entry, InRangeNameEntry}
 use Rattle.wasm_ops.specs.declared.encode.Name.{Name}
 use Rattle.wasm_ops.specs.Spelling.{name, InRangeName}
-use Rattle.wast_names.specs.Names.{entry_spelling, InRangeEntryOf}
+use Rattle.wast_names.specs.FoundNames.{entry_spelling, InRangeEntryOf}
 use Rattle.wast_names.proofs.NameEntries.{entry_as}
 use Rattle.wast_names.proofs.name_maps.put_name.Goals as goal
 

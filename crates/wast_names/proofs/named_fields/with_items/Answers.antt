@@ -1,6 +1,6 @@
-use Rattle.wast_names.specs.HavingNames.{has_items}
-use Rattle.wast_names.specs.NamesPayload.{names_given}
-use Rattle.wast_names.proofs.HavingNames.{no_items_elsewhere}
+use Rattle.wast_names.specs.FieldsWithNames.{has_items}
+use Rattle.wast_names.specs.ModuleNames.{names_given}
+use Rattle.wast_names.proofs.FieldsWithoutNames.{no_items_elsewhere}
 use Rattle.wast_reach.proofs.Reaching.{all_there, is_inside_of}
 use Rattle.wast_names.proofs.named_fields.with_items.Goals as goal
 

@@ -1,6 +1,6 @@
-use Rattle.wast_names.specs.HavingNames.{has_lists}
+use Rattle.wast_names.specs.FieldsWithNames.{has_lists}
 use Rattle.wast_names.specs.WithinItems.{lists_within}
-use Rattle.wast_names.proofs.HavingNames.{no_lists_elsewhere}
+use Rattle.wast_names.proofs.FieldsWithoutNames.{no_lists_elsewhere}
 use Rattle.wast_reach.proofs.Reaching.{all_there, is_inside_of}
 use Rattle.wast_names.proofs.named_fields.with_lists.Goals as goal
 

@@ -1,7 +1,7 @@
 use Rattle.std.proofs.Common.{refl, ◌∙◌, ◌+◌, arith, ap}
 use Rattle.std.proofs.lemmas.Result.{err_from_is_err_and}
-use Rattle.wast_names.specs.Names.{text_seen}
-use Rattle.wast_names.specs.NamesPayload.{name_subsections}
+use Rattle.wast_names.specs.FoundNames.{text_seen}
+use Rattle.wast_names.specs.ModuleNames.{name_subsections}
 use Rattle.wast_names.proofs.NameMaps.{payload_length, payload_in_range, subsections_in_range}
 use Rattle.wast_names.proofs.names_payload.names_size.Goals as goal
 

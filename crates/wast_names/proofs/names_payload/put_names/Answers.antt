@@ -1,5 +1,5 @@
-use Rattle.wast_names.specs.Names.{text_seen}
-use Rattle.wast_names.specs.NamesPayload.{name_subsections}
+use Rattle.wast_names.specs.FoundNames.{text_seen}
+use Rattle.wast_names.specs.ModuleNames.{name_subsections}
 use Rattle.wast_names.proofs.NameMaps.{names_absent, names_written}
 use Rattle.wast_names.proofs.names_payload.put_names.Goals as goal
 

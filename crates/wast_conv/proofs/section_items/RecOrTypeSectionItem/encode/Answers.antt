@@ -27,5 +27,5 @@ pub rec-requires : goal.rec-requires
 rec-requires c =
     ap (list_all is_covered_sub_type) c.as_slice-in-Rec.ensures
     ∙ (ap (list_all is_covered_sub_type) c.in_ok-types-in-Rec.ensures.value
-    ∙ (ap (λ ts. list_all is_covered_sub_type (map (λ t. meaning.sub_type t.def) ts)) c.as_slice.ensures
+    ∙ (ap (λ ts. list_all is_covered_sub_type (map (λ t. meaning.as_sub_type t.def) ts)) c.as_slice.ensures
     ∙ types_covered c.in-Rec.rec.now (subst (λ e. is_encodable_entry e ≡ true) c.in-Rec.is c.requires)))

@@ -8,4 +8,4 @@ use Rattle.wast_conv.proofs.segment_items.ElemSectionItem.encode.Goals as goal
 pub add_elements-requires-clause-form : goal.add_elements-requires-clause-form
 add_elements-requires-clause-form c =
     let e = c.args.self.now in
-    ap (has_form (meaning.element_mode e.kind)) c.in_ok-elements.ensures.value.kind ∙ suits_form e.kind e.payload (elem_parts e c.requires).fits
+    ap (has_form (meaning.as_element_mode e.kind)) c.in_ok-elements.ensures.value.kind ∙ suits_form e.kind e.payload (elem_parts e c.requires).fits

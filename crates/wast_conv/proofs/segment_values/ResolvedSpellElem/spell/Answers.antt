@@ -25,7 +25,7 @@ encode-requires g c =
     let e = c.args.elem.now in
     let fs = c.in-Indices.functions in
     let parts = elem_parts e c.requires in
-    both_true _ _ (has_its_form (λ b. meaning.expression b.0.now) c.mode_of-mode.result e.kind (payload.Indices fs) kinds.Functions c.mode_of-mode.ensures.same refl (subst (λ p. suits e.kind p ≡ true) c.in-Indices.is parts.fits))
+    both_true _ _ (has_its_form (λ b. meaning.as_expression b.0.now) c.mode_of-mode.result e.kind (payload.Indices fs) kinds.Functions c.mode_of-mode.ensures.same refl (subst (λ p. suits e.kind p ≡ true) c.in-Indices.is parts.fits))
     (both_true _ _ c.mode_of-mode.ensures.ready (ap (list_all is_number) c.as_slice.ensures ∙ (sym (encodable_at space.Func fs) ∙ subst (λ p. encodable (in_payload p) ≡ true) c.in-Indices.is parts.holds)))
 
 pub encode-requires-in-Exprs : goal.encode-requires-in-Exprs
@@ -35,7 +35,7 @@ encode-requires-in-Exprs g c =
     let es = c.in-Exprs.exprs in
     let parts = elem_parts e c.requires in
     let exprs = exprs_parts ty es (subst (λ p. encodable (in_payload p) ≡ true) c.in-Exprs.is parts.holds) in
-    both_true _ _ (has_its_form (λ b. meaning.expression b.0.now) c.mode_of-mode.result e.kind (payload.Exprs ty es) (kinds.Expressions c.ref_type.result) c.mode_of-mode.ensures.same (ap kinds.Expressions c.ref_type.ensures) (subst (λ p. suits e.kind p ≡ true) c.in-Exprs.is parts.fits))
+    both_true _ _ (has_its_form (λ b. meaning.as_expression b.0.now) c.mode_of-mode.result e.kind (payload.Exprs ty es) (kinds.Expressions c.ref_type.result) c.mode_of-mode.ensures.same (ap kinds.Expressions c.ref_type.ensures) (subst (λ p. suits e.kind p ≡ true) c.in-Exprs.is parts.fits))
     (both_true _ _ (ap is_covered_ref_type c.ref_type.ensures ∙ heap_covered ty.heap exprs.1)
     (both_true _ _ c.mode_of-mode.ensures.ready (ap (list_all is_encodable_expression) c.as_slice-in-Exprs.ensures ∙ exprs.0)))
 
@@ -44,7 +44,7 @@ returns-in-Indices g c =
     let xs = c.as_slice.result.now in
     let fs = c.in-Indices.functions in
     rw c.in-Indices.is
-    (segment_written g.S.Sink.rules c.args.out.now c.encode.new.out (λ b. meaning.expression b.0.now) c.mode_of-mode.result c.args.elem.now.kind (payload.Indices fs) kinds.Functions (InRangeVec (λ i. InRangeU32 (meaning.number i)) xs) (vec (λ i. unsigned (meaning.number i)) xs) c.encode.result c.mode_of-mode.ensures.same refl
+    (segment_written g.S.Sink.rules c.args.out.now c.encode.new.out (λ b. meaning.as_expression b.0.now) c.mode_of-mode.result c.args.elem.now.kind (payload.Indices fs) kinds.Functions (InRangeVec (λ i. InRangeU32 (meaning.number i)) xs) (vec (λ i. unsigned (meaning.number i)) xs) c.encode.result c.mode_of-mode.ensures.same refl
     (ap (vec (λ i. unsigned (meaning.number i))) c.as_slice.ensures ∙ vec_mapped unsigned meaning.number fs)
     (λ h. in_range_mapped InRangeU32 meaning.number fs (subst (InRangeVec (λ i. InRangeU32 (meaning.number i))) c.as_slice.ensures h))
     (λ h. subst (InRangeVec (λ i. InRangeU32 (meaning.number i))) (sym c.as_slice.ensures) (in_range_unmapped InRangeU32 meaning.number fs h)) c.encode.ensures)
@@ -54,7 +54,7 @@ returns-in-Exprs g c =
     let xs = c.as_slice-in-Exprs.result.now in
     let es = c.in-Exprs.exprs in
     rw c.in-Exprs.is
-    (segment_written g.S.Sink.rules c.args.out.now c.encode-in-Exprs.new.out (λ b. meaning.expression b.0.now) c.mode_of-mode.result c.args.elem.now.kind (payload.Exprs c.in-Exprs.ty es) (kinds.Expressions c.ref_type.result) (InRangeVec (λ e. InRangeExpression (meaning.expression e)) xs) (vec (λ e. expression (meaning.expression e)) xs) c.encode-in-Exprs.result c.mode_of-mode.ensures.same (ap kinds.Expressions c.ref_type.ensures)
-    (ap (vec (λ e. expression (meaning.expression e))) c.as_slice-in-Exprs.ensures ∙ vec_mapped expression meaning.expression es)
-    (λ h. in_range_mapped InRangeExpression meaning.expression es (subst (InRangeVec (λ e. InRangeExpression (meaning.expression e))) c.as_slice-in-Exprs.ensures h))
-    (λ h. subst (InRangeVec (λ e. InRangeExpression (meaning.expression e))) (sym c.as_slice-in-Exprs.ensures) (in_range_unmapped InRangeExpression meaning.expression es h)) c.encode-in-Exprs.ensures)
+    (segment_written g.S.Sink.rules c.args.out.now c.encode-in-Exprs.new.out (λ b. meaning.as_expression b.0.now) c.mode_of-mode.result c.args.elem.now.kind (payload.Exprs c.in-Exprs.ty es) (kinds.Expressions c.ref_type.result) (InRangeVec (λ e. InRangeExpression (meaning.as_expression e)) xs) (vec (λ e. expression (meaning.as_expression e)) xs) c.encode-in-Exprs.result c.mode_of-mode.ensures.same (ap kinds.Expressions c.ref_type.ensures)
+    (ap (vec (λ e. expression (meaning.as_expression e))) c.as_slice-in-Exprs.ensures ∙ vec_mapped expression meaning.as_expression es)
+    (λ h. in_range_mapped InRangeExpression meaning.as_expression es (subst (InRangeVec (λ e. InRangeExpression (meaning.as_expression e))) c.as_slice-in-Exprs.ensures h))
+    (λ h. subst (InRangeVec (λ e. InRangeExpression (meaning.as_expression e))) (sym c.as_slice-in-Exprs.ensures) (in_range_unmapped InRangeExpression meaning.as_expression es h)) c.encode-in-Exprs.ensures)

@@ -26,7 +26,7 @@ pub returns-then-not-unwrap_or : goal.returns-then-not-unwrap_or
 returns-then-not-unwrap_or g c =
     let d = c.args.def.now in
     let ps = c.as_slice.result.now in
-    let composite = composite_inner_type (meaning.inner_type d.kind) in
+    let composite = composite_inner_type (meaning.as_inner_type d.kind) in
     sub_written g.S.Sink.rules c.args.out.now c.encode.new.out d ps _ c.encode.result c.as_slice.ensures
     (open_bytes meaning.number ps composite ∙ ap (λ m. sub_bytes m (map meaning.number ps) composite) (c.if-not-unwrap_or.ensures ∙ final_is d.final_type)) c.encode.ensures
 
@@ -37,7 +37,7 @@ pub returns : goal.returns
 returns g c =
     let d = c.args.def.now in
     let ps = c.as_slice.result.now in
-    let composite = composite_inner_type (meaning.inner_type d.kind) in
+    let composite = composite_inner_type (meaning.as_inner_type d.kind) in
     let some = ap (λ qs. length qs == 0) c.as_slice.ensures ∙ sym c.is_empty.ensures ∙ c.if-is_empty.false in
     sub_written g.S.Sink.rules c.args.out.now c.encode-2.new.out d ps _ c.encode-2.result c.as_slice.ensures
     (final_bytes meaning.number ps composite some ∙ ap (λ m. sub_bytes m (map meaning.number ps) composite) (c.if-not-unwrap_or.ensures ∙ final_is d.final_type)) c.encode-2.ensures

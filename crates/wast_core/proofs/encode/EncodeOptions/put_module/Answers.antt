@@ -4,7 +4,7 @@ use Rattle.wasm_ops.specs.Sinks.{refused_as}
 use Rattle.wast_core.specs.Bounded.{InRangeModule}
 use Rattle.wast_core.specs.Headline.{name_of_module}
 use Rattle.wast_core.specs.Uncovered.{first, uncovered}
-use Rattle.wast_names.specs.Names.{text_seen}
+use Rattle.wast_names.specs.FoundNames.{text_seen}
 use Rattle.wast_core.proofs.Encoded.{not_put}
 use Rattle.wast_core.proofs.EncodedFields.{fields_put, fields_refused}
 use Rattle.wast_core.proofs.encode.EncodeOptions.put_module.Goals as goal

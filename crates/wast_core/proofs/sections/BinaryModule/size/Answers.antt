@@ -1,5 +1,5 @@
 use Rattle.std.proofs.Common.{◌∙◌}
-use Rattle.wast_names.specs.Names.{text_seen}
+use Rattle.wast_names.specs.FoundNames.{text_seen}
 use Rattle.wast_core.proofs.Sizes.{module_size}
 use Rattle.wast_core.proofs.sections.BinaryModule.size.Goals as goal
 

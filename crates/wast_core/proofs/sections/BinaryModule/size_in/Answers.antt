@@ -1,5 +1,5 @@
-use Rattle.wast_names.specs.Names.{text_seen}
-use Rattle.wast_names.specs.NamesPayload.{name_subsections}
+use Rattle.wast_names.specs.FoundNames.{text_seen}
+use Rattle.wast_names.specs.ModuleNames.{name_subsections}
 use Rattle.wast_core.specs.Slots.{section_kind}
 use Rattle.wast_core.proofs.Measuring.{measured_extents}
 use Rattle.wast_core.proofs.Sizes.{listed_counted, names_counted}

@@ -3,7 +3,7 @@ use Rattle.std.specs.List.{flat_map}
 use Rattle.std.proofs.lemmas.List.{get_or_default}
 use Rattle.wasm_out.specs.Parts.{part}
 use Rattle.wast_core.specs.Meaning.{in_slot}
-use Rattle.wast_names.specs.Names.{text_seen}
+use Rattle.wast_names.specs.FoundNames.{text_seen}
 use Rattle.wast_core.specs.declared.slots.Slot.{Slot}
 use Rattle.wast_core.specs.declared.slots.Slot.TheVariants as slot
 use Rattle.wast_names.proofs.Each.{each_more}

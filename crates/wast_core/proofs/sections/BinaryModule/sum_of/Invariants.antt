@@ -2,7 +2,7 @@ use Rattle.std.proofs.Common.{◌≡◌, length, take}
 use Rattle.std.specs.List.{flat_map}
 use Rattle.wasm_out.specs.Parts.{part}
 use Rattle.wast_core.specs.Meaning.{in_slot}
-use Rattle.wast_names.specs.Names.{counted, text_seen}
+use Rattle.wast_names.specs.FoundNames.{counted, text_seen}
 use Rattle.wast_core.proofs.sections.BinaryModule.sum_of.Given as goal
 
 abbrev pub invariant-loop-slot : goal.invariant-loop-slot

@@ -1,6 +1,6 @@
 use Rattle.std.proofs.Common.{◌∷◌, []}
 use Rattle.std.specs.List.{flat_map}
-use Rattle.wasm_out.specs.NameSubsections.{name_entry, InRangeNameEntry}
+use Rattle.wasm_out.specs.NameSectionBytes.{name_entry, InRangeNameEntry}
 use Rattle.wast_names.specs.GivenNames.{named_from}
 use Rattle.wast_names.specs.WithinItems.{param_name, local_name}
 use Rattle.wast_names.proofs.ListedNames.{both_written}

@@ -1,6 +1,6 @@
 use Rattle.std.proofs.Common.{refl, ◌∷◌}
 use Rattle.wasm_ops.proofs.Sinking.{puts_as}
-use Rattle.wasm_out.specs.NameSubsections.{Whole, One, NameSubsection, name_content, InRangeNameSubsection}
+use Rattle.wasm_out.specs.NameSectionBytes.{Whole, One, NameSubsection, name_content, InRangeNameSubsection}
 use Rattle.wasm_ops.specs.Spelling.{sized}
 use Rattle.wast_names.proofs.NameMaps.{subsection_written}
 use Rattle.wast_names.proofs.names_payload.ModuleNameEncode.encode.Goals as goal

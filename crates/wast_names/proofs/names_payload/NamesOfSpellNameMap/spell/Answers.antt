@@ -1,9 +1,9 @@
 use Rattle.std.proofs.Common.{subst}
 use Rattle.wasm_ops.specs.Sinks.{Writes}
-use Rattle.wasm_out.specs.NameSubsections.{name_entry, map_entry, InRangeNameEntry, InRangeMapEntry}
+use Rattle.wasm_out.specs.NameSectionBytes.{name_entry, map_entry, InRangeNameEntry, InRangeMapEntry}
 use Rattle.wast_names.specs.GivenNames.{named_from}
-use Rattle.wast_names.specs.Names.{map_bytes, InRangeMap}
-use Rattle.wast_names.specs.NamesPayload.{named_of, named_items, named_within, named_lists}
+use Rattle.wast_names.specs.FoundNames.{map_bytes, InRangeMap}
+use Rattle.wast_names.specs.ModuleNames.{named_of, named_items, named_within, named_lists}
 use Rattle.wast_names.proofs.NameMaps.{direct_written, indirect_written}
 use Rattle.wast_names.proofs.names_payload.NamesOfSpellNameMap.spell.Goals as goal
 

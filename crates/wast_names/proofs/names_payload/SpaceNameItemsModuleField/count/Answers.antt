@@ -1,6 +1,6 @@
 use Rattle.std.proofs.Common.{◌∙◌, sym, ap, length}
-use Rattle.wast_names.specs.Names.{counted}
-use Rattle.wast_names.specs.NamesPayload.{item_names_in}
+use Rattle.wast_names.specs.FoundNames.{counted}
+use Rattle.wast_names.specs.ModuleNames.{item_names_in}
 use Rattle.wast_names.specs.GivenNames.{named_from}
 use Rattle.wast_names.proofs.NameMaps.{group_names}
 use Rattle.wast_names.proofs.names_payload.SpaceNameItemsModuleField.count.Goals as goal

@@ -1,8 +1,8 @@
 use Rattle.std.proofs.Common.{◌≡◌, ◌+◌, length, sym, subst}
 use Rattle.std.specs.Prelude.{IfOk}
-use Rattle.wasm_out.specs.NameSubsections.{name_entry, InRangeNameEntry}
-use Rattle.wast_names.specs.Names.{counted, WritesItems}
-use Rattle.wast_names.specs.NamesPayload.{item_names_in}
+use Rattle.wasm_out.specs.NameSectionBytes.{name_entry, InRangeNameEntry}
+use Rattle.wast_names.specs.FoundNames.{counted, WritesItems}
+use Rattle.wast_names.specs.ModuleNames.{item_names_in}
 use Rattle.wast_names.proofs.NameMaps.{group_names}
 use Rattle.wast_names.proofs.names_payload.SpaceNameItemsModuleField.put.Goals as goal
 

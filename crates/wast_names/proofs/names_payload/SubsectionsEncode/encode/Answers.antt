@@ -1,6 +1,6 @@
-use Rattle.wasm_out.specs.NameSubsections.{name_subsection, InRangeNameSubsection}
-use Rattle.wast_names.specs.Names.{text_seen}
-use Rattle.wast_names.specs.NamesPayload.{module_name, map_names, name_maps}
+use Rattle.wasm_out.specs.NameSectionBytes.{name_subsection, InRangeNameSubsection}
+use Rattle.wast_names.specs.FoundNames.{text_seen}
+use Rattle.wast_names.specs.ModuleNames.{module_name, map_names, name_maps}
 use Rattle.wast_names.proofs.NameMaps.{all_written}
 use Rattle.wast_names.proofs.names_payload.SubsectionsEncode.encode.Goals as goal
 

@@ -13,7 +13,7 @@ use Rattle.wast_names.specs.declared.names_payload.NameMap.{NameMap}
 use Rattle.wast_names.specs.declared.names_payload.NameMap.TheVariants as map_of
 use Rattle.wast_names.specs.GivenNames.{named_from}
 use Rattle.wast_names.specs.WithinItems.{arity, arity_of, types_within, locals_of, inline_params, tag_params, list_of, lists_in_type, lists_in_func, lists_in_tag, lists_in_imported_func, lists_in_kind, lists_in_import, lists_within}
-use Rattle.wast_names.specs.NamesPayload.{item_names_in, given_name_in, names_given, named_items, direct, named_of, indirect, named_within, map_names, module_name, name_maps, name_subsections}
+use Rattle.wast_names.specs.ModuleNames.{item_names_in, given_name_in, names_given, named_items, direct, named_of, indirect, named_within, map_names, module_name, name_maps, name_subsections}
 use Rattle.wast_names.proofs.Each.{each_like}
 
 -- the lists within a field are those within another, each field among the fields of its module

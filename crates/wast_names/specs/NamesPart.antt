@@ -1,7 +1,7 @@
 -- The name section, of its subsections: as a part of a module, and as it is measured (binary format, modules: custom section; custom sections, name section).
 use Rattle.std.specs.Prelude.{ℕ, List, [], ◌∷◌, codes}
 use Rattle.std.specs.List.{flat_map}
-use Rattle.wasm_out.specs.NameSubsections.{NameSubsection, name_subsection, name_payload}
+use Rattle.wasm_out.specs.NameSectionBytes.{NameSubsection, name_subsection, name_payload}
 use Rattle.wasm_out.specs.Parts.{Custom, Part}
 
 -- the part, left out where there are no subsections

@@ -14,8 +14,8 @@ use Rattle.wast_names.specs.declared.names_payload.NameMap.{NameMap}
 use Rattle.wast_names.specs.declared.names_payload.NameMap.TheVariants as map_of
 use Rattle.wast_names.specs.GivenNames.{given_name, named_from}
 use Rattle.wast_names.specs.WithinItems.{lists_within}
-use Rattle.wasm_out.specs.NameSubsections.{Named, One, Direct, Indirect, NameSubsection, InRangeNameSubsection}
-use Rattle.wasm_out.specs.NameSubsections as named
+use Rattle.wasm_out.specs.NameSectionBytes.{Named, One, Direct, Indirect, NameSubsection, InRangeNameSubsection}
+use Rattle.wasm_out.specs.NameSectionBytes as named
 
 -- a type, with its name
 abbrev pub type_name : ty.«Type» → Space × Option (List ℕ)

@@ -2,8 +2,8 @@
 use Rattle.std.proofs.Common.{◌≡◌, ℕ, false, List, [], ◌∷◌, Option, refl}
 use Rattle.std.specs.List.{flat_map}
 use Rattle.wast_tree.specs.Items.{space_of_kind}
-use Rattle.wast_names.specs.HavingNames.{has_items, has_lists}
-use Rattle.wast_names.specs.NamesPayload.{import_names, given_name_in, names_given}
+use Rattle.wast_names.specs.FieldsWithNames.{has_items, has_lists}
+use Rattle.wast_names.specs.ModuleNames.{import_names, given_name_in, names_given}
 use Rattle.wast_names.specs.WithinItems.{lists_in_type, lists_in_kind, lists_in_import, lists_within}
 use Rattle.wast_names.specs.Tree.{Space, ItemKind, ImportItems, ModuleField}
 use Rattle.wast_names.specs.Tree.space

@@ -14,7 +14,7 @@ use Rattle.wast_names.specs.declared.within.Lists.{Lists}
 use Rattle.wast_names.specs.declared.within.Lists.TheVariants as lists
 use Rattle.wast_names.specs.declared.within.Within.{Within}
 use Rattle.wast_names.specs.GivenNames.{named_from}
-use Rattle.wast_names.specs.NamesPayload.{type_name}
+use Rattle.wast_names.specs.ModuleNames.{type_name}
 use Rattle.wast_names.specs.WithinItems.{param_name, field_name, local_name, where_named, lists_in_type}
 use Rattle.wast_names.specs.Tree.{Space}
 
