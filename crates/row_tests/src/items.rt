@@ -2,8 +2,7 @@
 
 ghost use Rattle.std.specs.Prelude.{IsTrue};
 ghost use Rattle.std.specs.List.{list_all};
-ghost use Rattle.wast_tree.specs.Sites.{in_use};
-ghost use Rattle.wast_conv.specs.Encodable.{encodable, is_encodable_type, is_encodable_type_use, is_encodable_import, is_encodable_table, is_encodable_memory, is_encodable_global, is_encodable_tag, is_encodable_elem, is_encodable_data};
+ghost use Rattle.wast_conv.specs.Encodable.{is_encodable_type, is_encodable_type_use, is_encodable_import, is_encodable_table, is_encodable_memory, is_encodable_global, is_encodable_tag, is_encodable_elem, is_encodable_data};
 
 use crate::made::at;
 use std::alloc::Global;
@@ -72,8 +71,7 @@ fn types_are_items(rt: HostRuntime) {
 
 /// `(type 3)`
 fn third<'a>() -> TypeUse<'a, FunctionType<'a>>
-    ensures resolved { IsTrue (is_encodable_type_use result) }
-    ensures encodable { IsTrue (encodable (in_use result)) }
+    ensures { IsTrue (is_encodable_type_use result) }
 {
     TypeUse {
         index: Some(Index::Num(3, at(0))),

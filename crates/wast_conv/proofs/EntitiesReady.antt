@@ -5,10 +5,10 @@ use Rattle.wast_tree.specs.Sites.{in_ref, in_val, in_table_type, in_global_type,
 use Rattle.wasm_ops.specs.Entities.{is_covered_table_type, is_covered_global_type, is_covered_entity_type}
 use Rattle.wast_conv.specs.Tree.{TableType, GlobalType, ItemKind}
 use Rattle.wast_conv.specs.Tree.kind
-use Rattle.wast_conv.specs.Encodable.{is_encodable_ask, are_encodable, encodable}
+use Rattle.wast_conv.specs.Encodable.{is_encodable_ask, are_encodable, are_entered}
 use Rattle.wast_conv.specs.Meaning as meaning
 use Rattle.wast_conv.proofs.EachPasses.{both_pass, both_true, both_lists}
-use Rattle.wast_conv.proofs.Standing.{asking_passes}
+use Rattle.wast_conv.proofs.Standing.{asking_entered}
 use Rattle.wast_conv.proofs.TypesReady.{heap_covered, val_covered}
 
 pub table_covered : (t : TableType) → are_encodable (in_table_type t) ≡ true → is_covered_table_type (meaning.as_table_type t) ≡ true
@@ -21,9 +21,9 @@ global_covered t e =
     let both = both_lists is_encodable_ask (in_val t.ty) _ e in
     both_true (not t.shared) _ (both_pass (not t.shared) true both.1).0 (val_covered t.ty both.0)
 
-pub kind_covered : (k : ItemKind) → encodable (in_item_kind k) ≡ true → is_covered_entity_type (meaning.as_entity_type k) ≡ true
+pub kind_covered : (k : ItemKind) → are_entered (in_item_kind k) ≡ true → is_covered_entity_type (meaning.as_entity_type k) ≡ true
 kind_covered (kind.Func u) e = refl
-kind_covered (kind.Table t) e = table_covered t (sym (asking_passes (in_table_type t)) ∙ e)
+kind_covered (kind.Table t) e = table_covered t (sym (asking_entered (in_table_type t)) ∙ e)
 kind_covered (kind.Memory t) e = refl
-kind_covered (kind.Global t) e = global_covered t (sym (asking_passes (in_global_type t)) ∙ e)
+kind_covered (kind.Global t) e = global_covered t (sym (asking_entered (in_global_type t)) ∙ e)
 kind_covered (kind.Tag t) e = refl

@@ -1,19 +1,28 @@
 -- Fields that are well formed, resolved and written out may be handed to the encoder; what may be is resolved; and where a
--- field may be, so may its items.
+-- field may be, so may what it puts into the sections.
 use Rattle.std.proofs.Common.{◌≡◌, Bool, true, ◌&&◌, List, [], refl, sym, ◌∙◌}
-use Rattle.std.specs.Prelude.{is_some}
-use Rattle.wast_base.specs.Ids.{is_number}
-use Rattle.wast_tree.specs.Sites.{Ask, Wants, Unasked, Clause, Supported, Site, Asked, Used, Declared, asking, in_type, in_rec, in_type_use, in_use, in_func, in_func_kind, param_marks, in_table_kind, in_memory_kind, in_global, in_field, in_module, asked_in, asked}
+use Rattle.std.specs.Prelude.{is_some, Option, Some, None}
+use Rattle.std.specs.List.{flat_map, list_all}
+use Rattle.wast_base.specs.Ids.{Mark, is_number}
+use Rattle.wast_tree.specs.Clauses.{suits}
+use Rattle.wast_tree.specs.Sites.{Ask, Wants, Unasked, Clause, Supported, Site, Asked, Used, Declared, asking, if_there, at_index, in_type, in_rec, in_ref, in_type_use, in_use, in_local, in_func, in_func_kind, param_marks, in_table_type, in_global_type, in_tag_type, in_import, in_constant, in_payload, in_table_kind, in_memory_kind, in_global_kind, in_global, in_elem_kind, in_elem, in_data_kind, in_field, in_module, asked_in, asked}
 use Rattle.wast_tree.specs.Known.{Known}
 use Rattle.wast_tree.specs.WellFormed.{is_kept, are_kept}
 use Rattle.wast_tree.specs.Resolved.{is_numbered, are_numbered, is_resolved_site, is_resolved}
 use Rattle.wast_tree.specs.WrittenOut.{exports_nothing, is_written_func, is_written_table, is_written_memory, is_written_global, is_written_field, is_written_out}
-use Rattle.wast_conv.specs.Tree.{Index, TypeUse, FunctionType, Rec, Imports, Func, Table, Memory, Global, Export, Elem, Data, Tag, ModuleField}
+use Rattle.wast_conv.specs.Tree.{Index, Space, TypeUse, FunctionType, Expression, Rec, Imports, FuncKind, Func, TableKind, Table, Memory, GlobalKind, Global, Export, ElemKind, ElemPayload, Elem, DataKind, Data, Tag, ModuleField}
+use Rattle.wast_conv.specs.Tree.space
 use Rattle.wast_conv.specs.Tree.ty
+use Rattle.wast_conv.specs.Tree.func
+use Rattle.wast_conv.specs.Tree.table
+use Rattle.wast_conv.specs.Tree.global
+use Rattle.wast_conv.specs.Tree.elem
+use Rattle.wast_conv.specs.Tree.payload
+use Rattle.wast_conv.specs.Tree.data_kind
 use Rattle.wast_conv.specs.Tree.field
-use Rattle.wast_conv.specs.Encodable.{is_encodable_ask, are_encodable, is_encodable_site, encodable, is_encodable_type, is_encodable_type_use, is_encodable_kind, is_encodable_import, is_encodable_table, is_encodable_memory, is_encodable_global, is_encodable_tag, is_encodable_elem, is_encodable_data, is_encodable_field, is_encodable, are_resolved}
+use Rattle.wast_conv.specs.Encodable.{is_encodable_ask, are_encodable, is_encodable_site, encodable, is_entered_site, are_entered, is_number_if, is_encodable_expression, is_encodable_type, is_encodable_type_use, is_encodable_kind, is_encodable_import, is_encodable_init, is_encodable_table_kind, is_encodable_table, is_encodable_memory, is_encodable_global_kind, is_encodable_global, is_encodable_tag, is_encodable_elem_kind, is_encodable_payload, is_encodable_elem, is_encodable_data_kind, is_encodable_data, is_encodable_field, is_encodable, are_resolved}
 use Rattle.wast_conv.proofs.EachPasses.{both_pass, both_true, both_lists, each_passes, each_by, each_then}
-use Rattle.wast_conv.proofs.Standing.{asking_passes, behind_none}
+use Rattle.wast_conv.proofs.Standing.{asking_passes, asked_then, encodable_at, constant_ready, body_tells}
 
 -- ---- well formed and resolved
 
@@ -60,10 +69,24 @@ site_resolved (Used u) h =
     both_true (is_some u.index) (are_numbered (in_type_use u)) both.0 (asks_numbered (in_type_use u) both.1)
 site_resolved (Declared before m) h = refl
 
-pub sites_resolved : (sites : List Site) → encodable sites ≡ true → are_resolved sites ≡ true
-sites_resolved sites h = each_then is_encodable_site is_resolved_site site_resolved sites h
+-- ---- what a field that the encoder takes puts into the sections
 
--- ---- the items of a field that the encoder takes
+site_entered : (s : Site) → is_encodable_site s ≡ true → is_entered_site s ≡ true
+site_entered (Asked a) h = h
+site_entered (Used u) h = site_resolved (Used u) h
+site_entered (Declared before m) h = refl
+
+sites_entered : (sites : List Site) → encodable sites ≡ true → are_entered sites ≡ true
+sites_entered sites h = each_then is_encodable_site is_entered_site site_entered sites h
+
+-- what goes into an entry is resolved
+entry_resolved : (s : Site) → is_entered_site s ≡ true → is_resolved_site s ≡ true
+entry_resolved (Asked a) h = ask_numbered a h
+entry_resolved (Used u) h = h
+entry_resolved (Declared before m) h = refl
+
+pub entered_resolved : (sites : List Site) → are_entered sites ≡ true → are_resolved sites ≡ true
+entered_resolved sites h = each_then is_entered_site is_resolved_site entry_resolved sites h
 
 pub type_ready : (t : ty.«Type») → is_encodable_field (field.Ty t) ≡ true → is_encodable_type t ≡ true
 type_ready t e = sym (asking_passes (in_type t)) ∙ (both_pass (encodable (asking (in_type t))) true e).0
@@ -72,34 +95,57 @@ pub group_ready : (r : Rec) → is_encodable_field (field.Rec r) ≡ true → ar
 group_ready r e = sym (asking_passes (in_rec r)) ∙ (both_pass (encodable (asking (in_rec r))) true e).0
 
 pub import_ready : (i : Imports) → is_encodable_field (field.Import i) ≡ true → is_encodable_import i ≡ true
-import_ready i e = (both_pass (is_encodable_import i) true e).0
+import_ready i e = sites_entered (in_import i.items) (both_pass (encodable (in_import i.items)) true e).0
 
 use_ready : (u : TypeUse FunctionType) → encodable (in_use u) ≡ true → is_encodable_type_use u ≡ true
-use_ready u e = (both_pass (is_encodable_type_use u) true (sites_resolved (in_use u) e)).0
+use_ready u e = (both_pass (is_encodable_type_use u) true (sites_entered (in_use u) e)).0
+
+body_ready : (params : List (Option Mark)) (k : FuncKind) → encodable (in_func_kind params k) ≡ true → is_written_func k ≡ true → is_encodable_kind k ≡ true
+body_ready params (func.Import import exact) e written = written
+body_ready params (func.Inline locals x) e written =
+    let asks = are_encodable (flat_map in_local locals) in
+    let both = both_pass asks (encodable (in_constant x)) (sym (body_tells params locals x) ∙ e) in
+    both_true asks (is_encodable_expression x) both.0 (constant_ready x both.1)
+
+-- whether anything is exported in place is nothing to its section
+first_and_last : (a b c : Bool) → (a && (b && c)) ≡ true → (a ≡ true) × (c ≡ true)
+first_and_last a b c e = let outer = both_pass a (b && c) e in (outer.0, (both_pass b c outer.1).1)
 
 pub func_ready : (f : Func) → is_encodable_field (field.Func f) ≡ true → (is_encodable_type_use f.ty ≡ true) × (is_encodable_kind f.kind ≡ true)
 func_ready f e =
     let params = param_marks f.ty.inline in
-    let whole = both_pass (encodable (in_func f)) (exports_nothing f.exports && is_written_func f.kind) e in
+    let whole = first_and_last (encodable (in_func f)) (exports_nothing f.exports) (is_written_func f.kind) e in
     let parts = both_lists is_encodable_site (in_use f.ty) (in_func_kind params f.kind) whole.0 in
-    let written = both_pass (exports_nothing f.exports) (is_written_func f.kind) whole.1 in
-    let body = sym (behind_none params f.kind) ∙ parts.1 in
-    (use_ready f.ty parts.0, both_true (encodable (in_func_kind [] f.kind)) (is_written_func f.kind) body written.1)
+    (use_ready f.ty parts.0, body_ready params f.kind parts.1 whole.1)
 
--- whether anything is exported in place is nothing to its section
-first_and_last : (a b c : Bool) → (a && (b && c)) ≡ true → (a && c) ≡ true
-first_and_last a b c e = let outer = both_pass a (b && c) e in both_true a c outer.0 (both_pass b c outer.1).1
+init_ready : (init : Option Expression) → encodable (if_there in_constant init) ≡ true → is_encodable_init init ≡ true
+init_ready None e = refl
+init_ready (Some x) e = constant_ready x e
+
+table_kind_ready : (k : TableKind) → encodable (in_table_kind k) ≡ true → is_written_table k ≡ true → is_encodable_table_kind k ≡ true
+table_kind_ready (table.Import import ty) e written = written
+table_kind_ready (table.Normal ty init) e written =
+    let both = asked_then (in_table_type ty) (if_there in_constant init) e in
+    both_true (are_encodable (in_table_type ty)) (is_encodable_init init) both.0 (init_ready init both.1)
+table_kind_ready (table.Inline ty is64 shared elements) e written = written
 
 pub table_ready : (t : Table) → is_encodable_field (field.Table t) ≡ true → is_encodable_table t ≡ true
-table_ready t e = first_and_last (encodable (in_table_kind t.kind)) (exports_nothing t.exports) (is_written_table t.kind) e
+table_ready t e =
+    let both = first_and_last (encodable (in_table_kind t.kind)) (exports_nothing t.exports) (is_written_table t.kind) e in
+    table_kind_ready t.kind both.0 both.1
 
 pub memory_ready : (m : Memory) → is_encodable_field (field.Memory m) ≡ true → is_encodable_memory m ≡ true
-memory_ready m e =
-    let written = (both_pass (encodable (in_memory_kind m.kind)) (exports_nothing m.exports && is_written_memory m.kind) e).1 in
-    (both_pass (exports_nothing m.exports) (is_written_memory m.kind) written).1
+memory_ready m e = (first_and_last (encodable (in_memory_kind m.kind)) (exports_nothing m.exports) (is_written_memory m.kind) e).1
+
+global_kind_ready : (k : GlobalKind) → encodable (in_global_kind k) ≡ true → is_written_global k ≡ true → is_encodable_global_kind k ≡ true
+global_kind_ready (global.Import import) e written = written
+global_kind_ready (global.Inline x) e written = constant_ready x e
 
 pub global_ready : (g : Global) → is_encodable_field (field.Global g) ≡ true → is_encodable_global g ≡ true
-global_ready g e = first_and_last (encodable (in_global g)) (exports_nothing g.exports) (is_written_global g.kind) e
+global_ready g e =
+    let both = first_and_last (encodable (in_global g)) (exports_nothing g.exports) (is_written_global g.kind) e in
+    let parts = asked_then (in_global_type g.ty) (in_global_kind g.kind) both.0 in
+    both_true (are_encodable (in_global_type g.ty)) (is_encodable_global_kind g.kind) parts.0 (global_kind_ready g.kind parts.1 both.1)
 
 pub export_ready : (x : Export) → is_encodable_field (field.Export x) ≡ true → is_number x.item ≡ true
 export_ready x e = (both_pass (is_number x.item) true (both_pass (encodable (in_field (field.Export x))) true e).0).0
@@ -107,11 +153,41 @@ export_ready x e = (both_pass (is_number x.item) true (both_pass (encodable (in_
 pub start_ready : (i : Index) → is_encodable_field (field.Start i) ≡ true → is_number i ≡ true
 start_ready i e = (both_pass (is_number i) true (both_pass (encodable (in_field (field.Start i))) true e).0).0
 
+-- what a segment fills, and from where on
+number_ready : (s : Space) (o : Option Index) → encodable (if_there (at_index s) o) ≡ true → is_number_if o ≡ true
+number_ready s None e = refl
+number_ready s (Some i) e = (both_pass (is_number i) true e).0
+
+elem_kind_ready : (k : ElemKind) → encodable (in_elem_kind k) ≡ true → is_encodable_elem_kind k ≡ true
+elem_kind_ready elem.Passive e = refl
+elem_kind_ready elem.Declared e = refl
+elem_kind_ready (elem.Active table offset) e =
+    let both = both_lists is_encodable_site (if_there (at_index space.Table) table) (in_constant offset) e in
+    both_true (is_number_if table) (is_encodable_expression offset) (number_ready space.Table table both.0) (constant_ready offset both.1)
+
+payload_ready : (q : ElemPayload) → encodable (in_payload q) ≡ true → is_encodable_payload q ≡ true
+payload_ready (payload.Indices is) e = sym (encodable_at space.Func is) ∙ e
+payload_ready (payload.Exprs ty es) e =
+    let both = both_lists is_encodable_site (flat_map in_constant es) (asking (in_ref ty)) e in
+    let constants = sym (each_passes is_encodable_site in_constant es) ∙ both.0 in
+    both_true (are_encodable (in_ref ty)) (list_all is_encodable_expression es) (sym (asking_passes (in_ref ty)) ∙ both.1)
+    (each_then (λ x. encodable (in_constant x)) is_encodable_expression constant_ready es constants)
+
 pub elem_ready : (x : Elem) → is_encodable_field (field.Elem x) ≡ true → is_encodable_elem x ≡ true
-elem_ready x e = (both_pass (is_encodable_elem x) true e).0
+elem_ready x e =
+    let stands = both_lists is_encodable_site (in_elem_kind x.kind) _ (both_pass (encodable (in_elem x)) true e).0 in
+    let holds = both_lists is_encodable_site (in_payload x.payload) _ stands.1 in
+    both_true (suits x.kind x.payload) _ (both_pass (suits x.kind x.payload) true holds.1).0
+    (both_true (is_encodable_elem_kind x.kind) (is_encodable_payload x.payload) (elem_kind_ready x.kind stands.0) (payload_ready x.payload holds.0))
+
+data_kind_ready : (k : DataKind) → encodable (in_data_kind k) ≡ true → is_encodable_data_kind k ≡ true
+data_kind_ready data_kind.Passive e = refl
+data_kind_ready (data_kind.Active memory offset) e =
+    let both = both_lists is_encodable_site (at_index space.Memory memory) (in_constant offset) e in
+    both_true (is_number memory) (is_encodable_expression offset) (both_pass (is_number memory) true both.0).0 (constant_ready offset both.1)
 
 pub data_ready : (d : Data) → is_encodable_field (field.Data d) ≡ true → is_encodable_data d ≡ true
-data_ready d e = (both_pass (is_encodable_data d) true e).0
+data_ready d e = data_kind_ready d.kind (both_pass (encodable (in_data_kind d.kind)) true e).0
 
 pub tag_ready : (t : Tag) → is_encodable_field (field.Tag t) ≡ true → is_encodable_tag t ≡ true
-tag_ready t e = (both_pass (is_encodable_tag t) _ e).0
+tag_ready t e = sites_entered (in_tag_type t.ty) (both_pass (encodable (in_tag_type t.ty)) _ e).0

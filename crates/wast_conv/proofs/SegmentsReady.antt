@@ -1,63 +1,55 @@
 -- Segments that the encoder takes are covered, and their instructions are rows of the table.
-use Rattle.std.proofs.Common.{◌≡◌, true, List, ◌++◌, refl, sym, ◌∙◌}
-use Rattle.std.specs.List.{flat_map, list_all}
+use Rattle.std.proofs.Common.{◌≡◌, true, ◌&&◌, List, refl}
+use Rattle.std.specs.List.{list_all}
 use Rattle.std.proofs.lemmas.List.Elements.{All-map}
-use Rattle.wast_tree.specs.Sites.{Site, asking, if_there, at_index, in_ref, in_constant, in_payload, in_elem_kind, in_data_kind}
+use Rattle.wast_base.specs.Ids.{is_number}
+use Rattle.wast_tree.specs.Sites.{in_ref}
 use Rattle.wast_tree.specs.Clauses.{suits}
 use Rattle.wasm_ops.specs.ConstExprs.{is_covered_expression, HasRowsExpression}
 use Rattle.wasm_ops.proofs.Everywhere.{all_each}
 use Rattle.wasm_out.specs.DataSegments.{is_covered_data_mode, HasRowsDataMode}
 use Rattle.wasm_out.specs.ElementSegments.{kind_of, is_covered_element_mode, is_covered_element_kind, is_covered_listed, is_covered_element_entry, HasRowsElementMode, HasRowsListed}
 use Rattle.wast_conv.specs.Tree.{RefType, Expression, ElemKind, ElemPayload, Elem, DataKind}
-use Rattle.wast_conv.specs.Tree.space
 use Rattle.wast_conv.specs.Tree.elem
 use Rattle.wast_conv.specs.Tree.payload
 use Rattle.wast_conv.specs.Tree.data_kind
-use Rattle.wast_conv.specs.Encodable.{are_encodable, is_encodable_site, encodable, is_encodable_expression, is_encodable_elem}
+use Rattle.wast_conv.specs.Encodable.{is_number_if, are_encodable, is_encodable_expression, is_encodable_elem_kind, is_encodable_payload, is_encodable_elem, is_encodable_data_kind}
 use Rattle.wast_conv.specs.FieldEntries.{as_element_mode, as_element_items, as_data_mode}
 use Rattle.wast_conv.specs.Meaning as meaning
-use Rattle.wast_conv.proofs.EachPasses.{both_pass, both_true, both_lists, each_passes, each_then, each_becomes}
+use Rattle.wast_conv.proofs.EachPasses.{both_pass, both_true, each_becomes}
 use Rattle.wast_conv.proofs.Expressions.{instrs_rows, expression_covered}
 use Rattle.wast_conv.proofs.Segmented.{suits_form}
-use Rattle.wast_conv.proofs.Standing.{asking_passes, constant_ready}
 use Rattle.wast_conv.proofs.TypesReady.{heap_covered}
 
 -- the parts of a segment
 pub exprs_parts : (ty : RefType) (es : List Expression)
-    → encodable (in_payload (payload.Exprs ty es)) ≡ true → (list_all is_encodable_expression es ≡ true) × (are_encodable (in_ref ty) ≡ true)
-exprs_parts ty es e =
-    let both = both_lists is_encodable_site (flat_map in_constant es) (asking (in_ref ty)) e in
-    let constants = sym (each_passes is_encodable_site in_constant es) ∙ both.0 in
-    (each_then (λ e. encodable (in_constant e)) is_encodable_expression constant_ready es constants, sym (asking_passes (in_ref ty)) ∙ both.1)
+    → is_encodable_payload (payload.Exprs ty es) ≡ true → (are_encodable (in_ref ty) ≡ true) × (list_all is_encodable_expression es ≡ true)
+exprs_parts ty es e = both_pass (are_encodable (in_ref ty)) (list_all is_encodable_expression es) e
 
 pub record ElemParts (x : Elem) : Type 0 where
-  pub stands : encodable (in_elem_kind x.kind) ≡ true
-  pub holds : encodable (in_payload x.payload) ≡ true
+  pub stands : is_encodable_elem_kind x.kind ≡ true
+  pub holds : is_encodable_payload x.payload ≡ true
   pub fits : suits x.kind x.payload ≡ true
 
 pub elem_parts : (x : Elem) → is_encodable_elem x ≡ true → ElemParts x
 elem_parts x e =
-    let stands = both_lists is_encodable_site (in_elem_kind x.kind) _ e in
-    let holds = both_lists is_encodable_site (in_payload x.payload) _ stands.1 in
-    record { stands = stands.0; holds = holds.0; fits = (both_pass (suits x.kind x.payload) true holds.1).0 }
+    let fits = both_pass (suits x.kind x.payload) (is_encodable_elem_kind x.kind && is_encodable_payload x.payload) e in
+    let parts = both_pass (is_encodable_elem_kind x.kind) (is_encodable_payload x.payload) fits.1 in
+    record { stands = parts.0; holds = parts.1; fits = fits.0 }
 
--- the offset of an active segment
-pub offset_ready : (ss : List Site) (offset : Expression) → encodable (ss ++ in_constant offset) ≡ true → is_encodable_expression offset ≡ true
-offset_ready ss offset e = constant_ready offset (both_lists is_encodable_site ss (in_constant offset) e).1
-
-mode_covered : (k : ElemKind) → encodable (in_elem_kind k) ≡ true → is_covered_element_mode (as_element_mode k) ≡ true
+mode_covered : (k : ElemKind) → is_encodable_elem_kind k ≡ true → is_covered_element_mode (as_element_mode k) ≡ true
 mode_covered elem.Passive e = refl
 mode_covered elem.Declared e = refl
-mode_covered (elem.Active table offset) e = expression_covered offset (offset_ready (if_there (at_index space.Table) table) offset e)
+mode_covered (elem.Active table offset) e = expression_covered offset (both_pass (is_number_if table) (is_encodable_expression offset) e).1
 
-kind_covered : (q : ElemPayload) → encodable (in_payload q) ≡ true → is_covered_element_kind (kind_of (as_element_items q)) ≡ true
+kind_covered : (q : ElemPayload) → is_encodable_payload q ≡ true → is_covered_element_kind (kind_of (as_element_items q)) ≡ true
 kind_covered (payload.Indices is) e = refl
-kind_covered (payload.Exprs ty es) e = heap_covered ty.heap (exprs_parts ty es e).1
+kind_covered (payload.Exprs ty es) e = heap_covered ty.heap (exprs_parts ty es e).0
 
-items_covered : (q : ElemPayload) → encodable (in_payload q) ≡ true → is_covered_listed (as_element_items q) ≡ true
+items_covered : (q : ElemPayload) → is_encodable_payload q ≡ true → is_covered_listed (as_element_items q) ≡ true
 items_covered (payload.Indices is) e = refl
 items_covered (payload.Exprs ty es) e =
-    each_becomes is_encodable_expression meaning.as_expression is_covered_expression expression_covered es (exprs_parts ty es e).0
+    each_becomes is_encodable_expression meaning.as_expression is_covered_expression expression_covered es (exprs_parts ty es e).1
 
 pub elem_covered : (x : Elem) → is_encodable_elem x ≡ true → is_covered_element_entry (meaning.as_element x) ≡ true
 elem_covered x e =
@@ -75,9 +67,9 @@ items_rows (payload.Indices is) = tt
 items_rows (payload.Exprs ty es) = All-map HasRowsExpression meaning.as_expression es (all_each (λ x. HasRowsExpression (meaning.as_expression x)) (λ x. instrs_rows x.instrs) es)
 
 -- the same of segments of data
-pub place_covered : (k : DataKind) → encodable (in_data_kind k) ≡ true → is_covered_data_mode (as_data_mode k) ≡ true
+pub place_covered : (k : DataKind) → is_encodable_data_kind k ≡ true → is_covered_data_mode (as_data_mode k) ≡ true
 place_covered data_kind.Passive e = refl
-place_covered (data_kind.Active memory offset) e = expression_covered offset (offset_ready (at_index space.Memory memory) offset e)
+place_covered (data_kind.Active memory offset) e = expression_covered offset (both_pass (is_number memory) (is_encodable_expression offset) e).1
 
 pub place_rows : (k : DataKind) → HasRowsDataMode (as_data_mode k)
 place_rows data_kind.Passive = tt

@@ -7,15 +7,19 @@ use Rattle.wast_base.specs.Ids.{Name, Mark, is_number}
 use Rattle.wast_base.specs.Spaces.{name_if}
 use Rattle.wast_tree.specs.Sites.{Ask, Wants, Supported, Site, Asked, Here, start, behind, body_here, local_marks, declaring, asking, if_there, in_id, in_index, at_index, in_local, in_instr, in_instrs, in_expression, in_constant, in_func_kind}
 use Rattle.wast_tree.specs.Resolved.{is_numbered, are_numbered}
-use Rattle.wast_conv.specs.Tree.{Id, Index, Space, Instruction, Expression, Local, FuncKind}
+use Rattle.wast_conv.specs.Tree.{Id, Index, Space, Instruction, Expression, Local}
 use Rattle.wast_conv.specs.Tree.instr as instruction
 use Rattle.wast_conv.specs.Tree.func
-use Rattle.wast_conv.specs.Encodable.{is_encodable_ask, are_encodable, is_encodable_site, encodable, is_encodable_instr, is_encodable_expression}
+use Rattle.wast_conv.specs.Encodable.{is_encodable_ask, are_encodable, is_encodable_site, encodable, are_entered, is_encodable_instr, is_encodable_expression, is_encodable_kind}
 use Rattle.wast_conv.proofs.EachPasses.{both_pass, both_lists, each_passes, each_of_one}
 
 pub asking_passes : (asks : List Ask) → encodable (asking asks) ≡ are_encodable asks
 asking_passes [] = refl
 asking_passes (a ∷ asks) = ap (λ b. is_encodable_ask a && b) (asking_passes asks)
+
+pub asking_entered : (asks : List Ask) → are_entered (asking asks) ≡ are_encodable asks
+asking_entered [] = refl
+asking_entered (a ∷ asks) = ap (λ b. is_encodable_ask a && b) (asking_entered asks)
 
 -- what is asked, and then other sites
 pub asked_then : (asks : List Ask) (ss : List Site) → encodable (asking asks ++ ss) ≡ true → (are_encodable asks ≡ true) × (encodable ss ≡ true)
@@ -70,7 +74,7 @@ declared_passes before [] = refl
 declared_passes before (m ∷ ms) = declared_passes (before ++ name_if m ∷ []) ms
 
 -- A body: its locals and its instructions, whichever parameters stand before it.
-body_tells : (params : List (Option Mark)) (locals : List Local) (e : Expression)
+pub body_tells : (params : List (Option Mark)) (locals : List Local) (e : Expression)
     → encodable (in_func_kind params (func.Inline locals e)) ≡ (are_encodable (flat_map in_local locals) && encodable (in_constant e))
 body_tells params locals e =
     let marks = params ++ local_marks locals in
@@ -82,13 +86,9 @@ body_tells params locals e =
     (list_all-append is_encodable_site (declaring [] marks) body
     ∙ (ap (λ b. b && encodable body) (declared_passes [] marks) ∙ (expression_tells (body_here marks) e ∙ sym (expression_tells start e)))))
 
-pub body_parts : (params : List (Option Mark)) (locals : List Local) (e : Expression)
-    → encodable (in_func_kind params (func.Inline locals e)) ≡ true
+pub body_parts : (locals : List Local) (e : Expression)
+    → is_encodable_kind (func.Inline locals e) ≡ true
     → (list_all (λ l. are_encodable (in_local l)) locals ≡ true) × (list_all is_encodable_instr e.instrs ≡ true)
-body_parts params locals e h =
-    let both = both_pass (are_encodable (flat_map in_local locals)) (encodable (in_constant e)) (sym (body_tells params locals e) ∙ h) in
-    (sym (each_passes is_encodable_ask in_local locals) ∙ both.0, ready_instrs e (constant_ready e both.1))
-
-pub behind_none : (params : List (Option Mark)) (k : FuncKind) → encodable (in_func_kind params k) ≡ encodable (in_func_kind [] k)
-behind_none params (func.Import import exact) = refl
-behind_none params (func.Inline locals e) = body_tells params locals e ∙ sym (body_tells [] locals e)
+body_parts locals e h =
+    let both = both_pass (are_encodable (flat_map in_local locals)) (is_encodable_expression e) h in
+    (sym (each_passes is_encodable_ask in_local locals) ∙ both.0, ready_instrs e both.1)

@@ -1,13 +1,20 @@
 -- What the encoder may be handed: parts of the tree where each index is a number, each clause holds, each form is supported,
--- and each type use has an index.
-use Rattle.std.specs.Prelude.{Bool, true, ◌&&◌, is_some, List, [], Option, Some, None}
-use Rattle.std.specs.List.{list_all}
+-- and each type use has an index. Branch hints and inline types are not written, so fields alone ask them to be supported.
+use Rattle.std.specs.Prelude.{Bool, true, false, ◌&&◌, is_some, List, [], Option, Some, None}
+use Rattle.std.specs.List.{list_all, flat_map}
 use Rattle.wast_base.specs.Ids.{is_number}
-use Rattle.wast_tree.specs.Sites.{Ask, Wants, Unasked, Clause, Supported, Site, Asked, Used, Declared, start, in_type, in_type_use, in_instr, in_instrs, in_func_kind, in_table_kind, in_global, in_import, in_elem, in_data_kind, in_tag_type, in_field}
+use Rattle.wast_tree.specs.Clauses.{suits}
+use Rattle.wast_tree.specs.Sites.{Ask, Wants, Unasked, Clause, Supported, Site, Asked, Used, Declared, start, in_type, in_ref, in_type_use, in_instr, in_instrs, in_local, in_table_type, in_global_type, in_import, in_tag_type, in_field}
 use Rattle.wast_tree.specs.Resolved.{is_resolved_site}
-use Rattle.wast_tree.specs.WrittenOut.{is_written_func, is_written_table, is_written_memory, is_written_global, is_written_field}
-use Rattle.wast_conv.specs.Tree.{Index, TypeUse, FunctionType, Instruction, Expression, FuncKind, Imports, Table, Memory, Global, Tag, Elem, Data, ModuleField}
+use Rattle.wast_tree.specs.WrittenOut.{is_written_memory, is_written_field}
+use Rattle.wast_conv.specs.Tree.{Index, TypeUse, FunctionType, Instruction, Expression, FuncKind, Imports, TableKind, Table, Memory, GlobalKind, Global, Tag, ElemKind, ElemPayload, Elem, DataKind, Data, ModuleField}
 use Rattle.wast_conv.specs.Tree.ty
+use Rattle.wast_conv.specs.Tree.func
+use Rattle.wast_conv.specs.Tree.table
+use Rattle.wast_conv.specs.Tree.global
+use Rattle.wast_conv.specs.Tree.elem
+use Rattle.wast_conv.specs.Tree.payload
+use Rattle.wast_conv.specs.Tree.data_kind
 
 -- what is asked in them: an index is a number, a clause holds, and a form is supported
 abbrev pub is_encodable_ask : Ask → Bool
@@ -30,11 +37,26 @@ is_encodable_site (Declared before m) = true
 abbrev pub encodable : List Site → Bool
 encodable sites = list_all is_encodable_site sites
 
+-- What goes into an entry of a section: of a type use the index alone, so that what stands beside it has numbers, and no more.
+abbrev pub is_entered_site : Site → Bool
+is_entered_site (Asked a) = is_encodable_ask a
+is_entered_site (Used u) = is_resolved_site (Used u)
+is_entered_site (Declared before m) = true
+
+-- all sites of a part
+abbrev pub are_entered : List Site → Bool
+are_entered sites = list_all is_entered_site sites
+
+-- an index that may be missing
+abbrev pub is_number_if : Option Index → Bool
+is_number_if None = true
+is_number_if (Some i) = is_number i
+
 -- Parts of the tree. It is the same wherever an instruction stands, and behind whichever parameters a body stands.
 abbrev pub is_encodable_instr : Instruction → Bool
 is_encodable_instr i = encodable (in_instr start i)
 
--- whether it has branch hints is asked of the field that holds it
+-- its instructions, whether it has branch hints or not
 abbrev pub is_encodable_expression : Expression → Bool
 is_encodable_expression e = encodable (in_instrs start e.instrs)
 
@@ -42,41 +64,74 @@ is_encodable_expression e = encodable (in_instrs start e.instrs)
 abbrev pub is_encodable_type : ty.«Type» → Bool
 is_encodable_type t = are_encodable (in_type t)
 
--- resolved; what stands in its inline type is asked of the field that holds it
+-- its index alone is written
 abbrev pub is_encodable_type_use : TypeUse FunctionType → Bool
 is_encodable_type_use u = is_resolved_site (Used u)
 
--- what stands in place is not, here and of tables, memories and globals
+-- the locals and the instructions of a body; what stands in place is not written, here and of tables, memories and globals
 abbrev pub is_encodable_kind : FuncKind → Bool
-is_encodable_kind k = encodable (in_func_kind [] k) && is_written_func k
+is_encodable_kind (func.Import import exact) = false
+is_encodable_kind (func.Inline locals e) = are_encodable (flat_map in_local locals) && is_encodable_expression e
 
 -- an import
 abbrev pub is_encodable_import : Imports → Bool
-is_encodable_import i = encodable (in_import i.items)
+is_encodable_import i = are_entered (in_import i.items)
+
+-- what each element of a table is at first, where that is written
+abbrev pub is_encodable_init : Option Expression → Bool
+is_encodable_init None = true
+is_encodable_init (Some e) = is_encodable_expression e
+
+-- what a table is made of
+abbrev pub is_encodable_table_kind : TableKind → Bool
+is_encodable_table_kind (table.Import import ty) = false
+is_encodable_table_kind (table.Normal ty init) = are_encodable (in_table_type ty) && is_encodable_init init
+is_encodable_table_kind (table.Inline ty is64 shared elements) = false
 
 -- a table
 abbrev pub is_encodable_table : Table → Bool
-is_encodable_table t = encodable (in_table_kind t.kind) && is_written_table t.kind
+is_encodable_table t = is_encodable_table_kind t.kind
 
 -- a memory
 abbrev pub is_encodable_memory : Memory → Bool
 is_encodable_memory m = is_written_memory m.kind
 
+-- the value of a global at first
+abbrev pub is_encodable_global_kind : GlobalKind → Bool
+is_encodable_global_kind (global.Import import) = false
+is_encodable_global_kind (global.Inline e) = is_encodable_expression e
+
 -- a global
 abbrev pub is_encodable_global : Global → Bool
-is_encodable_global g = encodable (in_global g) && is_written_global g.kind
+is_encodable_global g = are_encodable (in_global_type g.ty) && is_encodable_global_kind g.kind
 
 -- a tag
 abbrev pub is_encodable_tag : Tag → Bool
-is_encodable_tag t = encodable (in_tag_type t.ty)
+is_encodable_tag t = are_entered (in_tag_type t.ty)
 
--- an element segment
+-- where an element segment stands
+abbrev pub is_encodable_elem_kind : ElemKind → Bool
+is_encodable_elem_kind elem.Passive = true
+is_encodable_elem_kind elem.Declared = true
+is_encodable_elem_kind (elem.Active table offset) = is_number_if table && is_encodable_expression offset
+
+-- what it holds
+abbrev pub is_encodable_payload : ElemPayload → Bool
+is_encodable_payload (payload.Indices is) = list_all is_number is
+is_encodable_payload (payload.Exprs ty es) = are_encodable (in_ref ty) && list_all is_encodable_expression es
+
+-- an element segment: there is a form for what it holds where it stands
 abbrev pub is_encodable_elem : Elem → Bool
-is_encodable_elem e = encodable (in_elem e)
+is_encodable_elem e = suits e.kind e.payload && (is_encodable_elem_kind e.kind && is_encodable_payload e.payload)
+
+-- where a data segment stands
+abbrev pub is_encodable_data_kind : DataKind → Bool
+is_encodable_data_kind data_kind.Passive = true
+is_encodable_data_kind (data_kind.Active memory offset) = is_number memory && is_encodable_expression offset
 
 -- a data segment
 abbrev pub is_encodable_data : Data → Bool
-is_encodable_data d = encodable (in_data_kind d.kind)
+is_encodable_data d = is_encodable_data_kind d.kind
 
 -- Fields.
 abbrev pub is_encodable_field : ModuleField → Bool
@@ -89,8 +144,3 @@ is_encodable fields = list_all is_encodable_field fields
 -- What a conversion needs is less: that indices are numbers, and that each type use has one.
 abbrev pub are_resolved : List Site → Bool
 are_resolved sites = list_all is_resolved_site sites
-
--- an index that may be missing
-abbrev pub is_number_if : Option Index → Bool
-is_number_if None = true
-is_number_if (Some i) = is_number i

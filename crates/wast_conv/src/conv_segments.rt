@@ -3,12 +3,11 @@
 ghost use Rattle.std.specs.Prelude.{◌≡◌, IfOk, IfErr, IsTrue};
 ghost use Rattle.std.specs.List.{All, list_all};
 ghost use Rattle.wast_tree.specs.DataBytes.{all_bytes};
-ghost use Rattle.wast_tree.specs.Sites.{in_payload};
 ghost use Rattle.wast_base.specs.Faults.{out_of_memory};
 ghost use Rattle.wasm_ops.specs.ConstExprs.{InRangeExpression};
 ghost use Rattle.wasm_out.specs.Built.{IsRefused};
 ghost use Rattle.wasm_out.specs.ElementSegments.{InRangeListed};
-ghost use Rattle.wast_conv.specs.Encodable.{encodable, is_encodable_expression};
+ghost use Rattle.wast_conv.specs.Encodable.{is_encodable_expression, is_encodable_payload};
 ghost use Rattle.wast_conv.specs.Meaning as meaning;
 ghost use Rattle.wast_conv.specs.Segments.{AreExpressions, ArePayload};
 
@@ -35,7 +34,7 @@ fn const_exprs<'e>(alloc: Global, expressions: &[Expression]) -> Result<Seq<Cons
 ///
 /// E12 comes where memory is refused. E10 comes only where a number of an instruction is out of range.
 pub(crate) fn elements<'e>(alloc: Global, payload: &ElemPayload) -> Result<Elements, Error<'e>>
-    requires { IsTrue (encodable (in_payload payload.now)) }
+    requires { IsTrue (is_encodable_payload payload.now) }
     ensures value { IfOk result (ArePayload payload.now) }
     ensures refusal { IfErr result (IsRefused (InRangeListed (meaning.as_element_items payload.now))) }
 {

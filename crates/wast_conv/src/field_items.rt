@@ -6,8 +6,8 @@ ghost use Rattle.wasm_ops.specs.Entities.{InRangeMemoryType, InRangeTagType};
 ghost use Rattle.wasm_ops.specs.Spelling.{InRangeU32};
 ghost use Rattle.wasm_out.specs.Built.{Adds};
 ghost use Rattle.wasm_out.specs.Parts.{import_entry, InRangeImport, table_entry, InRangeTable, global_entry, InRangeGlobal};
-ghost use Rattle.wast_tree.specs.Sites.{if_there, in_table_type, in_global_type, in_constant};
-ghost use Rattle.wast_conv.specs.Encodable.{are_encodable, encodable, is_encodable_expression, is_encodable_import, is_encodable_table, is_encodable_memory, is_encodable_global, is_encodable_tag};
+ghost use Rattle.wast_tree.specs.Sites.{in_table_type, in_global_type};
+ghost use Rattle.wast_conv.specs.Encodable.{are_encodable, is_encodable_expression, is_encodable_init, is_encodable_import, is_encodable_table, is_encodable_memory, is_encodable_global, is_encodable_tag};
 ghost use Rattle.wast_conv.specs.Meaning as meaning;
 
 use crate::conv;
@@ -30,7 +30,7 @@ impl SectionItem for Imports<'_> {
 
     ghost is_encodable = { is_encodable_import };
 
-    #[tactic(auto, using(crate::proofs::Ready::sites_resolved))]
+    #[tactic(auto, using(crate::proofs::Ready::entered_resolved))]
     fn encode<'e>(&self, _alloc: Global, section: &mut ImportSection) -> Result<(), Error<'e>> {
         match &self.items {
             ImportItems::Single { module, name, sig } => {
@@ -52,7 +52,7 @@ fn add_table<'e>(
     init: &Option<Expression>,
 ) -> Result<(), Error<'e>>
     requires ty { IsTrue (are_encodable (in_table_type ty.now)) }
-    requires init { IsTrue (encodable (if_there in_constant init.now)) }
+    requires init { IsTrue (is_encodable_init init.now) }
     ensures { Adds (InRangeU32 (section.old.count + 1)
         × InRangeTable (record { ty = meaning.as_table_type ty.now; init = option_map meaning.as_expression init.now }))
         section.old section.new
@@ -154,7 +154,7 @@ impl SectionItem for Tag<'_> {
 
     ghost is_encodable = { is_encodable_tag };
 
-    #[tactic(auto, using(crate::proofs::Ready::sites_resolved))]
+    #[tactic(auto, using(crate::proofs::Ready::entered_resolved))]
     fn encode<'e>(&self, _alloc: Global, section: &mut TagSection) -> Result<(), Error<'e>> {
         section.tag(&conv::tag_type(&self.ty))
     }

@@ -6,8 +6,8 @@ ghost use Rattle.wasm_ops.specs.Entities as entities;
 ghost use Rattle.wasm_ops.specs.Entities.{InRangeMemoryType, InRangeTagType};
 ghost use Rattle.wasm_ops.specs.Sinks.{Writes};
 ghost use Rattle.wasm_out.specs.Parts.{import_entry, InRangeImport, table_entry, InRangeTable, global_entry, InRangeGlobal};
-ghost use Rattle.wast_tree.specs.Sites.{if_there, in_table_type, in_global_type, in_item_kind, in_constant};
-ghost use Rattle.wast_conv.specs.Encodable.{are_encodable, encodable, is_encodable_expression, is_encodable_import, is_encodable_table, is_encodable_memory, is_encodable_global, is_encodable_tag};
+ghost use Rattle.wast_tree.specs.Sites.{in_table_type, in_global_type, in_item_kind};
+ghost use Rattle.wast_conv.specs.Encodable.{are_encodable, are_entered, is_encodable_expression, is_encodable_init, is_encodable_import, is_encodable_table, is_encodable_memory, is_encodable_global, is_encodable_tag};
 ghost use Rattle.wast_conv.specs.Meaning as meaning;
 
 use crate::conv;
@@ -32,14 +32,14 @@ impl Spell<Expression<'_>> for Resolved {
 }
 
 /// An import of one item.
-#[tactic(auto, using(crate::proofs::Ready::sites_resolved))]
+#[tactic(auto, using(crate::proofs::Ready::entered_resolved))]
 fn put_import<S: Sink>(
     source: &str,
     name: &str,
     kind: &ItemKind,
     out: &mut S,
 ) -> Result<(), Refusal>
-    requires { IsTrue (encodable (in_item_kind kind.now)) }
+    requires { IsTrue (are_entered (in_item_kind kind.now)) }
     ensures { Writes S.rules
         (InRangeImport (record { «module» = source.now; name = name.now; entity = meaning.as_entity_type kind.now }))
         out.old out.new
@@ -66,7 +66,7 @@ impl Spell<Imports<'_>> for Resolved {
 /// A table, with what each element is at first where that is written.
 fn put_table<S: Sink>(ty: &TableType, init: &Option<Expression>, out: &mut S) -> Result<(), Refusal>
     requires ty { IsTrue (are_encodable (in_table_type ty.now)) }
-    requires init { IsTrue (encodable (if_there in_constant init.now)) }
+    requires init { IsTrue (is_encodable_init init.now) }
     ensures { Writes S.rules
         (InRangeTable (record { ty = meaning.as_table_type ty.now; init = option_map meaning.as_expression init.now }))
         out.old out.new
@@ -147,7 +147,7 @@ impl Spell<Tag<'_>> for Resolved {
 
     ghost is_ready = { λ _ t. is_encodable_tag t };
 
-    #[tactic(auto, using(crate::proofs::Ready::sites_resolved))]
+    #[tactic(auto, using(crate::proofs::Ready::entered_resolved))]
     fn spell<S: Sink>(&self, tag: &Tag, out: &mut S) -> Result<(), Refusal> {
         conv::tag_type(&tag.ty).encode(out)
     }

@@ -7,8 +7,7 @@ ghost use Rattle.wasm_out.specs.BuiltElements.{kind_in, listed_in, InRangeElemen
 ghost use Rattle.wasm_out.specs.DataSegments as segments;
 ghost use Rattle.wasm_out.specs.DataSegments.{InRangeDataMode, InRangeDataEntry};
 ghost use Rattle.wasm_out.specs.ElementSegments.{element_bytes, element_entry, InRangeElementMode, InRangeElementEntry, has_form};
-ghost use Rattle.wast_tree.specs.Sites.{in_elem_kind, in_data_kind};
-ghost use Rattle.wast_conv.specs.Encodable.{encodable, is_encodable_elem, is_encodable_data};
+ghost use Rattle.wast_conv.specs.Encodable.{is_encodable_elem_kind, is_encodable_elem, is_encodable_data_kind, is_encodable_data};
 ghost use Rattle.wast_conv.specs.Meaning as meaning;
 
 use crate::conv;
@@ -27,7 +26,7 @@ fn add_elements<'e>(
     kind: &ElemKind,
     elements: &Elements,
 ) -> Result<(), Error<'e>>
-    requires kind { IsTrue (encodable (in_elem_kind kind.now)) }
+    requires kind { IsTrue (is_encodable_elem_kind kind.now) }
     requires elements { AreElements elements.now }
     requires form { IsTrue (has_form (meaning.as_element_mode kind.now) (kind_in elements.now)) }
     ensures { Adds (InRangeU32 (section.old.count + 1)
@@ -71,7 +70,7 @@ fn add_data<'e>(
     kind: &DataKind,
     bytes: &[u8],
 ) -> Result<(), Error<'e>>
-    requires { IsTrue (encodable (in_data_kind kind.now)) }
+    requires { IsTrue (is_encodable_data_kind kind.now) }
     ensures { Adds (InRangeU32 (section.old.count + 1)
         × (InRangeDataMode (meaning.as_data_mode kind.now) × InRangeU32 (length bytes.now)))
         section.old section.new (segments.data_bytes (meaning.as_data_mode kind.now) bytes.now) result }

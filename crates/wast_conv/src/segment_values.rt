@@ -7,8 +7,7 @@ ghost use Rattle.wasm_out.specs.BuiltData.{is_ready_data};
 ghost use Rattle.wasm_out.specs.BuiltElements.{is_ready_mode};
 ghost use Rattle.wasm_out.specs.DataSegments.{data_entry, InRangeDataEntry};
 ghost use Rattle.wasm_out.specs.ElementSegments.{element_entry, InRangeElementEntry};
-ghost use Rattle.wast_tree.specs.Sites.{in_elem_kind, in_data_kind};
-ghost use Rattle.wast_conv.specs.Encodable.{encodable, is_encodable_expression, is_encodable_elem, is_encodable_data};
+ghost use Rattle.wast_conv.specs.Encodable.{is_encodable_expression, is_encodable_elem_kind, is_encodable_elem, is_encodable_data_kind, is_encodable_data};
 ghost use Rattle.wast_conv.specs.Meaning as meaning;
 ghost use Rattle.wast_conv.specs.Segments.{seen_mode, seen_data};
 
@@ -20,7 +19,7 @@ use wast_tree::{Data, DataKind, DataVal, Elem, ElemKind, ElemPayload, Expression
 
 /// Where a segment of elements stands.
 fn mode_of<'b, 'a>(kind: &'b ElemKind<'a>) -> SegmentMode<By<'b, Expression<'a>, Resolved>>
-    requires { IsTrue (encodable (in_elem_kind kind.now)) }
+    requires { IsTrue (is_encodable_elem_kind kind.now) }
     ensures same { seen_mode (λ b. meaning.as_expression b.0.now) result ≡ meaning.as_element_mode kind.now }
     ensures ready { IsTrue (is_ready_mode (λ b. is_encodable_expression b.0.now) result) }
 {
@@ -78,7 +77,7 @@ impl Spell<DataVal<'_>> for Resolved {
 
 /// Where a segment of data stands.
 fn data_mode_of<'b, 'a>(kind: &'b DataKind<'a>) -> DataMode<By<'b, Expression<'a>, Resolved>>
-    requires { IsTrue (encodable (in_data_kind kind.now)) }
+    requires { IsTrue (is_encodable_data_kind kind.now) }
     ensures same { seen_data (λ b. meaning.as_expression b.0.now) result ≡ meaning.as_data_mode kind.now }
     ensures ready { IsTrue (is_ready_data (λ b. is_encodable_expression b.0.now) result) }
 {

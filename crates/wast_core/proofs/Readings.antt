@@ -1,5 +1,5 @@
 -- The bytes of an encoded module are read as its parts.
-use Rattle.std.proofs.Common.{◌≡◌, ◌<◌, ℕ, true, List, [], ◌∷◌, map, Option, Some, None, option_map, refl}
+use Rattle.std.proofs.Common.{◌≡◌, ◌<◌, ℕ, true, ◌&&◌, List, [], ◌∷◌, map, Option, Some, None, option_map, refl}
 use Rattle.std.specs.Prelude.{All, IsTrue, codes}
 use Rattle.std.specs.List.{flat_map, list_all}
 use Rattle.std.specs.Str.{is_utf8}
@@ -7,8 +7,7 @@ use Rattle.std.proofs.lemmas.List.Elements.{All-nil, All-map}
 use Rattle.std.proofs.lemmas.Str.{is_utf8-from_IsUtf8}
 use lib.Utf8.{encode}
 use Rattle.wasm_ops.proofs.Everywhere.{all_each, all_one, all_both, all_tested, all_in_flat}
-use Rattle.wast_tree.specs.Sites.{if_there, in_rec, in_import, in_constant, in_func_kind, in_table_type, in_table_kind, in_global_type, in_global_kind, in_global}
-use Rattle.wast_tree.specs.WrittenOut.{is_written_func, is_written_table, is_written_global}
+use Rattle.wast_tree.specs.Sites.{in_rec, in_import, in_table_type, in_global_type}
 use Rattle.wasm_out.specs.NameSectionBytes.{NameSubsection}
 use Rattle.wasm_out.specs.Parts.{SectionKind, Types, Imports, Functions, Tables, Memories, Tags, Globals, Exports, Elements, Code, Data, Single, Entry, Listed, InRangePart}
 use Rattle.wasm_out.specs.Readable.{is_covered_init, HasRowsInit, is_covered_entry, HasRows, HasUtf8Name, IsReadable, IsReadablePart}
@@ -24,7 +23,7 @@ use Rattle.wast_core.specs.Tree.field
 use Rattle.wast_core.specs.declared.slots.Slot.{Slot}
 use Rattle.wast_core.specs.declared.slots.Slot.TheVariants as slot
 use Rattle.wast_core.specs.Bounded.{bytes_of, InRangeSlot, InRangeModule}
-use Rattle.wast_conv.specs.Encodable.{encodable, are_encodable, is_encodable_type, is_encodable_kind, is_encodable_import, is_encodable_table, is_encodable_global, is_encodable_elem, is_encodable_data, is_encodable_field, is_encodable}
+use Rattle.wast_conv.specs.Encodable.{are_encodable, are_entered, is_encodable_type, is_encodable_kind, is_encodable_import, is_encodable_init, is_encodable_table_kind, is_encodable_table, is_encodable_global_kind, is_encodable_global, is_encodable_elem, is_encodable_data, is_encodable_field, is_encodable}
 use Rattle.wast_conv.specs.FieldEntries.{imported, table_of, value_of}
 use Rattle.wast_core.specs.Meaning as meaning
 use Rattle.wast_core.specs.Meaning.{Contribution, of_type, of_rec, of_import, of_func, of_table, of_memory, of_global, of_export, of_start, of_elem, of_data, of_tag, of_kind, contributed, entries_in, entries, listed, start_part, starts_in, in_slot, parts}
@@ -37,7 +36,7 @@ use Rattle.wast_conv.proofs.EntitiesReady.{table_covered, global_covered, kind_c
 use Rattle.wast_conv.proofs.Expressions.{instrs_rows, instrs_covered, expression_covered}
 use Rattle.wast_conv.proofs.Ready.{type_ready, group_ready, import_ready, func_ready, table_ready, global_ready, elem_ready, data_ready}
 use Rattle.wast_conv.proofs.SegmentsReady.{elem_covered, mode_rows, items_rows, place_covered, place_rows}
-use Rattle.wast_conv.proofs.Standing.{asked_then, constant_ready, body_parts}
+use Rattle.wast_conv.proofs.Standing.{body_parts}
 use Rattle.wast_conv.proofs.TypesReady.{def_covered, locals_covered, types_covered}
 
 -- ---- what an entry is read as
@@ -48,34 +47,34 @@ plain k e covered rows name = all_one (IsReadable k) e record { covered = covere
 nothing_more : (k : SectionKind) → All (IsReadable k) []
 nothing_more k = All-nil (IsReadable k)
 
-import_read : (i : ImportItems) → encodable (in_import i) ≡ true → HasUtf8Items i → All (IsReadable Imports) (imported i ∷ [])
+import_read : (i : ImportItems) → are_entered (in_import i) ≡ true → HasUtf8Items i → All (IsReadable Imports) (imported i ∷ [])
 import_read (import_items.Single source name sig) e h = plain Imports (imported (import_items.Single source name sig)) (kind_covered sig.kind e) tt h
 
-init_covered : (o : Option Expression) → encodable (if_there in_constant o) ≡ true → is_covered_init (option_map meaning.as_expression o) ≡ true
+init_covered : (o : Option Expression) → is_encodable_init o ≡ true → is_covered_init (option_map meaning.as_expression o) ≡ true
 init_covered None e = refl
-init_covered (Some x) e = expression_covered x (constant_ready x e)
+init_covered (Some x) e = expression_covered x e
 
 init_rows : (o : Option Expression) → HasRowsInit (option_map meaning.as_expression o)
 init_rows None = tt
 init_rows (Some x) = instrs_rows x.instrs
 
-table_read : (k : TableKind) → encodable (in_table_kind k) ≡ true → is_written_table k ≡ true → All (IsReadable Tables) (table_of k ∷ [])
-table_read (table.Import import ty) e w = absurd cc
-table_read (table.Inline ty is64 shared elements) e w = absurd cc
-table_read (table.Normal ty init) e w =
-    let both = asked_then (in_table_type ty) (if_there in_constant init) e in
+table_read : (k : TableKind) → is_encodable_table_kind k ≡ true → All (IsReadable Tables) (table_of k ∷ [])
+table_read (table.Import import ty) e = absurd cc
+table_read (table.Inline ty is64 shared elements) e = absurd cc
+table_read (table.Normal ty init) e =
+    let both = both_pass (are_encodable (in_table_type ty)) (is_encodable_init init) e in
     plain Tables (table_of (table.Normal ty init)) (both_true _ _ (table_covered ty both.0) (init_covered init both.1)) (init_rows init) tt
 
-global_read : (t : GlobalType) (k : GlobalKind) → are_encodable (in_global_type t) ≡ true → encodable (in_global_kind k) ≡ true → is_written_global k ≡ true
+global_read : (t : GlobalType) (k : GlobalKind) → are_encodable (in_global_type t) ≡ true → is_encodable_global_kind k ≡ true
     → All (IsReadable Globals) (record { ty = meaning.as_global_type t; init = value_of k } ∷ [])
-global_read t (global.Import import) e f w = absurd cc
-global_read t (global.Inline x) e f w =
-    plain Globals (record { ty = meaning.as_global_type t; init = meaning.as_expression x }) (both_true _ _ (global_covered t e) (expression_covered x (constant_ready x f))) (instrs_rows x.instrs) tt
+global_read t (global.Import import) e f = absurd cc
+global_read t (global.Inline x) e f =
+    plain Globals (record { ty = meaning.as_global_type t; init = meaning.as_expression x }) (both_true _ _ (global_covered t e) (expression_covered x f)) (instrs_rows x.instrs) tt
 
-code_read : (k : FuncKind) → encodable (in_func_kind [] k) ≡ true → is_written_func k ≡ true → All (IsReadable Code) (meaning.as_body k ∷ [])
-code_read (func.Import import exact) e w = absurd cc
-code_read (func.Inline locals x) e w =
-    let both = body_parts [] locals x e in
+code_read : (k : FuncKind) → is_encodable_kind k ≡ true → All (IsReadable Code) (meaning.as_body k ∷ [])
+code_read (func.Import import exact) e = absurd cc
+code_read (func.Inline locals x) e =
+    let both = body_parts locals x e in
     plain Code (meaning.body_of locals x.instrs) (both_true _ _ (locals_covered locals both.0) (instrs_covered x.instrs both.1)) (instrs_rows x.instrs) tt
 
 elem_read : (x : Elem) → is_encodable_elem x ≡ true → All (IsReadable Elements) (meaning.as_element x ∷ [])
@@ -103,15 +102,11 @@ import_readable i e h k = nothing_more k
 
 func_readable : (f : Func) → is_encodable_kind f.kind ≡ true → AreReadable (of_func f)
 func_readable f e Functions = plain Functions (meaning.type_index f.ty) refl tt tt
-func_readable f e Code =
-    let both = both_pass (encodable (in_func_kind [] f.kind)) (is_written_func f.kind) e in
-    code_read f.kind both.0 both.1
+func_readable f e Code = code_read f.kind e
 func_readable f e k = nothing_more k
 
 table_readable : (t : Table) → is_encodable_table t ≡ true → AreReadable (of_table t)
-table_readable t e Tables =
-    let both = both_pass (encodable (in_table_kind t.kind)) (is_written_table t.kind) e in
-    table_read t.kind both.0 both.1
+table_readable t e Tables = table_read t.kind e
 table_readable t e k = nothing_more k
 
 memory_readable : (m : Memory) → AreReadable (of_memory m)
@@ -120,9 +115,8 @@ memory_readable m k = nothing_more k
 
 global_readable : (g : Global) → is_encodable_global g ≡ true → AreReadable (of_global g)
 global_readable g e Globals =
-    let both = both_pass (encodable (in_global g)) (is_written_global g.kind) e in
-    let parts = asked_then (in_global_type g.ty) (in_global_kind g.kind) both.0 in
-    global_read g.ty g.kind parts.0 parts.1 both.1
+    let both = both_pass (are_encodable (in_global_type g.ty)) (is_encodable_global_kind g.kind) e in
+    global_read g.ty g.kind both.0 both.1
 global_readable g e k = nothing_more k
 
 export_readable : (x : Export) → IsTrue (is_utf8 x.name.now) → AreReadable (of_export x)

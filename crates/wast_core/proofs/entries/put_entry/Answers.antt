@@ -2,7 +2,7 @@ use Rattle.std.proofs.Common.{◌≡◌, true, rules, subst}
 use Rattle.wasm_ops.proofs.Sinking.{one_written}
 use Rattle.wasm_out.specs.Parts.{Types, Imports, Functions, Tables, Memories, Tags, Globals, Exports, Elements, Code, Data, Single, entry, InRangeEntry}
 use Rattle.wast_conv.specs.Encodable.{is_encodable_field}
-use Rattle.wast_conv.proofs.Ready.{type_ready, group_ready, func_ready}
+use Rattle.wast_conv.proofs.Ready.{type_ready, group_ready, import_ready, func_ready, table_ready, global_ready, elem_ready, data_ready, tag_ready}
 use Rattle.wast_core.specs.Meaning as meaning
 use Rattle.wast_core.proofs.entries.put_entry.Goals as goal
 
@@ -18,6 +18,24 @@ encode-requires-in-Func g c = (func_ready c.in-Func.func (subst (λ x. is_encoda
 
 pub encode-requires-in-Func-field : goal.encode-requires-in-Func-field
 encode-requires-in-Func-field g c = (func_ready c.in-Func-field.func (subst (λ x. is_encodable_field x ≡ true) c.in-Func-field.is c.requires)).1
+
+pub encode-requires-in-Import : goal.encode-requires-in-Import
+encode-requires-in-Import g c = import_ready c.in-Import.imports (subst (λ x. is_encodable_field x ≡ true) c.in-Import.is c.requires)
+
+pub encode-requires-in-Table : goal.encode-requires-in-Table
+encode-requires-in-Table g c = table_ready c.in-Table.table (subst (λ x. is_encodable_field x ≡ true) c.in-Table.is c.requires)
+
+pub encode-requires-in-Tag : goal.encode-requires-in-Tag
+encode-requires-in-Tag g c = tag_ready c.in-Tag.tag (subst (λ x. is_encodable_field x ≡ true) c.in-Tag.is c.requires)
+
+pub encode-requires-in-Global : goal.encode-requires-in-Global
+encode-requires-in-Global g c = global_ready c.in-Global.global (subst (λ x. is_encodable_field x ≡ true) c.in-Global.is c.requires)
+
+pub encode-requires-in-Elem : goal.encode-requires-in-Elem
+encode-requires-in-Elem g c = elem_ready c.in-Elem.elem (subst (λ x. is_encodable_field x ≡ true) c.in-Elem.is c.requires)
+
+pub encode-requires-in-Data-field : goal.encode-requires-in-Data-field
+encode-requires-in-Data-field g c = data_ready c.in-Data-field.«data» (subst (λ x. is_encodable_field x ≡ true) c.in-Data-field.is c.requires)
 
 -- the one entry of a field
 pub returns-in-Ty : goal.returns-in-Ty

@@ -5,16 +5,13 @@ use Rattle.wasm_ops.specs.Covered.{is_covered_ref_type}
 use Rattle.wasm_ops.specs.Leb128.{unsigned}
 use Rattle.wasm_ops.specs.Spelling.{InRangeU32, vec, InRangeVec}
 use Rattle.wasm_out.specs.declared.elements.ElementKind.TheVariants as kinds
-use Rattle.wast_tree.specs.Sites.{in_payload}
 use Rattle.wast_tree.specs.Clauses.{suits}
 use Rattle.wast_base.specs.Ids.{is_number}
-use Rattle.wast_conv.specs.Tree.space
 use Rattle.wast_conv.specs.Tree.payload
-use Rattle.wast_conv.specs.Encodable.{encodable, is_encodable_expression}
+use Rattle.wast_conv.specs.Encodable.{is_encodable_expression, is_encodable_payload}
 use Rattle.wast_conv.specs.Meaning as meaning
 use Rattle.wast_conv.proofs.EachPasses.{both_true}
 use Rattle.wast_conv.proofs.Segmented.{segment_written, has_its_form}
-use Rattle.wast_conv.proofs.Standing.{encodable_at}
 use Rattle.wast_conv.proofs.Spelled.{vec_mapped, in_range_mapped, in_range_unmapped}
 use Rattle.wast_conv.proofs.SegmentsReady.{exprs_parts, elem_parts}
 use Rattle.wast_conv.proofs.TypesReady.{heap_covered}
@@ -26,7 +23,7 @@ encode-requires g c =
     let fs = c.in-Indices.functions in
     let parts = elem_parts e c.requires in
     both_true _ _ (has_its_form (λ b. meaning.as_expression b.0.now) c.mode_of-mode.result e.kind (payload.Indices fs) kinds.Functions c.mode_of-mode.ensures.same refl (subst (λ p. suits e.kind p ≡ true) c.in-Indices.is parts.fits))
-    (both_true _ _ c.mode_of-mode.ensures.ready (ap (list_all is_number) c.as_slice.ensures ∙ (sym (encodable_at space.Func fs) ∙ subst (λ p. encodable (in_payload p) ≡ true) c.in-Indices.is parts.holds)))
+    (both_true _ _ c.mode_of-mode.ensures.ready (ap (list_all is_number) c.as_slice.ensures ∙ subst (λ p. is_encodable_payload p ≡ true) c.in-Indices.is parts.holds))
 
 pub encode-requires-in-Exprs : goal.encode-requires-in-Exprs
 encode-requires-in-Exprs g c =
@@ -34,10 +31,10 @@ encode-requires-in-Exprs g c =
     let ty = c.in-Exprs.ty in
     let es = c.in-Exprs.exprs in
     let parts = elem_parts e c.requires in
-    let exprs = exprs_parts ty es (subst (λ p. encodable (in_payload p) ≡ true) c.in-Exprs.is parts.holds) in
+    let exprs = exprs_parts ty es (subst (λ p. is_encodable_payload p ≡ true) c.in-Exprs.is parts.holds) in
     both_true _ _ (has_its_form (λ b. meaning.as_expression b.0.now) c.mode_of-mode.result e.kind (payload.Exprs ty es) (kinds.Expressions c.ref_type.result) c.mode_of-mode.ensures.same (ap kinds.Expressions c.ref_type.ensures) (subst (λ p. suits e.kind p ≡ true) c.in-Exprs.is parts.fits))
-    (both_true _ _ (ap is_covered_ref_type c.ref_type.ensures ∙ heap_covered ty.heap exprs.1)
-    (both_true _ _ c.mode_of-mode.ensures.ready (ap (list_all is_encodable_expression) c.as_slice-in-Exprs.ensures ∙ exprs.0)))
+    (both_true _ _ (ap is_covered_ref_type c.ref_type.ensures ∙ heap_covered ty.heap exprs.0)
+    (both_true _ _ c.mode_of-mode.ensures.ready (ap (list_all is_encodable_expression) c.as_slice-in-Exprs.ensures ∙ exprs.1)))
 
 pub returns-in-Indices : goal.returns-in-Indices
 returns-in-Indices g c =
