@@ -1,6 +1,11 @@
 use Rattle.std.proofs.Common.{◌≡◌, [], take}
+use Rattle.std.specs.Prelude.{All}
 use Rattle.wast_core.specs.Uncovered.{uncovered}
+use Rattle.wast_core.specs.Utf8Names.{HasUtf8Names}
 use Rattle.wast_core.proofs.covered.uncovered.Given as goal
 
 abbrev pub invariant-loop-field : goal.invariant-loop-field
-invariant-loop-field l = uncovered (take l.field-index l.fields) ≡ []
+invariant-loop-field l = record {
+  form : uncovered (take l.field-index l.fields) ≡ [];
+  names : All HasUtf8Names (take l.field-index l.fields);
+}
