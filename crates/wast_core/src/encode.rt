@@ -1,6 +1,6 @@
 //! The encoder.
 
-ghost use Rattle.std.specs.Prelude.{◌≡◌, IfOk, IfErr, IsTrue};
+ghost use Rattle.std.specs.Prelude.{◌≡◌, All, IfOk, IfErr, IsTrue};
 ghost use Rattle.wast_base.specs.Faults.{out_of_memory};
 ghost use Rattle.wasm_out.specs.Built.{IsRefused};
 ghost use Rattle.wasm_out.specs.Reads.{Reads};
@@ -9,6 +9,7 @@ ghost use Rattle.wast_conv.specs.Encodable.{is_encodable};
 ghost use Rattle.wast_core.specs.Headline.{Encodes, joined, name_of_module};
 ghost use Rattle.wast_core.specs.Meaning.{parts};
 ghost use Rattle.wast_core.specs.Modules.{IsReady};
+ghost use Rattle.wast_core.specs.Utf8Names.{HasUtf8Names};
 ghost use Rattle.wast_names.specs.FoundNames.{text_seen};
 ghost use Rattle.wast_core.specs.Writing.{IsEncodable, IsAtRest, EncodesResolved, PutsModule};
 
@@ -21,17 +22,17 @@ use wast_names::given_name;
 use wast_resolve::{discard_names, resolved_laws};
 use wast_tree::{Error, Fault, Gensym, ModuleField};
 
-/// The bytes of a module with this name, of these resolved fields.
+/// The bytes of a module with this name, of these resolved fields. It needs names that are UTF-8.
 fn encode_fields<'e>(
     alloc: Global,
     name: Option<&str>,
     fields: &[ModuleField],
 ) -> Result<Vec<u8>, Error<'e>>
-    requires { IsTrue (is_encodable fields.now) }
+    requires encodable { IsTrue (is_encodable fields.now) }
+    requires names { All HasUtf8Names fields.now }
     ensures bytes { IfOk result (λ v. Reads v.items (parts (text_seen name.entry) fields.now)) }
     ensures refusal { IfErr result (IsRefused (IsWritable (text_seen name.entry) fields.now)) }
 {
-    covered::names(fields);
     let binary = BinaryModule::of(name, fields)?;
     let mut room = Room::reserve(alloc, binary.size() as usize)?;
     binary.encode(&mut room)?;

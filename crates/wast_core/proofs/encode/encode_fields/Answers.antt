@@ -17,7 +17,7 @@ returns-clause-bytes c =
     let made = c.in_ok-binary.ensures.ok in
     let bytes_are : bytes_of (text_seen c.in_ok-binary.binary.name) c.in_ok-binary.binary.fields.now ≡ bytes_of name fields = ap (λ n. bytes_of (text_seen n) c.in_ok-binary.binary.fields.now) made.1 ∙ ap (bytes_of name) made.2 in
     let small : All (λ x. x < 256) c.finish-bytes.result.items = λ k d lt. omega arith in
-    reads_module name fields c.finish-bytes.result.items c.requires c.names.ensures (subst (InRangeModule name) made.2 (subst (λ n. InRangeModule (text_seen n) c.in_ok-binary.binary.fields.now) made.1 put.1))
+    reads_module name fields c.finish-bytes.result.items c.requires.encodable c.requires.names (subst (InRangeModule name) made.2 (subst (λ n. InRangeModule (text_seen n) c.in_ok-binary.binary.fields.now) made.1 put.1))
     (c.finish-bytes.ensures ∙ (put.0.0 ∙ (ap (λ l. l ++ bytes_of (text_seen c.in_ok-binary.binary.name) c.in_ok-binary.binary.fields.now) (ap (λ r. r.items) c.in_ok-room.ensures.ok) ∙ bytes_are))) small
 
 pub returns-in_err-encode-clause-refusal : goal.returns-in_err-encode-clause-refusal

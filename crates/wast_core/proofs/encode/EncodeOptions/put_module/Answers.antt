@@ -16,7 +16,7 @@ returns-in_err-module-in-None g c =
     let fields = c.in-Text.fields in
     let is = c.in_err-module-in-None.ensures.err in
     rw (c.in-Text.is, p.1)
-    (not_put g.S.Sink.rules c.args.out.now (first (uncovered fields)) name fields p.0 g.met.S.Sink.laws (sym (c.in-None.ensures ∙ ap (λ fs. first (uncovered fs)) c.as_slice.ensures)) (p.2 ∙ ap refused_as is.0)
+    (not_put g.S.Sink.rules c.args.out.now (first (uncovered fields)) name fields p.0 g.met.S.Sink.laws (sym (c.in-None.ensures.form ∙ ap (λ fs. first (uncovered fs)) c.as_slice.ensures)) (p.2 ∙ ap refused_as is.0)
     (λ h. is.1 (subst (λ n. InRangeModule n c.as_slice-in-None.result.now) (sym c.given_name-name.ensures) (subst (InRangeModule name) (sym c.as_slice-in-None.ensures) h))))
 
 pub returns-in_err-encode-in-None : goal.returns-in_err-encode-in-None
@@ -27,7 +27,7 @@ returns-in_err-encode-in-None g c =
     let name = name_of_module c.args.module.now in
     rw (c.in-Text.is, p.1)
     (fields_refused g.S.Sink.rules c.args.out.now c.encode.new.out (text_seen m.name) name m.fields.now c.in-Text.fields c.in_err-encode-in-None.field-0.0 p.0 (ap text_seen made.1 ∙ c.given_name-name.ensures) (made.2 ∙ c.as_slice-in-None.ensures)
-    (sym (c.in-None.ensures ∙ ap (λ fs. first (uncovered fs)) c.as_slice.ensures)) p.2 c.in_err-encode-in-None.ensures)
+    (sym (c.in-None.ensures.form ∙ ap (λ fs. first (uncovered fs)) c.as_slice.ensures)) p.2 c.in_err-encode-in-None.ensures)
 
 pub returns-in_ok-encode-in-None : goal.returns-in_ok-encode-in-None
 returns-in_ok-encode-in-None g c =
@@ -36,4 +36,4 @@ returns-in_ok-encode-in-None g c =
     let name = name_of_module c.args.module.now in
     rw c.in-Text.is
     (fields_put g.S.Sink.rules c.args.out.now c.encode.new.out (text_seen m.name) name m.fields.now c.in-Text.fields (ap text_seen made.1 ∙ c.given_name-name.ensures) (made.2 ∙ c.as_slice-in-None.ensures)
-    (sym (c.in-None.ensures ∙ ap (λ fs. first (uncovered fs)) c.as_slice.ensures)) c.in_ok-encode-in-None.ensures)
+    (sym (c.in-None.ensures.form ∙ ap (λ fs. first (uncovered fs)) c.as_slice.ensures)) c.in_ok-encode-in-None.ensures)
