@@ -155,18 +155,12 @@ fn write_field<'a>(
     ensures refusal { IfErr result (λ e. IsRefusedWhere (overflows field.entry) e) }
 {
     match field {
-        ModuleField::Ty(ty) => push_field(out, ModuleField::Ty(ty)),
-        ModuleField::Rec(group) => push_field(out, ModuleField::Rec(group)),
-        ModuleField::Import(imports) => push_field(out, ModuleField::Import(imports)),
         ModuleField::Func(func) => write_func(alloc, func, out),
         ModuleField::Table(table) => write_table(alloc, table, out),
         ModuleField::Memory(memory) => write_memory(alloc, memory, out),
         ModuleField::Global(global) => write_global(alloc, global, out),
-        ModuleField::Export(export) => push_field(out, ModuleField::Export(export)),
-        ModuleField::Start(index) => push_field(out, ModuleField::Start(index)),
-        ModuleField::Elem(elem) => push_field(out, ModuleField::Elem(elem)),
-        ModuleField::Data(data) => push_field(out, ModuleField::Data(data)),
         ModuleField::Tag(tag) => write_tag(alloc, tag, out),
+        stays => push_field(out, stays),
     }
 }
 
