@@ -77,7 +77,8 @@ fn entries_of(kind: SectionKind, field: &ModuleField) -> u32
 /// Appends the entry of a field to the section of a kind, where it has one.
 fn put_entry<S: Sink>(kind: SectionKind, field: &ModuleField, out: &mut S) -> Result<(), Refusal>
     requires { IsTrue (is_encodable_field field.now) }
-    ensures { Writes S.rules (All (InRangeEntry (section_kind kind)) (entries_in (section_kind kind) field.now)) out.old out.new (flat_map (entry (section_kind kind)) (entries_in (section_kind kind) field.now)) result }
+    ensures { Writes S.rules (All (InRangeEntry (section_kind kind)) (entries_in (section_kind kind) field.now))
+        out.old out.new (flat_map (entry (section_kind kind)) (entries_in (section_kind kind) field.now)) result }
 {
     match kind {
         SectionKind::Types => match field {
@@ -161,7 +162,8 @@ fn count(kind: SectionKind, fields: &[ModuleField]) -> Option<u32>
 
 /// Where the fields stand that put something into the section of a kind.
 fn reach_of(kind: SectionKind, reaches: &Reaches) -> Reach
-    ensures { (fields : List ModuleField) → IsTrue (are_reaches fields reaches.now) → IsTrue (is_reach (puts (section_kind kind)) fields result) }
+    ensures { (fields : List ModuleField) → IsTrue (are_reaches fields reaches.now)
+        → IsTrue (is_reach (puts (section_kind kind)) fields result) }
 {
     match kind {
         SectionKind::Types => {
@@ -224,7 +226,8 @@ pub(crate) fn extent_of(
     requires ready { IsTrue (is_encodable fields.now) }
     requires reaches { IsTrue (are_reaches fields.now reaches.now) }
     ensures ok { IfOk result (λ e. IsExtent (section_kind kind) fields.now e.count e.size) }
-    ensures err { IfErr result (λ e. (e ≡ refusal.TooLarge) × (All InRangePart (listed (section_kind kind) (entries (section_kind kind) fields.now)) → ⊥)) }
+    ensures err { IfErr result (λ e. (e ≡ refusal.TooLarge)
+        × (All InRangePart (listed (section_kind kind) (entries (section_kind kind) fields.now)) → ⊥)) }
 {
     let there = section_fields(kind, fields, reaches);
     let Some(count) = count(kind, there) else {
@@ -248,7 +251,8 @@ pub(crate) fn put_section<S: Sink>(
     requires ready { IsTrue (is_encodable fields.now) }
     requires reaches { IsTrue (are_reaches fields.now reaches.now) }
     requires extent { IsExtent (section_kind kind) fields.now extent.count extent.size }
-    ensures { Writes S.rules (All InRangePart (listed (section_kind kind) (entries (section_kind kind) fields.now))) out.old out.new (flat_map part (listed (section_kind kind) (entries (section_kind kind) fields.now))) result }
+    ensures { Writes S.rules (All InRangePart (listed (section_kind kind) (entries (section_kind kind) fields.now)))
+        out.old out.new (flat_map part (listed (section_kind kind) (entries (section_kind kind) fields.now))) result }
 {
     if extent.count == 0 {
         return Ok(());
@@ -279,7 +283,8 @@ impl Spell<ModuleField<'_>> for StartOf {
 /// The start sections, one for each start field.
 pub(crate) fn put_starts<S: Sink>(fields: &[ModuleField], out: &mut S) -> Result<(), Refusal>
     requires { IsTrue (is_encodable fields.now) }
-    ensures { Writes S.rules (All InRangePart (flat_map starts_in fields.now)) out.old out.new (flat_map part (flat_map starts_in fields.now)) result }
+    ensures { Writes S.rules (All InRangePart (flat_map starts_in fields.now))
+        out.old out.new (flat_map part (flat_map starts_in fields.now)) result }
 {
     Each(fields, StartOf).encode(out)
 }

@@ -120,7 +120,8 @@ impl<'b, 'a> BinaryModule<'b, 'a> {
     /// How many bytes stand in places, one after another, up to the greatest `u64`.
     fn sum_of(&self, slots: &[Slot]) -> u64
         requires { IsTrue (is_measured self.now) }
-        ensures { result ≡ counted (length (flat_map (λ s. flat_map part (in_slot (text_seen self.now.name) self.now.fields.now s)) slots.now)) }
+        ensures { result ≡ counted (length
+            (flat_map (λ s. flat_map part (in_slot (text_seen self.now.name) self.now.fields.now s)) slots.now)) }
     {
         let mut sum = 0u64;
         for slot in slots {

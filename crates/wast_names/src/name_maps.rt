@@ -80,7 +80,8 @@ pub(crate) fn put_entry<T: Encode + Copy, S: Sink>(
     out: &mut S,
 ) -> Result<u64, Refusal>
     requires { All (λ t. IsTrue (T.is_ready t)) (option_to_list given) }
-    ensures written { WritesItems S.rules (entry_spelling T.spelling) (InRangeEntryOf T.in_range) (given ∷ []) position out.old out.new result }
+    ensures written { WritesItems S.rules (entry_spelling T.spelling) (InRangeEntryOf T.in_range)
+        (given ∷ []) position out.old out.new result }
     ensures next { IfOk result (λ p. p ≡ counted (position + 1)) }
 {
     let Some(value) = given else {
@@ -121,7 +122,8 @@ pub(crate) fn put_map<T, W: NameItems<T> + Copy, S: Sink>(
     parts: &[T],
     out: &mut S,
 ) -> Result<(), Refusal>
-    ensures { Writes S.rules (InRangeMap W.entry W.in_range (named_from 0 (flat_map (W.items way) parts.now))) out.old out.new (map_bytes id W.entry (named_from 0 (flat_map (W.items way) parts.now))) result }
+    ensures { Writes S.rules (InRangeMap W.entry W.in_range (named_from 0 (flat_map (W.items way) parts.now)))
+        out.old out.new (map_bytes id W.entry (named_from 0 (flat_map (W.items way) parts.now))) result }
 {
     let count = count_each(&way, parts);
     if count == 0 {
@@ -176,7 +178,8 @@ pub(crate) fn put_name<S: Sink>(
     given: Option<&str>,
     out: &mut S,
 ) -> Result<u64, Refusal>
-    ensures written { WritesItems S.rules name_entry InRangeNameEntry (text_seen given.entry ∷ []) position out.old out.new result }
+    ensures written { WritesItems S.rules name_entry InRangeNameEntry
+        (text_seen given.entry ∷ []) position out.old out.new result }
     ensures next { IfOk result (λ p. p ≡ counted (position + 1)) }
 {
     match given {

@@ -14,14 +14,16 @@ use wast_tree::{ModuleField, Space};
 
 /// Where the fields of either kind stand.
 fn either(reaches: &Reaches, one: FieldKind, other: FieldKind) -> Reach
-    ensures { (fields : List ModuleField) → IsTrue (are_reaches fields reaches.now) → IsTrue (is_reach (is_either one other) fields result) }
+    ensures { (fields : List ModuleField) → IsTrue (are_reaches fields reaches.now)
+        → IsTrue (is_reach (is_either one other) fields result) }
 {
     reaches.of_kind(one).joined(reaches.of_kind(other))
 }
 
 /// Where the fields stand that can have items of a space.
 fn reach_of(space: Space, reaches: &Reaches) -> Reach
-    ensures { (fields : List ModuleField) → IsTrue (are_reaches fields reaches.now) → IsTrue (is_reach (has_items space) fields result) }
+    ensures { (fields : List ModuleField) → IsTrue (are_reaches fields reaches.now)
+        → IsTrue (is_reach (has_items space) fields result) }
 {
     match space {
         Space::Func => either(reaches, FieldKind::Import, FieldKind::Func),
@@ -49,7 +51,8 @@ pub(crate) fn with_items<'b, 'a>(
 
 /// Where the fields stand within whose items such lists can stand.
 fn reach_within(within: Within, reaches: &Reaches) -> Reach
-    ensures { (fields : List ModuleField) → IsTrue (are_reaches fields reaches.now) → IsTrue (is_reach (has_lists within) fields result) }
+    ensures { (fields : List ModuleField) → IsTrue (are_reaches fields reaches.now)
+        → IsTrue (is_reach (has_lists within) fields result) }
 {
     match within {
         Within::Locals => either(reaches, FieldKind::Import, FieldKind::Func),

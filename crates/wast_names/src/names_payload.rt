@@ -102,7 +102,8 @@ fn put_item<S: Sink>(
     position: u64,
     out: &mut S,
 ) -> Result<u64, Refusal>
-    ensures written { WritesItems S.rules name_entry InRangeNameEntry (given_name_in space (own, text_seen name.entry)) position out.old out.new result }
+    ensures written { WritesItems S.rules name_entry InRangeNameEntry
+        (given_name_in space (own, text_seen name.entry)) position out.old out.new result }
     ensures next { IfOk result (λ p. p ≡ counted (position + length (given_name_in space (own, text_seen name.entry)))) }
 {
     if !space.is(own) {
@@ -296,7 +297,9 @@ pub fn names_size(
 ) -> Result<u32, Refusal>
     requires { IsTrue (are_reaches fields.now reaches.now) }
     ensures ok { IfOk result (λ n. n ≡ length (names_payload_of (name_subsections (text_seen name.entry) fields.now))) }
-    ensures err { IfErr result (λ e. (e ≡ refusal.TooLarge) × (All InRangePart (names_part (name_subsections (text_seen name.entry) fields.now)) × InRangeNames (text_seen name.entry) fields.now → ⊥)) }
+    ensures err { IfErr result (λ e. (e ≡ refusal.TooLarge)
+        × (All InRangePart (names_part (name_subsections (text_seen name.entry) fields.now))
+            × InRangeNames (text_seen name.entry) fields.now → ⊥)) }
 {
     let names = NamesOf { fields, reaches };
     let subsections = length_of(&Subsections { name, names })?;
@@ -323,7 +326,9 @@ pub fn put_names<S: Sink>(
 ) -> Result<(), Refusal>
     requires reaches { IsTrue (are_reaches fields.now reaches.now) }
     requires size { size ≡ length (names_payload_of (name_subsections (text_seen name) fields.now)) }
-    ensures { Writes S.rules (All InRangePart (names_part (name_subsections (text_seen name.entry) fields.now)) × InRangeNames (text_seen name.entry) fields.now) out.old out.new (flat_map part (names_part (name_subsections (text_seen name.entry) fields.now))) result }
+    ensures { Writes S.rules (All InRangePart (names_part (name_subsections (text_seen name.entry) fields.now))
+            × InRangeNames (text_seen name.entry) fields.now)
+        out.old out.new (flat_map part (names_part (name_subsections (text_seen name.entry) fields.now))) result }
 {
     if size == 0 {
         return Ok(());
