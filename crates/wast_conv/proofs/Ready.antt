@@ -1,6 +1,6 @@
 -- Fields that are well formed, resolved and written out may be handed to the encoder; what may be is resolved; and where a
 -- field may be, so may what it puts into the sections.
-use Rattle.std.proofs.Common.{◌≡◌, Bool, true, ◌&&◌, List, [], refl, sym, ◌∙◌}
+use Rattle.std.proofs.Common.{◌≡◌, Bool, true, ◌&&◌, List, refl, sym, ◌∙◌}
 use Rattle.std.specs.Prelude.{is_some, Option, Some, None}
 use Rattle.std.specs.List.{flat_map, list_all}
 use Rattle.wast_base.specs.Ids.{Mark, is_number}

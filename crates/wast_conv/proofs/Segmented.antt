@@ -26,7 +26,7 @@ use Rattle.wasm_out.specs.declared.elements.Elements.TheVariants as elements
 use Rattle.wasm_out.specs.declared.elements.SegmentMode.{SegmentMode}
 use Rattle.wasm_out.specs.declared.elements.SegmentMode.TheVariants as mode
 use Rattle.wast_conv.specs.Tree as types
-use Rattle.wast_conv.specs.Tree.{Expression, HeapType, AbstractHeapType, ElemKind, ElemPayload}
+use Rattle.wast_conv.specs.Tree.{Expression, HeapType, ElemKind, ElemPayload}
 use Rattle.wast_conv.specs.Tree.heap
 use Rattle.wast_conv.specs.Tree.elem
 use Rattle.wast_conv.specs.Tree.payload

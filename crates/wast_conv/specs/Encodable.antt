@@ -1,6 +1,6 @@
 -- What the encoder may be handed: parts of the tree where each index is a number, each clause holds, each form is supported,
 -- and each type use has an index. Branch hints and inline types are not written, so fields alone ask them to be supported.
-use Rattle.std.specs.Prelude.{Bool, true, false, ◌&&◌, is_some, List, [], Option, Some, None}
+use Rattle.std.specs.Prelude.{Bool, true, false, ◌&&◌, is_some, List, Option, Some, None}
 use Rattle.std.specs.List.{list_all, flat_map}
 use Rattle.wast_base.specs.Ids.{is_number}
 use Rattle.wast_tree.specs.Clauses.{suits}

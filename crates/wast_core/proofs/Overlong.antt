@@ -1,8 +1,8 @@
 -- Fields that are too large to be resolved are too large to be encoded: a memory with too many bytes in place would have a
 -- data segment that is too long.
-use Rattle.std.proofs.Common.{◌≡◌, ℕ, ◌+◌, ◌<◌, ◌^◌, Bool, true, false, not, ◌||◌, List, [], ◌∷◌, ◌++◌, map, length, Option, inl, inr, refl, sym, ap, ◌∙◌, arith}
+use Rattle.std.proofs.Common.{◌≡◌, ℕ, ◌+◌, ◌^◌, Bool, true, false, not, ◌||◌, List, [], ◌∷◌, ◌++◌, map, length, Option, inl, inr, refl, sym, ap, ◌∙◌, arith}
 use Rattle.std.specs.Prelude.{All}
-use Rattle.std.specs.List.{flat_map, list_any}
+use Rattle.std.specs.List.{list_any}
 use Rattle.std.proofs.Math.Bool.{or-true}
 use Rattle.std.proofs.lemmas.Bool.{lt-ltb}
 use Rattle.std.proofs.lemmas.List.Elements.{All-nil, All-head}
@@ -31,7 +31,6 @@ use Rattle.wast_core.specs.Tree.memory
 use Rattle.wast_core.specs.Tree.field
 use Rattle.wast_core.specs.declared.slots.SectionKind.TheVariants as kind
 use Rattle.wast_core.specs.declared.slots.Slot.TheVariants as slot
-use Rattle.wast_core.specs.Slots.{order}
 use Rattle.wast_core.specs.Meaning.{entries_in, entries, listed}
 use Rattle.wast_core.specs.Bounded.{InRangeModule}
 use Rattle.wast_core.specs.Laws.{TooLargeIsUnbounded}

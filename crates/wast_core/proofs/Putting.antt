@@ -1,5 +1,5 @@
 -- Fields of other kinds put nothing into a section.
-use Rattle.std.proofs.Common.{◌≡◌, false, List, [], refl}
+use Rattle.std.proofs.Common.{◌≡◌, false, [], refl}
 use Rattle.wasm_out.specs.Parts.{SectionKind, Types, Imports, Functions, Tables, Memories, Tags, Globals, Exports, Elements, Code, Data}
 use Rattle.wast_reach.specs.Kinds.{is_of}
 use Rattle.wast_reach.specs.declared.kinds.FieldKind.TheVariants as kind

@@ -1,6 +1,6 @@
 -- What is read of the parts of a field tells nothing of what is taken away: generated ids, and the places of the indices of
 -- type uses.
-use Rattle.std.proofs.Common.{◌≡◌, ℕ, List, [], ◌∷◌, ◌++◌, map, Option, Some, None, option_map, refl, ap, ◌∙◌, arith}
+use Rattle.std.proofs.Common.{◌≡◌, List, [], ◌∷◌, ◌++◌, map, Option, Some, None, option_map, refl, ap, arith}
 use Rattle.std.specs.Prelude.{unwrap_or}
 use Rattle.std.proofs.lemmas.Grind.{common_steps}
 use Rattle.wast_base.specs.Ids.{Mark}
@@ -11,16 +11,8 @@ use Rattle.wast_resolve.specs.Stripped.{at_start, stripped_use, stripping}
 use Rattle.wast_core.specs.Tree.{Index, TypeUse, FunctionType, HeapType, RefType, TableType, GlobalType, TagType, ItemKind, ImportItems, Instruction, Expression, Local, FuncKind, TableKind, GlobalKind, ElemKind, ElemPayload, DataKind}
 use Rattle.wast_core.specs.Tree.index
 use Rattle.wast_core.specs.Tree.ty
-use Rattle.wast_core.specs.Tree.tag
-use Rattle.wast_core.specs.Tree.kind
-use Rattle.wast_core.specs.Tree.import_items
 use Rattle.wast_core.specs.Tree.func
-use Rattle.wast_core.specs.Tree.table
-use Rattle.wast_core.specs.Tree.global
-use Rattle.wast_core.specs.Tree.elem
-use Rattle.wast_core.specs.Tree.payload
-use Rattle.wast_core.specs.Tree.data_kind
-use Rattle.wast_conv.specs.FieldEntries.{as_group, imported, table_of, value_of}
+use Rattle.wast_conv.specs.FieldEntries.{imported, table_of, value_of}
 use Rattle.wast_core.specs.Meaning.{number, as_val_type, as_sub_type, type_index, as_tag_type, as_entity_type, as_instr, as_expression, as_body, as_element_mode, as_element_items, as_data_mode}
 
 -- what is read of each of a list

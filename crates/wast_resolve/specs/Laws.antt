@@ -1,15 +1,15 @@
 -- What is so of the resolved list of fields, where the counter begins above the generations of their ids; and of types that
 -- the resolver of a module resolves.
-use Rattle.std.specs.Prelude.{◌≡◌, ℕ, ◌+◌, ◌<◌, true, [], None, map, List, Result, IsTrue}
+use Rattle.std.specs.Prelude.{◌≡◌, ℕ, ◌+◌, ◌<◌, true, [], None, List, Result, IsTrue}
 use Rattle.std.specs.Borrow.{Bor}
 use Rattle.wast_tree.specs.Items.{items}
-use Rattle.wast_tree.specs.Sites.{Ask, asked, in_module}
+use Rattle.wast_tree.specs.Sites.{Ask}
 use Rattle.wast_tree.specs.WellFormed.{is_well_formed}
 use Rattle.wast_tree.specs.WrittenOut.{is_written_out}
 use Rattle.wast_base.specs.declared.faults.Error.{Error}
 use Rattle.wast_tree.specs.Generations.{greatest_generation}
 use Rattle.wast_types.specs.NeedingUses.{needed}
-use Rattle.wast_resolve.specs.Tree.{Index, ModuleField}
+use Rattle.wast_resolve.specs.Tree.{ModuleField}
 use Rattle.wast_resolve.specs.Tree.space
 use Rattle.wast_resolve.specs.Demands.{first_unmet, ask_demands, demands, counts}
 use Rattle.wast_resolve.specs.Explicit.{explicit, explicit_from, by_positions, ids_filled}

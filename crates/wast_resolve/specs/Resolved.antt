@@ -1,6 +1,6 @@
 -- The tree after resolving: each index is the number that it denotes, at the place of its id (text format: indices).
 use Rattle.std.specs.Prelude.{List, map, option_map}
-use Rattle.wast_resolve.specs.Tree.{Index, FunctionType, TypeUse, ModuleField}
+use Rattle.wast_resolve.specs.Tree.{FunctionType, TypeUse, ModuleField}
 use Rattle.wast_resolve.specs.Tree.space
 use Rattle.wast_tree.specs.Items.{items}
 use Rattle.wast_tree.specs.Known.{Known, known}
