@@ -20,8 +20,9 @@ use wast_tree::{Error, Export, FunctionType, Rec, Type, TypeUse};
 
 /// An item of a section.
 ///
-/// Each call needs a resolved item of a supported form. All items are so in the fields that
-/// `Module::resolve` of `wast_core` leaves where it refuses nothing: its clause `at_rest` tells it.
+/// Each call needs a resolved item of a supported form, in what is written of it: branch hints and inline types are not
+/// written. All items are so in the fields that `Module::resolve` of `wast_core` leaves where it refuses nothing: its clause
+/// `at_rest` tells it.
 pub trait SectionItem {
     /// The section that holds such items.
     type Section: Build;
