@@ -6,7 +6,10 @@ use Rattle.std.proofs.lemmas.List.Elements.{All-head, All-tail}
 use Rattle.wasm_ops.specs.Codes.{IsCode}
 use Rattle.wasm_ops.specs.ConstExprs.{expression, InRangeExpression, is_covered_expression, HasRowsExpression, IsExpression}
 use Rattle.wasm_ops.specs.Covered.{Spellable}
-use Rattle.wasm_ops.specs.Table.{Opcode, Byte, Prefixed, Kind, Instr, fields, opcode_bytes, instr, instrs, table, kinds_of, InRangeInstr, is_covered_instr, HasRow, IsInstr}
+use Rattle.wasm_ops.specs.Opcodes.{opcode_bytes}
+use Rattle.wasm_ops.specs.declared.opcodes.Opcode.{Opcode}
+use Rattle.wasm_ops.specs.declared.opcodes.Opcode.TheVariants.{Byte, Prefixed}
+use Rattle.wasm_ops.specs.Table.{Kind, Instr, fields, instr, instrs, table, kinds_of, InRangeInstr, is_covered_instr, HasRow, IsInstr}
 use Rattle.wasm_ops.proofs.Everywhere.{all_both, all_tested}
 use Rattle.wasm_ops.proofs.InstrCodes.{table_apart, apart_at, instr_code}
 

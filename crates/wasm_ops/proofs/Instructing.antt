@@ -1,46 +1,141 @@
--- Instructions with an index or a constant, and those without immediates, are rows of the table.
-use native.Mathlib.Omega.{arith}
-use Rattle.std.proofs.Common.{◌≡◌, ℕ, [], ◌∷◌, ◌++◌, Some, Result, subst, append-nil, sym, refl}
-use Rattle.wasm_ops.specs.declared.sink.Refusal.{Refusal}
-use Rattle.wasm_ops.specs.declared.instrs.IndexOp.{IndexOp}
-use Rattle.wasm_ops.specs.Sinks.{SinkRules, Writes}
-use Rattle.wasm_ops.specs.Table.{Byte, Kind, Index, Signed32, Signed64, Heap, Field, field, InRangeField, kinds_of, table, opcode_bytes, Instr, InRangeInstr, instr}
-use Rattle.wasm_ops.specs.IndexInstrs.{index_byte}
-use Rattle.wasm_ops.specs.PlainInstrs.{plain_opcode, plain_instr}
+-- The instructions of the code are rows of the table, and are spelled as these.
+use Rattle.std.proofs.Common.{◌≡◌, ◌/◌, ◌%◌, ℕ, Bool, true, false, List, [], ◌∷◌, ◌++◌, Option, Some, None, Result, subst, append-nil, ap, sym, refl, ◌∙◌, map, arith}
+use Rattle.std.specs.List.{list_all}
+use Rattle.std.specs.Option.{option_map, option_to_list}
+use Rattle.std.specs.Prelude.{All, nat_lt}
+use Rattle.std.proofs.lemmas.List.{length-map}
+use Rattle.std.proofs.lemmas.List.Elements.{All-nil, All-head}
+use Rattle.std.proofs.lemmas.List.Folds.{flat_map-map}
+use Rattle.wast_base.specs.declared.mem_ops.MemOp.{MemOp}
 use Rattle.wast_base.specs.declared.plain.Plain.{Plain}
-use Rattle.wasm_ops.proofs.Sinking.{puts_as}
+use Rattle.wasm_ops.specs.declared.instrs.IndexOp.{IndexOp}
+use Rattle.wasm_ops.specs.declared.instrs.IndexPairOp.{IndexPairOp}
+use Rattle.wasm_ops.specs.declared.opcodes.Opcode.{Opcode}
+use Rattle.wasm_ops.specs.declared.opcodes.Opcode.TheVariants.{Byte, Prefixed}
+use Rattle.wasm_ops.specs.declared.sink.Refusal.{Refusal}
+use Rattle.wasm_ops.specs.declared.types.ValType.{ValType}
+use Rattle.wasm_ops.specs.Covered.{is_covered_val_type}
+use Rattle.wasm_ops.specs.IndexInstrs.{index_key, index_pair_key}
+use Rattle.wasm_ops.specs.Keys.{plain_key, mem_key}
+use Rattle.wasm_ops.specs.Opcodes.{opcode_of, opcode_bytes, InRangeOpcode}
+use Rattle.wasm_ops.specs.SelectInstrs.{select_instr, select_bytes}
+use Rattle.wasm_ops.specs.Sinks.{SinkRules, Writes}
+use Rattle.wasm_ops.specs.Spelling.{vec, InRangeVec, val_type, InRangeValType}
+use Rattle.wasm_ops.specs.Table.{Kind, Index, Signed32, Signed64, Bits32, Bits64, Heap, Memarg, Field, field, InRangeField, kinds_of, table, Instr, InRangeInstr, is_covered_instr, HasRow, instr}
+use Rattle.wasm_ops.proofs.Everywhere.{all_one}
+use Rattle.wasm_ops.proofs.Sinking.{puts_as, written_as}
 
-pub index_row : (op : IndexOp) → kinds_of (Byte (index_byte op)) table ≡ Some (Index ∷ [])
-unfolding kinds_of table
-index_row op = grind (arith)
+-- ---- rows
 
--- what has one immediate
-abbrev one : ℕ → (kind : Kind) → Field kind → Instr
-one byte kind x = record { row = record { opcode = Byte byte; kinds = kind ∷ [] }; numbers = (x, tt) }
-
-pub one_written : {S A : Type 0} (rules : SinkRules S) (a b : S) (byte : ℕ) (kind : Kind) (x : Field kind) (InRange : Type 0) (r : Result A Refusal)
-    → (InRange → InRangeField kind x) → (InRangeField kind x → InRange) → Writes rules InRange a b (byte ∷ field kind x) r
-    → Writes rules (InRangeInstr (one byte kind x)) a b (instr (one byte kind x)) r
-one_written rules a b byte kind x InRange r f g p =
-    puts_as rules InRange (InRangeInstr (one byte kind x)) a b (instr (one byte kind x)) r (λ h. (f h, tt)) (λ i. g i.0)
-    (subst (λ bytes. Writes rules InRange a b (byte ∷ bytes) r) (sym (append-nil (field kind x))) p)
-
-pub i32_const_row : kinds_of (Byte 0x41) table ≡ Some (Signed32 ∷ [])
-unfolding kinds_of table
-i32_const_row = refl
-
-pub i64_const_row : kinds_of (Byte 0x42) table ≡ Some (Signed64 ∷ [])
-unfolding kinds_of table
-i64_const_row = refl
-
-pub ref_null_row : kinds_of (Byte 0xd0) table ≡ Some (Heap ∷ [])
-unfolding kinds_of table
-ref_null_row = refl
-
-pub plain_row : (p : Plain) → kinds_of (plain_opcode p) table ≡ Some []
+pub plain_row : (p : Plain) → kinds_of (opcode_of (plain_key p)) table ≡ Some []
 unfolding kinds_of table
 plain_row p = grind (arith)
 
-pub plain_written : {S A : Type 0} (rules : SinkRules S) (a b : S) (p : Plain) (byte : ℕ) (r : Result A Refusal) → Byte byte ≡ plain_opcode p
-    → Writes rules (Unit {0}) a b (byte ∷ []) r → Writes rules (InRangeInstr (plain_instr p)) a b (instr (plain_instr p)) r
-plain_written rules a b p byte r is w = subst (λ k. Writes rules (Unit {0}) a b (opcode_bytes k ++ []) r) is w
+pub index_row : (op : IndexOp) → kinds_of (opcode_of (index_key op)) table ≡ Some (Index ∷ [])
+unfolding kinds_of table
+index_row op = grind (arith)
+
+pub index_pair_row : (op : IndexPairOp) → kinds_of (opcode_of (index_pair_key op)) table ≡ Some (Index ∷ Index ∷ [])
+unfolding kinds_of table
+index_pair_row op = grind (arith)
+
+pub mem_row : (op : MemOp) → kinds_of (opcode_of (mem_key op)) table ≡ Some (Memarg ∷ [])
+unfolding kinds_of table
+mem_row op = grind (arith)
+
+pub i32_const_row : kinds_of (opcode_of 0x41) table ≡ Some (Signed32 ∷ [])
+unfolding kinds_of table
+i32_const_row = refl
+
+pub i64_const_row : kinds_of (opcode_of 0x42) table ≡ Some (Signed64 ∷ [])
+unfolding kinds_of table
+i64_const_row = refl
+
+pub f32_const_row : kinds_of (opcode_of 0x43) table ≡ Some (Bits32 ∷ [])
+unfolding kinds_of table
+f32_const_row = refl
+
+pub f64_const_row : kinds_of (opcode_of 0x44) table ≡ Some (Bits64 ∷ [])
+unfolding kinds_of table
+f64_const_row = refl
+
+pub ref_null_row : kinds_of (opcode_of 0xd0) table ≡ Some (Heap ∷ [])
+unfolding kinds_of table
+ref_null_row = refl
+
+pub select_row : (types : Option (List ValType)) → HasRow (select_instr types)
+unfolding kinds_of table
+select_row None = refl
+select_row (Some types) = refl
+
+-- ---- spellings
+
+opcode_in_range : (key : ℕ) → InRangeOpcode (opcode_of key)
+opcode_in_range key = within (nat_lt key 0x100)
+  where
+    within : (b : Bool) → InRangeOpcode (elim b as (λ _. Opcode) [ true ↦ Byte key | false ↦ Prefixed (key / 0x10000) (key % 0x10000) ])
+    within true = tt
+    within false = omega arith
+
+-- an opcode of this key, before what follows
+pub opcode_written : {S A : Type 0} (rules : SinkRules S) (a b : S) (opcode : Opcode) (key : ℕ) (InRange : Type 0) (bytes : List ℕ) (r : Result A Refusal)
+    → opcode ≡ opcode_of key → Writes rules (InRangeOpcode opcode × InRange) a b (opcode_bytes opcode ++ bytes) r → Writes rules InRange a b (opcode_bytes (opcode_of key) ++ bytes) r
+opcode_written rules a b opcode key InRange bytes r is p =
+    puts_as rules (InRangeOpcode (opcode_of key) × InRange) InRange a b (opcode_bytes (opcode_of key) ++ bytes) r (λ h. h.1) (λ h. (opcode_in_range key, h))
+    (subst (λ o. Writes rules (InRangeOpcode o × InRange) a b (opcode_bytes o ++ bytes) r) is p)
+
+-- an opcode of this key, before nothing
+pub plain_written : {S A : Type 0} (rules : SinkRules S) (a b : S) (opcode : Opcode) (key : ℕ) (r : Result A Refusal)
+    → opcode ≡ opcode_of key → Writes rules (InRangeOpcode opcode) a b (opcode_bytes opcode) r → Writes rules (Unit {0}) a b (opcode_bytes (opcode_of key) ++ []) r
+plain_written rules a b opcode key r is p =
+    written_as rules (InRangeOpcode (opcode_of key)) (Unit {0}) a b (opcode_bytes (opcode_of key)) (opcode_bytes (opcode_of key) ++ []) r (λ h. tt) (λ h. opcode_in_range key) (sym (append-nil (opcode_bytes (opcode_of key))))
+    (subst (λ o. Writes rules (InRangeOpcode o) a b (opcode_bytes o) r) is p)
+
+-- what has one immediate, and what has two
+abbrev one : ℕ → (kind : Kind) → Field kind → Instr
+one key kind x = record { row = record { opcode = opcode_of key; kinds = kind ∷ [] }; numbers = (x, tt) }
+
+abbrev two : ℕ → (kind other : Kind) → Field kind → Field other → Instr
+two key kind other x y = record { row = record { opcode = opcode_of key; kinds = kind ∷ other ∷ [] }; numbers = (x, (y, tt)) }
+
+pub one_written : {S A : Type 0} (rules : SinkRules S) (a b : S) (key : ℕ) (kind : Kind) (x : Field kind) (InRange : Type 0) (r : Result A Refusal)
+    → (InRange → InRangeField kind x) → (InRangeField kind x → InRange) → Writes rules InRange a b (opcode_bytes (opcode_of key) ++ field kind x) r
+    → Writes rules (InRangeInstr (one key kind x)) a b (instr (one key kind x)) r
+one_written rules a b key kind x InRange r f g p =
+    written_as rules InRange (InRangeInstr (one key kind x)) a b (opcode_bytes (opcode_of key) ++ field kind x) (instr (one key kind x)) r (λ h. (f h, tt)) (λ i. g i.0)
+    (ap (λ bytes. opcode_bytes (opcode_of key) ++ bytes) (sym (append-nil (field kind x)))) p
+
+pub two_written : {S A : Type 0} (rules : SinkRules S) (a b : S) (key : ℕ) (kind other : Kind) (x : Field kind) (y : Field other) (InRange : Type 0) (r : Result A Refusal)
+    → (InRange → InRangeField kind x × InRangeField other y) → (InRangeField kind x × InRangeField other y → InRange)
+    → Writes rules InRange a b (opcode_bytes (opcode_of key) ++ (field kind x ++ field other y)) r
+    → Writes rules (InRangeInstr (two key kind other x y)) a b (instr (two key kind other x y)) r
+two_written rules a b key kind other x y InRange r f g p =
+    written_as rules InRange (InRangeInstr (two key kind other x y)) a b (opcode_bytes (opcode_of key) ++ (field kind x ++ field other y)) (instr (two key kind other x y)) r
+    (λ h. let both = f h in (both.0, (both.1, tt))) (λ i. g (i.0, i.1.0))
+    (ap (λ bytes. opcode_bytes (opcode_of key) ++ (field kind x ++ bytes)) (sym (append-nil (field other y)))) p
+
+-- ---- choices, with what spells their types
+
+pub select_written : {S A X : Type 0} (rules : SinkRules S) (spell : X → List ℕ) (InRange : X → Type 0) (types : X → List ValType) (a b : S) (o : Option X) (r : Result A Refusal)
+    → ((x : X) → spell x ≡ vec val_type (types x)) → ((x : X) → InRange x → InRangeVec InRangeValType (types x)) → ((x : X) → InRangeVec InRangeValType (types x) → InRange x)
+    → Writes rules (All InRange (option_to_list o)) a b (select_bytes (option_map spell o)) r
+    → Writes rules (InRangeInstr (select_instr (option_map types o))) a b (instr (select_instr (option_map types o))) r
+select_written rules spell InRange types a b None r same f g p =
+    puts_as rules (All InRange []) (Unit {0}) a b (0x1b ∷ []) r (λ h. tt) (λ h. All-nil InRange) p
+select_written rules spell InRange types a b (Some x) r same f g p =
+    written_as rules (All InRange (x ∷ [])) (InRangeInstr (select_instr (Some (types x)))) a b (0x1c ∷ spell x) (instr (select_instr (Some (types x)))) r
+    (λ h. (f x (All-head InRange x [] h), tt)) (λ i. all_one InRange x (g x i.0))
+    (ap (λ bytes. 0x1c ∷ bytes) (same x ∙ sym (append-nil (vec val_type (types x))))) p
+
+pub select_covered : (o : Option (List ValType)) → list_all (list_all is_covered_val_type) (option_to_list o) ≡ true → is_covered_instr (select_instr o) ≡ true
+select_covered None h = refl
+select_covered (Some types) h = h
+
+-- the same of what holds value types
+pub lists_covered : {X : Type 0} (types : X → List ValType) (o : Option X) → list_all (λ x. list_all is_covered_val_type (types x)) (option_to_list o) ≡ true → is_covered_instr (select_instr (option_map types o)) ≡ true
+lists_covered types None h = refl
+lists_covered types (Some x) h = h
+
+-- value types of another kind, written one after another
+pub types_spelled : {X : Type 0} (f : X → ValType) (xs : List X) → vec (λ x. val_type (f x)) xs ≡ vec val_type (map f xs)
+types_spelled f xs = rw (length-map xs f, flat_map-map val_type f xs) refl

@@ -2,6 +2,7 @@ pub mod Chains
 pub mod Codes
 pub mod EntityCodes
 pub mod ExpressionCodes
+pub mod FieldCodes
 pub mod InstrCodes
 pub mod Instructing
 pub mod Numbers

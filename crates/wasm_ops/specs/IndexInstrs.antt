@@ -1,14 +1,44 @@
--- Instructions with an index: the row of the table that each of the code stands for.
+-- Instructions with one index or two: the row of the table that each of the code stands for (binary format, instructions).
 use Rattle.std.specs.Prelude.{ℕ, [], ◌∷◌}
-use Rattle.wasm_ops.specs.Table.{Byte, Index, Instr}
+use Rattle.wasm_ops.specs.Opcodes.{opcode_of}
+use Rattle.wasm_ops.specs.Table.{Index, Instr}
 use Rattle.wasm_ops.specs.declared.instrs.IndexOp.{IndexOp}
 use Rattle.wasm_ops.specs.declared.instrs.IndexOp.TheVariants as ops
+use Rattle.wasm_ops.specs.declared.instrs.IndexPairOp.{IndexPairOp}
+use Rattle.wasm_ops.specs.declared.instrs.IndexPairOp.TheVariants as pairs
 
-abbrev pub index_byte : IndexOp → ℕ
-index_byte ops.Call = 0x10
-index_byte ops.GlobalGet = 0x23
-index_byte ops.RefFunc = 0xd2
+-- the key of an instruction with an index
+abbrev pub index_key : IndexOp → ℕ
+index_key ops.Throw = 0x08
+index_key ops.Call = 0x10
+index_key ops.ReturnCall = 0x12
+index_key ops.CallRef = 0x14
+index_key ops.ReturnCallRef = 0x15
+index_key ops.GlobalGet = 0x23
+index_key ops.GlobalSet = 0x24
+index_key ops.TableGet = 0x25
+index_key ops.TableSet = 0x26
+index_key ops.MemorySize = 0x3f
+index_key ops.MemoryGrow = 0x40
+index_key ops.RefFunc = 0xd2
+index_key ops.DataDrop = 0xfc0009
+index_key ops.MemoryFill = 0xfc000b
+index_key ops.ElemDrop = 0xfc000d
+index_key ops.TableGrow = 0xfc000f
+index_key ops.TableSize = 0xfc0010
+index_key ops.TableFill = 0xfc0011
 
 -- an instruction with an index
 abbrev pub index_instr : IndexOp → ℕ → Instr
-index_instr op index = record { row = record { opcode = Byte (index_byte op); kinds = Index ∷ [] }; numbers = (index, tt) }
+index_instr op index = record { row = record { opcode = opcode_of (index_key op); kinds = Index ∷ [] }; numbers = (index, tt) }
+
+-- the key of an instruction with two
+abbrev pub index_pair_key : IndexPairOp → ℕ
+index_pair_key pairs.MemoryInit = 0xfc0008
+index_pair_key pairs.MemoryCopy = 0xfc000a
+index_pair_key pairs.TableInit = 0xfc000c
+index_pair_key pairs.TableCopy = 0xfc000e
+
+-- an instruction with two indices, in the order in which they are written
+abbrev pub index_pair_instr : IndexPairOp → ℕ → ℕ → Instr
+index_pair_instr op first second = record { row = record { opcode = opcode_of (index_pair_key op); kinds = Index ∷ Index ∷ [] }; numbers = (first, (second, tt)) }

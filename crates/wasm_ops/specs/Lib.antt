@@ -3,10 +3,15 @@ pub mod ConstExprs
 pub mod ConstantInstrs
 pub mod Covered
 pub mod Entities
-pub mod Leb128
 pub mod IndexInstrs
+pub mod Keys
+pub mod Leb128
+pub mod Memargs
+pub mod MemoryInstrs
+pub mod Opcodes
 pub mod PlainInstrs
 pub mod Rooms
+pub mod SelectInstrs
 pub mod SinkLaws
 pub mod Sinks
 pub mod Spelling

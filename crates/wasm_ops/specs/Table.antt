@@ -1,23 +1,29 @@
 -- Instructions: rows of one table, each with its numbers (binary format, instructions).
-use Rattle.std.specs.Prelude.{◌≡◌, ℕ, zero, suc, ◌+◌, ◌*◌, ℤ, Bool, true, false, ◌&&◌, nat_eq, nat_lt, Option, Some, None, List, [], ◌∷◌, ◌++◌, All, IsTrue}
-use Rattle.std.specs.List.{flat_map}
-use Rattle.wasm_ops.specs.Covered.{is_covered_heap_type}
+use Rattle.std.specs.Prelude.{◌≡◌, ℕ, zero, suc, ◌+◌, ℤ, Bool, true, false, ◌&&◌, nat_lt, Option, Some, None, List, [], ◌∷◌, ◌++◌, All, IsTrue}
+use Rattle.std.specs.Int.{w32, w64, to_le_bytes}
+use Rattle.std.specs.List.{flat_map, list_all}
+use Rattle.wasm_ops.specs.Covered.{is_covered_heap_type, is_covered_val_type}
 use Rattle.wasm_ops.specs.Leb128.{unsigned, signed}
-use Rattle.wasm_ops.specs.Spelling.{InRangeU32, InRangeS32, InRangeS64, heap_type, InRangeHeapType}
+use Rattle.wasm_ops.specs.Memargs.{memarg, InRangeMemArg}
+use Rattle.wasm_ops.specs.Opcodes.{opcode_of, opcode_order, opcode_bytes, same_opcode, is_apart}
+use Rattle.wasm_ops.specs.Spelling.{InRangeU32, InRangeU64, InRangeS32, InRangeS64, vec, InRangeVec, heap_type, InRangeHeapType, val_type, InRangeValType}
+use Rattle.wasm_ops.specs.declared.memargs.MemArg.{MemArg}
+use Rattle.wasm_ops.specs.declared.opcodes.Opcode.{Opcode}
 use Rattle.wasm_ops.specs.declared.ref_types.HeapType.{HeapType}
+use Rattle.wasm_ops.specs.declared.types.ValType.{ValType}
 
--- what stands before the numbers: a byte, or a prefix and a number
-pub data Opcode : Type 0 where
-  Byte : (byte : ℕ) → Opcode
-  Prefixed : (prefix number : ℕ) → Opcode
-
--- the kinds of immediates: an index, an integer of 32 or 64 bits, a heap type
+-- the kinds of immediates: an index, an integer of 32 or 64 bits, 32 or 64 bits as they are, a heap type, value types, a memory argument
 pub data Kind : Type 0 where
   Index : Kind
   Signed32 : Kind
   Signed64 : Kind
+  Bits32 : Kind
+  Bits64 : Kind
   Heap : Kind
+  Types : Kind
+  Memarg : Kind
 
+-- a row: an opcode, and the kinds of immediates behind it
 pub record Row : Type 0 where
   pub opcode : Opcode
   pub kinds : List Kind
@@ -27,25 +33,41 @@ abbrev pub Field : Kind → Type 0
 Field Index = ℕ
 Field Signed32 = ℤ
 Field Signed64 = ℤ
+Field Bits32 = ℕ
+Field Bits64 = ℕ
 Field Heap = HeapType
+Field Types = List ValType
+Field Memarg = MemArg
 
 abbrev pub field : (kind : Kind) → Field kind → List ℕ
 field Index n = unsigned n
 field Signed32 z = signed z
 field Signed64 z = signed z
+field Bits32 n = to_le_bytes w32 n
+field Bits64 n = to_le_bytes w64 n
 field Heap h = heap_type h
+field Types ts = vec val_type ts
+field Memarg m = memarg m
 
 abbrev pub InRangeField : (kind : Kind) → Field kind → Type 0
 InRangeField Index n = InRangeU32 n
 InRangeField Signed32 z = InRangeS32 z
 InRangeField Signed64 z = InRangeS64 z
+InRangeField Bits32 n = InRangeU32 n
+InRangeField Bits64 n = InRangeU64 n
 InRangeField Heap h = InRangeHeapType h
+InRangeField Types ts = InRangeVec InRangeValType ts
+InRangeField Memarg m = InRangeMemArg m
 
 abbrev pub is_covered_field : (kind : Kind) → Field kind → Bool
 is_covered_field Index n = true
 is_covered_field Signed32 z = true
 is_covered_field Signed64 z = true
+is_covered_field Bits32 n = true
+is_covered_field Bits64 n = true
 is_covered_field Heap h = is_covered_heap_type h
+is_covered_field Types ts = list_all is_covered_val_type ts
+is_covered_field Memarg m = true
 
 -- immediates of several kinds
 abbrev pub Fields : List Kind → Type 0
@@ -69,10 +91,6 @@ pub record Instr : Type 0 where
   pub row : Row
   pub numbers : Fields row.kinds
 
-abbrev pub opcode_bytes : Opcode → List ℕ
-opcode_bytes (Byte b) = b ∷ []
-opcode_bytes (Prefixed p n) = p ∷ unsigned n
-
 abbrev pub instr : Instr → List ℕ
 instr i = opcode_bytes i.row.opcode ++ fields i.row.kinds i.numbers
 
@@ -80,28 +98,52 @@ instr i = opcode_bytes i.row.opcode ++ fields i.row.kinds i.numbers
 abbrev pub instrs : List Instr → List ℕ
 instrs is = flat_map instr is
 
--- rows of consecutive opcodes: how the opcodes are made, the first, how many, and their kinds of immediates
-abbrev pub consecutive : (ℕ → Opcode) → ℕ → ℕ → List Kind → List Row
-consecutive opcode first zero kinds = []
-consecutive opcode first (suc count) kinds =
-    record { opcode = opcode first; kinds = kinds } ∷ consecutive opcode (first + 1) count kinds
+-- rows of consecutive keys: the first key, how many, and their kinds of immediates
+abbrev pub consecutive : ℕ → ℕ → List Kind → List Row
+consecutive key zero kinds = []
+consecutive key (suc count) kinds =
+    record { opcode = opcode_of key; kinds = kinds } ∷ consecutive (key + 1) count kinds
 
--- the rows, in the order of their opcodes
+-- runs of them, one after another
+abbrev pub rows_of : List (ℕ × ℕ × List Kind) → List Row
+rows_of [] = []
+rows_of (run ∷ runs) = consecutive run.0 run.1 run.2 ++ rows_of runs
+
+-- the rows, in the order of their keys
 unfoldable pub table : List Row
-table =
-    consecutive Byte 0x00 2 []
-    ++ (consecutive Byte 0x10 1 (Index ∷ [])
-    ++ (consecutive Byte 0x1a 1 []
-    ++ (consecutive Byte 0x23 1 (Index ∷ [])
-    ++ (consecutive Byte 0x41 1 (Signed32 ∷ [])
-    ++ (consecutive Byte 0x42 1 (Signed64 ∷ [])
-    ++ (consecutive Byte 0xd0 1 (Heap ∷ [])
-    ++ consecutive Byte 0xd2 1 (Index ∷ [])))))))
-
-abbrev pub same_opcode : Opcode → Opcode → Bool
-same_opcode (Byte a) (Byte b) = nat_eq a b
-same_opcode (Prefixed p m) (Prefixed q n) = nat_eq p q && nat_eq m n
-same_opcode k l = false
+table = rows_of (
+    (0x00, 2, [])  -- unreachable, nop
+    ∷ (0x08, 1, Index ∷ [])  -- throw
+    ∷ (0x0a, 1, [])  -- throw_ref
+    ∷ (0x0f, 1, [])  -- return
+    ∷ (0x10, 1, Index ∷ [])  -- call
+    ∷ (0x12, 1, Index ∷ [])  -- return_call
+    ∷ (0x14, 2, Index ∷ [])  -- call_ref, return_call_ref
+    ∷ (0x19, 3, [])  -- catch_all, drop, select
+    ∷ (0x1c, 1, Types ∷ [])  -- select with types
+    ∷ (0x23, 4, Index ∷ [])  -- global.get, global.set, table.get, table.set
+    ∷ (0x28, 23, Memarg ∷ [])  -- loads and stores
+    ∷ (0x3f, 2, Index ∷ [])  -- memory.size, memory.grow
+    ∷ (0x41, 1, Signed32 ∷ [])  -- i32.const
+    ∷ (0x42, 1, Signed64 ∷ [])  -- i64.const
+    ∷ (0x43, 1, Bits32 ∷ [])  -- f32.const
+    ∷ (0x44, 1, Bits64 ∷ [])  -- f64.const
+    ∷ (0x45, 128, [])  -- of numbers, from i32.eqz to i64.extend32_s
+    ∷ (0xd0, 1, Heap ∷ [])  -- ref.null
+    ∷ (0xd1, 1, [])  -- ref.is_null
+    ∷ (0xd2, 1, Index ∷ [])  -- ref.func
+    ∷ (0xd3, 2, [])  -- ref.eq, ref.as_non_null
+    ∷ (0xfc0000, 8, [])  -- i32.trunc_sat_f32_s to i64.trunc_sat_f64_u
+    ∷ (0xfc0008, 1, Index ∷ Index ∷ [])  -- memory.init
+    ∷ (0xfc0009, 1, Index ∷ [])  -- data.drop
+    ∷ (0xfc000a, 1, Index ∷ Index ∷ [])  -- memory.copy
+    ∷ (0xfc000b, 1, Index ∷ [])  -- memory.fill
+    ∷ (0xfc000c, 1, Index ∷ Index ∷ [])  -- table.init
+    ∷ (0xfc000d, 1, Index ∷ [])  -- elem.drop
+    ∷ (0xfc000e, 1, Index ∷ Index ∷ [])  -- table.copy
+    ∷ (0xfc000f, 3, Index ∷ [])  -- table.grow, table.size, table.fill
+    ∷ []
+    )
 
 -- the kinds of immediates behind an opcode
 unfoldable pub kinds_of : Opcode → List Row → Option (List Kind)
@@ -121,6 +163,7 @@ is_covered_instr i = is_covered_fields i.row.kinds i.numbers
 abbrev pub HasRow : Instr → Type 0
 HasRow i = kinds_of i.row.opcode table ≡ Some i.row.kinds
 
+-- a row of the table with numbers in range, which the encoder covers
 pub record IsInstr (i : Instr) : Type 0 where
   pub row : HasRow i
   pub numbers : InRangeInstr i
@@ -132,22 +175,13 @@ pub record SpellsInstrs (bytes : List ℕ) : Type 0 where
   pub in_range : All IsInstr list
   pub spelled : bytes ≡ instrs list
 
--- where an opcode stands among all: the bytes, and then the numbers behind each prefix
-abbrev pub opcode_order : Opcode → ℕ
-opcode_order (Byte b) = b
-opcode_order (Prefixed p n) = 65536 * p + n
-
 -- each opcode is above the one before it
 unfoldable pub ascends : ℕ → List Row → Bool
 ascends before [] = true
 ascends before (r ∷ rs) =
     elim (nat_lt before (opcode_order r.opcode + 1)) [ true ↦ ascends (opcode_order r.opcode + 1) rs | false ↦ false ]
 
--- an opcode of one byte is no prefix: prefixes are from 0xfb on
-abbrev pub is_apart : Opcode → Bool
-is_apart (Byte b) = nat_lt b 0xfb
-is_apart (Prefixed p n) = nat_lt 0xfa p
-
+-- no opcode of one byte is a prefix
 unfoldable pub all_apart : List Row → Bool
 all_apart [] = true
 all_apart (r ∷ rs) = elim (is_apart r.opcode) [ true ↦ all_apart rs | false ↦ false ]

@@ -1,36 +1,73 @@
 //! Instructions of the binary format.
 
-ghost use Rattle.std.specs.Prelude.{◌≡◌, true, IsTrue};
-ghost use Rattle.wasm_ops.specs.ConstantInstrs.{i32_const_instr, i64_const_instr, ref_null_instr};
+ghost use Rattle.std.specs.List.{All, list_all};
+ghost use Rattle.std.specs.Option.{option_map, option_to_list};
+ghost use Rattle.std.specs.Prelude.{◌≡◌, true};
+ghost use Rattle.wasm_ops.specs.ConstantInstrs.{i32_const_instr, i64_const_instr, f32_const_instr, f64_const_instr, ref_null_instr};
 ghost use Rattle.wasm_ops.specs.Covered.{is_covered_heap_type};
-ghost use Rattle.wasm_ops.specs.IndexInstrs.{index_byte, index_instr};
-ghost use Rattle.wasm_ops.specs.PlainInstrs.{plain_opcode, plain_instr};
-ghost use Rattle.wasm_ops.specs.Sinks.{Puts};
-ghost use Rattle.wasm_ops.specs.Table.{Byte, instr, InRangeInstr, IsInstr};
+ghost use Rattle.wasm_ops.specs.IndexInstrs.{index_key, index_instr, index_pair_key, index_pair_instr};
+ghost use Rattle.wasm_ops.specs.Memargs.{is_aligned};
+ghost use Rattle.wasm_ops.specs.MemoryInstrs.{mem_instr};
+ghost use Rattle.wasm_ops.specs.Opcodes.{opcode_of};
+ghost use Rattle.wasm_ops.specs.PlainInstrs.{plain_instr};
+ghost use Rattle.wasm_ops.specs.SelectInstrs.{select_bytes};
+ghost use Rattle.wasm_ops.specs.Table.{instr, InRangeInstr};
 
-use crate::encode::Encode;
+use crate::encode::{Encode, Raw};
 use crate::leb128::Signed;
+use crate::memargs::MemArg;
+use crate::opcodes::{Opcode, mem_opcode, plain_opcode};
 use crate::ref_types::HeapType;
 use crate::sink::{Refusal, Sink};
-use wast_base::{Error, Plain};
+use wast_base::{MemOp, Plain};
 
-/// An instruction whose one immediate is an index (binary format, instructions).
+/// An instruction whose one immediate is an index (binary format, instructions). The number of a variant is its key.
 #[derive(Clone, Copy, Debug, PartialEq, Eq)]
 pub enum IndexOp {
-    /// `call`
+    /// `throw`, of a tag
+    Throw = 0x08,
+    /// `call`, of a function
     Call = 0x10,
+    /// `return_call`, of a function
+    ReturnCall = 0x12,
+    /// `call_ref`, of a type
+    CallRef = 0x14,
+    /// `return_call_ref`, of a type
+    ReturnCallRef = 0x15,
     /// `global.get`
     GlobalGet = 0x23,
+    /// `global.set`
+    GlobalSet = 0x24,
+    /// `table.get`
+    TableGet = 0x25,
+    /// `table.set`
+    TableSet = 0x26,
+    /// `memory.size`
+    MemorySize = 0x3f,
+    /// `memory.grow`
+    MemoryGrow = 0x40,
     /// `ref.func`
     RefFunc = 0xd2,
+    /// `data.drop`
+    DataDrop = 0xfc0009,
+    /// `memory.fill`
+    MemoryFill = 0xfc000b,
+    /// `elem.drop`
+    ElemDrop = 0xfc000d,
+    /// `table.grow`
+    TableGrow = 0xfc000f,
+    /// `table.size`
+    TableSize = 0xfc0010,
+    /// `table.fill`
+    TableFill = 0xfc0011,
 }
 
 impl IndexOp {
-    /// The byte that stands before the index (binary format, instructions).
-    pub fn byte(self) -> u8
-        ensures { result ≡ index_byte self }
+    /// The opcode that stands before the index (binary format, instructions).
+    pub fn opcode(self) -> Opcode
+        ensures { result ≡ opcode_of (index_key self) }
     {
-        self as u8
+        Opcode::of(self as u32)
     }
 }
 
@@ -51,16 +88,52 @@ impl Encode for IndexInstr {
     ghost is_ready = { λ _. true };
 
     fn encode<S: Sink>(&self, out: &mut S) -> Result<(), Refusal> {
-        (self.op.byte(), self.index).encode(out)
+        (self.op.opcode(), self.index).encode(out)
     }
 }
 
-/// The byte of an instruction without immediates.
-fn plain_byte(op: &Plain) -> u8
-    ensures { Byte result ≡ plain_opcode op.now }
-{
-    match op {
-        Plain::Bare(op) => *op as u8,
+/// An instruction whose immediates are two indices (binary format, instructions). The number of a variant is its key.
+#[derive(Clone, Copy, Debug, PartialEq, Eq)]
+pub enum IndexPairOp {
+    /// `memory.init`, of a data segment and a memory
+    MemoryInit = 0xfc0008,
+    /// `memory.copy`, of the memory that is written and the one that is read
+    MemoryCopy = 0xfc000a,
+    /// `table.init`, of an element segment and a table
+    TableInit = 0xfc000c,
+    /// `table.copy`, of the table that is written and the one that is read
+    TableCopy = 0xfc000e,
+}
+
+impl IndexPairOp {
+    /// The opcode that stands before the indices (binary format, instructions).
+    pub fn opcode(self) -> Opcode
+        ensures { result ≡ opcode_of (index_pair_key self) }
+    {
+        Opcode::of(self as u32)
+    }
+}
+
+/// An instruction with two indices: `memory.copy 1 2` (binary format, instructions).
+#[derive(Clone, Copy, Debug, PartialEq, Eq)]
+pub struct IndexPair {
+    /// Which instruction it is.
+    pub op: IndexPairOp,
+    /// The index that is written first.
+    pub first: u32,
+    /// The index behind it.
+    pub second: u32,
+}
+
+impl Encode for IndexPair {
+    ghost spelling = { λ i. instr (index_pair_instr i.op i.first i.second) };
+
+    ghost in_range = { λ i. InRangeInstr (index_pair_instr i.op i.first i.second) };
+
+    ghost is_ready = { λ _. true };
+
+    fn encode<S: Sink>(&self, out: &mut S) -> Result<(), Refusal> {
+        (self.op.opcode(), (self.first, self.second)).encode(out)
     }
 }
 
@@ -73,7 +146,7 @@ impl Encode for Plain {
     ghost is_ready = { λ _. true };
 
     fn encode<S: Sink>(&self, out: &mut S) -> Result<(), Refusal> {
-        plain_byte(self).encode(out)
+        plain_opcode(self).encode(out)
     }
 }
 
@@ -111,6 +184,83 @@ impl Encode for I64Const {
     }
 }
 
+/// A constant of 32 bits, by the number of its bits: `f32.const 1` is 1065353216 (binary format, instructions).
+#[derive(Clone, Copy, Debug, PartialEq, Eq)]
+pub struct F32Const(pub u32);
+
+/// The four bytes of its bits, the lowest first.
+impl Encode for F32Const {
+    ghost spelling = { λ c. instr (f32_const_instr c.0) };
+
+    ghost in_range = { λ c. InRangeInstr (f32_const_instr c.0) };
+
+    ghost is_ready = { λ _. true };
+
+    fn encode<S: Sink>(&self, out: &mut S) -> Result<(), Refusal> {
+        let bits = self.0.to_le_bytes();
+        (0x43u8, Raw(&bits)).encode(out)
+    }
+}
+
+/// A constant of 64 bits, by the number of its bits: `f64.const 0` is 0 (binary format, instructions).
+#[derive(Clone, Copy, Debug, PartialEq, Eq)]
+pub struct F64Const(pub u64);
+
+/// The eight bytes of its bits, the lowest first.
+impl Encode for F64Const {
+    ghost spelling = { λ c. instr (f64_const_instr c.0) };
+
+    ghost in_range = { λ c. InRangeInstr (f64_const_instr c.0) };
+
+    ghost is_ready = { λ _. true };
+
+    fn encode<S: Sink>(&self, out: &mut S) -> Result<(), Refusal> {
+        let bits = self.0.to_le_bytes();
+        (0x44u8, Raw(&bits)).encode(out)
+    }
+}
+
+/// A load or a store: `i32.load offset=4` (binary format, memory instructions).
+#[derive(Clone, Copy, Debug)]
+pub struct MemInstr {
+    /// Which instruction it is.
+    pub op: MemOp,
+    /// How the memory is accessed.
+    pub memarg: MemArg,
+}
+
+impl Encode for MemInstr {
+    ghost spelling = { λ i. instr (mem_instr i.op i.memarg) };
+
+    ghost in_range = { λ i. InRangeInstr (mem_instr i.op i.memarg) };
+
+    ghost is_ready = { λ i. is_aligned i.memarg };
+
+    fn encode<S: Sink>(&self, out: &mut S) -> Result<(), Refusal> {
+        (mem_opcode(self.op), self.memarg).encode(out)
+    }
+}
+
+/// The choice between two operands, with what spells a list of value types or without: `select (result i32)` (binary
+/// format, parametric instructions).
+#[derive(Clone, Copy, Debug)]
+pub struct Select<T>(pub Option<T>);
+
+impl<T: Encode> Encode for Select<T> {
+    ghost spelling = { λ s. select_bytes (option_map T.spelling s.0) };
+
+    ghost in_range = { λ s. All T.in_range (option_to_list s.0) };
+
+    ghost is_ready = { λ s. list_all T.is_ready (option_to_list s.0) };
+
+    fn encode<S: Sink>(&self, out: &mut S) -> Result<(), Refusal> {
+        match &self.0 {
+            None => 0x1bu8.encode(out),
+            Some(types) => (0x1cu8, types).encode(out),
+        }
+    }
+}
+
 /// A null reference of a heap type: `ref.null func` (binary format, instructions).
 #[derive(Clone, Copy, Debug, PartialEq, Eq)]
 pub struct RefNull(pub HeapType);
@@ -124,84 +274,5 @@ impl Encode for RefNull {
 
     fn encode<S: Sink>(&self, out: &mut S) -> Result<(), Refusal> {
         (0xd0u8, self.0).encode(out)
-    }
-}
-
-/// Appends instructions to a sink (binary format, instructions).
-#[derive(Drop)]
-pub struct InstructionSink<'s, S> {
-    /// Where the instructions are appended.
-    pub out: &'s mut S,
-}
-
-impl<'s, S: Sink> InstructionSink<'s, S> {
-    /// What appends instructions to this sink. It changes nothing yet.
-    pub fn new(out: &'s mut S) -> InstructionSink<'s, S>
-        ensures same { result.out.ghost_name ≡ out.entry.ghost_name }
-        ensures unchanged { result.out.now ≡ out.old }
-    {
-        InstructionSink { out }
-    }
-
-    /// Appends an instruction without immediates: `drop` (binary format, instructions).
-    ///
-    /// It appends the spelling of that row of the table. The only error is the sink's refusal; then nothing was
-    /// appended.
-    pub fn plain<'e>(&mut self, op: Plain) -> Result<(), Error<'e>>
-        ensures appended { Puts S.rules (IsInstr (plain_instr op)) self.old.out.now self.new.out.now
-            (instr (plain_instr op)) result }
-        ensures same { self.new.out.ghost_name ≡ self.old.out.ghost_name }
-    {
-        Ok(op.encode(self.out)?)
-    }
-
-    /// Appends an instruction with an index: `call 3` (binary format, instructions).
-    ///
-    /// It appends the spelling of that row of the table. The only error is the sink's refusal; then nothing was
-    /// appended.
-    pub fn index<'e>(&mut self, op: IndexOp, index: u32) -> Result<(), Error<'e>>
-        ensures appended { Puts S.rules (IsInstr (index_instr op index)) self.old.out.now self.new.out.now
-            (instr (index_instr op index)) result }
-        ensures same { self.new.out.ghost_name ≡ self.old.out.ghost_name }
-    {
-        Ok(IndexInstr { op, index }.encode(self.out)?)
-    }
-
-    /// Appends a constant of 32 bits: `i32.const -1` (binary format, instructions).
-    ///
-    /// It appends the spelling of that row of the table. The only error is the sink's refusal; then nothing was
-    /// appended.
-    pub fn i32_const<'e>(&mut self, value: i32) -> Result<(), Error<'e>>
-        ensures appended { Puts S.rules (IsInstr (i32_const_instr value)) self.old.out.now self.new.out.now
-            (instr (i32_const_instr value)) result }
-        ensures same { self.new.out.ghost_name ≡ self.old.out.ghost_name }
-    {
-        Ok(I32Const(value).encode(self.out)?)
-    }
-
-    /// Appends a constant of 64 bits: `i64.const -1` (binary format, instructions).
-    ///
-    /// It appends the spelling of that row of the table. The only error is the sink's refusal; then nothing was
-    /// appended.
-    pub fn i64_const<'e>(&mut self, value: i64) -> Result<(), Error<'e>>
-        ensures appended { Puts S.rules (IsInstr (i64_const_instr value)) self.old.out.now self.new.out.now
-            (instr (i64_const_instr value)) result }
-        ensures same { self.new.out.ghost_name ≡ self.old.out.ghost_name }
-    {
-        Ok(I64Const(value).encode(self.out)?)
-    }
-
-    /// Appends a null reference of a heap type: `ref.null func` (binary format, instructions). It needs a covered heap
-    /// type.
-    ///
-    /// It appends the spelling of that row of the table. The only error is the sink's refusal; then nothing was
-    /// appended.
-    pub fn ref_null<'e>(&mut self, heap_type: HeapType) -> Result<(), Error<'e>>
-        requires { IsTrue (is_covered_heap_type heap_type) }
-        ensures appended { Puts S.rules (IsInstr (ref_null_instr heap_type)) self.old.out.now self.new.out.now
-            (instr (ref_null_instr heap_type)) result }
-        ensures same { self.new.out.ghost_name ≡ self.old.out.ghost_name }
-    {
-        Ok(RefNull(heap_type).encode(self.out)?)
     }
 }

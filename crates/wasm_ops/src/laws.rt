@@ -7,7 +7,8 @@ ghost use Rattle.wasm_ops.specs.Covered.{IsSpellableHeapType, IsSpellableRefType
 ghost use Rattle.wasm_ops.specs.Entities.{table_type, IsSpellableTableType, memory_type, IsSpellableMemoryType, global_type, IsSpellableGlobalType, tag_type, IsSpellableTagType, entity_type, IsSpellableEntityType};
 ghost use Rattle.wasm_ops.specs.Leb128.{SpellsUnsigned, SpellsSigned, unsigned, signed};
 ghost use Rattle.wasm_ops.specs.Spelling.{Any, name, InRangeName, heap_type, ref_type, val_type, storage_type, field_type, export_kind, func_type, struct_type, array_type, composite_type, sub_type};
-ghost use Rattle.wasm_ops.specs.Table.{Byte, Instr, instr, IsInstr, table, kinds_of, ascends, all_apart};
+ghost use Rattle.wasm_ops.specs.declared.opcodes.Opcode.TheVariants.{Byte};
+ghost use Rattle.wasm_ops.specs.Table.{Instr, instr, IsInstr, table, kinds_of, ascends, all_apart};
 ghost use Rattle.wasm_ops.specs.declared.entities.TableType.{TableType};
 ghost use Rattle.wasm_ops.specs.declared.entities.MemoryType.{MemoryType};
 ghost use Rattle.wasm_ops.specs.declared.entities.GlobalType.{GlobalType};

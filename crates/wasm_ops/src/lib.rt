@@ -4,9 +4,12 @@
 mod const_exprs;
 mod encode;
 mod entities;
+mod instr_sink;
 mod instrs;
 mod laws;
 mod leb128;
+mod memargs;
+mod opcodes;
 mod ref_types;
 mod room;
 mod sink;
@@ -17,9 +20,15 @@ pub use encode::{
     By, Counted, Each, Encode, Itself, Name, Raw, Spell, WithLength, length_of, write_name,
 };
 pub use entities::{EntityType, GlobalType, MemoryType, TableType, TagType};
-pub use instrs::{I32Const, I64Const, IndexInstr, IndexOp, InstructionSink, RefNull};
+pub use instr_sink::InstructionSink;
+pub use instrs::{
+    F32Const, F64Const, I32Const, I64Const, IndexInstr, IndexOp, IndexPair, IndexPairOp, MemInstr,
+    RefNull, Select,
+};
 pub use laws::{instruction_law, signed_law, type_spelling_law, unsigned_law};
 pub use leb128::{width, write_s32, write_s33, write_s64, write_u32, write_u64};
+pub use memargs::{MemArg, MemArgTarget};
+pub use opcodes::Opcode;
 pub use ref_types::{AbstractHeapType, HeapType, RefType};
 pub use room::Room;
 pub use sink::{Length, Refusal, Sink};

@@ -4,7 +4,7 @@ use Rattle.std.proofs.lemmas.Int.{to_z-of_z}
 use Rattle.wasm_ops.specs.ConstantInstrs.{i64_const_instr}
 use Rattle.wasm_ops.specs.Table.{instr, InRangeInstr}
 use Rattle.wasm_ops.proofs.Instructing.{i64_const_row}
-use Rattle.wasm_ops.proofs.instrs.InstructionSink.i64_const.Goals as goal
+use Rattle.wasm_ops.proofs.instr_sink.InstructionSink.i64_const.Goals as goal
 
 pub returns-clause-appended : goal.returns-clause-appended
 returns-clause-appended g c =

@@ -1,6 +1,6 @@
 use Rattle.std.proofs.Common.{refl}
 use Rattle.wasm_ops.proofs.Instructing.{index_row}
-use Rattle.wasm_ops.proofs.instrs.InstructionSink.index.Goals as goal
+use Rattle.wasm_ops.proofs.instr_sink.InstructionSink.index.Goals as goal
 
 pub returns-clause-appended : goal.returns-clause-appended
 returns-clause-appended g c = (c.in_ok-encode.ensures.0, record { row = index_row c.args.op; numbers = c.in_ok-encode.ensures.1; covered = refl })

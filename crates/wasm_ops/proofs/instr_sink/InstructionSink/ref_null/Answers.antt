@@ -1,6 +1,6 @@
 use Rattle.std.proofs.Common.{refl}
 use Rattle.wasm_ops.proofs.Instructing.{ref_null_row}
-use Rattle.wasm_ops.proofs.instrs.InstructionSink.ref_null.Goals as goal
+use Rattle.wasm_ops.proofs.instr_sink.InstructionSink.ref_null.Goals as goal
 
 pub returns-clause-appended : goal.returns-clause-appended
 returns-clause-appended g c = (c.in_ok-encode.ensures.0, record { row = ref_null_row; numbers = c.in_ok-encode.ensures.1; covered = rw c.requires refl })

@@ -1,6 +1,6 @@
 use Rattle.std.proofs.Common.{refl}
 use Rattle.wasm_ops.proofs.Instructing.{plain_row}
-use Rattle.wasm_ops.proofs.instrs.InstructionSink.plain.Goals as goal
+use Rattle.wasm_ops.proofs.instr_sink.InstructionSink.plain.Goals as goal
 
 pub returns-clause-appended : goal.returns-clause-appended
 returns-clause-appended g c = (c.in_ok-encode.ensures.0, record { row = plain_row c.args.op; numbers = c.in_ok-encode.ensures.1; covered = refl })

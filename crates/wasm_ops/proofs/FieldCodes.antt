@@ -1,0 +1,82 @@
+-- The spellings of immediates show their value: bits, lists of value types, memory arguments.
+use Rattle.std.proofs.Common.{◌≡◌, ◌<◌, ◌+◌, ℕ, Bool, true, false, List, ◌++◌, length, refl, sym, ap, ◌∙◌, append_assoc, arith}
+use Rattle.std.proofs.lemmas.Bool.{eqb-true}
+use Rattle.std.proofs.lemmas.Nat.{from_le_bytes-to_le_bytes_4, from_le_bytes-to_le_bytes_8}
+use Rattle.std.specs.Int.{Width, w32, w64, to_le_bytes, from_le_bytes}
+use Rattle.std.specs.List.{list_all}
+use Rattle.std.specs.Prelude.{nat_eq}
+use Rattle.wasm_ops.specs.Codes.{IsCode}
+use Rattle.wasm_ops.specs.Covered.{Spellable, is_covered_val_type}
+use Rattle.wasm_ops.specs.Leb128.{unsigned}
+use Rattle.wasm_ops.specs.Memargs.{memory_of, memarg_bytes, memarg, InRangeMemArg}
+use Rattle.wasm_ops.specs.Spelling.{InRangeU32, InRangeU64, vec, InRangeVec, val_type, InRangeValType}
+use Rattle.wasm_ops.specs.declared.memargs.MemArg.{MemArg}
+use Rattle.wasm_ops.specs.declared.memargs.MemArgTarget.{MemArgTarget}
+use Rattle.wasm_ops.specs.declared.memargs.MemArgTarget.TheVariants.{Memory}
+use Rattle.wasm_ops.specs.declared.types.ValType.{ValType}
+use Rattle.wasm_ops.proofs.Codes.{code_by, code_within, pair_is, same_front, spellable_vec, vec_code}
+use Rattle.wasm_ops.proofs.Numbers.{unsigned_begins}
+use Rattle.wasm_ops.proofs.TypeCodes.{val_type_code}
+
+-- ---- bits
+
+bits_code : {F : ℕ → Type 0} (w : Width) (count : ℕ) → ((n : ℕ) → length (to_le_bytes w n) ≡ count) → ((n : ℕ) → F n → from_le_bytes w (to_le_bytes w n) ≡ n) → IsCode ℕ F (to_le_bytes w)
+bits_code w count long back = record {
+  begins = λ m n r s p q e.
+      let one = same_front (to_le_bytes w m) (to_le_bytes w n) r s (long m ∙ sym (long n)) e in
+      (sym (back m p) ∙ ap (from_le_bytes w) one.0 ∙ back n q, one.1);
+}
+
+pub bits32_code : IsCode ℕ InRangeU32 (to_le_bytes w32)
+bits32_code = bits_code w32 4 (λ n. refl) from_le_bytes-to_le_bytes_4
+
+pub bits64_code : IsCode ℕ InRangeU64 (to_le_bytes w64)
+bits64_code = bits_code w64 8 (λ n. refl) from_le_bytes-to_le_bytes_8
+
+-- ---- lists of value types
+
+pub types_code : IsCode (List ValType) (Spellable (list_all is_covered_val_type) (InRangeVec InRangeValType)) (vec val_type)
+types_code = code_within (λ ts p. spellable_vec is_covered_val_type InRangeValType ts p.0 p.1) (vec_code val_type_code)
+
+-- ---- memory arguments
+
+-- a number behind another
+two_begin : (a b k l : ℕ) (r s : List ℕ) → (unsigned a ++ unsigned b) ++ r ≡ (unsigned k ++ unsigned l) ++ s → (a ≡ k) × (b ≡ l) × (r ≡ s)
+two_begin a b k l r s e =
+    let one = unsigned_begins a k (unsigned b ++ r) (unsigned l ++ s) (sym (append_assoc (unsigned a) (unsigned b) r) ∙ e ∙ append_assoc (unsigned k) (unsigned l) s) in
+    let two = unsigned_begins b l r s one.1 in
+    (one.0, two.0, two.1)
+
+-- the logarithm of an alignment, the index of a memory, and an offset
+abbrev Parts : Type 0
+Parts = ℕ × (ℕ × ℕ)
+
+parts_begin : (b c : Bool) (x y : Parts) (r s : List ℕ) → nat_eq x.1.0 0 ≡ b → nat_eq y.1.0 0 ≡ c → x.0 < 64 → y.0 < 64
+    → memarg_bytes b x.0 x.1.0 x.1.1 ++ r ≡ memarg_bytes c y.0 y.1.0 y.1.1 ++ s → (x ≡ y) × (r ≡ s)
+parts_begin true true x y r s f g p q e =
+    let one = two_begin x.0 x.1.1 y.0 y.1.1 r s e in
+    let memory : x.1.0 ≡ y.1.0 = eqb-true x.1.0 0 f ∙ sym (eqb-true y.1.0 0 g) in
+    (pair_is x y one.0 (pair_is x.1 y.1 memory one.1), one.2)
+parts_begin false false x y r s f g p q e =
+    let first = unsigned_begins (x.0 + 64) (y.0 + 64) ((unsigned x.1.0 ++ unsigned x.1.1) ++ r) ((unsigned y.1.0 ++ unsigned y.1.1) ++ s) (sym (append_assoc (unsigned (x.0 + 64)) (unsigned x.1.0 ++ unsigned x.1.1) r) ∙ e ∙ append_assoc (unsigned (y.0 + 64)) (unsigned y.1.0 ++ unsigned y.1.1) s) in
+    let one = two_begin x.1.0 x.1.1 y.1.0 y.1.1 r s first.1 in
+    (pair_is x y (omega (arith, first.0)) (pair_is x.1 y.1 one.0 one.1), one.2)
+parts_begin true false x y r s f g p q e =
+    let first = unsigned_begins x.0 (y.0 + 64) (unsigned x.1.1 ++ r) ((unsigned y.1.0 ++ unsigned y.1.1) ++ s) (sym (append_assoc (unsigned x.0) (unsigned x.1.1) r) ∙ e ∙ append_assoc (unsigned (y.0 + 64)) (unsigned y.1.0 ++ unsigned y.1.1) s) in
+    absurd (omega (arith, first.0))
+parts_begin false true x y r s f g p q e =
+    let first = unsigned_begins (x.0 + 64) y.0 ((unsigned x.1.0 ++ unsigned x.1.1) ++ r) (unsigned y.1.1 ++ s) (sym (append_assoc (unsigned (x.0 + 64)) (unsigned x.1.0 ++ unsigned x.1.1) r) ∙ e ∙ append_assoc (unsigned y.0) (unsigned y.1.1) s) in
+    absurd (omega (arith, first.0))
+
+parts_code : IsCode Parts (λ x. (x.0 < 64) × (InRangeU32 x.1.0 × InRangeU64 x.1.1)) (λ x. memarg_bytes (nat_eq x.1.0 0) x.0 x.1.0 x.1.1)
+parts_code = record { begins = λ x y r s p q e. parts_begin (nat_eq x.1.0 0) (nat_eq y.1.0 0) x y r s refl refl p.0 q.0 e }
+
+abbrev made : ℕ → MemArgTarget → ℕ → MemArg
+made align target offset = record { align = align; target = target; offset = offset }
+
+target_is : (t : MemArgTarget) → Memory (memory_of t) ≡ t
+target_is (Memory index) = refl
+
+pub memarg_code : IsCode MemArg InRangeMemArg memarg
+memarg_code =
+    code_by (λ (m : MemArg). (m.align, (memory_of m.target, m.offset))) (λ x. made x.0 (Memory x.1.0) x.1.1) (λ m. ap (λ t. made m.align t m.offset) (target_is m.target)) parts_code

@@ -1,0 +1,194 @@
+//! A sink of instructions of the binary format.
+
+ghost use Rattle.std.specs.List.{list_all};
+ghost use Rattle.std.specs.Option.{option_map, option_to_list};
+ghost use Rattle.std.specs.Prelude.{◌≡◌, IsTrue};
+ghost use Rattle.wasm_ops.specs.ConstantInstrs.{i32_const_instr, i64_const_instr, f32_const_instr, f64_const_instr, ref_null_instr};
+ghost use Rattle.wasm_ops.specs.Covered.{is_covered_heap_type, is_covered_val_type};
+ghost use Rattle.wasm_ops.specs.IndexInstrs.{index_instr, index_pair_instr};
+ghost use Rattle.wasm_ops.specs.Memargs.{is_aligned};
+ghost use Rattle.wasm_ops.specs.MemoryInstrs.{mem_instr};
+ghost use Rattle.wasm_ops.specs.PlainInstrs.{plain_instr};
+ghost use Rattle.wasm_ops.specs.SelectInstrs.{select_instr};
+ghost use Rattle.wasm_ops.specs.Sinks.{Puts};
+ghost use Rattle.wasm_ops.specs.Table.{instr, InRangeInstr, IsInstr};
+
+use crate::encode::{Counted, Encode, Itself};
+use crate::instrs::{
+    F32Const, F64Const, I32Const, I64Const, IndexInstr, IndexOp, IndexPair, IndexPairOp, MemInstr,
+    RefNull, Select,
+};
+use crate::memargs::MemArg;
+use crate::ref_types::HeapType;
+use crate::sink::{Refusal, Sink};
+use crate::types::ValType;
+use wast_base::{Error, MemOp, Plain};
+
+/// The choice between two operands, with value types or without (binary format, parametric instructions).
+#[derive(Clone, Copy)]
+struct TypedSelect<'a>(Option<&'a [ValType]>);
+
+impl<'a> Encode for TypedSelect<'a> {
+    ghost spelling = { λ s. instr (select_instr (option_map (λ list. list.now) s.0)) };
+
+    ghost in_range = { λ s. InRangeInstr (select_instr (option_map (λ list. list.now) s.0)) };
+
+    ghost is_ready = { λ s. list_all (λ list. list_all is_covered_val_type list.now) (option_to_list s.0) };
+
+    fn encode<S: Sink>(&self, out: &mut S) -> Result<(), Refusal> {
+        match self.0 {
+            None => Select::<u8>(None).encode(out),
+            Some(list) => Select(Some(Counted(list, Itself))).encode(out),
+        }
+    }
+}
+
+/// Appends instructions to a sink (binary format, instructions).
+#[derive(Drop)]
+pub struct InstructionSink<'s, S> {
+    /// Where the instructions are appended.
+    pub out: &'s mut S,
+}
+
+impl<'s, S: Sink> InstructionSink<'s, S> {
+    /// What appends instructions to this sink. It changes nothing yet.
+    pub fn new(out: &'s mut S) -> InstructionSink<'s, S>
+        ensures same { result.out.ghost_name ≡ out.entry.ghost_name }
+        ensures unchanged { result.out.now ≡ out.old }
+    {
+        InstructionSink { out }
+    }
+
+    /// Appends an instruction without immediates: `drop` (binary format, instructions).
+    ///
+    /// It appends the spelling of that row of the table. The only error is the sink's refusal; then nothing was
+    /// appended.
+    pub fn plain<'e>(&mut self, op: Plain) -> Result<(), Error<'e>>
+        ensures appended { Puts S.rules (IsInstr (plain_instr op)) self.old.out.now self.new.out.now
+            (instr (plain_instr op)) result }
+        ensures same { self.new.out.ghost_name ≡ self.old.out.ghost_name }
+    {
+        Ok(op.encode(self.out)?)
+    }
+
+    /// Appends an instruction with an index: `call 3` (binary format, instructions).
+    ///
+    /// It appends the spelling of that row of the table. The only error is the sink's refusal; then nothing was
+    /// appended.
+    pub fn index<'e>(&mut self, op: IndexOp, index: u32) -> Result<(), Error<'e>>
+        ensures appended { Puts S.rules (IsInstr (index_instr op index)) self.old.out.now self.new.out.now
+            (instr (index_instr op index)) result }
+        ensures same { self.new.out.ghost_name ≡ self.old.out.ghost_name }
+    {
+        Ok(IndexInstr { op, index }.encode(self.out)?)
+    }
+
+    /// Appends a constant of 32 bits: `i32.const -1` (binary format, instructions).
+    ///
+    /// It appends the spelling of that row of the table. The only error is the sink's refusal; then nothing was
+    /// appended.
+    pub fn i32_const<'e>(&mut self, value: i32) -> Result<(), Error<'e>>
+        ensures appended { Puts S.rules (IsInstr (i32_const_instr value)) self.old.out.now self.new.out.now
+            (instr (i32_const_instr value)) result }
+        ensures same { self.new.out.ghost_name ≡ self.old.out.ghost_name }
+    {
+        Ok(I32Const(value).encode(self.out)?)
+    }
+
+    /// Appends a constant of 64 bits: `i64.const -1` (binary format, instructions).
+    ///
+    /// It appends the spelling of that row of the table. The only error is the sink's refusal; then nothing was
+    /// appended.
+    pub fn i64_const<'e>(&mut self, value: i64) -> Result<(), Error<'e>>
+        ensures appended { Puts S.rules (IsInstr (i64_const_instr value)) self.old.out.now self.new.out.now
+            (instr (i64_const_instr value)) result }
+        ensures same { self.new.out.ghost_name ≡ self.old.out.ghost_name }
+    {
+        Ok(I64Const(value).encode(self.out)?)
+    }
+
+    /// Appends a null reference of a heap type: `ref.null func` (binary format, instructions). It needs a covered heap
+    /// type.
+    ///
+    /// It appends the spelling of that row of the table. The only error is the sink's refusal; then nothing was
+    /// appended.
+    pub fn ref_null<'e>(&mut self, heap_type: HeapType) -> Result<(), Error<'e>>
+        requires { IsTrue (is_covered_heap_type heap_type) }
+        ensures appended { Puts S.rules (IsInstr (ref_null_instr heap_type)) self.old.out.now self.new.out.now
+            (instr (ref_null_instr heap_type)) result }
+        ensures same { self.new.out.ghost_name ≡ self.old.out.ghost_name }
+    {
+        Ok(RefNull(heap_type).encode(self.out)?)
+    }
+
+    /// Appends an instruction with two indices, in this order: `memory.copy 1 2` (binary format, instructions).
+    ///
+    /// It appends the spelling of that row of the table. The only error is the sink's refusal; then nothing was
+    /// appended.
+    pub fn index_pair<'e>(
+        &mut self,
+        op: IndexPairOp,
+        first: u32,
+        second: u32,
+    ) -> Result<(), Error<'e>>
+        ensures appended { Puts S.rules (IsInstr (index_pair_instr op first second)) self.old.out.now
+            self.new.out.now (instr (index_pair_instr op first second)) result }
+        ensures same { self.new.out.ghost_name ≡ self.old.out.ghost_name }
+    {
+        Ok(IndexPair { op, first, second }.encode(self.out)?)
+    }
+
+    /// Appends a load or a store: `i32.load offset=4` (binary format, memory instructions). It needs an alignment whose
+    /// logarithm is below 64.
+    ///
+    /// It appends the spelling of that row of the table. The only error is the sink's refusal; then nothing was
+    /// appended.
+    pub fn mem<'e>(&mut self, op: MemOp, memarg: MemArg) -> Result<(), Error<'e>>
+        requires { IsTrue (is_aligned memarg) }
+        ensures appended { Puts S.rules (IsInstr (mem_instr op memarg)) self.old.out.now self.new.out.now
+            (instr (mem_instr op memarg)) result }
+        ensures same { self.new.out.ghost_name ≡ self.old.out.ghost_name }
+    {
+        Ok(MemInstr { op, memarg }.encode(self.out)?)
+    }
+
+    /// Appends a constant of 32 bits, by the number of its bits: 1065353216 of `f32.const 1` (binary format,
+    /// instructions).
+    ///
+    /// It appends the spelling of that row of the table. The only error is the sink's refusal; then nothing was
+    /// appended.
+    pub fn f32_const<'e>(&mut self, bits: u32) -> Result<(), Error<'e>>
+        ensures appended { Puts S.rules (IsInstr (f32_const_instr bits)) self.old.out.now self.new.out.now
+            (instr (f32_const_instr bits)) result }
+        ensures same { self.new.out.ghost_name ≡ self.old.out.ghost_name }
+    {
+        Ok(F32Const(bits).encode(self.out)?)
+    }
+
+    /// Appends a constant of 64 bits, by the number of its bits: 0 of `f64.const 0` (binary format, instructions).
+    ///
+    /// It appends the spelling of that row of the table. The only error is the sink's refusal; then nothing was
+    /// appended.
+    pub fn f64_const<'e>(&mut self, bits: u64) -> Result<(), Error<'e>>
+        ensures appended { Puts S.rules (IsInstr (f64_const_instr bits)) self.old.out.now self.new.out.now
+            (instr (f64_const_instr bits)) result }
+        ensures same { self.new.out.ghost_name ≡ self.old.out.ghost_name }
+    {
+        Ok(F64Const(bits).encode(self.out)?)
+    }
+
+    /// Appends the choice between two operands, with types or without: `select (result i32)` (binary format, parametric
+    /// instructions). It needs covered types.
+    ///
+    /// It appends the spelling of that row of the table. The errors are the sink's refusal, and E10 from 2^32 types on;
+    /// then nothing was appended.
+    pub fn select<'e>(&mut self, types: Option<&[ValType]>) -> Result<(), Error<'e>>
+        requires { IsTrue (list_all (λ list. list_all is_covered_val_type list.now) (option_to_list types)) }
+        ensures appended { Puts S.rules (IsInstr (select_instr (option_map (λ list. list.now) types.entry)))
+            self.old.out.now self.new.out.now
+            (instr (select_instr (option_map (λ list. list.now) types.entry))) result }
+        ensures same { self.new.out.ghost_name ≡ self.old.out.ghost_name }
+    {
+        Ok(TypedSelect(types).encode(self.out)?)
+    }
+}

@@ -1,0 +1,75 @@
+//! What stands before the immediates of an instruction.
+
+ghost use Rattle.std.specs.Prelude.{◌≡◌, ◌<◌, true};
+ghost use Rattle.wasm_ops.specs.Keys.{plain_key, mem_key};
+ghost use Rattle.wasm_ops.specs.Opcodes.{opcode_of, opcode_bytes, InRangeOpcode};
+
+use crate::encode::Encode;
+use crate::sink::{Refusal, Sink};
+use wast_base::{MemOp, Plain};
+
+/// What tells which instruction follows (binary format, instructions).
+#[derive(Clone, Copy, Debug, PartialEq, Eq)]
+pub enum Opcode {
+    /// A byte.
+    Byte(u8),
+    /// A byte that is the prefix of several instructions, and a number.
+    Prefixed(u8, u32),
+}
+
+impl Opcode {
+    /// The opcode of a key: the key is the byte, or 65536 times the prefix and the number behind it.
+    pub(crate) fn of(key: u32) -> Opcode
+        requires { key < 0x1000000 }
+        ensures { result ≡ opcode_of key }
+    {
+        if key < 0x100 {
+            return Opcode::Byte(key as u8);
+        }
+        Opcode::Prefixed((key / 0x10000) as u8, key % 0x10000)
+    }
+}
+
+impl Encode for Opcode {
+    ghost spelling = { opcode_bytes };
+
+    ghost in_range = { InRangeOpcode };
+
+    ghost is_ready = { λ _. true };
+
+    fn encode<S: Sink>(&self, out: &mut S) -> Result<(), Refusal> {
+        match *self {
+            Opcode::Byte(byte) => byte.encode(out),
+            Opcode::Prefixed(prefix, number) => (prefix, number).encode(out),
+        }
+    }
+}
+
+/// The key of an instruction without immediates.
+fn plain_key(op: &Plain) -> u32
+    ensures value { result ≡ plain_key op.now }
+    ensures small { result < 0x1000000 }
+{
+    match op {
+        Plain::Bare(op) => *op as u32,
+        Plain::I32(op) => *op as u32,
+        Plain::I64(op) => *op as u32,
+        Plain::F32(op) => *op as u32,
+        Plain::F64(op) => *op as u32,
+        Plain::Ref(op) => *op as u32,
+    }
+}
+
+/// The opcode of an instruction without immediates.
+pub(crate) fn plain_opcode(op: &Plain) -> Opcode
+    ensures { result ≡ opcode_of (plain_key op.now) }
+{
+    Opcode::of(plain_key(op))
+}
+
+/// The opcode of a load or a store.
+pub(crate) fn mem_opcode(op: MemOp) -> Opcode
+    ensures { result ≡ opcode_of (mem_key op) }
+{
+    Opcode::of(op as u32)
+}
