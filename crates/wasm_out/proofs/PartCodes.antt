@@ -1,19 +1,19 @@
 -- The parts of a module show their value: bytes are read as one module.
-use Rattle.std.proofs.Common.{◌≡◌, ◌≢◌, ◌<◌, ℕ, List, [], ◌∷◌, ◌++◌, refl, sym, ap, ◌∙◌, subst, arith}
-use Rattle.std.specs.Prelude.{Option, Some, None, All, IsTrue}
+use Rattle.std.proofs.Common.{◌≡◌, ◌≢◌, ◌<◌, ℕ, List, ◌++◌, refl, sym, ap, ◌∙◌, subst, arith}
+use Rattle.std.specs.Prelude.{Option, Some, None, All}
 use Rattle.std.specs.List.{flat_map, list_all}
 use Rattle.wasm_ops.specs.declared.types.ValType.{ValType}
 use Rattle.wasm_ops.specs.Codes.{IsCode, IsWhole}
 use Rattle.wasm_ops.specs.declared.types.SubType.{SubType}
 use Rattle.wasm_ops.specs.ConstExprs.{expression, is_covered_expression, IsExpression}
-use Rattle.wasm_ops.specs.Covered.{Spellable, is_covered_val_type, is_covered_sub_type, IsSpellableValType, IsSpellableSubType}
+use Rattle.wasm_ops.specs.Covered.{is_covered_val_type, is_covered_sub_type, IsSpellableValType, IsSpellableSubType}
 use Rattle.wasm_ops.specs.Entities.{table_type, is_covered_table_type, IsSpellableTableType, is_covered_global_type}
 use Rattle.wasm_ops.specs.declared.entities.TableType.{TableType}
 use Rattle.wasm_ops.specs.Spelling.{InRangeU32, InRangeValType, vec, InRangeVec, sized, InRangeSized, sub_type, InRangeSubType}
 use Rattle.wasm_ops.specs.Table.{Instr, is_covered_instr}
 use Rattle.wasm_ops.proofs.Codes.{index_code, code_within, code_whole, after_byte, whole_within, pair_code, pair_whole, code_by, whole_by, vec_code, sized_code, filled_whole, name_code, bytes_whole, spellable_vec}
 use Rattle.wasm_ops.proofs.EntityCodes.{table_type_code, table_front, memory_type_code, global_type_code, tag_type_code, entity_type_code}
-use Rattle.wasm_ops.proofs.Everywhere.{all_both, all_tested, both_true}
+use Rattle.wasm_ops.proofs.Everywhere.{all_both, both_true}
 use Rattle.wasm_ops.proofs.RefTypeCodes.{front}
 use Rattle.wasm_ops.proofs.TypeCodes.{val_type_code, export_kind_code, sub_type_code, sub_front}
 use Rattle.wasm_ops.proofs.ExpressionCodes.{expression_code, is_expression}

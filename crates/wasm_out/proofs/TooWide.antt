@@ -13,9 +13,9 @@ use Rattle.wasm_ops.proofs.EntityCodes.{any_memory_code}
 use Rattle.wasm_ops.proofs.Everywhere.{all_each}
 use Rattle.wasm_ops.proofs.Numbers.{unsigned_begins}
 use Rattle.wasm_ops.proofs.RefTypeCodes.{front}
-use Rattle.wasm_out.specs.Parts.{Memories, PartKind, Listed, PartItems, InRangePartItems, InRangePart, part_id, payload, section, Part, part}
-use Rattle.wasm_out.specs.Reads.{header, Reads}
-use Rattle.wasm_out.specs.WorkedBytes.{wide_bytes, IsNoModule}
+use Rattle.wasm_out.specs.Parts.{Memories, PartKind, Listed, PartItems, InRangePartItems, InRangePart, part_id, payload, section, part}
+use Rattle.wasm_out.specs.Reads.{header}
+use Rattle.wasm_out.specs.WorkedBytes.{IsNoModule}
 
 abbrev wide : MemoryType
 wide = record { minimum = 18446744073709551616; maximum = None; memory64 = true; shared = false; page_size_log2 = None }

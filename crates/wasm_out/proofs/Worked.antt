@@ -2,6 +2,7 @@
 use Rattle.std.proofs.Common.{refl}
 use Rattle.wasm_ops.specs.Leb128.{unsigned, unsigned_in, signed, signed_in}
 use Rattle.wasm_out.specs.WorkedBytes.{RunsOfLocals, Spelled, ItemsSpelled, SegmentsSpelled}
+use Rattle.wasm_out.specs.WorkedInstrs.{InstrsSpelled}
 
 pub runs_of_locals : RunsOfLocals
 unfolding unsigned unsigned_in
@@ -18,3 +19,7 @@ worked_items = refl
 pub worked_segments : SegmentsSpelled
 unfolding unsigned unsigned_in signed signed_in
 worked_segments = refl
+
+pub worked_instrs : InstrsSpelled
+unfolding unsigned unsigned_in signed signed_in
+worked_instrs = refl

@@ -5,7 +5,8 @@ pub mod BuiltElements
 pub mod DataSegments
 pub mod ElementSegments
 pub mod WorkedBytes
-pub mod NameSectionBytes
+pub mod WorkedInstrs
+pub mod NameSubsections
 pub mod Parts
 pub mod Readable
 pub mod Reads

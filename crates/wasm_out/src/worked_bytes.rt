@@ -1,6 +1,7 @@
 //! Worked examples with their bytes, which the definitions compute.
 
 ghost use Rattle.wasm_out.specs.WorkedBytes.{RunsOfLocals, Spelled, ItemsSpelled, SegmentsSpelled, IsNoModule};
+ghost use Rattle.wasm_out.specs.WorkedInstrs.{InstrsSpelled};
 
 /// Locals are spelled by runs of one type.
 pub(crate) fn runs_of_locals()
@@ -20,6 +21,11 @@ pub(crate) fn worked_items()
 /// Segments of elements and of data have the bytes of each of their forms.
 pub(crate) fn worked_segments()
     ensures { SegmentsSpelled }
+{}
+
+/// Instructions of each kind of immediates have the bytes of the worked ones.
+pub(crate) fn worked_instrs()
+    ensures { InstrsSpelled }
 {}
 
 /// A memory whose minimum is 2^64, in ten bytes, is read as no module.
