@@ -1,7 +1,46 @@
 //! The bytes of instructions, by their kinds of immediates.
 
+use std::alloc::Global;
+use std::process::Abort;
 use wasm_ops::{IndexOp, IndexPairOp, InstructionSink, MemArg, MemArgTarget, Room, Sink, ValType};
-use wast_base::{BareOp, F32Op, F64Op, I32Op, I64Op, MemOp, Plain, RefOp};
+use wast_base::{BareOp, Error, F32Op, F64Op, I32Op, I64Op, MemOp, Plain, RefOp};
+
+/// Each instruction without immediates has its bytes.
+fn plain_rows(rt: &impl Abort, alloc: Global, rows: &[(Plain, &[u8])]) {
+    for (op, bytes) in rows {
+        let mut out = Vec::new(alloc);
+        assert!(rt;
+            InstructionSink::new(&mut out).plain(*op).is_ok(),
+            "for {bytes:?}"
+        );
+        assert!(rt; out.as_slice() == *bytes, "for {bytes:?}");
+    }
+}
+
+/// Each instruction with an index has its bytes.
+fn index_rows(rt: &impl Abort, alloc: Global, rows: &[(IndexOp, u32, &[u8])]) {
+    for (op, index, bytes) in rows {
+        let mut out = Vec::new(alloc);
+        assert!(rt;
+            InstructionSink::new(&mut out).index(*op, *index).is_ok(),
+            "for {bytes:?}"
+        );
+        assert!(rt; out.as_slice() == *bytes, "for {bytes:?}");
+    }
+}
+
+/// Each load or store has its bytes.
+fn access_rows(rt: &impl Abort, alloc: Global, rows: &[(MemOp, MemArg, &[u8])]) {
+    for (op, memarg, bytes) in rows {
+        let mut out = Vec::new(alloc);
+        assert!(rt; memarg.is_aligned(), "for {bytes:?}");
+        assert!(rt;
+            InstructionSink::new(&mut out).mem(*op, *memarg).is_ok(),
+            "for {bytes:?}"
+        );
+        assert!(rt; out.as_slice() == *bytes, "for {bytes:?}");
+    }
+}
 
 /// An access to a memory.
 fn access(align: u32, memory: u32, offset: u64) -> MemArg {
@@ -12,153 +51,144 @@ fn access(align: u32, memory: u32, offset: u64) -> MemArg {
     }
 }
 
+/// Instructions with two indices, constants and choices, one after another.
+fn write_others<'e>(out: &mut Vec<u8>) -> Result<(), Error<'e>> {
+    let mut sink = InstructionSink::new(out);
+    sink.index_pair(IndexPairOp::MemoryInit, 128, 2)?;
+    sink.index_pair(IndexPairOp::MemoryCopy, 3, 4)?;
+    sink.index_pair(IndexPairOp::TableInit, 5, 6)?;
+    sink.index_pair(IndexPairOp::TableCopy, 7, 8)?;
+    sink.f32_const(1065353216)?;
+    sink.f64_const(4607182418800017408)?;
+    sink.select(None)?;
+    sink.select(Some(&[ValType::I32, ValType::F64]))
+}
+
 #[test]
-fn instructions_have_their_bytes(rt: HostRuntime) {
-    let alloc = rt.alloc();
-    let plain: [(Plain, &[u8]); 43] = [
-        (Plain::Bare(BareOp::unreachable), &[0x00]),
-        (Plain::Bare(BareOp::nop), &[0x01]),
-        (Plain::Bare(BareOp::throw_ref), &[0x0a]),
-        (Plain::Bare(BareOp::return_), &[0x0f]),
-        (Plain::Bare(BareOp::catch_all), &[0x19]),
-        (Plain::Bare(BareOp::drop), &[0x1a]),
-        (Plain::I32(I32Op::i32_eqz), &[0x45]),
-        (Plain::I32(I32Op::i32_ge_u), &[0x4f]),
-        (Plain::I64(I64Op::i64_eqz), &[0x50]),
-        (Plain::I64(I64Op::i64_ge_u), &[0x5a]),
-        (Plain::F32(F32Op::f32_eq), &[0x5b]),
-        (Plain::F32(F32Op::f32_ge), &[0x60]),
-        (Plain::F64(F64Op::f64_eq), &[0x61]),
-        (Plain::F64(F64Op::f64_ge), &[0x66]),
-        (Plain::I32(I32Op::i32_clz), &[0x67]),
-        (Plain::I32(I32Op::i32_rotr), &[0x78]),
-        (Plain::I64(I64Op::i64_clz), &[0x79]),
-        (Plain::I64(I64Op::i64_rotr), &[0x8a]),
-        (Plain::F32(F32Op::f32_abs), &[0x8b]),
-        (Plain::F32(F32Op::f32_copysign), &[0x98]),
-        (Plain::F64(F64Op::f64_abs), &[0x99]),
-        (Plain::F64(F64Op::f64_copysign), &[0xa6]),
-        (Plain::I32(I32Op::i32_wrap_i64), &[0xa7]),
-        (Plain::I32(I32Op::i32_trunc_f64_u), &[0xab]),
-        (Plain::I64(I64Op::i64_extend_i32_s), &[0xac]),
-        (Plain::I64(I64Op::i64_trunc_f64_u), &[0xb1]),
-        (Plain::F32(F32Op::f32_convert_i32_s), &[0xb2]),
-        (Plain::F32(F32Op::f32_demote_f64), &[0xb6]),
-        (Plain::F64(F64Op::f64_convert_i32_s), &[0xb7]),
-        (Plain::F64(F64Op::f64_promote_f32), &[0xbb]),
-        (Plain::I32(I32Op::i32_reinterpret_f32), &[0xbc]),
-        (Plain::I64(I64Op::i64_reinterpret_f64), &[0xbd]),
-        (Plain::F32(F32Op::f32_reinterpret_i32), &[0xbe]),
-        (Plain::F64(F64Op::f64_reinterpret_i64), &[0xbf]),
-        (Plain::I32(I32Op::i32_extend16_s), &[0xc1]),
-        (Plain::I64(I64Op::i64_extend32_s), &[0xc4]),
-        (Plain::Ref(RefOp::ref_is_null), &[0xd1]),
-        (Plain::Ref(RefOp::ref_eq), &[0xd3]),
-        (Plain::Ref(RefOp::ref_as_non_null), &[0xd4]),
-        (Plain::I32(I32Op::i32_trunc_sat_f32_s), &[0xfc, 0]),
-        (Plain::I32(I32Op::i32_trunc_sat_f64_u), &[0xfc, 3]),
-        (Plain::I64(I64Op::i64_trunc_sat_f32_s), &[0xfc, 4]),
-        (Plain::I64(I64Op::i64_trunc_sat_f64_u), &[0xfc, 7]),
-    ];
-    for (op, bytes) in &plain {
-        let mut out = Vec::new(alloc);
-        assert!(rt;
-            InstructionSink::new(&mut out).plain(*op).is_ok(),
-            "for {bytes:?}"
-        );
-        assert!(rt; out.as_slice() == *bytes, "for {bytes:?}");
-    }
-    let indices: [(IndexOp, u32, &[u8]); 18] = [
-        (IndexOp::Throw, 1, &[0x08, 1]),
-        (IndexOp::Call, 300, &[0x10, 0xac, 0x02]),
-        (IndexOp::ReturnCall, 2, &[0x12, 2]),
-        (IndexOp::CallRef, 3, &[0x14, 3]),
-        (IndexOp::ReturnCallRef, 4, &[0x15, 4]),
-        (IndexOp::GlobalGet, 5, &[0x23, 5]),
-        (IndexOp::GlobalSet, 6, &[0x24, 6]),
-        (IndexOp::TableGet, 7, &[0x25, 7]),
-        (IndexOp::TableSet, 8, &[0x26, 8]),
-        (IndexOp::MemorySize, 0, &[0x3f, 0]),
-        (IndexOp::MemoryGrow, 9, &[0x40, 9]),
-        (IndexOp::RefFunc, 10, &[0xd2, 10]),
-        (IndexOp::DataDrop, 11, &[0xfc, 9, 11]),
-        (IndexOp::MemoryFill, 0, &[0xfc, 11, 0]),
-        (IndexOp::ElemDrop, 12, &[0xfc, 13, 12]),
-        (IndexOp::TableGrow, 13, &[0xfc, 15, 13]),
-        (IndexOp::TableSize, 14, &[0xfc, 16, 14]),
-        (IndexOp::TableFill, 128, &[0xfc, 17, 0x80, 0x01]),
-    ];
-    for (op, index, bytes) in &indices {
-        let mut out = Vec::new(alloc);
-        assert!(rt;
-            InstructionSink::new(&mut out).index(*op, *index).is_ok(),
-            "for {bytes:?}"
-        );
-        assert!(rt; out.as_slice() == *bytes, "for {bytes:?}");
-    }
-    let pairs: [(IndexPairOp, &[u8]); 4] = [
-        (IndexPairOp::MemoryInit, &[0xfc, 8, 0x80, 0x01, 2]),
-        (IndexPairOp::MemoryCopy, &[0xfc, 10, 0x80, 0x01, 2]),
-        (IndexPairOp::TableInit, &[0xfc, 12, 0x80, 0x01, 2]),
-        (IndexPairOp::TableCopy, &[0xfc, 14, 0x80, 0x01, 2]),
-    ];
-    for (op, bytes) in &pairs {
-        let mut out = Vec::new(alloc);
-        assert!(rt;
-            InstructionSink::new(&mut out)
-                .index_pair(*op, 128, 2)
-                .is_ok()
-        );
-        assert!(rt; out.as_slice() == *bytes, "for {bytes:?}");
-    }
-    let accesses: [(MemOp, MemArg, &[u8]); 12] = [
-        (MemOp::i32_load, access(2, 1, 4), &[0x28, 0x42, 1, 4]),
-        (MemOp::f64_load, access(3, 0, 0), &[0x2b, 3, 0]),
-        (
-            MemOp::i32_load8_s,
-            access(0, 0, 128),
-            &[0x2c, 0, 0x80, 0x01],
-        ),
-        (MemOp::i64_load8_s, access(0, 2, 0), &[0x30, 0x40, 2, 0]),
-        (MemOp::i64_load32_u, access(63, 0, 127), &[0x35, 63, 127]),
-        (
-            MemOp::i32_store,
-            access(63, 128, 1),
-            &[0x36, 127, 0x80, 0x01, 1],
-        ),
-        (MemOp::i64_store, access(1, 0, 2), &[0x37, 1, 2]),
-        (MemOp::f64_store, access(1, 0, 2), &[0x39, 1, 2]),
-        (MemOp::i32_store8, access(1, 0, 2), &[0x3a, 1, 2]),
-        (MemOp::i32_store16, access(1, 0, 2), &[0x3b, 1, 2]),
-        (MemOp::i64_store8, access(1, 0, 2), &[0x3c, 1, 2]),
-        (
-            MemOp::i64_store32,
-            access(0, 0, 18446744073709551615),
-            &[
-                0x3e, 0, 0xff, 0xff, 0xff, 0xff, 0xff, 0xff, 0xff, 0xff, 0xff, 0x01,
-            ],
-        ),
-    ];
-    for (op, memarg, bytes) in &accesses {
-        let mut out = Vec::new(alloc);
-        assert!(rt; memarg.is_aligned(), "for {bytes:?}");
-        assert!(rt;
-            InstructionSink::new(&mut out).mem(*op, *memarg).is_ok(),
-            "for {bytes:?}"
-        );
-        assert!(rt; out.as_slice() == *bytes, "for {bytes:?}");
-    }
-    let mut out = Vec::new(alloc);
-    let mut sink = InstructionSink::new(&mut out);
-    assert!(rt; sink.f32_const(1065353216).is_ok() && sink.f64_const(4607182418800017408).is_ok());
-    assert!(rt; sink.select(None).is_ok() && sink.select(Some(&[])).is_ok());
-    assert!(rt; sink.select(Some(&[ValType::I32, ValType::F64])).is_ok());
+fn plain_instructions_have_their_bytes(rt: HostRuntime) {
+    plain_rows(
+        &rt,
+        rt.alloc(),
+        &[
+            (Plain::Bare(BareOp::unreachable), &[0x00]),
+            (Plain::Bare(BareOp::nop), &[0x01]),
+            (Plain::Bare(BareOp::throw_ref), &[0x0a]),
+            (Plain::Bare(BareOp::return_), &[0x0f]),
+            (Plain::Bare(BareOp::catch_all), &[0x19]),
+            (Plain::Bare(BareOp::drop), &[0x1a]),
+            (Plain::I32(I32Op::i32_eqz), &[0x45]),
+            (Plain::I32(I32Op::i32_ge_u), &[0x4f]),
+            (Plain::I32(I32Op::i32_clz), &[0x67]),
+            (Plain::I32(I32Op::i32_rotr), &[0x78]),
+            (Plain::I32(I32Op::i32_wrap_i64), &[0xa7]),
+            (Plain::I32(I32Op::i32_trunc_f64_u), &[0xab]),
+            (Plain::I32(I32Op::i32_reinterpret_f32), &[0xbc]),
+            (Plain::I32(I32Op::i32_extend16_s), &[0xc1]),
+            (Plain::Ref(RefOp::ref_is_null), &[0xd1]),
+            (Plain::Ref(RefOp::ref_eq), &[0xd3]),
+            (Plain::Ref(RefOp::ref_as_non_null), &[0xd4]),
+            (Plain::I32(I32Op::i32_trunc_sat_f32_s), &[0xfc, 0]),
+            (Plain::I32(I32Op::i32_trunc_sat_f64_u), &[0xfc, 3]),
+        ],
+    );
+    plain_rows(
+        &rt,
+        rt.alloc(),
+        &[
+            (Plain::I64(I64Op::i64_eqz), &[0x50]),
+            (Plain::I64(I64Op::i64_ge_u), &[0x5a]),
+            (Plain::F32(F32Op::f32_eq), &[0x5b]),
+            (Plain::F32(F32Op::f32_ge), &[0x60]),
+            (Plain::F64(F64Op::f64_eq), &[0x61]),
+            (Plain::F64(F64Op::f64_ge), &[0x66]),
+            (Plain::I64(I64Op::i64_clz), &[0x79]),
+            (Plain::I64(I64Op::i64_rotr), &[0x8a]),
+            (Plain::F32(F32Op::f32_abs), &[0x8b]),
+            (Plain::F32(F32Op::f32_copysign), &[0x98]),
+            (Plain::F64(F64Op::f64_abs), &[0x99]),
+            (Plain::F64(F64Op::f64_copysign), &[0xa6]),
+            (Plain::I64(I64Op::i64_extend_i32_s), &[0xac]),
+            (Plain::I64(I64Op::i64_trunc_f64_u), &[0xb1]),
+            (Plain::F32(F32Op::f32_convert_i32_s), &[0xb2]),
+            (Plain::F32(F32Op::f32_demote_f64), &[0xb6]),
+            (Plain::F64(F64Op::f64_convert_i32_s), &[0xb7]),
+            (Plain::F64(F64Op::f64_promote_f32), &[0xbb]),
+            (Plain::I64(I64Op::i64_reinterpret_f64), &[0xbd]),
+            (Plain::F32(F32Op::f32_reinterpret_i32), &[0xbe]),
+            (Plain::F64(F64Op::f64_reinterpret_i64), &[0xbf]),
+            (Plain::I64(I64Op::i64_extend32_s), &[0xc4]),
+            (Plain::I64(I64Op::i64_trunc_sat_f32_s), &[0xfc, 4]),
+            (Plain::I64(I64Op::i64_trunc_sat_f64_u), &[0xfc, 7]),
+        ],
+    );
+}
+
+#[test]
+fn instructions_with_immediates_have_their_bytes(rt: HostRuntime) {
+    index_rows(
+        &rt,
+        rt.alloc(),
+        &[
+            (IndexOp::Throw, 1, &[0x08, 1]),
+            (IndexOp::Call, 300, &[0x10, 0xac, 0x02]),
+            (IndexOp::ReturnCall, 2, &[0x12, 2]),
+            (IndexOp::CallRef, 3, &[0x14, 3]),
+            (IndexOp::ReturnCallRef, 4, &[0x15, 4]),
+            (IndexOp::GlobalGet, 5, &[0x23, 5]),
+            (IndexOp::GlobalSet, 6, &[0x24, 6]),
+            (IndexOp::TableGet, 7, &[0x25, 7]),
+            (IndexOp::TableSet, 8, &[0x26, 8]),
+            (IndexOp::MemorySize, 0, &[0x3f, 0]),
+            (IndexOp::MemoryGrow, 9, &[0x40, 9]),
+            (IndexOp::RefFunc, 10, &[0xd2, 10]),
+            (IndexOp::DataDrop, 11, &[0xfc, 9, 11]),
+            (IndexOp::MemoryFill, 0, &[0xfc, 11, 0]),
+            (IndexOp::ElemDrop, 12, &[0xfc, 13, 12]),
+            (IndexOp::TableGrow, 13, &[0xfc, 15, 13]),
+            (IndexOp::TableSize, 14, &[0xfc, 16, 14]),
+            (IndexOp::TableFill, 128, &[0xfc, 17, 0x80, 0x01]),
+        ],
+    );
+    access_rows(
+        &rt,
+        rt.alloc(),
+        &[
+            (MemOp::i32_load, access(2, 1, 4), &[0x28, 0x42, 1, 4]),
+            (MemOp::f64_load, access(3, 0, 0), &[0x2b, 3, 0]),
+            (
+                MemOp::i32_load8_s,
+                access(0, 0, 128),
+                &[0x2c, 0, 0x80, 0x01],
+            ),
+            (MemOp::i64_load8_s, access(0, 2, 0), &[0x30, 0x40, 2, 0]),
+            (MemOp::i64_load32_u, access(63, 0, 127), &[0x35, 63, 127]),
+            (
+                MemOp::i32_store,
+                access(63, 128, 1),
+                &[0x36, 127, 0x80, 0x01, 1],
+            ),
+            (MemOp::i64_store, access(1, 0, 2), &[0x37, 1, 2]),
+            (MemOp::f64_store, access(1, 0, 2), &[0x39, 1, 2]),
+            (MemOp::i32_store8, access(1, 0, 2), &[0x3a, 1, 2]),
+            (MemOp::i32_store16, access(1, 0, 2), &[0x3b, 1, 2]),
+            (MemOp::i64_store8, access(1, 0, 2), &[0x3c, 1, 2]),
+            (
+                MemOp::i64_store32,
+                access(0, 0, 18446744073709551615),
+                &[
+                    0x3e, 0, 0xff, 0xff, 0xff, 0xff, 0xff, 0xff, 0xff, 0xff, 0xff, 0x01,
+                ],
+            ),
+        ],
+    );
+    let mut out = Vec::new(rt.alloc());
+    assert!(rt; write_others(&mut out).is_ok());
     let expected = [
-        0x43, 0, 0, 0x80, 0x3f, 0x44, 0, 0, 0, 0, 0, 0, 0xf0, 0x3f, 0x1b, 0x1c, 0, 0x1c, 2, 0x7f,
-        0x7c,
+        0xfc, 8, 0x80, 0x01, 2, 0xfc, 10, 3, 4, 0xfc, 12, 5, 6, 0xfc, 14, 7, 8, 0x43, 0, 0, 0x80,
+        0x3f, 0x44, 0, 0, 0, 0, 0, 0, 0xf0, 0x3f, 0x1b, 0x1c, 2, 0x7f, 0x7c,
     ];
     assert!(rt; out.as_slice() == expected.as_slice());
-    let mut room = Room::reserve(alloc, 3).expect(&rt, "memory");
+    let mut room = Room::reserve(rt.alloc(), 3).expect(&rt, "memory");
     assert!(rt;
         InstructionSink::new(&mut room)
             .index_pair(IndexPairOp::MemoryCopy, 1, 2)
