@@ -18,6 +18,10 @@ pub all_unmap : {A B : Type 0} (P : B → Type 0) (f : A → B) (xs : List A) �
 all_unmap P f [] h = All-nil (λ x. P (f x))
 all_unmap P f (x ∷ xs) h = All-cons (λ y. P (f y)) x xs (All-head P (f x) (map f xs) h) (all_unmap P f xs (All-tail P (f x) (map f xs) h))
 
+pub all_map : {A B : Type 0} (P : B → Type 0) (f : A → B) (xs : List A) → All (λ x. P (f x)) xs → All P (map f xs)
+all_map P f [] h = All-nil P
+all_map P f (x ∷ xs) h = All-cons P (f x) (map f xs) (All-head (λ y. P (f y)) x xs h) (all_map P f xs (All-tail (λ y. P (f y)) x xs h))
+
 -- of one and the other
 pub all_both : {A : Type 0} (P Q R : A → Type 0) → ((x : A) → P x → Q x → R x) → (xs : List A) → All P xs → All Q xs → All R xs
 all_both P Q R both [] p q = All-nil R

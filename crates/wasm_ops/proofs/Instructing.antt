@@ -20,9 +20,9 @@ use Rattle.wasm_ops.specs.Keys.{plain_key, mem_key}
 use Rattle.wasm_ops.specs.Opcodes.{opcode_of, opcode_bytes, InRangeOpcode}
 use Rattle.wasm_ops.specs.SelectInstrs.{select_instr, select_bytes}
 use Rattle.wasm_ops.specs.Sinks.{SinkRules, Writes}
-use Rattle.wasm_ops.specs.Spelling.{vec, InRangeVec, val_type, InRangeValType}
+use Rattle.wasm_ops.specs.Spelling.{InRangeU32, vec, InRangeVec, val_type, InRangeValType}
 use Rattle.wasm_ops.specs.Table.{Kind, Index, Signed32, Signed64, Bits32, Bits64, Heap, Memarg, Field, field, InRangeField, kinds_of, table, Instr, InRangeInstr, is_covered_instr, HasRow, instr}
-use Rattle.wasm_ops.proofs.Everywhere.{all_one}
+use Rattle.wasm_ops.proofs.Everywhere.{all_map, all_one, all_unmap}
 use Rattle.wasm_ops.proofs.Sinking.{puts_as, written_as}
 
 -- ---- rows
@@ -139,3 +139,9 @@ lists_covered types (Some x) h = h
 -- value types of another kind, written one after another
 pub types_spelled : {X : Type 0} (f : X → ValType) (xs : List X) → vec (λ x. val_type (f x)) xs ≡ vec val_type (map f xs)
 types_spelled f xs = rw (length-map xs f, flat_map-map val_type f xs) refl
+
+pub types_in_range : {X : Type 0} (f : X → ValType) (xs : List X) → InRangeVec (λ x. InRangeValType (f x)) xs → InRangeVec InRangeValType (map f xs)
+types_in_range f xs h = (subst InRangeU32 (sym (length-map xs f)) h.0, all_map InRangeValType f xs h.1)
+
+pub types_were_in_range : {X : Type 0} (f : X → ValType) (xs : List X) → InRangeVec InRangeValType (map f xs) → InRangeVec (λ x. InRangeValType (f x)) xs
+types_were_in_range f xs h = (subst InRangeU32 (length-map xs f) h.0, all_unmap InRangeValType f xs h.1)
