@@ -1,0 +1,42 @@
+-- The open blocks of an expression by their labels, the innermost first, and what a label denotes among them (text format,
+-- control instructions: labels).
+use Rattle.std.specs.Prelude.{ℕ, Bool, true, false, List, [], ◌∷◌, Option, Some, None}
+use Rattle.wast_base.specs.Ids.{Name}
+use Rattle.wast_base.specs.Spaces.{is_called, position_of}
+
+-- the labels of the open blocks, the innermost first; a block may have none
+abbrev pub Blocks : Type 0
+Blocks = List (Option Name)
+
+-- what a label denotes: how many open blocks were opened after the last one that has it
+abbrev pub denotes : Name → Blocks → Option ℕ
+denotes label blocks = position_of label blocks
+
+-- the blocks once the innermost one is closed
+abbrev pub closed : Blocks → Blocks
+closed [] = []
+closed (l ∷ ls) = ls
+
+-- The innermost open block has this label.
+abbrev pub is_innermost : Name → Blocks → Bool
+is_innermost label [] = false
+is_innermost label (l ∷ ls) = is_called label l
+
+-- A label may stand at an `else` or an `end` where it is that of the innermost block; where no block is open nothing is asked.
+abbrev pub expects : Option Name → Blocks → Bool
+expects None blocks = true
+expects (Some label) [] = true
+expects (Some label) (l ∷ ls) = is_called label l
+
+-- the labels that may be opened, and the open blocks
+pub record OpenBlocks : Type 0 where
+  pub known : List Name
+  pub blocks : Blocks
+
+-- one more block is open, the innermost
+abbrev pub with_open : Option Name → OpenBlocks → OpenBlocks
+with_open label s = record s { blocks = label ∷ s.blocks }
+
+-- the innermost block is closed
+abbrev pub with_closed : OpenBlocks → OpenBlocks
+with_closed s = record s { blocks = closed s.blocks }
