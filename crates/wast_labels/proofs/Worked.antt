@@ -1,0 +1,17 @@
+-- What the definitions say of a worked expression, computed.
+use Rattle.std.proofs.Common.{refl}
+use Rattle.wast_labels.specs.Turns.{stays_open}
+use Rattle.wast_labels.specs.Worked.{ThreeAreOpen, LabelsThere, EndsThere, GatheredThere}
+
+pub three_are_open : ThreeAreOpen
+unfolding stays_open
+three_are_open = (refl, refl, refl)
+
+pub labels_there : LabelsThere
+labels_there = (refl, refl, refl, refl)
+
+pub ends_there : EndsThere
+ends_there = (refl, refl, refl, refl, refl)
+
+pub gathered_there : GatheredThere
+gathered_there = (refl, refl, refl)

@@ -1,0 +1,43 @@
+-- Laws of open blocks: what is gathered, opened and closed along an expression is what counting its openers and closers gives.
+use Rattle.std.specs.Prelude.{◌≡◌, ℕ, suc, ◌≤◌, true, List, [], ◌∷◌, ◌++◌, length, drop, Option, Some, None}
+use Rattle.wast_base.specs.Ids.{Name}
+use Rattle.wast_base.specs.Spaces.{is_called}
+use Rattle.wast_labels.specs.Gathered.{no_opener, knows}
+use Rattle.wast_labels.specs.OpenBlocks.{denotes, expects}
+use Rattle.wast_labels.specs.Turns.{Turn, Opens, openers, open_blocks, open_count, IsOpen, IsLastOpen, IsLastOf, after, walked, gathered}
+
+-- As many openers are counted as there are.
+abbrev pub CountsItsOpeners : Type 0
+CountsItsOpeners = (ts : List Turn) → (gathered no_opener ts).count ≡ openers ts
+
+-- The label of each opener is known.
+abbrev pub KnowsItsLabels : Type 0
+KnowsItsLabels = (ts us : List Turn) (label : Option Name) → knows (gathered no_opener (ts ++ Opens label ∷ us)).labels label ≡ true
+
+-- One more instruction opens or closes a block, or does neither.
+abbrev pub StepsAsCounted : Type 0
+StepsAsCounted = (ts : List Turn) (t : Turn) → open_blocks (ts ++ t ∷ []) ≡ after (open_blocks ts) t
+
+-- A walk from no open block on has the blocks that are open.
+abbrev pub WalksAsCounted : Type 0
+WalksAsCounted = (ts : List Turn) → walked [] ts ≡ open_blocks ts
+
+-- No more blocks are open than there are openers.
+abbrev pub HasFewBlocks : Type 0
+HasFewBlocks = (ts : List Turn) → length (open_blocks ts) ≤ openers ts
+
+-- A label denotes how many openers of open blocks stand after the last one that has it.
+abbrev pub DenotesTheLast : Type 0
+DenotesTheLast = (ts : List Turn) (label : Name) (at : ℕ) → IsLastOf ts label at → denotes label (open_blocks ts) ≡ Some (open_count (drop (suc at) ts))
+
+-- A label denotes nothing where no open block has it.
+abbrev pub DenotesNothing : Type 0
+DenotesNothing = (ts : List Turn) (label : Name) → ((at : ℕ) → IsOpen ts (Some label) at → ⊥) → denotes label (open_blocks ts) ≡ None
+
+-- Where a block is open, a label at `else` or `end` is expected where it is that of the last opener of an open block.
+abbrev pub ExpectsTheLast : Type 0
+ExpectsTheLast = (ts : List Turn) (own : Option Name) (at : ℕ) (label : Name) → IsLastOpen ts own at → expects (Some label) (open_blocks ts) ≡ is_called label own
+
+-- Where no block is open any label is expected.
+abbrev pub ExpectsAny : Type 0
+ExpectsAny = (ts : List Turn) (label : Name) → ((at : ℕ) (l : Option Name) → IsOpen ts l at → ⊥) → expects (Some label) (open_blocks ts) ≡ true

@@ -1,0 +1,81 @@
+-- Which blocks are open at a place in an expression, by counting openers and closers (text format, control instructions).
+use Rattle.std.specs.Prelude.{◌≡◌, ℕ, zero, suc, ◌+◌, ◌<◌, nat_le, ◌&&◌, Bool, true, if◌then◌else◌, List, [], ◌∷◌, ◌++◌, length, take, drop, slice_get, Option, Some}
+use Rattle.wast_base.specs.Ids.{Name}
+use Rattle.wast_labels.specs.Gathered.{Openers, with_opener}
+use Rattle.wast_labels.specs.OpenBlocks.{Blocks, closed}
+
+-- what an instruction does to the open blocks: it opens one with its label, closes one, or does neither
+pub data Turn : Type 0 where
+  Opens : Option Name → Turn
+  Closes : Turn
+  Stays : Turn
+
+-- how many of them are openers
+abbrev pub openers : List Turn → ℕ
+openers [] = 0
+openers (Opens l ∷ ts) = openers ts + 1
+openers (Closes ∷ ts) = openers ts
+openers (Stays ∷ ts) = openers ts
+
+-- how many of them are closers
+abbrev pub closers : List Turn → ℕ
+closers [] = 0
+closers (Opens l ∷ ts) = closers ts
+closers (Closes ∷ ts) = closers ts + 1
+closers (Stays ∷ ts) = closers ts
+
+-- Each of the first n fronts has at most as many closers as openers.
+abbrev pub never_closed : List Turn → ℕ → Bool
+never_closed ts zero = true
+never_closed ts (suc n) = never_closed ts n && nat_le (closers (take (suc n) ts)) (openers (take (suc n) ts))
+
+-- A block whose opener stands right before these is open behind them.
+unfoldable pub stays_open : List Turn → Bool
+stays_open ts = never_closed ts (length ts)
+
+-- the labels of the blocks that are open behind them, the innermost first
+abbrev pub open_blocks : List Turn → Blocks
+open_blocks [] = []
+open_blocks (Opens l ∷ ts) = if stays_open ts then open_blocks ts ++ l ∷ [] else open_blocks ts
+open_blocks (Closes ∷ ts) = open_blocks ts
+open_blocks (Stays ∷ ts) = open_blocks ts
+
+-- how many of the openers are open behind them
+abbrev pub open_count : List Turn → ℕ
+open_count [] = 0
+open_count (Opens l ∷ ts) = if stays_open ts then open_count ts + 1 else open_count ts
+open_count (Closes ∷ ts) = open_count ts
+open_count (Stays ∷ ts) = open_count ts
+
+-- The instruction at a place opens a block of this label that is open behind the last instruction.
+pub record IsOpen (ts : List Turn) (label : Option Name) (at : ℕ) : Type 0 where
+  pub opener : slice_get ts at ≡ Some (Opens label)
+  pub stays : stays_open (drop (suc at) ts) ≡ true
+
+-- It is the last opener of an open block.
+pub record IsLastOpen (ts : List Turn) (label : Option Name) (at : ℕ) : Type 0 where
+  pub is_open : IsOpen ts label at
+  pub last : (r : ℕ) (l : Option Name) → at < r → IsOpen ts l r → ⊥
+
+-- It is the last opener of an open block that has this label.
+pub record IsLastOf (ts : List Turn) (label : Name) (at : ℕ) : Type 0 where
+  pub is_open : IsOpen ts (Some label) at
+  pub last : (r : ℕ) → at < r → IsOpen ts (Some label) r → ⊥
+
+-- the open blocks after one more instruction, by opening and closing
+abbrev pub after : Blocks → Turn → Blocks
+after blocks (Opens l) = l ∷ blocks
+after blocks Closes = closed blocks
+after blocks Stays = blocks
+
+-- the open blocks after instructions, one after the other
+abbrev pub walked : Blocks → List Turn → Blocks
+walked blocks [] = blocks
+walked blocks (t ∷ ts) = walked (after blocks t) ts
+
+-- the openers as they are gathered, one after the other
+abbrev pub gathered : Openers → List Turn → Openers
+gathered s [] = s
+gathered s (Opens l ∷ ts) = gathered (with_opener l s) ts
+gathered s (Closes ∷ ts) = gathered s ts
+gathered s (Stays ∷ ts) = gathered s ts
