@@ -1,5 +1,5 @@
 -- Names in another order are the same names, and each of them has a row.
-use Rattle.std.proofs.Common.{◌≡◌, ℕ, zero, suc, List, [], ◌∷◌, Option, Some, None, option_map, Result, Ok, Err, IfOk, Bool, true, false, ◌||◌, refl, sym, ap, ◌∙◌, subst, arith, inl, inr, IsPermutation}
+use Rattle.std.proofs.Common.{◌≡◌, ℕ, zero, suc, List, [], ◌∷◌, Option, Some, None, is_some, option_map, Result, Ok, Err, IfOk, cond, Bool, true, false, ◌||◌, refl, sym, ap, ◌∙◌, subst, arith, inl, inr, IsPermutation}
 use Rattle.std.specs.Cmp.{both_ways}
 use Rattle.std.specs.List.{Contains}
 use Rattle.std.proofs.lemmas.Bool.{cases_Bool}
@@ -64,3 +64,17 @@ known_row q (n ∷ ns) h = elim (cases_Bool (same_name q n)) [
 pub table_if : {E : Type 0} (xs ys : List Id) (r : Result OpenBlocks E) → IsPermutation xs ys → IfOk r (λ s. s ≡ record { known = names_of ys; blocks = [] }) → IfOk r (IsTable (names_of xs))
 table_if xs ys (Ok s) moved h = table_of xs ys s moved h
 table_if xs ys (Err e) moved h = tt
+
+-- the names that are there are those that have a row
+has_row_later : (o : Option ℕ) → is_some (option_map suc o) ≡ is_some o
+has_row_later None = refl
+has_row_later (Some r) = refl
+
+first_has_row : (b c : Bool) (o : Option ℕ) → is_some o ≡ c → is_some (cond b (Some 0) (option_map suc o)) ≡ (b || c)
+first_has_row true c o h = refl
+first_has_row false c o h = has_row_later o ∙ h
+
+pub has_row : (q : Name) (names : List Name) → is_some (row_of q names) ≡ is_among q names
+has_row q [] = refl
+has_row q (n ∷ ns) =
+    ap is_some (position_head (same_name q) (same_name q n) n ns refl) ∙ first_has_row (same_name q n) (is_among q ns) (row_of q ns) (has_row q ns)

@@ -1,6 +1,6 @@
 //! The open blocks of an expression, by their labels.
 
-ghost use Rattle.std.specs.Prelude.{◌≡◌, ◌+◌, ◌<◌, ◌^◌, [], length, Some, reverse, slice_get, IsTrue, IfOk, OnOk, OnErr};
+ghost use Rattle.std.specs.Prelude.{◌≡◌, ◌+◌, ◌<◌, ◌≤◌, ◌^◌, ◌↔◌, [], length, Some, reverse, slice_get, IsTrue, IfOk, OnOk, OnErr};
 ghost use Rattle.wast_base.specs.Ids.{name_of, marked};
 ghost use Rattle.wast_base.specs.Spaces.{name_if, is_called};
 ghost use Rattle.wast_labels.specs.Asked.{numbered, denoted, Outcome, unknown_label, wrong_label};
@@ -65,10 +65,27 @@ impl<'a> Labels<'a> {
         })
     }
 
+    /// Whether a block of this label may be opened: its label was gathered, or it has none. It takes no memory.
+    pub fn knows(&self, label: Option<Id<'a>>) -> bool
+        ensures { result ≡ knows self.now.known (name_if (marked label.entry)) }
+    {
+        match label {
+            Some(id) => first_row(&self.ids, &id).is_some(),
+            None => true,
+        }
+    }
+
+    /// Whether 4,294,967,295 blocks are open, so that no further one can be numbered. It takes no memory.
+    pub fn is_full(&self) -> bool
+        ensures { IsTrue result ↔ (2 ^ 32 ≤ length self.now.blocks + 1) }
+    {
+        self.blocks.len() >= u32::MAX as usize
+    }
+
     /// Opens a block: it is the innermost from then on.
     ///
-    /// It needs a label that was gathered, or none, and fewer than 4,294,967,295 open blocks. Where memory is refused
-    /// nothing changes.
+    /// It needs a label that was gathered, or none, as [`knows`](Labels::knows) tells, and fewer than 4,294,967,295 open
+    /// blocks, as [`is_full`](Labels::is_full) tells. Where memory is refused nothing changes.
     pub fn open(&mut self, label: Option<Id<'a>>) -> Result<(), AllocError>
         requires known { IsTrue (knows self.old.known (name_if (marked label))) }
         requires room { length self.old.blocks + 1 < 2 ^ 32 }

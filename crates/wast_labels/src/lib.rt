@@ -10,3 +10,6 @@ mod order;
 pub use gathering::LabelNames;
 pub use labels::Labels;
 pub use laws::{expecting_law, gathering_law, walking_law};
+
+#[cfg(test)]
+mod tests;
