@@ -152,3 +152,12 @@ few_blocks [] = omega arith
 few_blocks (Opens l ∷ ts) = one_longer (stays_open ts) l (open_blocks ts) (openers ts) (few_blocks ts)
 few_blocks (Closes ∷ ts) = few_blocks ts
 few_blocks (Stays ∷ ts) = few_blocks ts
+
+openers_behind : (ts us : List Turn) → openers (ts ++ us) ≡ openers ts + openers us
+openers_behind [] us = omega arith
+openers_behind (Opens l ∷ ts) us = omega (arith, openers_behind ts us)
+openers_behind (Closes ∷ ts) us = openers_behind ts us
+openers_behind (Stays ∷ ts) us = openers_behind ts us
+
+pub room_for_one : (ts us : List Turn) (label : Option Name) → length (open_blocks ts) + 1 ≤ openers (ts ++ Opens label ∷ us)
+room_for_one ts us label = omega (arith, few_blocks ts, openers_behind ts (Opens label ∷ us))

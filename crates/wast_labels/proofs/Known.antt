@@ -47,3 +47,9 @@ known_from s (Stays ∷ ts) us (Some q) = known_from s ts us (Some q)
 
 pub knows_labels : (ts us : List Turn) (label : Option Name) → knows (gathered no_opener (ts ++ Opens label ∷ us)).labels label ≡ true
 knows_labels ts us label = known_from no_opener ts us label
+
+pub in_order : (s : Openers) (ts us : List Turn) → gathered s (ts ++ us) ≡ gathered (gathered s ts) us
+in_order s [] us = refl
+in_order s (Opens l ∷ ts) us = in_order (with_opener l s) ts us
+in_order s (Closes ∷ ts) us = in_order s ts us
+in_order s (Stays ∷ ts) us = in_order s ts us

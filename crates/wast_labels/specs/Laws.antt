@@ -1,5 +1,5 @@
 -- Laws of open blocks: what is gathered, opened and closed along an expression is what counting its openers and closers gives.
-use Rattle.std.specs.Prelude.{◌≡◌, ℕ, suc, ◌≤◌, true, List, [], ◌∷◌, ◌++◌, length, drop, Option, Some, None}
+use Rattle.std.specs.Prelude.{◌≡◌, ℕ, suc, ◌+◌, ◌≤◌, true, List, [], ◌∷◌, ◌++◌, length, drop, Option, Some, None}
 use Rattle.wast_base.specs.Ids.{Name}
 use Rattle.wast_base.specs.Spaces.{is_called}
 use Rattle.wast_labels.specs.Gathered.{no_opener, knows}
@@ -9,6 +9,10 @@ use Rattle.wast_labels.specs.Turns.{Turn, Opens, openers, open_blocks, open_coun
 -- As many openers are counted as there are.
 abbrev pub CountsItsOpeners : Type 0
 CountsItsOpeners = (ts : List Turn) → (gathered no_opener ts).count ≡ openers ts
+
+-- Openers are gathered in their order.
+abbrev pub GathersInOrder : Type 0
+GathersInOrder = (ts us : List Turn) → gathered no_opener (ts ++ us) ≡ gathered (gathered no_opener ts) us
 
 -- The label of each opener is known.
 abbrev pub KnowsItsLabels : Type 0
@@ -25,6 +29,10 @@ WalksAsCounted = (ts : List Turn) → walked [] ts ≡ open_blocks ts
 -- No more blocks are open than there are openers.
 abbrev pub HasFewBlocks : Type 0
 HasFewBlocks = (ts : List Turn) → length (open_blocks ts) ≤ openers ts
+
+-- Where an opener stands there is room for its block.
+abbrev pub HasRoom : Type 0
+HasRoom = (ts us : List Turn) (label : Option Name) → length (open_blocks ts) + 1 ≤ openers (ts ++ Opens label ∷ us)
 
 -- A label denotes how many openers of open blocks stand after the last one that has it.
 abbrev pub DenotesTheLast : Type 0

@@ -1,24 +1,28 @@
 //! What holds of the open blocks of each expression.
 
-ghost use Rattle.wast_labels.specs.Laws.{CountsItsOpeners, KnowsItsLabels, StepsAsCounted, WalksAsCounted, HasFewBlocks, DenotesTheLast, DenotesNothing, ExpectsTheLast, ExpectsAny};
+ghost use Rattle.wast_labels.specs.Laws.{CountsItsOpeners, GathersInOrder, KnowsItsLabels, StepsAsCounted, WalksAsCounted, HasFewBlocks, HasRoom, DenotesTheLast, DenotesNothing, ExpectsTheLast, ExpectsAny};
 
-/// The laws of gathering: of all openers of an expression as many are counted as there are, and the label of each is known.
+/// The laws of gathering: the openers of an expression are gathered in their order, as many are counted as there are, and the
+/// label of each is known.
 ///
 /// It does nothing: what it ensures holds for each list of instructions, seen as what they do to the open blocks.
 pub fn gathering_law()
+    ensures order { GathersInOrder }
     ensures count { CountsItsOpeners }
     ensures known { KnowsItsLabels }
 {}
 
 /// The laws of walking (text format, control instructions: labels): a walk that opens a block at each opener and closes one
-/// at each closer has, at each place, the blocks that are open there; they are no more than the openers; and a label denotes
-/// the number of open blocks whose openers stand after the last opener of its open blocks.
+/// at each closer has, at each place, the blocks that are open there; they are no more than the openers, and where an
+/// opener stands they are fewer than all openers of the expression; and a label denotes the number of open blocks whose
+/// openers stand after the last opener of its open blocks.
 ///
 /// It does nothing: what it ensures holds for each list of instructions, seen as what they do to the open blocks.
 pub fn walking_law()
     ensures step { StepsAsCounted }
     ensures walk { WalksAsCounted }
     ensures few { HasFewBlocks }
+    ensures room { HasRoom }
     ensures denotes { DenotesTheLast }
     ensures denotes_nothing { DenotesNothing }
 {}
