@@ -58,8 +58,10 @@ fn many_labels_are_told_apart(rt: HostRuntime) {
     }
     let mut labels = names.table(rt.alloc()).expect(&rt, "memory");
     open_each(&rt, &mut labels, &texts);
-    for n in 0..10000u32 {
-        let number = labels.denotes(&id(texts[n as usize].as_str()));
-        assert!(rt; number == Some(9999 - n));
+    let mut want = 10000u32;
+    for text in &texts {
+        assert!(rt; want > 0);
+        want -= 1;
+        assert!(rt; labels.denotes(&id(text.as_str())) == Some(want));
     }
 }
