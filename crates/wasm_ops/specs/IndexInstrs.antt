@@ -9,6 +9,7 @@ use Rattle.wasm_ops.specs.declared.instrs.IndexPairOp.TheVariants as pairs
 
 -- the key of an instruction with an index
 abbrev pub index_key : IndexOp → ℕ
+index_key ops.Catch = 0x07
 index_key ops.Throw = 0x08
 index_key ops.Call = 0x10
 index_key ops.ReturnCall = 0x12

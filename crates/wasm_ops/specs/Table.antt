@@ -113,7 +113,7 @@ rows_of (run ∷ runs) = consecutive run.0 run.1 run.2 ++ rows_of runs
 unfoldable pub table : List Row
 table = rows_of (
     (0x00, 2, [])  -- unreachable, nop
-    ∷ (0x08, 1, Index ∷ [])  -- throw
+    ∷ (0x07, 2, Index ∷ [])  -- catch, throw
     ∷ (0x0a, 1, [])  -- throw_ref
     ∷ (0x0f, 1, [])  -- return
     ∷ (0x10, 1, Index ∷ [])  -- call

@@ -24,8 +24,10 @@ use wast_base::{MemOp, Plain};
 /// An instruction whose one immediate is an index (binary format, instructions). The number of a variant is its key.
 #[derive(Clone, Copy, Debug, PartialEq, Eq)]
 pub enum IndexOp {
+    /// `catch`, of a tag
+    Catch = 0x07,
     /// `throw`, of a tag
-    Throw = 0x08,
+    Throw,
     /// `call`, of a function
     Call = 0x10,
     /// `return_call`, of a function
@@ -221,7 +223,7 @@ impl Encode for F64Const {
 }
 
 /// A load or a store: `i32.load offset=4` (binary format, memory instructions).
-#[derive(Clone, Copy, Debug)]
+#[derive(Clone, Copy, Debug, PartialEq, Eq)]
 pub struct MemInstr {
     /// Which instruction it is.
     pub op: MemOp,

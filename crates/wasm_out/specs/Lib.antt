@@ -6,7 +6,7 @@ pub mod DataSegments
 pub mod ElementSegments
 pub mod WorkedBytes
 pub mod WorkedInstrs
-pub mod NameSubsections
+pub mod NameSectionBytes
 pub mod Parts
 pub mod Readable
 pub mod Reads

@@ -4,7 +4,7 @@
 ///
 /// The number of a variant is its key: its opcode, or 65536 times its prefix byte and the number behind that.
 #[allow(non_camel_case_types)]
-#[derive(Clone, Copy, Debug)]
+#[derive(Clone, Copy, Debug, PartialEq, Eq)]
 pub enum MemOp {
     /// `i32.load`
     i32_load = 0x28,

@@ -4,7 +4,7 @@
 ///
 /// The number of a variant is its key: its opcode, or 65536 times its prefix byte and the number behind that.
 #[allow(non_camel_case_types)]
-#[derive(Clone, Copy, Debug)]
+#[derive(Clone, Copy, Debug, PartialEq, Eq)]
 pub enum BareOp {
     /// `unreachable`
     unreachable = 0x00,
@@ -24,7 +24,7 @@ pub enum BareOp {
 ///
 /// The number of a variant is its key: its opcode, or 65536 times its prefix byte and the number behind that.
 #[allow(non_camel_case_types)]
-#[derive(Clone, Copy, Debug)]
+#[derive(Clone, Copy, Debug, PartialEq, Eq)]
 pub enum I32Op {
     /// `i32.eqz`
     i32_eqz = 0x45,
@@ -114,7 +114,7 @@ pub enum I32Op {
 ///
 /// The number of a variant is its key: its opcode, or 65536 times its prefix byte and the number behind that.
 #[allow(non_camel_case_types)]
-#[derive(Clone, Copy, Debug)]
+#[derive(Clone, Copy, Debug, PartialEq, Eq)]
 pub enum I64Op {
     /// `i64.eqz`
     i64_eqz = 0x50,
@@ -208,7 +208,7 @@ pub enum I64Op {
 ///
 /// The number of a variant is its key: its opcode, or 65536 times its prefix byte and the number behind that.
 #[allow(non_camel_case_types)]
-#[derive(Clone, Copy, Debug)]
+#[derive(Clone, Copy, Debug, PartialEq, Eq)]
 pub enum F32Op {
     /// `f32.eq`
     f32_eq = 0x5b,
@@ -268,7 +268,7 @@ pub enum F32Op {
 ///
 /// The number of a variant is its key: its opcode, or 65536 times its prefix byte and the number behind that.
 #[allow(non_camel_case_types)]
-#[derive(Clone, Copy, Debug)]
+#[derive(Clone, Copy, Debug, PartialEq, Eq)]
 pub enum F64Op {
     /// `f64.eq`
     f64_eq = 0x61,
@@ -328,7 +328,7 @@ pub enum F64Op {
 ///
 /// The number of a variant is its key: its opcode, or 65536 times its prefix byte and the number behind that.
 #[allow(non_camel_case_types)]
-#[derive(Clone, Copy, Debug)]
+#[derive(Clone, Copy, Debug, PartialEq, Eq)]
 pub enum RefOp {
     /// `ref.is_null`
     ref_is_null = 0xd1,
@@ -339,7 +339,7 @@ pub enum RefOp {
 }
 
 /// An instruction that has no immediate, by the first word of its text (text format, instructions).
-#[derive(Clone, Copy, Debug)]
+#[derive(Clone, Copy, Debug, PartialEq, Eq)]
 pub enum Plain {
     /// One whose text has no dot.
     Bare(BareOp),

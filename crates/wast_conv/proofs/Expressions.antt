@@ -1,11 +1,10 @@
 -- Instructions that the encoder takes are spelled as rows of the table that it covers.
-use native.Mathlib.Omega.{arith}
 use Rattle.std.proofs.Common.{◌≡◌, ℕ, true, List, [], ◌∷◌, ◌++◌, map, Result, subst, inl, inr, refl, sym, ap, ◌∙◌}
-use Rattle.std.specs.Prelude.{All}
+use Rattle.std.specs.Prelude.{All, option_map}
 use Rattle.std.specs.List.{flat_map, list_all}
 use Rattle.std.proofs.lemmas.List.Elements.{All-map}
 use Rattle.std.proofs.lemmas.List.Folds.{flat_map-map}
-use Rattle.wast_tree.specs.Sites.{in_heap}
+use Rattle.wast_tree.specs.Sites.{in_heap, in_select}
 use Rattle.wast_base.specs.declared.faults.Error.{Error}
 use Rattle.wasm_ops.specs.ConstExprs.{expression, is_covered_expression, InRangeExpression}
 use Rattle.wasm_ops.specs.declared.sink.Refusal.{Refusal}
@@ -13,6 +12,7 @@ use Rattle.wasm_ops.specs.Sinks.{SinkRules, Writes}
 use Rattle.wasm_ops.specs.Table.{instr, instrs, is_covered_instr, HasRow, InRangeInstr, SpellsInstrs, kinds_of, table}
 use Rattle.wasm_ops.proofs.Everywhere.{all_each, all_unmap}
 use Rattle.wasm_ops.proofs.ExpressionCodes.{is_expression}
+use Rattle.wasm_ops.proofs.Instructing.{plain_row, mem_row, select_row}
 use Rattle.wasm_ops.proofs.Sinking.{written_as}
 use Rattle.wasm_out.specs.Built.{IsRefused}
 use Rattle.wast_conv.specs.Tree.{Instruction, Expression}
@@ -21,18 +21,22 @@ use Rattle.wast_conv.specs.Encodable.{is_encodable_instr, is_encodable_expressio
 use Rattle.wast_conv.specs.Meaning as meaning
 use Rattle.wast_conv.proofs.EachPasses.{both_true, each_becomes}
 use Rattle.wast_conv.proofs.Standing.{asking_passes, ready_instrs}
-use Rattle.wast_conv.proofs.TypesReady.{heap_covered}
+use Rattle.wast_conv.proofs.TypesReady.{heap_covered, select_covered}
 
 -- each instruction is a row of the table
 instr_row : (i : Instruction) → HasRow (meaning.as_instr i)
 unfolding kinds_of table
-instr_row i = grind (arith)
+instr_row (instruction.Plain op) = plain_row op
+instr_row (instruction.Mem op m) = mem_row op
+instr_row (instruction.select t) = select_row (option_map (map meaning.as_val_type) t.tys)
+instr_row i = refl
 
 pub instrs_rows : (is : List Instruction) → All HasRow (map meaning.as_instr is)
 instrs_rows is = All-map HasRow meaning.as_instr is (all_each (λ i. HasRow (meaning.as_instr i)) instr_row is)
 
 -- those that the encoder takes are covered
 instr_covered : (i : Instruction) → is_encodable_instr i ≡ true → is_covered_instr (meaning.as_instr i) ≡ true
+instr_covered (instruction.select t) e = select_covered t (sym (asking_passes (in_select t)) ∙ e)
 instr_covered (instruction.ref_null h) e = both_true _ true (heap_covered h (sym (asking_passes (in_heap h)) ∙ e)) refl
 instr_covered i e = refl
 

@@ -4,6 +4,7 @@ pub mod Ready
 pub mod TypesReady
 pub mod EntitiesReady
 pub mod Expressions
+pub mod MemArgs
 pub mod Spelled
 pub mod Segmented
 pub mod SegmentsReady

@@ -1,5 +1,5 @@
 -- Parts of the tree that are spelled one after another are spelled as their lists are.
-use Rattle.std.proofs.Common.{◌≡◌, ◌==◌, ◌&&◌, Option, ℕ, Bool, true, false, length, map, List, [], ◌∷◌, ◌++◌, Result, refl, sym, ap, ◌∙◌, subst}
+use Rattle.std.proofs.Common.{◌≡◌, ◌==◌, ◌&&◌, Option, ℕ, Bool, true, false, length, map, List, [], ◌∷◌, ◌++◌, append-nil, Result, refl, sym, ap, ◌∙◌, subst}
 use Rattle.std.specs.Prelude.{All, None, Some, unwrap_or}
 use Rattle.std.specs.List.{flat_map}
 use Rattle.std.proofs.lemmas.List.Folds.{flat_map-map}
@@ -10,6 +10,7 @@ use Rattle.wasm_ops.specs.Leb128.{unsigned}
 use Rattle.wasm_ops.specs.Sinks.{SinkRules, Writes}
 use Rattle.wasm_ops.specs.declared.types.ValType as ops
 use Rattle.wasm_ops.specs.Spelling.{InRangeU32, vec, InRangeVec, val_type, InRangeValType, func_type, InRangeFuncType, composite_inner_type, InRangeCompositeInnerType, sub_bytes, sub_type, InRangeSubType}
+use Rattle.wasm_ops.specs.SelectInstrs.{select_instr}
 use Rattle.wasm_ops.specs.Table.{instr, InRangeInstr}
 use Rattle.wasm_ops.proofs.Everywhere.{all_unmap}
 use Rattle.wasm_ops.proofs.Sinking.{written_as}
@@ -46,6 +47,13 @@ list_written rules a b byte spell InRange f xs ys r e p =
     written_as rules (Unit {0} × InRangeVec (λ x. InRange (f x)) xs) (InRangeVec InRange (map f ys)) a b (byte ∷ vec (λ x. spell (f x)) xs) (byte ∷ vec spell (map f ys)) r
     (λ h. in_range_mapped InRange f ys (subst (InRangeVec (λ x. InRange (f x))) e h.1)) (λ h. (tt, subst (InRangeVec (λ x. InRange (f x))) (sym e) (in_range_unmapped InRange f ys h)))
     (ap (λ zs. byte ∷ vec (λ x. spell (f x)) zs) e ∙ ap (λ (bs : List ℕ). byte ∷ bs) (vec_mapped spell f ys)) p
+
+-- the choice between two operands, of the bytes of its types
+pub select_written : {S A : Type 0} (rules : SinkRules S) (a b : S) (ts : List ops.ValType) (r : Result A Refusal)
+    → Writes rules (InRangeVec InRangeValType ts) a b (0x1c ∷ vec val_type ts) r → Writes rules (InRangeInstr (select_instr (Some ts))) a b (instr (select_instr (Some ts))) r
+select_written rules a b ts r p =
+    written_as rules (InRangeVec InRangeValType ts) (InRangeInstr (select_instr (Some ts))) a b (0x1c ∷ vec val_type ts) (instr (select_instr (Some ts))) r
+    (λ h. (h, tt)) (λ i. i.0) (ap (λ (bytes : List ℕ). 0x1c ∷ bytes) (sym (append-nil (vec val_type ts)))) p
 
 -- a function type, of lists of its parameters and results
 pub function_written : {S A : Type 0} (rules : SinkRules S) (a b : S) (t : FunctionType) (ps : List (Option Id × Option NameAnnotation × ValType)) (rs : List ValType) (r : Result A Refusal) → ps ≡ t.params → rs ≡ t.results

@@ -5,10 +5,12 @@ use Rattle.std.specs.Prelude.{not, is_none, Option, Some, None, option_map}
 use Rattle.std.specs.List.{flat_map, list_all}
 use Rattle.std.proofs.lemmas.Grind.{common_steps}
 use Rattle.wast_base.specs.Ids.{is_number}
-use Rattle.wast_tree.specs.Sites.{Ask, Supported, if_there, in_index, in_heap, in_val, in_storage, in_param, in_signature, in_struct_field, in_descriptor, in_inner, in_def, in_type, in_rec, in_local}
+use Rattle.wast_tree.specs.Sites.{Ask, Supported, if_there, in_index, in_heap, in_val, in_select, in_storage, in_param, in_signature, in_struct_field, in_descriptor, in_inner, in_def, in_type, in_rec, in_local}
 use Rattle.wast_tree.specs.Resolved.{are_numbered}
+use Rattle.wasm_ops.specs.SelectInstrs.{select_instr}
+use Rattle.wasm_ops.specs.Table.{is_covered_instr}
 use Rattle.wasm_ops.specs.Covered.{is_covered_heap_type, is_covered_val_type, is_covered_storage_type, is_covered_field_type, is_covered_composite_inner_type, is_covered_sub_type}
-use Rattle.wast_conv.specs.Tree.{Id, Index, NameAnnotation, HeapType, ValType, StorageType, StructField, FunctionType, InnerTypeKind, TypeDef, Rec, Local}
+use Rattle.wast_conv.specs.Tree.{Id, Index, NameAnnotation, HeapType, ValType, StorageType, StructField, FunctionType, InnerTypeKind, TypeDef, Rec, SelectTypes, Local}
 use Rattle.wast_conv.specs.Tree.heap
 use Rattle.wast_conv.specs.Tree.inner
 use Rattle.wast_conv.specs.Tree.space
@@ -53,6 +55,17 @@ heap_covered (heap.Concrete i) e = refl
 
 pub val_covered : (t : ValType) → are_encodable (in_val t) ≡ true → is_covered_val_type (meaning.as_val_type t) ≡ true
 val_covered t e = grind (arith, common_steps, heap_covered)
+
+-- the types of what `select` gives
+select_all : (ts : List ValType) → are_encodable (flat_map in_val ts) ≡ true → list_all is_covered_val_type (map meaning.as_val_type ts) ≡ true
+select_all ts e = each_becomes (λ v. are_encodable (in_val v)) meaning.as_val_type is_covered_val_type val_covered ts (sym (each_passes is_encodable_ask in_val ts) ∙ e)
+
+pub select_covered : (t : SelectTypes) → are_encodable (in_select t) ≡ true → is_covered_instr (select_instr (option_map (map meaning.as_val_type) t.tys)) ≡ true
+select_covered t e = of_types t.tys e
+  where
+    of_types : (o : Option (List ValType)) → are_encodable (if_there (flat_map in_val) o) ≡ true → is_covered_instr (select_instr (option_map (map meaning.as_val_type) o)) ≡ true
+    of_types None e = refl
+    of_types (Some ts) e = both_true _ true (select_all ts e) refl
 
 pub storage_covered : (t : StorageType) → are_encodable (in_storage t) ≡ true → is_covered_storage_type (meaning.as_storage_type t) ≡ true
 storage_covered t e = grind (arith, common_steps, val_covered)

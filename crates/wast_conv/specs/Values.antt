@@ -1,4 +1,5 @@
 -- Parts of the tree as values of the binary format, with their numbers (binary format: types, instructions).
+use Rattle.std.specs.Int.{w64, trailing_zeros}
 use Rattle.std.specs.Prelude.{ℕ, Bool, true, List, [], map, Option, Some, None, unwrap_or, option_map}
 use Rattle.wast_conv.specs.Tree as tree
 use Rattle.wast_conv.specs.Tree.{Index, StructField, FunctionType, TypeUse, InnerTypeKind, TypeDef, ItemKind, Instruction, Expression, Local, FuncKind}
@@ -10,6 +11,7 @@ use Rattle.wast_conv.specs.Tree.storage
 use Rattle.wast_conv.specs.Tree.inner
 use Rattle.wast_conv.specs.Tree.tag
 use Rattle.wast_conv.specs.Tree.kind as item
+use Rattle.wast_conv.specs.Tree.target
 use Rattle.wast_conv.specs.Tree.instr as instruction
 use Rattle.wast_conv.specs.Tree.func
 use Rattle.wast_conv.specs.Tree.export
@@ -37,10 +39,16 @@ use Rattle.wasm_ops.specs.declared.entities.GlobalType.{GlobalType}
 use Rattle.wasm_ops.specs.declared.entities.TagType.{TagType}
 use Rattle.wasm_ops.specs.declared.entities.EntityType.{EntityType}
 use Rattle.wasm_ops.specs.declared.entities.EntityType.TheVariants as entity
-use Rattle.wasm_ops.specs.declared.instrs.IndexOp.TheVariants.{Call, GlobalGet, RefFunc}
-use Rattle.wasm_ops.specs.ConstantInstrs.{i32_const_instr, i64_const_instr, ref_null_instr}
-use Rattle.wasm_ops.specs.IndexInstrs.{index_instr}
+use Rattle.wasm_ops.specs.declared.memargs.MemArg.{MemArg}
+use Rattle.wasm_ops.specs.declared.memargs.MemArgTarget.{MemArgTarget}
+use Rattle.wasm_ops.specs.declared.memargs.MemArgTarget.TheVariants as out_target
+use Rattle.wasm_ops.specs.declared.instrs.IndexOp.TheVariants as op
+use Rattle.wasm_ops.specs.declared.instrs.IndexPairOp.TheVariants as pair
+use Rattle.wasm_ops.specs.ConstantInstrs.{i32_const_instr, i64_const_instr, f32_const_instr, f64_const_instr, ref_null_instr}
+use Rattle.wasm_ops.specs.IndexInstrs.{index_instr, index_pair_instr}
+use Rattle.wasm_ops.specs.MemoryInstrs.{mem_instr}
 use Rattle.wasm_ops.specs.PlainInstrs.{plain_instr}
+use Rattle.wasm_ops.specs.SelectInstrs.{select_instr}
 use Rattle.wasm_ops.specs.Table.{Instr}
 use Rattle.wasm_out.specs.Bodies.{Body}
 
@@ -151,15 +159,47 @@ as_entity_type (item.Memory t) = entity.Memory (as_memory_type t)
 as_entity_type (item.Global t) = entity.Global (as_global_type t)
 as_entity_type (item.Tag t) = entity.Tag (as_tag_type t)
 
--- an instruction, as its row of the table with its numbers
+-- the memory that a memory argument reads or writes
+abbrev pub as_mem_arg_target : tree.MemArgTarget → MemArgTarget
+as_mem_arg_target (target.Memory i) = out_target.Memory (number i)
+
+-- a memory argument: its alignment is 2 to what is written
+abbrev pub as_mem_arg : tree.MemArg → MemArg
+as_mem_arg m = record { align = trailing_zeros w64 m.align; target = as_mem_arg_target m.target; offset = m.offset }
+
+-- an instruction, as a row of the table with its numbers
 abbrev pub as_instr : Instruction → Instr
-as_instr (instruction.Plain op) = plain_instr op
-as_instr (instruction.call f) = index_instr Call (number f)
-as_instr (instruction.global_get g) = index_instr GlobalGet (number g)
+as_instr (instruction.Plain o) = plain_instr o
+as_instr (instruction.Mem o m) = mem_instr o (as_mem_arg m)
+as_instr (instruction.catch i) = index_instr op.Catch (number i)
+as_instr (instruction.throw i) = index_instr op.Throw (number i)
+as_instr (instruction.call i) = index_instr op.Call (number i)
+as_instr (instruction.return_call i) = index_instr op.ReturnCall (number i)
+as_instr (instruction.call_ref i) = index_instr op.CallRef (number i)
+as_instr (instruction.return_call_ref i) = index_instr op.ReturnCallRef (number i)
+as_instr (instruction.select t) = select_instr (option_map (map as_val_type) t.tys)
+as_instr (instruction.global_get i) = index_instr op.GlobalGet (number i)
+as_instr (instruction.global_set i) = index_instr op.GlobalSet (number i)
+as_instr (instruction.table_get a) = index_instr op.TableGet (number a.dst)
+as_instr (instruction.table_set a) = index_instr op.TableSet (number a.dst)
+as_instr (instruction.table_init a) = index_pair_instr pair.TableInit (number a.elem) (number a.table)
+as_instr (instruction.elem_drop i) = index_instr op.ElemDrop (number i)
+as_instr (instruction.table_copy a) = index_pair_instr pair.TableCopy (number a.dst) (number a.src)
+as_instr (instruction.table_grow a) = index_instr op.TableGrow (number a.dst)
+as_instr (instruction.table_size a) = index_instr op.TableSize (number a.dst)
+as_instr (instruction.table_fill a) = index_instr op.TableFill (number a.dst)
+as_instr (instruction.memory_size a) = index_instr op.MemorySize (number a.mem)
+as_instr (instruction.memory_grow a) = index_instr op.MemoryGrow (number a.mem)
+as_instr (instruction.memory_init a) = index_pair_instr pair.MemoryInit (number a.segment) (number a.mem)
+as_instr (instruction.data_drop i) = index_instr op.DataDrop (number i)
+as_instr (instruction.memory_copy a) = index_pair_instr pair.MemoryCopy (number a.dst) (number a.src)
+as_instr (instruction.memory_fill a) = index_instr op.MemoryFill (number a.mem)
 as_instr (instruction.i32_const n) = i32_const_instr n
 as_instr (instruction.i64_const n) = i64_const_instr n
+as_instr (instruction.f32_const n) = f32_const_instr n.bits
+as_instr (instruction.f64_const n) = f64_const_instr n.bits
 as_instr (instruction.ref_null h) = ref_null_instr (as_heap_type h)
-as_instr (instruction.ref_func f) = index_instr RefFunc (number f)
+as_instr (instruction.ref_func i) = index_instr op.RefFunc (number i)
 
 -- the instructions of a constant expression
 abbrev pub as_expression : Expression → List Instr

@@ -7,7 +7,7 @@ use Rattle.std.proofs.lemmas.Grind.{common_steps}
 use mathlib.Core.Path.{fun_ext}
 use Rattle.wasm_ops.proofs.Everywhere.{all_both}
 use Rattle.wasm_out.specs.NameSectionBytes.{InRangeNameSubsection}
-use Rattle.wasm_out.specs.Parts.{SectionKind, Part, part, InRangePart}
+use Rattle.wasm_out.specs.Parts.{SectionKind, Data, Part, part, InRangePart}
 use Rattle.wasm_out.specs.Reads.{header}
 use Rattle.wast_tree.specs.Generations.{greatest_generation}
 use Rattle.wast_map.specs.Mapped.{mapped}
@@ -23,10 +23,12 @@ use Rattle.wast_core.specs.declared.slots.Slot.TheVariants as slot
 use Rattle.wast_core.specs.Slots.{section_kind, order}
 use Rattle.wast_names.specs.ModuleNames.{name_subsections}
 use Rattle.wast_names.specs.NamesPart.{names_part}
+use Rattle.wast_core.specs.DataCounts.{count_parts}
 use Rattle.wast_core.specs.Meaning.{Contribution, start_part, starts_in, contributed, of_kind, entries_in, entries, listed, in_slot, parts}
 use Rattle.wast_core.specs.Bounded.{InRangeHeld, InRangeSlot, InRangeModule, IsWritable}
 use Rattle.wast_core.specs.Headline.{IsMet}
 use Rattle.wast_core.specs.Laws.{MeansWhatIsWritten}
+use Rattle.wast_core.proofs.Counting.{same_need}
 use Rattle.wast_core.proofs.Stripping.{type_told, group_told, import_told, use_told, body_told, table_told, global_type_stays, value_told, mode_told, items_told, place_told, tag_told}
 use Rattle.wast_core.proofs.StrippedNames.{keeps_names}
 use Rattle.wast_names.proofs.Each.{each_like}
@@ -44,6 +46,7 @@ module _ (name : Option (List ℕ)) where
   same_slot : (xs : List ModuleField) (s : Slot) → in_slot name (all_mapped stripping xs) s ≡ in_slot name xs s
   same_slot xs (slot.Section kind) = ap (listed (section_kind kind)) (same_entries (section_kind kind) xs)
   same_slot xs slot.Start = each_like (mapped stripping) starts_in starts_in (λ x. ap (λ (c : Contribution). map start_part c.starts) (same_contributed x)) xs
+  same_slot xs slot.DataCount = λ i. count_parts (same_need stripping xs i) (length (same_entries Data xs i))
   same_slot xs slot.Names = ap names_part (same_subsections (mapped stripping) keeps_names name xs)
   same_slot xs s = refl
 

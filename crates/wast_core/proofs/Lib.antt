@@ -1,3 +1,4 @@
+pub mod Counting
 pub mod Stripping
 pub mod ByPosition
 pub mod Encoded
@@ -10,5 +11,6 @@ pub mod Listed
 pub mod Worked
 pub mod EntriesComputed
 pub mod AbbreviationsComputed
+pub mod CountsComputed
 pub mod Sizes
 pub mod Measuring

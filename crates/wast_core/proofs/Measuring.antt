@@ -4,7 +4,8 @@ use Rattle.std.proofs.lemmas.Bool.{eqb-true}
 use Rattle.wasm_out.specs.Parts.{SectionKind, Types, Imports, Functions, Tables, Memories, Tags, Globals, Exports, Elements, Code, Data}
 use Rattle.wast_core.specs.Tree.{ModuleField}
 use Rattle.wast_conv.specs.Encodable.{is_encodable}
-use Rattle.wast_core.specs.Extents.{payload_of, IsExtent, is_extent}
+use Rattle.wast_core.specs.DataCounts.{needs_count}
+use Rattle.wast_core.specs.Extents.{payload_of, IsExtent, is_extent, is_counted}
 use Rattle.wast_core.specs.Measured.{is_measured}
 use Rattle.wast_core.specs.Meaning.{entries}
 use Rattle.wast_names.specs.FoundNames.{text_seen}
@@ -12,6 +13,7 @@ use Rattle.wast_names.specs.ModuleNames.{name_subsections}
 use Rattle.wast_names.specs.NamesPart.{names_payload_of}
 use Rattle.wast_core.specs.declared.sections.BinaryModule.{BinaryModule}
 use Rattle.wast_conv.proofs.EachPasses.{both_pass}
+use Rattle.wast_core.proofs.Counting.{as_told}
 use Rattle.wast_reach.specs.Reaches.{are_reaches}
 
 extent_is : (k : SectionKind) (fields : List ModuleField) (count size : ℕ) → is_extent k fields count size ≡ true → IsExtent k fields count size
@@ -32,6 +34,7 @@ pub record Extents (m : BinaryModule) : Type 0 where
   pub elements : IsExtent Elements m.fields.now m.elements.count m.elements.size
   pub code : IsExtent Code m.fields.now m.code.count m.code.size
   pub «data» : IsExtent Data m.fields.now m.«data».count m.«data».size
+  pub counts : m.is_counted ≡ needs_count m.fields.now
   pub names : m.names ≡ length (names_payload_of (name_subsections (text_seen m.name) m.fields.now))
 
 pub measured_extents : (m : BinaryModule) → is_measured m ≡ true → Extents m
@@ -49,6 +52,7 @@ measured_extents m h =
     let of_elements = both_pass (is_extent Elements fields m.elements.count m.elements.size) _ of_exports.1 in
     let of_code = both_pass (is_extent Code fields m.code.count m.code.size) _ of_elements.1 in
     let of_data = both_pass (is_extent Data fields m.«data».count m.«data».size) _ of_code.1 in
+    let of_counts = both_pass (is_counted fields m.is_counted) _ of_data.1 in
     record {
       reaches = of_reaches.0;
       types = extent_is Types fields m.types.count m.types.size of_types.0;
@@ -62,5 +66,6 @@ measured_extents m h =
       elements = extent_is Elements fields m.elements.count m.elements.size of_elements.0;
       code = extent_is Code fields m.code.count m.code.size of_code.0;
       «data» = extent_is Data fields m.«data».count m.«data».size of_data.0;
-      names = eqb-true m.names (length (names_payload_of (name_subsections (text_seen m.name) fields))) of_data.1;
+      counts = as_told fields m.is_counted of_counts.0;
+      names = eqb-true m.names (length (names_payload_of (name_subsections (text_seen m.name) fields))) of_counts.1;
     }

@@ -1,5 +1,5 @@
 -- The bytes of an encoded module are read as its parts.
-use Rattle.std.proofs.Common.{◌≡◌, ◌<◌, ℕ, true, List, [], ◌∷◌, map, Option, Some, None, option_map, refl}
+use Rattle.std.proofs.Common.{◌≡◌, ◌<◌, ℕ, Bool, true, false, List, [], ◌∷◌, map, length, Option, Some, None, option_map, refl}
 use Rattle.std.specs.Prelude.{All, IsTrue, codes}
 use Rattle.std.specs.List.{flat_map}
 use Rattle.std.specs.Str.{is_utf8}
@@ -9,7 +9,7 @@ use lib.Utf8.{encode}
 use Rattle.wasm_ops.proofs.Everywhere.{all_each, all_one, all_both, all_tested, all_in_flat}
 use Rattle.wast_tree.specs.Sites.{in_rec, in_import, in_table_type, in_global_type}
 use Rattle.wasm_out.specs.NameSectionBytes.{NameSubsection}
-use Rattle.wasm_out.specs.Parts.{SectionKind, Types, Imports, Functions, Tables, Memories, Tags, Globals, Exports, Elements, Code, Data, Single, Entry, Listed, InRangePart}
+use Rattle.wasm_out.specs.Parts.{SectionKind, Types, Imports, Functions, Tables, Memories, Tags, Globals, Exports, Elements, Code, Data, Single, Entry, Listed, DataCount, InRangePart}
 use Rattle.wasm_out.specs.Readable.{is_covered_init, HasRowsInit, is_covered_entry, HasRows, HasUtf8Name, IsReadable, IsReadablePart}
 use Rattle.wasm_out.specs.Reads.{Reads}
 use Rattle.wast_core.specs.Tree.{Index, Expression, FuncKind, Func, GlobalType, ImportItems, TableKind, Table, Memory, GlobalKind, Global, Tag, Rec, Export, Elem, ModuleField}
@@ -25,6 +25,7 @@ use Rattle.wast_core.specs.declared.slots.Slot.TheVariants as slot
 use Rattle.wast_core.specs.Bounded.{bytes_of, InRangeSlot, InRangeModule}
 use Rattle.wast_conv.specs.Encodable.{are_encodable, are_entered, is_encodable_type, is_encodable_kind, is_encodable_import, is_encodable_init, is_encodable_table_kind, is_encodable_table, is_encodable_global_kind, is_encodable_global, is_encodable_elem, is_encodable_data, is_encodable_field, is_encodable}
 use Rattle.wast_conv.specs.FieldEntries.{imported, table_of, value_of}
+use Rattle.wast_core.specs.DataCounts.{needs_count, count_parts}
 use Rattle.wast_core.specs.Meaning as meaning
 use Rattle.wast_core.specs.Meaning.{Contribution, of_type, of_rec, of_import, of_func, of_table, of_memory, of_global, of_export, of_start, of_elem, of_data, of_tag, of_kind, contributed, entries_in, entries, listed, start_part, starts_in, in_slot, parts}
 use Rattle.wast_core.specs.Utf8Names.{HasUtf8Items, HasUtf8Names}
@@ -164,6 +165,10 @@ listed_readable k (x ∷ xs) h = all_one IsReadablePart (record { kind = Listed 
 starts_readable : (fields : List ModuleField) → All IsReadablePart (flat_map starts_in fields)
 starts_readable fields = all_in_flat IsReadablePart starts_in fields (all_each (λ f. All IsReadablePart (starts_in f)) (λ f. All-map IsReadablePart start_part (contributed f).starts (all_each (λ n. IsReadablePart (start_part n)) (λ n. tt) (contributed f).starts)) fields)
 
+counts_readable : (needed : Bool) (n : ℕ) → All IsReadablePart (count_parts needed n)
+counts_readable true n = all_one IsReadablePart (record { kind = DataCount; items = n }) tt
+counts_readable false n = All-nil IsReadablePart
+
 name_is_text : is_utf8 (codes "name") ≡ true
 unfolding encode
 name_is_text = is_utf8-from_IsUtf8 (codes "name") (codes "name", (refl, refl))
@@ -179,7 +184,7 @@ slot_readable name fields e h (slot.Section k) = listed_readable (section_kind k
 slot_readable name fields e h slot.BeforeStart = All-nil IsReadablePart
 slot_readable name fields e h slot.Start = starts_readable fields
 slot_readable name fields e h slot.AfterStart = All-nil IsReadablePart
-slot_readable name fields e h slot.DataCount = All-nil IsReadablePart
+slot_readable name fields e h slot.DataCount = counts_readable (needs_count fields) (length (entries Data fields))
 slot_readable name fields e h slot.Hints = All-nil IsReadablePart
 slot_readable name fields e h (slot.After k) = All-nil IsReadablePart
 slot_readable name fields e h slot.AfterLast = All-nil IsReadablePart

@@ -1,5 +1,5 @@
 -- How long a module is, of how long the payloads of its sections are.
-use Rattle.std.proofs.Common.{◌≡◌, ◌<◌, ◌≤◌, ◌+◌, ℕ, List, [], ◌∷◌, ◌++◌, length, Option, Result, sym, ap, ◌∙◌, arith, length-append, take}
+use Rattle.std.proofs.Common.{◌≡◌, ◌<◌, ◌≤◌, ◌+◌, ℕ, Bool, List, [], ◌∷◌, ◌++◌, length, Option, Result, sym, ap, ◌∙◌, arith, length-append, take}
 use Rattle.std.specs.Prelude.{All, codes}
 use Rattle.std.specs.List.{flat_map}
 use Rattle.std.proofs.lemmas.Bool.{ne_eqb}
@@ -12,15 +12,17 @@ use Rattle.wasm_ops.proofs.Everywhere.{flat_one, flat_in_flat, all_in_flat, all_
 use Rattle.wasm_ops.proofs.Sinking.{written_as}
 use Rattle.wasm_ops.proofs.Numbers.{unsigned_fits, unsigned-nonempty}
 use Rattle.wasm_out.specs.NameSectionBytes.{NameSubsection, name_subsection, name_payload}
-use Rattle.wasm_out.specs.Parts.{SectionKind, Entry, entry, Custom, Listed, Part, part, InRangePart, section_id, section}
+use Rattle.wasm_out.specs.Parts.{SectionKind, Data, Entry, entry, Custom, Listed, Part, part, InRangePart, section_id, section}
 use Rattle.wasm_out.specs.Reads.{header}
 use Rattle.wast_core.specs.Tree.{ModuleField}
 use Rattle.wast_core.specs.Bounded.{bytes_of}
 use Rattle.wast_core.specs.Extents.{payload_of, IsExtent, section_size}
 use Rattle.wast_names.specs.FoundNames.{counted}
-use Rattle.wast_core.specs.Meaning.{entries, listed, start_part, in_slot, parts}
+use Rattle.wast_core.specs.DataCounts.{needs_count, count_parts}
+use Rattle.wast_core.specs.Meaning.{entries, listed, data_counts, in_slot, parts}
 use Rattle.wast_names.specs.NamesPart.{names_part, names_payload_of}
 use Rattle.wast_core.specs.Slots.{order}
+use Rattle.wast_core.proofs.Counting.{counts_are}
 
 -- a length in range has at most five bytes
 pub narrow : (n : ℕ) → n < 4294967296 → length (unsigned n) ≤ 5
@@ -58,12 +60,17 @@ listed_counted k fields count size bytes e is le = short bytes le ∙ ap counted
 pub names_counted : (subsections : List NameSubsection) (size bytes : ℕ) → size ≡ length (names_payload_of subsections) → bytes ≡ section_size size → bytes ≤ 4294967306 → bytes ≡ counted (length (flat_map part (names_part subsections)))
 names_counted subsections size bytes e is le = short bytes le ∙ ap counted (is ∙ sym (names_part_size subsections size e))
 
--- a start section: its id, one byte for its length, and a number
-pub start_size : (n width : ℕ) → n < 4294967296 → width ≡ length (unsigned n) → 2 + width ≡ length (flat_map part (start_part n ∷ []))
-start_size n width lt is =
+-- a section of one number: its id, one byte for its length, and the number
+pub number_size : (here : Part) (id n width : ℕ) → part here ≡ section id (unsigned n) → n < 4294967296 → width ≡ length (unsigned n) → 2 + width ≡ length (flat_map part (here ∷ []))
+number_size here id n width one lt is =
     let bytes = unsigned n in
     let fits = narrow n lt in
-    omega (arith, ap (λ (bs : List ℕ). length bs) (flat_one part (start_part n)), length-append (unsigned (length bytes)) bytes, unsigned_fits 0 (length bytes) (omega arith), unsigned-nonempty (length bytes))
+    omega (arith, ap (λ (bs : List ℕ). length bs) (flat_one part here ∙ one), length-append (unsigned (length bytes)) bytes, unsigned_fits 0 (length bytes) (omega arith), unsigned-nonempty (length bytes))
+
+-- a data count is counted whole
+pub counts_counted : (fields : List ModuleField) (needed : Bool) (count bytes : ℕ) → needed ≡ needs_count fields → count ≡ length (entries Data fields) → bytes ≡ length (flat_map part (count_parts needed count)) → bytes ≤ 7
+    → bytes ≡ counted (length (flat_map part (data_counts fields)))
+counts_counted fields needed count bytes told same is le = short bytes (omega (arith, le)) ∙ ap counted (is ∙ ap (λ (ps : List Part). length (flat_map part ps)) (counts_are fields needed count told same))
 
 -- so many bytes, and those of one more
 pub bytes_more : (before one all : List ℕ) (sum size : ℕ) → all ≡ before ++ one → sum ≡ counted (length before) → size ≡ counted (length one) → counted (sum + size) ≡ counted (length all)

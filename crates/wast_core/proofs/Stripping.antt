@@ -7,10 +7,12 @@ use Rattle.wast_base.specs.Ids.{Mark}
 use Rattle.wast_tree.specs.Sites.{Here, start, behind, local_marks, body_here}
 use Rattle.wast_map.specs.Mapped.{mapped_heap, mapped_ref, mapped_def, mapped_type, mapped_table_type, mapped_global_type, mapped_tag_type, mapped_instr, mapped_instrs, mapped_constant, mapped_local, mapped_func_kind, mapped_item_kind, mapped_import_items, mapped_payload, mapped_table_kind, mapped_global_kind, mapped_elem_kind, mapped_data_kind}
 use Rattle.wast_map.proofs.Types.{heap_at, ref_at, val_at, type_at, table_type_at, global_type_at}
+use Rattle.wast_map.proofs.Fields.{mem_arg_at, select_at}
 use Rattle.wast_resolve.specs.Stripped.{at_start, stripped_use, stripping}
 use Rattle.wast_core.specs.Tree.{Index, TypeUse, FunctionType, HeapType, RefType, TableType, GlobalType, TagType, ItemKind, ImportItems, Instruction, Expression, Local, FuncKind, TableKind, GlobalKind, ElemKind, ElemPayload, DataKind}
 use Rattle.wast_core.specs.Tree.index
 use Rattle.wast_core.specs.Tree.ty
+use Rattle.wast_core.specs.Tree.instr
 use Rattle.wast_core.specs.Tree.func
 use Rattle.wast_conv.specs.FieldEntries.{imported, table_of, value_of}
 use Rattle.wast_core.specs.Meaning.{number, as_val_type, as_sub_type, type_index, as_tag_type, as_entity_type, as_instr, as_expression, as_body, as_element_mode, as_element_items, as_data_mode}
@@ -62,6 +64,8 @@ import_told i = grind (arith, common_steps, entity_told)
 
 -- Bodies.
 instr_told : (h : Here) (i : Instruction) → as_instr (mapped_instr stripping h i) ≡ as_instr i
+instr_told h (instr.Mem op m) = ap (λ n. as_instr (instr.Mem op n)) (mem_arg_at m).still
+instr_told h (instr.select t) = ap (λ u. as_instr (instr.select u)) (select_at t).still
 instr_told h i = grind (arith, common_steps, heap_stays)
 
 instrs_told : (h : Here) (is : List Instruction) → map as_instr (mapped_instrs stripping h is) ≡ map as_instr is

@@ -1,9 +1,10 @@
--- How long the sections of a module are, as it is told before they are written.
-use Rattle.std.specs.Prelude.{◌≡◌, ◌==◌, ◌&&◌, ◌+◌, ℕ, Bool, List, [], ◌∷◌, length, Option, if◌then◌else◌}
+-- How long the sections of a module are, and whether it has a data count, as it is told before they are written.
+use Rattle.std.specs.Prelude.{◌≡◌, ◌==◌, ◌&&◌, ◌+◌, ℕ, Bool, true, false, not, List, [], ◌∷◌, length, Option, if◌then◌else◌}
 use Rattle.wasm_ops.specs.Leb128.{unsigned}
 use Rattle.wasm_ops.specs.Spelling.{vec}
 use Rattle.wasm_out.specs.Parts.{SectionKind, Entry, entry}
 use Rattle.wast_core.specs.Tree.{ModuleField}
+use Rattle.wast_core.specs.DataCounts.{needs_count}
 use Rattle.wast_core.specs.Meaning.{entries}
 use Rattle.wast_names.specs.ModuleNames.{name_subsections}
 use Rattle.wast_names.specs.NamesPart.{names_payload_of}
@@ -25,6 +26,11 @@ is_extent kind fields count size = (count == length (entries kind fields)) && (s
 -- the name section of a module with this name has so many bytes behind its length
 abbrev pub is_names_size : Option (List ℕ) → List ModuleField → ℕ → Bool
 is_names_size name fields size = size == length (names_payload_of (name_subsections name fields))
+
+-- it is told rightly whether these fields need a data count
+abbrev pub is_counted : List ModuleField → Bool → Bool
+is_counted fields true = needs_count fields
+is_counted fields false = not (needs_count fields)
 
 -- how long a section is, of how long its payload is
 abbrev pub section_size : ℕ → ℕ

@@ -1,3 +1,4 @@
+pub mod DataCounts
 pub mod Slots
 pub mod Uncovered
 pub mod Bounded
@@ -9,6 +10,7 @@ pub mod Utf8Names
 pub mod WorkedMeanings
 pub mod WorkedEntries
 pub mod WorkedAbbreviations
+pub mod WorkedCounts
 pub mod Tree
 pub mod Wats
 pub mod Writing

@@ -1,5 +1,5 @@
 -- What a text module means: its parts, in the order of the sections, with the numbers of its resolved list (binary format, modules).
-use Rattle.std.specs.Prelude.{ℕ, List, [], ◌∷◌, map, Option}
+use Rattle.std.specs.Prelude.{ℕ, List, [], ◌∷◌, map, length, Option}
 use Rattle.std.specs.List.{flat_map}
 use Rattle.wast_core.specs.Tree as tree
 use Rattle.wast_core.specs.Tree.{Rec, Func, Table, Memory, Global, Tag, Export, Index, Elem, ModuleField}
@@ -17,6 +17,7 @@ use Rattle.wast_names.specs.ModuleNames.{name_subsections}
 use Rattle.wast_names.specs.NamesPart.{names_part}
 use Rattle.wast_core.specs.declared.slots.Slot.{Slot}
 use Rattle.wast_core.specs.declared.slots.Slot.TheVariants as slot
+use Rattle.wast_core.specs.DataCounts.{needs_count, count_parts}
 use Rattle.wast_core.specs.Slots.{section_kind, order}
 pub use Rattle.wast_conv.specs.Values.{number, as_abstract_type, as_heap_type, as_ref_type, as_val_type, as_storage_type, as_field_type, as_struct_type, as_array_type, as_func_type, as_inner_type, as_sub_type, type_index, as_table_type, as_memory_type, as_global_type, as_tag_type, as_entity_type, as_instr, as_expression, body_of, as_body, as_export_kind}
 pub use Rattle.wast_conv.specs.FieldEntries.{as_group, as_import, as_table, as_memory, as_global, as_tag, as_export, as_element_items, as_element_mode, as_element, as_data_mode, as_data}
@@ -151,6 +152,10 @@ start_part n = record { kind = Start; items = n }
 abbrev pub starts_in : ModuleField → List Part
 starts_in f = map start_part (contributed f).starts
 
+-- where a body needs it, one section tells how many segments of data there are
+abbrev pub data_counts : List ModuleField → List Part
+data_counts fields = count_parts (needs_count fields) (length (entries Data fields))
+
 -- the parts in a place of a module with this name, of these fields
 abbrev pub in_slot : Option (List ℕ) → List ModuleField → Slot → List Part
 in_slot name fields slot.BeforeFirst = []
@@ -159,7 +164,7 @@ in_slot name fields (slot.Section kind) = listed (section_kind kind) (entries (s
 in_slot name fields slot.BeforeStart = []
 in_slot name fields slot.Start = flat_map starts_in fields
 in_slot name fields slot.AfterStart = []
-in_slot name fields slot.DataCount = []
+in_slot name fields slot.DataCount = data_counts fields
 in_slot name fields slot.Hints = []
 in_slot name fields (slot.After kind) = []
 in_slot name fields slot.AfterLast = []

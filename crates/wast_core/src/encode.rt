@@ -11,7 +11,7 @@ ghost use Rattle.wast_core.specs.Meaning.{parts};
 ghost use Rattle.wast_core.specs.Modules.{IsReady};
 ghost use Rattle.wast_core.specs.Utf8Names.{HasUtf8Names};
 ghost use Rattle.wast_names.specs.FoundNames.{text_seen};
-ghost use Rattle.wast_core.specs.Writing.{IsEncodable, IsAtRest, EncodesResolved, PutsModule};
+ghost use Rattle.wast_core.specs.Writing.{IsEncodable, IsAtRest, EncodesResolved, PutsFields, PutsModule};
 
 use crate::covered;
 use crate::module::{Module, ModuleKind};
@@ -38,6 +38,24 @@ fn encode_fields<'e>(
     binary.encode(&mut room)?;
     let bytes = room.finish();
     Ok(bytes)
+}
+
+/// Appends the bytes of a module with this name, of these resolved fields, to a sink.
+fn put_fields<'e, S: Sink>(
+    name: Option<&str>,
+    fields: &[ModuleField],
+    out: &mut S,
+) -> Result<(), Error<'e>>
+    requires { IsTrue (is_encodable fields.now) }
+    ensures { PutsFields S.rules (text_seen name.entry) fields.now out.old out.new result }
+{
+    match covered::uncovered(fields) {
+        Some(form) => Err(Error::refusal(Fault::Uncovered(form))),
+        None => {
+            let binary = BinaryModule::of(name, fields)?;
+            Ok(binary.encode(out)?)
+        }
+    }
 }
 
 /// The pieces of a binary module, one after another.
@@ -114,13 +132,7 @@ impl EncodeOptions {
     {
         let name = given_name(&module.name, &module.id);
         match &module.kind {
-            ModuleKind::Text(fields) => match covered::uncovered(fields.as_slice()) {
-                Some(form) => Err(Error::refusal(Fault::Uncovered(form))),
-                None => {
-                    let module = BinaryModule::of(name, fields.as_slice())?;
-                    Ok(module.encode(out)?)
-                }
-            },
+            ModuleKind::Text(fields) => put_fields(name, fields.as_slice(), out),
             ModuleKind::Binary(_) | ModuleKind::Refused(_) => unreachable!(),
         }
     }

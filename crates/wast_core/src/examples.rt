@@ -3,6 +3,7 @@
 ghost use Rattle.wast_core.specs.WorkedMeanings.{Row1, Row2, Row8, Row24, Row27, AnnotatedFunction, SecondNamed, LongSection};
 ghost use Rattle.wast_core.specs.WorkedAbbreviations.{Row4, Row5, Row6, Row44};
 ghost use Rattle.wast_core.specs.WorkedEntries.{ImportedEntities, MemoryAndData, TableAndElements, TwoStarts};
+ghost use Rattle.wast_core.specs.WorkedCounts.{CountedData, CountedNone, UncountedData};
 
 /// The modules of the rows 1 and 27 are bounded and read from their bytes; an implied type is written without a
 /// name, also beside a group; a written number stays; a name annotation stands before an id; an item without a name
@@ -34,4 +35,12 @@ pub(crate) fn worked_abbreviations()
     ensures row5 { Row5 }
     ensures row6 { Row6 }
     ensures row44 { Row44 }
+{}
+
+/// Where a body needs it, a data count stands before the code, and tells how many segments of data there are, be there none;
+/// where no body needs it, there is none.
+pub(crate) fn worked_counts()
+    ensures counted { CountedData }
+    ensures none { CountedNone }
+    ensures uncounted { UncountedData }
 {}

@@ -1,6 +1,7 @@
 //! Modules of the text format, and their encoding as binary modules.
 #![tactic(auto)]
 
+mod counts;
 mod covered;
 mod encode;
 mod entries;

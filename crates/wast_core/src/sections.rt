@@ -12,6 +12,7 @@ ghost use Rattle.wast_core.specs.Meaning.{in_slot};
 ghost use Rattle.wast_names.specs.FoundNames.{counted, text_seen};
 ghost use Rattle.wast_core.specs.Slots.{section_kind};
 
+use crate::counts::{count_size, is_counted, put_count};
 use crate::entries::{Extent, extent_of, put_section, put_starts, start_fields, starts_size};
 use crate::slots::{ORDER, SectionKind, Slot};
 use wasm_ops::{Each, Encode, Raw, Refusal, Sink, Spell, width};
@@ -20,8 +21,8 @@ use wast_names::{names_size, put_names};
 use wast_reach::Reaches;
 use wast_tree::ModuleField;
 
-/// A binary module, by the name and the resolved fields of the text module, where those of each kind stand, and how long its
-/// sections are.
+/// A binary module, by the name and the resolved fields of the text module, where those of each kind stand, how long its
+/// sections are, and whether a data count stands in it.
 #[derive(Clone, Copy)]
 pub(crate) struct BinaryModule<'b, 'a> {
     name: Option<&'b str>,
@@ -38,6 +39,7 @@ pub(crate) struct BinaryModule<'b, 'a> {
     elements: Extent,
     code: Extent,
     data: Extent,
+    is_counted: bool,
     names: u32,
 }
 
@@ -79,6 +81,7 @@ impl<'b, 'a> BinaryModule<'b, 'a> {
             elements: extent_of(SectionKind::Elements, fields, &reaches)?,
             code: extent_of(SectionKind::Code, fields, &reaches)?,
             data: extent_of(SectionKind::Data, fields, &reaches)?,
+            is_counted: is_counted(fields, &reaches),
             names: names_size(name, fields, &reaches)?,
         })
     }
@@ -111,9 +114,10 @@ impl<'b, 'a> BinaryModule<'b, 'a> {
         match slot {
             Slot::Section(kind) => section_size(self.extent(*kind).size),
             Slot::Start => starts_size(start_fields(self.fields, &self.reaches)),
+            Slot::DataCount => count_size(self.is_counted, self.data.count),
             Slot::Names => section_size(self.names),
             Slot::BeforeFirst | Slot::Before(_) | Slot::After(_) | Slot::AfterLast => 0,
-            Slot::BeforeStart | Slot::AfterStart | Slot::DataCount | Slot::Hints => 0,
+            Slot::BeforeStart | Slot::AfterStart | Slot::Hints => 0,
         }
     }
 
@@ -154,9 +158,10 @@ impl Spell<Slot> for BinaryModule<'_, '_> {
                 put_section(*kind, self.fields, &self.reaches, self.extent(*kind), out)
             }
             Slot::Start => put_starts(start_fields(self.fields, &self.reaches), out),
+            Slot::DataCount => put_count(self.is_counted, self.data.count, out),
             Slot::Names => put_names(self.name, self.fields, &self.reaches, self.names, out),
             Slot::BeforeFirst | Slot::Before(_) | Slot::After(_) | Slot::AfterLast => Ok(()),
-            Slot::BeforeStart | Slot::AfterStart | Slot::DataCount | Slot::Hints => Ok(()),
+            Slot::BeforeStart | Slot::AfterStart | Slot::Hints => Ok(()),
         }
     }
 }

@@ -53,7 +53,7 @@ impl SectionKind {
 }
 
 /// A place for sections in a module. Custom sections, which stand around the others, and branch hints are not in the
-/// tree yet: their places are empty. So is that of a data count, which no instruction of the tree asks for.
+/// tree yet: their places are empty.
 #[derive(Clone, Copy)]
 pub(crate) enum Slot {
     /// Custom sections before all others.
@@ -68,7 +68,7 @@ pub(crate) enum Slot {
     Start,
     /// Custom sections directly behind the start sections.
     AfterStart,
-    /// A data count.
+    /// A data count, where a body needs it.
     DataCount,
     /// Branch hints.
     Hints,

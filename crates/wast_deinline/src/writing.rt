@@ -50,9 +50,30 @@ pub fn run<'a>(
     ensures at_rest { IsTrue (is_written_out fields.entry) → IsOk result }
     ensures rising { gensym.old ≤ gensym.new }
 {
-    if is_written_out(fields.as_slice()) {
+    if is_at_rest(&fields) {
         return Ok(fields);
     }
+    replaced(alloc, fields, gensym)
+}
+
+/// Whether nothing stands in place.
+fn is_at_rest(fields: &Seq<ModuleField<'_>>) -> bool
+    ensures { result ≡ is_written_out fields.now }
+{
+    is_written_out(fields.as_slice())
+}
+
+/// The fields that stand for these, which are let go.
+fn replaced<'a>(
+    alloc: Global,
+    fields: Seq<ModuleField<'a>>,
+    gensym: &mut Gensym,
+) -> Result<Seq<ModuleField<'a>>, Error<'a>>
+    ensures list { IfOk result (λ out. out ≡ written_out_from gensym.old fields.entry) }
+    ensures counted { OnOk result (gensym.new ≡ gensym.old + references_wanted fields.entry) }
+    ensures refusal { IfErr result (CannotBeWritten gensym.old fields.entry) }
+    ensures rising { gensym.old ≤ gensym.new }
+{
     let mut fields = fields;
     let written = written_fields(alloc, &mut fields, gensym);
     discard_fields(fields);

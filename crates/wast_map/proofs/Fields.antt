@@ -1,14 +1,16 @@
 -- The laws of the map at each instruction and each field.
-use Rattle.std.specs.Prelude.{◌==◌, ◌&&◌, not, Option, Some, None, option_map, length}
+use Rattle.std.specs.Int.{is_power_of_two}
+use Rattle.std.specs.Prelude.{is_none, ◌==◌, ◌&&◌, not, Option, Some, None, option_map, length}
 use Rattle.std.proofs.Common.{◌≡◌, List, [], ◌∷◌, ◌++◌, refl, sym, ap, ◌∙◌, map, arith}
 use Rattle.std.specs.List.{flat_map}
 use Rattle.std.proofs.lemmas.Grind.{common_steps}
 use Rattle.std.proofs.lemmas.List.{map-append}
 use Rattle.wast_base.specs.Ids.{Name, Mark, marked}
 use Rattle.wast_base.specs.Spaces.{name_if}
-use Rattle.wast_map.specs.Tree.{Id, Index, RefType, HeapType, TableType, GlobalType, TypeUse, FunctionType, Instruction, Expression, Local, FuncKind, Func, ItemKind, ImportItems, TableKind, MemoryKind, GlobalKind, ElemKind, ElemPayload, Elem, DataKind, TagType, ModuleField, ValType}
+use Rattle.wast_map.specs.Tree.{Id, Index, RefType, HeapType, TableType, GlobalType, TypeUse, FunctionType, MemArg, MemArgTarget, SelectTypes, Instruction, Expression, Local, FuncKind, Func, ItemKind, ImportItems, TableKind, MemoryKind, GlobalKind, ElemKind, ElemPayload, Elem, DataKind, TagType, ModuleField, ValType}
 use Rattle.wast_map.specs.Tree.space
 use Rattle.wast_map.specs.Tree.heap
+use Rattle.wast_map.specs.Tree.target
 use Rattle.wast_map.specs.Tree.instr
 use Rattle.wast_map.specs.Tree.func
 use Rattle.wast_map.specs.Tree.kind
@@ -21,10 +23,22 @@ use Rattle.wast_map.specs.Tree.payload
 use Rattle.wast_map.specs.Tree.data_kind
 use Rattle.wast_map.specs.Tree.field
 use Rattle.wast_tree.specs.Clauses.{is_func_heap, suits}
-use Rattle.wast_tree.specs.Sites.{Here, start, Site, Asked, Declared, Clause, Supported, after, after_all, asking, at_index, if_there, in_heap, in_instr, behind, in_instrs, in_expression, in_constant, in_local, local_marks, param_marks, declaring, body_here, in_func_kind, in_use, in_func, in_item_kind, in_import, exported_space, in_payload, in_table_kind, in_memory_kind, in_global_kind, in_elem_kind, in_elem, in_data_kind, in_field}
-use Rattle.wast_map.specs.Mapped.{Change, same, mapped_site, KeepsMarks, Joins, AreJoint, Each, mapped_heap, mapped_instr, mapped_instrs, mapped_expression, mapped_constant, mapped_local, mapped_func_kind, mapped_func, mapped_item_kind, mapped_import_items, mapped_payload, mapped_table_kind, mapped_global_kind, mapped_elem_kind, mapped_elem, mapped_data_kind, mapped}
-use Rattle.wast_map.proofs.Ways.{In, At, each_first, each_rest, index_at, mark_in, asked_at, item_id_at, use_at, fixed_at, both_at, made_at, tested_at, behind_at, option_at, list_at}
+use Rattle.wast_tree.specs.Sites.{Here, start, Site, Asked, Declared, Clause, Supported, after, after_all, asking, at_index, if_there, in_heap, in_target, in_mem_arg, in_select, in_instr, behind, in_instrs, in_expression, in_constant, in_local, local_marks, param_marks, declaring, body_here, in_func_kind, in_use, in_func, in_item_kind, in_import, exported_space, in_payload, in_table_kind, in_memory_kind, in_global_kind, in_elem_kind, in_elem, in_data_kind, in_field}
+use Rattle.wast_map.specs.Mapped.{Change, same, mapped_site, KeepsMarks, Joins, AreJoint, Each, mapped_heap, mapped_target, mapped_mem_arg, mapped_select, mapped_instr, mapped_instrs, mapped_expression, mapped_constant, mapped_local, mapped_func_kind, mapped_func, mapped_item_kind, mapped_import_items, mapped_payload, mapped_table_kind, mapped_global_kind, mapped_elem_kind, mapped_elem, mapped_data_kind, mapped}
+use Rattle.wast_map.proofs.Ways.{In, At, each_first, each_rest, index_in, index_at, mark_in, asked_at, item_id_at, use_at, fixed_at, both_at, made_at, tested_at, behind_at, option_at, list_at}
 use Rattle.wast_map.proofs.Types.{heap_at, ref_at, val_at, type_at, rec_at, table_type_at, global_type_at, tag_type_at}
+
+-- what a memory argument reads or writes, and the argument
+target_at : (t : MemArgTarget) → In in_target (λ f. mapped_target f.index) t
+target_at (target.Memory i) = made_at target.Memory (λ y. refl) (λ f y. refl) i (index_in space.Memory i)
+
+pub mem_arg_at : (m : MemArg) → In in_mem_arg (λ f. mapped_mem_arg f.index) m
+mem_arg_at m =
+    made_at (λ (t : MemArgTarget). record m { target = t }) (λ y. refl) (λ f y. refl) m.target
+    (tested_at m.target (Clause 1 (is_power_of_two m.align) ∷ Supported (is_none m.ordering) ∷ []) (λ f. refl) (target_at m.target))
+
+pub select_at : (t : SelectTypes) → In in_select (λ f. mapped_select f.index) t
+select_at t = made_at (λ (o : Option (List ValType)). record { tys = o }) (λ y. refl) (λ f y. refl) t.tys (option_at (list_at val_at) t.tys)
 
 -- An instruction: a tactic goes through the variants, with one line for each kind of immediates that has parts of its own.
 module _ (f : Change) (k : KeepsMarks f) where
@@ -32,6 +46,8 @@ module _ (f : Change) (k : KeepsMarks f) where
   heap_stands t = (asked_at t (heap_at t)).stands f k
 
   instr_stands : (h : Here) (i : Instruction) → in_instr h (mapped_instr f h i) ≡ map (mapped_site f) (in_instr h i)
+  instr_stands h (instr.Mem op m) = (asked_at m (mem_arg_at m)).stands f k
+  instr_stands h (instr.select t) = (asked_at t (select_at t)).stands f k
   instr_stands h i = grind (arith, common_steps, heap_stands)
 
 module _ (x g f : Change) (j : AreJoint x g f) where
@@ -39,12 +55,16 @@ module _ (x g f : Change) (j : AreJoint x g f) where
   heap_joins t e = (asked_at t (heap_at t)).joins x g f j e
 
   instr_joins : (h : Here) (i : Instruction) → Each (Joins x g f) (in_instr h i) → mapped_instr g h (mapped_instr x h i) ≡ mapped_instr f h i
+  instr_joins h (instr.Mem op m) e = ap (instr.Mem op) ((asked_at m (mem_arg_at m)).joins x g f j e)
+  instr_joins h (instr.select t) e = ap instr.select ((asked_at t (select_at t)).joins x g f j e)
   instr_joins h i e = grind (arith, common_steps, heap_joins)
 
 heap_still : (t : HeapType) → mapped_heap same.index t ≡ t
 heap_still t = (heap_at t).still
 
 instr_still : (h : Here) (i : Instruction) → mapped_instr same h i ≡ i
+instr_still h (instr.Mem op m) = ap (instr.Mem op) (mem_arg_at m).still
+instr_still h (instr.select t) = ap instr.select (select_at t).still
 instr_still h i = grind (arith, common_steps, heap_still)
 
 instr_at : (h : Here) (i : Instruction) → At (in_instr h) (λ f. mapped_instr f h) i

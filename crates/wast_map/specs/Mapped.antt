@@ -2,13 +2,14 @@
 -- uses, identifiers).
 use Rattle.std.specs.Prelude.{⊤, ◌≡◌, List, [], ◌∷◌, ◌++◌, map, Option, option_map}
 use Rattle.wast_base.specs.Ids.{Mark}
-use Rattle.wast_map.specs.Tree.{Id, Index, NameAnnotation, Space, RefType, HeapType, ValType, StorageType, StructField, StructType, ArrayType, FunctionType, TypeUse, InnerTypeKind, TypeDef, Rec, Instruction, Expression, TableType, GlobalType, TagType, Imports, ImportItems, ItemSig, ItemKind, Local, FuncKind, Func, Table, TableKind, Memory, Global, GlobalKind, Tag, Elem, ElemKind, ElemPayload, Data, DataKind, Export, ModuleField}
+use Rattle.wast_map.specs.Tree.{Id, Index, NameAnnotation, Space, RefType, HeapType, ValType, StorageType, StructField, StructType, ArrayType, FunctionType, TypeUse, InnerTypeKind, TypeDef, Rec, TableArg, MemoryArg, MemoryInit, MemoryCopy, TableInit, TableCopy, SelectTypes, MemArg, MemArgTarget, Instruction, Expression, TableType, GlobalType, TagType, Imports, ImportItems, ItemSig, ItemKind, Local, FuncKind, Func, Table, TableKind, Memory, Global, GlobalKind, Tag, Elem, ElemKind, ElemPayload, Data, DataKind, Export, ModuleField}
 use Rattle.wast_map.specs.Tree.space
 use Rattle.wast_map.specs.Tree.heap
 use Rattle.wast_map.specs.Tree.value
 use Rattle.wast_map.specs.Tree.storage
 use Rattle.wast_map.specs.Tree.inner
 use Rattle.wast_map.specs.Tree.ty
+use Rattle.wast_map.specs.Tree.target
 use Rattle.wast_map.specs.Tree.instr
 use Rattle.wast_map.specs.Tree.func
 use Rattle.wast_map.specs.Tree.tag
@@ -121,13 +122,68 @@ mapped_global_type f t = record t { ty = mapped_val f t.ty }
 abbrev pub mapped_tag_type : Change → TagType → TagType
 mapped_tag_type f (tag.Exception u) = tag.Exception (f.used u)
 
+-- the table or the memory of an instruction
+abbrev pub mapped_table_arg : Indices → TableArg → TableArg
+mapped_table_arg f a = record { dst = f space.Table a.dst }
+
+abbrev pub mapped_memory_arg : Indices → MemoryArg → MemoryArg
+mapped_memory_arg f a = record { mem = f space.Memory a.mem }
+
+-- what is copied, and what it fills
+abbrev pub mapped_memory_init : Indices → MemoryInit → MemoryInit
+mapped_memory_init f a = record { segment = f space.Data a.segment; mem = f space.Memory a.mem }
+
+abbrev pub mapped_memory_copy : Indices → MemoryCopy → MemoryCopy
+mapped_memory_copy f a = record { src = f space.Memory a.src; dst = f space.Memory a.dst }
+
+abbrev pub mapped_table_init : Indices → TableInit → TableInit
+mapped_table_init f a = record { table = f space.Table a.table; elem = f space.Elem a.elem }
+
+abbrev pub mapped_table_copy : Indices → TableCopy → TableCopy
+mapped_table_copy f a = record { dst = f space.Table a.dst; src = f space.Table a.src }
+
+-- what a memory argument reads or writes, and the argument
+abbrev pub mapped_target : Indices → MemArgTarget → MemArgTarget
+mapped_target f (target.Memory i) = target.Memory (f space.Memory i)
+
+abbrev pub mapped_mem_arg : Indices → MemArg → MemArg
+mapped_mem_arg f m = record m { target = mapped_target f m.target }
+
+-- the types of what `select` gives
+abbrev pub mapped_select : Indices → SelectTypes → SelectTypes
+mapped_select f t = record { tys = option_map (map (mapped_val f)) t.tys }
+
 -- Bodies: each instruction from where it stands.
 abbrev pub mapped_instr : Change → Here → Instruction → Instruction
 mapped_instr f h (instr.Plain op) = instr.Plain op
+mapped_instr f h (instr.Mem op m) = instr.Mem op (mapped_mem_arg f.index m)
+mapped_instr f h (instr.catch i) = instr.catch (f.index space.Tag i)
+mapped_instr f h (instr.throw i) = instr.throw (f.index space.Tag i)
 mapped_instr f h (instr.call i) = instr.call (f.index space.Func i)
+mapped_instr f h (instr.return_call i) = instr.return_call (f.index space.Func i)
+mapped_instr f h (instr.call_ref i) = instr.call_ref (f.index space.Ty i)
+mapped_instr f h (instr.return_call_ref i) = instr.return_call_ref (f.index space.Ty i)
+mapped_instr f h (instr.select a) = instr.select (mapped_select f.index a)
 mapped_instr f h (instr.global_get i) = instr.global_get (f.index space.Global i)
+mapped_instr f h (instr.global_set i) = instr.global_set (f.index space.Global i)
+mapped_instr f h (instr.table_get a) = instr.table_get (mapped_table_arg f.index a)
+mapped_instr f h (instr.table_set a) = instr.table_set (mapped_table_arg f.index a)
+mapped_instr f h (instr.table_init a) = instr.table_init (mapped_table_init f.index a)
+mapped_instr f h (instr.elem_drop i) = instr.elem_drop (f.index space.Elem i)
+mapped_instr f h (instr.table_copy a) = instr.table_copy (mapped_table_copy f.index a)
+mapped_instr f h (instr.table_grow a) = instr.table_grow (mapped_table_arg f.index a)
+mapped_instr f h (instr.table_size a) = instr.table_size (mapped_table_arg f.index a)
+mapped_instr f h (instr.table_fill a) = instr.table_fill (mapped_table_arg f.index a)
+mapped_instr f h (instr.memory_size a) = instr.memory_size (mapped_memory_arg f.index a)
+mapped_instr f h (instr.memory_grow a) = instr.memory_grow (mapped_memory_arg f.index a)
+mapped_instr f h (instr.memory_init a) = instr.memory_init (mapped_memory_init f.index a)
+mapped_instr f h (instr.data_drop i) = instr.data_drop (f.index space.Data i)
+mapped_instr f h (instr.memory_copy a) = instr.memory_copy (mapped_memory_copy f.index a)
+mapped_instr f h (instr.memory_fill a) = instr.memory_fill (mapped_memory_arg f.index a)
 mapped_instr f h (instr.i32_const n) = instr.i32_const n
 mapped_instr f h (instr.i64_const n) = instr.i64_const n
+mapped_instr f h (instr.f32_const n) = instr.f32_const n
+mapped_instr f h (instr.f64_const n) = instr.f64_const n
 mapped_instr f h (instr.ref_null t) = instr.ref_null (mapped_heap f.index t)
 mapped_instr f h (instr.ref_func i) = instr.ref_func (f.index space.Func i)
 

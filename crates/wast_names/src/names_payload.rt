@@ -299,7 +299,7 @@ pub fn names_size(
     ensures ok { IfOk result (λ n. n ≡ length (names_payload_of (name_subsections (text_seen name.entry) fields.now))) }
     ensures err { IfErr result (λ e. (e ≡ refusal.TooLarge)
         × (All InRangePart (names_part (name_subsections (text_seen name.entry) fields.now))
-            × InRangeNames (text_seen name.entry) fields.now → ⊥)) }
+        × InRangeNames (text_seen name.entry) fields.now → ⊥)) }
 {
     let names = NamesOf { fields, reaches };
     let subsections = length_of(&Subsections { name, names })?;
@@ -327,7 +327,7 @@ pub fn put_names<S: Sink>(
     requires reaches { IsTrue (are_reaches fields.now reaches.now) }
     requires size { size ≡ length (names_payload_of (name_subsections (text_seen name) fields.now)) }
     ensures { Writes S.rules (All InRangePart (names_part (name_subsections (text_seen name.entry) fields.now))
-            × InRangeNames (text_seen name.entry) fields.now)
+        × InRangeNames (text_seen name.entry) fields.now)
         out.old out.new (flat_map part (names_part (name_subsections (text_seen name.entry) fields.now))) result }
 {
     if size == 0 {

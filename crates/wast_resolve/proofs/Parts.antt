@@ -69,3 +69,9 @@ walks_as l n ds es want new want2 new2 (Err e) same h w = answers_more (told e) 
 pub walks_asking : {T : Type 0} (c : Scope) (asks : List Ask) (want new : T) (result : Result (Unit {0}) Error) → Walks ⊥ ⊥ (ask_demands c.known asks) want new result → Walks ⊥ ⊥ (site_demands c (asking asks)) want new result
 walks_asking c asks want new result walked =
     walks_as (λ l. l) (λ m. m) (ask_demands c.known asks) (site_demands c (asking asks)) want new want new result (ap first_unmet (sym (asking_demands c asks))) (λ h. h) walked
+
+-- what is made of a part of which names alone are asked
+pub walks_made : {T U : Type 0} (c : Scope) (asks : List Ask) (make : T → U) (want new : T) (result : Result (Unit {0}) Error)
+    → Walks ⊥ ⊥ (ask_demands c.known asks) want new result → Walks ⊥ ⊥ (site_demands c (asking asks)) (make want) (make new) result
+walks_made c asks make want new result walked =
+    walks_as (λ l. l) (λ m. m) (ask_demands c.known asks) (site_demands c (asking asks)) want new (make want) (make new) result (ap first_unmet (sym (asking_demands c asks))) (ap make) walked

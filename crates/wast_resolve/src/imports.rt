@@ -67,7 +67,7 @@ fn defined_word(space: Space) -> &'static str
 }
 
 /// Nothing, where a field is no import or nothing is defined before it; else E1 at its place.
-fn check_import<'a>(field: &ModuleField<'a>, last: Option<Space>) -> Result<(), Error<'a>>
+fn check_import<'e>(field: &ModuleField<'_>, last: Option<Space>) -> Result<(), Error<'e>>
     ensures { Outcome ⊥ ⊥ (first_unmet (nothing_defined last (import_place field.now))) result }
 {
     match (import_place(field), last) {
@@ -81,7 +81,7 @@ fn check_import<'a>(field: &ModuleField<'a>, last: Option<Space>) -> Result<(), 
 }
 
 /// Whether each import stands before what is defined: E1 at the first that does not.
-fn check_order<'a>(fields: &[ModuleField<'a>]) -> Result<(), Error<'a>>
+fn check_order<'e>(fields: &[ModuleField<'_>]) -> Result<(), Error<'e>>
     ensures { Outcome ⊥ ⊥ (first_unmet (order_demands fields.now)) result }
 {
     let mut last = None;
@@ -92,6 +92,13 @@ fn check_order<'a>(fields: &[ModuleField<'a>]) -> Result<(), Error<'a>>
     Ok(())
 }
 
+/// The same of a list.
+fn check_list<'e>(fields: &Seq<ModuleField<'_>>) -> Result<(), Error<'e>>
+    ensures { Outcome ⊥ ⊥ (first_unmet (order_demands fields.now)) result }
+{
+    check_order(fields.as_slice())
+}
+
 /// The fields, where each import stands before what is defined; else E1 at the first that does not, and the fields are
 /// dropped. It takes no memory.
 pub(crate) fn in_order<'a>(fields: Seq<ModuleField<'a>>) -> Result<Seq<ModuleField<'a>>, Error<'a>>
@@ -99,7 +106,7 @@ pub(crate) fn in_order<'a>(fields: Seq<ModuleField<'a>>) -> Result<Seq<ModuleFie
     ensures list { IfOk result (λ r. r ≡ fields.entry) }
     ensures refusal { IfErr result (λ e. Answers ⊥ ⊥ (told e) (first_unmet (order_demands fields.entry))) }
 {
-    match check_order(fields.as_slice()) {
+    match check_list(&fields) {
         Ok(()) => Ok(fields),
         Err(e) => {
             discard_fields(fields);

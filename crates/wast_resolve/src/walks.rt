@@ -2,14 +2,15 @@
 #![tactic(auto, using(crate::proofs::Parts::both_met, crate::proofs::Parts::first_fails, crate::proofs::Parts::second_fails, crate::proofs::Parts::id_met))]
 
 ghost use Rattle.std.specs.Prelude.{⊤, ◌≤◌, ◌^◌, List, length, map, flat_map, option_map};
-ghost use Rattle.wast_tree.specs.Sites.{Ask, Here, if_there, in_index, in_heap, in_ref, in_val, in_signature, in_type, in_rec, in_type_use, in_instr, in_instrs, in_expression, in_local, param_marks, in_func_kind, in_func, in_use, in_table_type, in_global_type, exported_space, in_field, in_module};
-ghost use Rattle.wast_map.specs.Mapped.{Change, mapped_heap, mapped_ref, mapped_val, mapped_signature, mapped_type, mapped_rec, mapped_table_type, mapped_global_type, mapped_local, mapped_export, mapped_instr, mapped_instrs, mapped_expression, mapped_func_kind, mapped_func, mapped};
+ghost use Rattle.wast_tree.specs.Sites.{Ask, Here, if_there, in_index, in_heap, in_ref, in_val, in_signature, in_type, in_rec, in_type_use, in_mem_arg, in_pair, in_select, in_instr, in_instrs, in_expression, in_local, param_marks, in_func_kind, in_func, in_use, in_table_type, in_global_type, exported_space, in_field, in_module};
+ghost use Rattle.wast_map.specs.Mapped.{Change, mapped_heap, mapped_ref, mapped_val, mapped_signature, mapped_type, mapped_rec, mapped_table_type, mapped_global_type, mapped_local, mapped_export, mapped_mem_arg, mapped_select, mapped_memory_init, mapped_memory_copy, mapped_table_init, mapped_table_copy, mapped_instr, mapped_instrs, mapped_expression, mapped_func_kind, mapped_func, mapped};
 ghost use Rattle.wast_resolve.specs.Demands.{match_if, first_unmet, declared, local_counts_in, local_counts, HasMany};
 ghost use Rattle.wast_namespace.specs.Outcomes.{Outcome};
 ghost use Rattle.wast_resolve.specs.TwoSteps.{in_locals, in_body, with_locals, with_body};
 ghost use Rattle.wast_resolve.specs.Resolvers.{known_of, scope_of};
 ghost use Rattle.wast_resolve.specs.LookUps.{LooksTypesUp};
 ghost use Rattle.wast_resolve.specs.Tree.field;
+ghost use Rattle.wast_resolve.specs.Tree.space;
 ghost use Rattle.wast_resolve.specs.Walking.{WalksAsks, WalksSites, WalksFunctions};
 
 use crate::apart::{WalkApart, walk_outside, walk_outside_index};
@@ -22,8 +23,9 @@ use crate::resolver::Resolver;
 use std::alloc::Global;
 use wast_tree::{
     ArrayType, Error, Export, Expression, Func, FuncKind, FunctionType, GlobalType, HeapType, Id,
-    Index, InnerTypeKind, Instruction, Local, ModuleField, NameAnnotation, Rec, RefType, Seq,
-    Space, StorageType, StructField, StructType, TableType, Type, TypeDef, TypeUse, ValType,
+    Index, InnerTypeKind, Instruction, Local, MemArg, MemArgTarget, MemoryCopy, MemoryInit,
+    ModuleField, NameAnnotation, Rec, RefType, SelectTypes, Seq, Space, StorageType, StructField,
+    StructType, TableCopy, TableInit, TableType, Type, TypeDef, TypeUse, ValType,
 };
 
 /// Walks over an index of a space. The error is E4 at an id that denotes nothing.
@@ -247,16 +249,113 @@ impl<'a> Walk<'a> for Export<'a> {
     }
 }
 
+impl<'a> Walk<'a> for MemArg<'a> {
+    ghost asks = { in_mem_arg };
+
+    ghost mapped = { λ f. mapped_mem_arg f.index };
+
+    fn walk(&mut self, names: &Resolver<'a>) -> Result<(), Error<'a>> {
+        match &mut self.target {
+            MemArgTarget::Memory(memory) => walk_index(names, Space::Memory, memory),
+        }
+    }
+}
+
+impl<'a> Walk<'a> for SelectTypes<'a> {
+    ghost asks = { in_select };
+
+    ghost mapped = { λ f. mapped_select f.index };
+
+    fn walk(&mut self, names: &Resolver<'a>) -> Result<(), Error<'a>> {
+        match &mut self.tys {
+            Some(types) => walk_each(names, types),
+            None => Ok(()),
+        }
+    }
+}
+
+impl<'a> Walk<'a> for MemoryInit<'a> {
+    ghost asks = { λ a. in_pair space.Data a.segment space.Memory a.mem };
+
+    ghost mapped = { λ f. mapped_memory_init f.index };
+
+    fn walk(&mut self, names: &Resolver<'a>) -> Result<(), Error<'a>> {
+        walk_index(names, Space::Data, &mut self.segment)?;
+        walk_index(names, Space::Memory, &mut self.mem)?;
+        Ok(())
+    }
+}
+
+impl<'a> Walk<'a> for MemoryCopy<'a> {
+    ghost asks = { λ a. in_pair space.Memory a.src space.Memory a.dst };
+
+    ghost mapped = { λ f. mapped_memory_copy f.index };
+
+    fn walk(&mut self, names: &Resolver<'a>) -> Result<(), Error<'a>> {
+        walk_index(names, Space::Memory, &mut self.src)?;
+        walk_index(names, Space::Memory, &mut self.dst)?;
+        Ok(())
+    }
+}
+
+impl<'a> Walk<'a> for TableInit<'a> {
+    ghost asks = { λ a. in_pair space.Elem a.elem space.Table a.table };
+
+    ghost mapped = { λ f. mapped_table_init f.index };
+
+    fn walk(&mut self, names: &Resolver<'a>) -> Result<(), Error<'a>> {
+        walk_index(names, Space::Elem, &mut self.elem)?;
+        walk_index(names, Space::Table, &mut self.table)?;
+        Ok(())
+    }
+}
+
+impl<'a> Walk<'a> for TableCopy<'a> {
+    ghost asks = { λ a. in_pair space.Table a.dst space.Table a.src };
+
+    ghost mapped = { λ f. mapped_table_copy f.index };
+
+    fn walk(&mut self, names: &Resolver<'a>) -> Result<(), Error<'a>> {
+        walk_index(names, Space::Table, &mut self.dst)?;
+        walk_index(names, Space::Table, &mut self.src)?;
+        Ok(())
+    }
+}
+
 /// Walks over an instruction.
 fn walk_instr<'a>(names: &Resolver<'a>, instr: &mut Instruction<'a>) -> Result<(), Error<'a>>
     ensures { (h : Here) → WalksSites names.now (in_instr h) (λ f. mapped_instr f h) instr.old instr.new result }
 {
     match instr {
         Instruction::Plain(_) => Ok(()),
+        Instruction::Mem(_, arg) => arg.walk(names),
+        Instruction::catch(tag) => walk_index(names, Space::Tag, tag),
+        Instruction::throw(tag) => walk_index(names, Space::Tag, tag),
         Instruction::call(func) => walk_index(names, Space::Func, func),
+        Instruction::return_call(func) => walk_index(names, Space::Func, func),
+        Instruction::call_ref(ty) => walk_index(names, Space::Ty, ty),
+        Instruction::return_call_ref(ty) => walk_index(names, Space::Ty, ty),
+        Instruction::select(types) => types.walk(names),
         Instruction::global_get(global) => walk_index(names, Space::Global, global),
+        Instruction::global_set(global) => walk_index(names, Space::Global, global),
+        Instruction::table_get(arg) => walk_index(names, Space::Table, &mut arg.dst),
+        Instruction::table_set(arg) => walk_index(names, Space::Table, &mut arg.dst),
+        Instruction::table_init(arg) => arg.walk(names),
+        Instruction::elem_drop(elem) => walk_index(names, Space::Elem, elem),
+        Instruction::table_copy(arg) => arg.walk(names),
+        Instruction::table_grow(arg) => walk_index(names, Space::Table, &mut arg.dst),
+        Instruction::table_size(arg) => walk_index(names, Space::Table, &mut arg.dst),
+        Instruction::table_fill(arg) => walk_index(names, Space::Table, &mut arg.dst),
+        Instruction::memory_size(arg) => walk_index(names, Space::Memory, &mut arg.mem),
+        Instruction::memory_grow(arg) => walk_index(names, Space::Memory, &mut arg.mem),
+        Instruction::memory_init(arg) => arg.walk(names),
+        Instruction::data_drop(data) => walk_index(names, Space::Data, data),
+        Instruction::memory_copy(arg) => arg.walk(names),
+        Instruction::memory_fill(arg) => walk_index(names, Space::Memory, &mut arg.mem),
         Instruction::i32_const(_) => Ok(()),
         Instruction::i64_const(_) => Ok(()),
+        Instruction::f32_const(_) => Ok(()),
+        Instruction::f64_const(_) => Ok(()),
         Instruction::ref_null(heap) => heap.walk(names),
         Instruction::ref_func(func) => walk_index(names, Space::Func, func),
     }

@@ -32,9 +32,9 @@ fn import<'a>(
     ModuleField::Import(Imports::single(at(offset), module, name, sig))
 }
 
-/// `(memory ..)` at the beginning of a module.
-fn memory<'a>(alloc: Global, ty: MemoryType) -> ModuleField<'a> {
-    ModuleField::Memory(Memory::new(alloc, at(9), None, ty))
+/// `(memory ..)` at a place.
+pub(crate) fn memory<'a>(alloc: Global, offset: usize, ty: MemoryType) -> ModuleField<'a> {
+    ModuleField::Memory(Memory::new(alloc, at(offset), None, ty))
 }
 
 /// `(elem ..)` at a place.
@@ -49,7 +49,7 @@ fn elem<'a>(offset: usize, kind: ElemKind<'a>, payload: ElemPayload<'a>) -> Modu
 }
 
 /// `(data ..)` of one piece, at a place.
-fn data<'a>(
+pub(crate) fn data<'a>(
     alloc: Global,
     maker: &mut Maker,
     offset: usize,
@@ -157,7 +157,7 @@ pub(crate) fn memory_with_data<'a>(alloc: Global, maker: &mut Maker) -> Seq<Modu
     let global = global_of_minus_one(alloc, maker);
     let passive = data(alloc, maker, 57, DataKind::Passive, b"x");
     let active = data_at_eight(alloc, maker);
-    let memory = memory(alloc, MemoryType::new(Limits::new(1, None)));
+    let memory = memory(alloc, 9, MemoryType::new(Limits::new(1, None)));
     let mut fields = three(alloc, maker, memory, global, passive);
     maker.push_field(&mut fields, active);
     fields
@@ -197,5 +197,5 @@ pub(crate) fn wide_shared_memory<'a>(alloc: Global, maker: &mut Maker) -> Seq<Mo
         shared: true,
         page_size_log2: Some(0),
     };
-    one(alloc, maker, memory(alloc, ty))
+    one(alloc, maker, memory(alloc, 9, ty))
 }

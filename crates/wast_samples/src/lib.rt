@@ -6,6 +6,7 @@
 
 mod field_samples;
 mod inline_samples;
+mod instr_samples;
 mod samples;
 mod type_samples;
 

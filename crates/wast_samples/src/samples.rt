@@ -4,7 +4,7 @@ ghost use Rattle.std.specs.Prelude.{◌≡◌, is_some, IfSome, IfErr};
 ghost use Rattle.wast_base.specs.Faults.{out_of_memory};
 ghost use Rattle.wast_samples.specs.RowNumbers.{is_row};
 
-use crate::{field_samples, inline_samples, type_samples};
+use crate::{field_samples, inline_samples, instr_samples, type_samples};
 use std::alloc::Global;
 use wast_tree::{
     Error, Export, ExportKind, Func, FunctionType, Id, Index, InnerTypeKind, Instruction, Local,
@@ -228,6 +228,8 @@ fn fields_of_row<'a>(alloc: Global, maker: &mut Maker, n: u32) -> Option<Seq<Mod
         42 => Some(inline_samples::imported_memory(alloc, maker)),
         43 => Some(inline_samples::imported_function(alloc, maker)),
         44 => Some(inline_samples::exported_empty_memory(alloc, maker)),
+        45 => Some(instr_samples::memory_filled_by_a_segment(alloc, maker)),
+        47 => Some(instr_samples::load_of_another_memory(alloc, maker)),
         65 => Some(type_samples::name_and_number_of_a_type(alloc, maker)),
         _ => None,
     }
@@ -235,7 +237,7 @@ fn fields_of_row<'a>(alloc: Global, maker: &mut Maker, n: u32) -> Option<Seq<Mod
 
 /// The fields of the module of a worked row, or out of memory; `None` where there is no such row.
 ///
-/// The rows are 1 to 8, 12, 13, 14, 17, 21 to 24, 27, 30 to 44 and 65. Places are offsets in the text of the row's module:
+/// The rows are 1 to 8, 12, 13, 14, 17, 21 to 24, 27, 30 to 45, 47 and 65. Places are offsets in the text of the row's module:
 /// of a field that of its keyword, of an id that of its `$`.
 pub fn sample_fields<'a>(alloc: Global, n: u32) -> Option<Result<Seq<ModuleField<'a>>, Error<'a>>>
     ensures there { is_some result ≡ is_row n }

@@ -4,8 +4,8 @@ use std::alloc::Global;
 use std::process::Abort;
 use wast_tree::{
     DataVal, Expression, ImportItems, Imports, Index, Instruction, ItemKind, ItemSig, Maker,
-    ModuleField, Seq, Span, TypeUse, discard_data, discard_expression, discard_field,
-    discard_fields, fields_with_capacity, push_field,
+    MemArg, MemArgTarget, MemOp, ModuleField, Seq, Span, TypeUse, discard_data, discard_expression,
+    discard_field, discard_fields, discard_instruction, fields_with_capacity, push_field,
 };
 
 fn at(offset: usize) -> Span {
@@ -37,6 +37,38 @@ fn an_import_has_one_signature(rt: HostRuntime) {
     let ImportItems::Single { sig, .. } = &imports.items;
     assert!(rt; sig.span == at(6));
     discard_field(ModuleField::Import(imports));
+}
+
+/// `i64.load`, of this offset.
+fn load<'a>(offset: u64) -> Instruction<'a> {
+    let arg = MemArg {
+        align: 8,
+        offset,
+        target: MemArgTarget::Memory(Index::Num(0, at(1))),
+        ordering: None,
+    };
+    Instruction::Mem(MemOp::i64_load, arg)
+}
+
+/// The offset of its memory argument, if it has one.
+fn offset_of(instruction: &mut Instruction<'_>) -> Option<u64> {
+    match instruction.memarg_mut() {
+        Some(arg) => Some(arg.offset),
+        None => None,
+    }
+}
+
+#[test]
+fn a_memory_argument_is_changed_in_its_place(rt: HostRuntime) {
+    let mut instruction = load(4);
+    if let Some(arg) = instruction.memarg_mut() {
+        arg.offset = 20;
+    }
+    assert!(rt; offset_of(&mut instruction) == Some(20));
+    discard_instruction(instruction);
+    let mut constant = Instruction::i32_const(1);
+    assert!(rt; offset_of(&mut constant).is_none());
+    discard_instruction(constant);
 }
 
 #[test]

@@ -4,6 +4,7 @@ pub mod Clauses
 pub mod DataBytes
 pub mod Generations
 pub mod Imports
+pub mod Instrs
 pub mod Items
 pub mod Known
 pub mod Makers

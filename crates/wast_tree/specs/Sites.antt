@@ -1,13 +1,14 @@
 -- The one list of what stands in a module beside its items, in the order in which it is asked (text format: identifiers,
 -- indices): what stands in a type, and sites of fields and bodies, which carry what they may read of those before them.
-use Rattle.std.specs.Prelude.{ℕ, Bool, false, not, ◌==◌, length, List, [], ◌∷◌, ◌++◌, map, Option, Some, None, flat_map}
-use Rattle.wast_tree.specs.Tree.{Id, Index, NameAnnotation, Space, RefType, HeapType, ValType, StorageType, StructField, StructType, ArrayType, FunctionType, TypeUse, InnerTypeKind, TypeDef, Rec, Instruction, Expression, Local, FuncKind, Func, TableType, GlobalType, TagType, ItemKind, ImportItems, TableKind, MemoryKind, GlobalKind, Global, ExportKind, ElemKind, ElemPayload, Elem, DataKind, ModuleField}
+use Rattle.std.specs.Prelude.{ℕ, Bool, false, not, ◌==◌, is_none, length, List, [], ◌∷◌, ◌++◌, map, Option, Some, None, flat_map}
+use Rattle.wast_tree.specs.Tree.{Id, Index, NameAnnotation, Space, RefType, HeapType, ValType, StorageType, StructField, StructType, ArrayType, FunctionType, TypeUse, InnerTypeKind, TypeDef, Rec, MemArg, MemArgTarget, SelectTypes, Instruction, Expression, Local, FuncKind, Func, TableType, GlobalType, TagType, ItemKind, ImportItems, TableKind, MemoryKind, GlobalKind, Global, ExportKind, ElemKind, ElemPayload, Elem, DataKind, ModuleField}
 use Rattle.wast_tree.specs.Tree.space
 use Rattle.wast_tree.specs.Tree.heap
 use Rattle.wast_tree.specs.Tree.value
 use Rattle.wast_tree.specs.Tree.storage
 use Rattle.wast_tree.specs.Tree.inner
 use Rattle.wast_tree.specs.Tree.ty
+use Rattle.wast_tree.specs.Tree.target
 use Rattle.wast_tree.specs.Tree.instr
 use Rattle.wast_tree.specs.Tree.func
 use Rattle.wast_tree.specs.Tree.tag
@@ -21,6 +22,7 @@ use Rattle.wast_tree.specs.Tree.payload
 use Rattle.wast_tree.specs.Tree.data_kind
 use Rattle.wast_tree.specs.Tree.export
 use Rattle.wast_tree.specs.Tree.field
+use Rattle.std.specs.Int.{is_power_of_two}
 use Rattle.wast_base.specs.Ids.{Name, Mark, mark_of, marked}
 use Rattle.wast_base.specs.Spaces.{name_if}
 use Rattle.wast_tree.specs.Clauses.{is_page_exponent, suits}
@@ -157,13 +159,53 @@ in_rec r = flat_map in_type r.types
 abbrev pub in_type_use : TypeUse FunctionType → List Ask
 in_type_use u = if_there (in_index space.Ty) u.index ++ if_there in_signature u.inline
 
+-- what a memory argument reads or writes
+abbrev pub in_target : MemArgTarget → List Ask
+in_target (target.Memory i) = in_index space.Memory i
+
+-- a memory argument: its memory; its alignment is a power of two, and no ordering is written
+abbrev pub in_mem_arg : MemArg → List Ask
+in_mem_arg m = in_target m.target ++ Clause 1 (is_power_of_two m.align) ∷ Supported (is_none m.ordering) ∷ []
+
+-- two indices, the second behind the first
+abbrev pub in_pair : Space → Index → Space → Index → List Ask
+in_pair s i t j = in_index s i ++ in_index t j
+
+-- the types of what `select` gives
+abbrev pub in_select : SelectTypes → List Ask
+in_select t = if_there (flat_map in_val) t.tys
+
 -- an instruction, from where it stands
 abbrev pub in_instr : Here → Instruction → List Site
 in_instr h (instr.Plain op) = []
+in_instr h (instr.Mem op m) = asking (in_mem_arg m)
+in_instr h (instr.catch e) = at_index space.Tag e
+in_instr h (instr.throw e) = at_index space.Tag e
 in_instr h (instr.call f) = at_index space.Func f
+in_instr h (instr.return_call f) = at_index space.Func f
+in_instr h (instr.call_ref t) = at_index space.Ty t
+in_instr h (instr.return_call_ref t) = at_index space.Ty t
+in_instr h (instr.select t) = asking (in_select t)
 in_instr h (instr.global_get g) = at_index space.Global g
+in_instr h (instr.global_set g) = at_index space.Global g
+in_instr h (instr.table_get a) = at_index space.Table a.dst
+in_instr h (instr.table_set a) = at_index space.Table a.dst
+in_instr h (instr.table_init a) = asking (in_pair space.Elem a.elem space.Table a.table)
+in_instr h (instr.elem_drop e) = at_index space.Elem e
+in_instr h (instr.table_copy a) = asking (in_pair space.Table a.dst space.Table a.src)
+in_instr h (instr.table_grow a) = at_index space.Table a.dst
+in_instr h (instr.table_size a) = at_index space.Table a.dst
+in_instr h (instr.table_fill a) = at_index space.Table a.dst
+in_instr h (instr.memory_size a) = at_index space.Memory a.mem
+in_instr h (instr.memory_grow a) = at_index space.Memory a.mem
+in_instr h (instr.memory_init a) = asking (in_pair space.Data a.segment space.Memory a.mem)
+in_instr h (instr.data_drop d) = at_index space.Data d
+in_instr h (instr.memory_copy a) = asking (in_pair space.Memory a.src space.Memory a.dst)
+in_instr h (instr.memory_fill a) = at_index space.Memory a.mem
 in_instr h (instr.i32_const n) = []
 in_instr h (instr.i64_const n) = []
+in_instr h (instr.f32_const n) = []
+in_instr h (instr.f64_const n) = []
 in_instr h (instr.ref_null t) = asking (in_heap t)
 in_instr h (instr.ref_func f) = at_index space.Func f
 

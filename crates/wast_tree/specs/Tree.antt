@@ -29,6 +29,19 @@ pub use Rattle.wast_base.specs.declared.plain.BareOp.{BareOp}
 pub use Rattle.wast_base.specs.declared.plain.BareOp.TheVariants as bare
 pub use Rattle.wast_base.specs.declared.plain.Plain.{Plain}
 pub use Rattle.wast_base.specs.declared.plain.Plain.TheVariants as plain
+pub use Rattle.wast_tree.specs.declared.immediates.TableArg.{TableArg}
+pub use Rattle.wast_tree.specs.declared.immediates.MemoryArg.{MemoryArg}
+pub use Rattle.wast_tree.specs.declared.immediates.MemoryInit.{MemoryInit}
+pub use Rattle.wast_tree.specs.declared.immediates.MemoryCopy.{MemoryCopy}
+pub use Rattle.wast_tree.specs.declared.immediates.TableInit.{TableInit}
+pub use Rattle.wast_tree.specs.declared.immediates.TableCopy.{TableCopy}
+pub use Rattle.wast_tree.specs.declared.immediates.SelectTypes.{SelectTypes}
+pub use Rattle.wast_tree.specs.declared.immediates.MemArg.{MemArg}
+pub use Rattle.wast_tree.specs.declared.immediates.MemArgTarget.{MemArgTarget}
+pub use Rattle.wast_tree.specs.declared.immediates.MemArgTarget.TheVariants as target
+pub use Rattle.wast_tree.specs.declared.immediates.MemArgOrdering.{MemArgOrdering}
+pub use Rattle.wast_tree.specs.declared.immediates.F32.{F32}
+pub use Rattle.wast_tree.specs.declared.immediates.F64.{F64}
 pub use Rattle.wast_tree.specs.declared.instrs.Instruction.{Instruction}
 pub use Rattle.wast_tree.specs.declared.instrs.Instruction.TheVariants as instr
 pub use Rattle.wast_tree.specs.declared.instrs.Expression.{Expression}

@@ -4,31 +4,41 @@ ghost use Rattle.std.specs.Prelude.{◌≡◌, ◌&&◌};
 ghost use Rattle.wast_base.specs.Ids.{name_of};
 ghost use Rattle.wast_base.specs.Spaces.{is_borne, is_settled_index};
 ghost use Rattle.wast_tree.specs.Items.{items};
-ghost use Rattle.wast_tree.specs.Known.{known, names_in};
-ghost use Rattle.wast_tree.specs.WellFormed.{is_kept, is_well_formed};
+ghost use Rattle.wast_tree.specs.Known.{Known, known, names_in};
+ghost use Rattle.wast_tree.specs.Sites.{asked, in_module};
+ghost use Rattle.wast_tree.specs.WellFormed.{is_kept, are_kept, is_well_formed};
 
 use crate::bearers::bearer_from;
 use crate::fields::ModuleField;
 use crate::visits::{Visitor, visit_fields};
 use wast_base::{Id, Index, Space};
 
-/// Whether all that it was told keeps to what a well formed list of these fields asks.
+/// Who tells whether a generated id is that of an item.
+trait Settler {
+    /// What it knows of the items.
+    ghost known: { Self → Known };
+
+    /// Whether the index is a number, a written id, or the generated id of an item of the space.
+    fn settles(&mut self, space: Space, index: &Index<'_>) -> bool
+        ensures settled { result ≡ is_settled_index ((known self.old).number space) index.now }
+        ensures stays { known self.new ≡ known self.old };
+}
+
+/// The fields, whose items bear ids.
 ///
 /// Where an id was found, the search for the next one of its space begins: ids in the order of their items are found at
 /// once.
 #[derive(Drop)]
-struct Keeper<'f, 'a> {
+struct Bearers<'f, 'a> {
     fields: &'f [ModuleField<'a>],
     starts: [usize; 8],
-    all: bool,
 }
 
-impl<'f, 'a> Keeper<'f, 'a> {
+impl<'f, 'a> Bearers<'f, 'a> {
     /// Whether an item of the space has the id.
     fn finds(&mut self, space: Space, id: &Id<'_>) -> bool
         ensures borne { result ≡ is_borne (name_of id.now) (names_in space (items self.old.fields.now)) }
         ensures fields { self.new.fields ≡ self.old.fields }
-        ensures all { self.new.all ≡ self.old.all }
     {
         let rank = space.rank();
         let start = self.starts[rank].min(self.fields.len());
@@ -40,13 +50,12 @@ impl<'f, 'a> Keeper<'f, 'a> {
             None => false,
         }
     }
+}
 
-    /// Whether the index is a number, a written id, or the generated id of an item of the space.
-    fn settles(&mut self, space: Space, index: &Index<'_>) -> bool
-        ensures settled { result ≡ is_settled_index ((known (items self.old.fields.now)).number space) index.now }
-        ensures fields { self.new.fields ≡ self.old.fields }
-        ensures all { self.new.all ≡ self.old.all }
-    {
+impl<'f, 'a> Settler for Bearers<'f, 'a> {
+    ghost known = { λ b. known (items b.fields.now) };
+
+    fn settles(&mut self, space: Space, index: &Index<'_>) -> bool {
         match index {
             Index::Num(_, _) => true,
             Index::Id(id) => !id.is_gensym() || self.finds(space, id),
@@ -54,11 +63,18 @@ impl<'f, 'a> Keeper<'f, 'a> {
     }
 }
 
-impl<'f, 'a> Visitor for Keeper<'f, 'a> {
-    ghost told = { λ old a new. (new.fields ≡ old.fields) × (new.all ≡ (old.all && is_kept (known (items old.fields.now)) a)) };
+/// Whether all that it was told keeps to what a well formed list of fields with such items asks.
+#[derive(Drop)]
+struct Keeper<S> {
+    settler: S,
+    all: bool,
+}
+
+impl<S: Settler> Visitor for Keeper<S> {
+    ghost told = { λ old a new. (S.known new.settler ≡ S.known old.settler) × (new.all ≡ (old.all && is_kept (S.known old.settler) a)) };
 
     fn index(&mut self, space: Space, index: &Index<'_>) {
-        self.all = self.all && self.settles(space, index);
+        self.all = self.all && self.settler.settles(space, index);
     }
 
     fn id(&mut self, _id: &Id<'_>) {}
@@ -72,11 +88,21 @@ impl<'f, 'a> Visitor for Keeper<'f, 'a> {
     }
 }
 
+/// Whether the fields keep to what a well formed list of them asks, by who settles indices.
+fn keep<S: Settler + Drop>(fields: &[ModuleField<'_>], settler: S) -> bool
+    ensures { result ≡ are_kept (S.known settler) (asked (in_module fields.now)) }
+{
+    let mut keeper = Keeper { settler, all: true };
+    visit_fields(fields, &mut keeper);
+    keeper.all
+}
+
 /// Whether the fields are well formed (text format: indices, modules). It takes no memory.
 ///
 /// They are, where each generated id that stands for an index is that of an item of its space, and where they keep to what
 /// the tree covers today: no expression has hints; types, tables and globals are not
-/// shared, types are without descriptor and describes, and no shared heap type is referred to. What is imported in place is
+/// shared, types are without descriptor and describes, and no shared heap type is referred to; the alignment of a memory
+/// argument is a power of two, and it has no ordering. What is imported in place is
 /// not exact, and where a memory holds its bytes in place, its page size is 2 to less than 64. Of an active element segment
 /// without a table, which stands for the first one, expressions are of type `funcref`: for another type the binary format
 /// wants the table written. A type use may have no index, and an inline type may be another than
@@ -88,11 +114,9 @@ impl<'f, 'a> Visitor for Keeper<'f, 'a> {
 pub fn well_formed(fields: &[ModuleField<'_>]) -> bool
     ensures { result ≡ is_well_formed fields.now }
 {
-    let mut keeper = Keeper {
+    let bearers = Bearers {
         fields,
         starts: [0; 8],
-        all: true,
     };
-    visit_fields(fields, &mut keeper);
-    keeper.all
+    keep(fields, bearers)
 }

@@ -1,11 +1,16 @@
 //! Instructions of the text format.
 
-ghost use Rattle.std.specs.Prelude.{◌≡◌, [], ◌∷◌, IfOk, IfErr};
+ghost use Rattle.std.specs.Prelude.{◌≡◌, [], ◌∷◌, option_map, IfOk, IfErr};
 ghost use Rattle.wast_base.specs.Faults.{out_of_memory};
+ghost use Rattle.wast_tree.specs.Instrs.{mem_arg_of, needs_data_count};
 
+use crate::immediates::{
+    F32, F64, MemArg, MemoryArg, MemoryCopy, MemoryInit, SelectTypes, TableArg, TableCopy,
+    TableInit,
+};
 use crate::types::HeapType;
 use std::alloc::Global;
-use wast_base::{Error, Index, Plain, Seq};
+use wast_base::{Error, Index, MemOp, Plain, Seq};
 
 /// An instruction (text format, instructions). Each variant but the classes has the name of its text, with `_` for `.`.
 #[allow(non_camel_case_types)]
@@ -13,18 +18,89 @@ use wast_base::{Error, Index, Plain, Seq};
 pub enum Instruction<'a> {
     /// An instruction without immediates.
     Plain(Plain),
+    /// A load or a store: `i32.load $m`
+    Mem(MemOp, MemArg<'a>),
+    /// `catch $e`, of exceptions as they were first proposed
+    catch(Index<'a>),
+    /// `throw $e`
+    throw(Index<'a>),
     /// `call $f`
     call(Index<'a>),
+    /// `return_call $f`
+    return_call(Index<'a>),
+    /// `call_ref $t`
+    call_ref(Index<'a>),
+    /// `return_call_ref $t`
+    return_call_ref(Index<'a>),
+    /// `select (result i32)`
+    select(SelectTypes<'a>),
     /// `global.get $g`
     global_get(Index<'a>),
+    /// `global.set $g`
+    global_set(Index<'a>),
+    /// `table.get $t`
+    table_get(TableArg<'a>),
+    /// `table.set $t`
+    table_set(TableArg<'a>),
+    /// `table.init $t $e`
+    table_init(TableInit<'a>),
+    /// `elem.drop $e`
+    elem_drop(Index<'a>),
+    /// `table.copy $to $from`
+    table_copy(TableCopy<'a>),
+    /// `table.grow $t`
+    table_grow(TableArg<'a>),
+    /// `table.size $t`
+    table_size(TableArg<'a>),
+    /// `table.fill $t`
+    table_fill(TableArg<'a>),
+    /// `memory.size $m`
+    memory_size(MemoryArg<'a>),
+    /// `memory.grow $m`
+    memory_grow(MemoryArg<'a>),
+    /// `memory.init $m $d`
+    memory_init(MemoryInit<'a>),
+    /// `data.drop $d`
+    data_drop(Index<'a>),
+    /// `memory.copy $to $from`
+    memory_copy(MemoryCopy<'a>),
+    /// `memory.fill $m`
+    memory_fill(MemoryArg<'a>),
     /// `i32.const 1`
     i32_const(i32),
     /// `i64.const 1`
     i64_const(i64),
+    /// `f32.const 1`
+    f32_const(F32),
+    /// `f64.const 1`
+    f64_const(F64),
     /// `ref.null func`
     ref_null(HeapType<'a>),
     /// `ref.func $f`
     ref_func(Index<'a>),
+}
+
+impl<'a> Instruction<'a> {
+    /// The memory argument, to change; `None` where there is none (text format, memory instructions). It takes no memory.
+    pub fn memarg_mut(&mut self) -> Option<&mut MemArg<'a>>
+        ensures value { option_map (λ m. m.now) result ≡ mem_arg_of self.old }
+    {
+        match self {
+            Instruction::Mem(_, arg) => Some(arg),
+            _ => None,
+        }
+    }
+
+    /// Whether a function body that holds it wants the number of data segments to stand before the code (binary format,
+    /// data count section). It takes no memory.
+    pub fn needs_data_count(&self) -> bool
+        ensures { result ≡ needs_data_count self.now }
+    {
+        match self {
+            Instruction::memory_init(_) | Instruction::data_drop(_) => true,
+            _ => false,
+        }
+    }
 }
 
 /// A branch hint: `(@metadata.code.branch_hint "\01")` (custom annotations).

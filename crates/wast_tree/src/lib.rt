@@ -4,6 +4,11 @@
 //! A call takes memory only where its text says so. A call that can fail says when, and with what.
 #![tactic(auto)]
 
+pub use wast_base::{
+    BareOp, Boxed, Error, F32Op, F64Op, Fault, Form, Gensym, I32Op, I64Op, Id, Index, IntoIter,
+    MemOp, NameAnnotation, Plain, RefOp, Seq, Space, Span,
+};
+
 mod bearers;
 mod check;
 mod clauses;
@@ -12,6 +17,7 @@ mod examples;
 mod field_visits;
 mod fields;
 mod generations;
+mod immediates;
 mod imports;
 mod instrs;
 mod makers;
@@ -28,6 +34,10 @@ pub use fields::{
     Memory, MemoryKind, ModuleField, Table, TableKind, Tag, TagKind,
 };
 pub use generations::gensym_bound;
+pub use immediates::{
+    F32, F64, MemArg, MemArgOrdering, MemArgTarget, MemoryArg, MemoryCopy, MemoryInit, Ordering,
+    SelectTypes, TableArg, TableCopy, TableInit,
+};
 pub use imports::{ImportItems, Imports, ItemKind, ItemSig};
 pub use instrs::{BranchHint, Expression, Instruction};
 pub use makers::Maker;
@@ -43,8 +53,4 @@ pub use types::{
     StructField, StructType, Type, TypeDef, TypeUse, ValType,
 };
 pub use visits::{ItemVisitor, visit_items};
-pub use wast_base::{
-    BareOp, Boxed, Error, Fault, Form, Gensym, Id, Index, IntoIter, NameAnnotation, Plain, Seq,
-    Space, Span,
-};
 pub use written_out::is_written_out;

@@ -5,10 +5,11 @@ ghost use Rattle.std.specs.Prelude.{◌≡◌, Bool, List, Option};
 ghost use Rattle.std.specs.Prelude.{flat_map};
 ghost use Rattle.wast_base.specs.Ids.{Mark, mark_of};
 ghost use Rattle.wast_tree.specs.Items.{Item, item, fields_of, items_of_type, items_of_import, items_in, items};
-ghost use Rattle.wast_tree.specs.Sites.{Ask, Wants, Unasked, Clause, Supported, Here, if_there, in_index, in_id, in_heap, in_ref, in_val, in_storage, in_param, in_signature, in_struct_field, in_struct, in_array, in_inner, in_descriptor, in_def, in_type, in_rec, in_type_use, in_instr, in_instrs, in_expression, in_constant, in_local, in_func_kind, in_func, in_field, in_module, asked};
+ghost use Rattle.wast_tree.specs.Sites.{Ask, Wants, Unasked, Clause, Supported, Here, if_there, in_index, in_id, in_heap, in_ref, in_val, in_storage, in_param, in_signature, in_struct_field, in_struct, in_array, in_inner, in_descriptor, in_def, in_type, in_rec, in_type_use, in_mem_arg, in_pair, in_select, in_instr, in_instrs, in_expression, in_constant, in_local, in_func_kind, in_func, in_field, in_module, asked};
 ghost use Rattle.wast_tree.specs.Visits.{Visits};
 
 use crate::fields::{Func, FuncKind, Local, ModuleField};
+use crate::immediates::{MemArg, MemArgTarget, SelectTypes};
 use crate::imports::ImportItems;
 use crate::instrs::{Expression, Instruction};
 use crate::types::{
@@ -326,16 +327,86 @@ impl<'a> Visit for TypeUse<'a, FunctionType<'a>> {
     }
 }
 
+impl Visit for MemArg<'_> {
+    ghost asks = { in_mem_arg };
+
+    fn visit<V: Visitor>(&self, visitor: &mut V) {
+        match &self.target {
+            MemArgTarget::Memory(memory) => visitor.index(Space::Memory, memory),
+        }
+        visitor.clause(1, self.align.is_power_of_two());
+        visitor.supported(self.ordering.is_none());
+    }
+}
+
+impl Visit for SelectTypes<'_> {
+    ghost asks = { in_select };
+
+    fn visit<V: Visitor>(&self, visitor: &mut V) {
+        self.tys.visit(visitor);
+    }
+}
+
+/// Tells a visitor of two indices.
+fn visit_pair<V: Visitor>(
+    visitor: &mut V,
+    space: Space,
+    index: &Index<'_>,
+    other_space: Space,
+    other: &Index<'_>,
+)
+    ensures { Visits V.told visitor.old (in_pair space index.now other_space other.now) visitor.new }
+{
+    visitor.index(space, index);
+    visitor.index(other_space, other);
+}
+
 /// Tells a visitor of an instruction.
 fn visit_instr<V: Visitor>(instr: &Instruction<'_>, visitor: &mut V)
     ensures { (h : Here) → Visits V.told visitor.old (asked (in_instr h instr.now)) visitor.new }
 {
     match instr {
         Instruction::Plain(_) => {}
-        Instruction::call(func) => visitor.index(Space::Func, func),
-        Instruction::global_get(global) => visitor.index(Space::Global, global),
-        Instruction::i32_const(_) => {}
-        Instruction::i64_const(_) => {}
+        Instruction::Mem(_, arg) => arg.visit(visitor),
+        Instruction::catch(tag) | Instruction::throw(tag) => visitor.index(Space::Tag, tag),
+        Instruction::call(func) | Instruction::return_call(func) => visitor.index(
+            Space::Func,
+            func,
+        ),
+        Instruction::call_ref(ty) | Instruction::return_call_ref(ty) => visitor.index(
+            Space::Ty,
+            ty,
+        ),
+        Instruction::select(types) => types.visit(visitor),
+        Instruction::global_get(global) | Instruction::global_set(global) => {
+            visitor.index(Space::Global, global)
+        }
+        Instruction::table_get(arg)
+        | Instruction::table_set(arg)
+        | Instruction::table_grow(arg)
+        | Instruction::table_size(arg)
+        | Instruction::table_fill(arg) => visitor.index(Space::Table, &arg.dst),
+        Instruction::table_init(arg) => {
+            visit_pair(visitor, Space::Elem, &arg.elem, Space::Table, &arg.table)
+        }
+        Instruction::elem_drop(elem) => visitor.index(Space::Elem, elem),
+        Instruction::table_copy(arg) => {
+            visit_pair(visitor, Space::Table, &arg.dst, Space::Table, &arg.src)
+        }
+        Instruction::memory_size(arg)
+        | Instruction::memory_grow(arg)
+        | Instruction::memory_fill(arg) => visitor.index(Space::Memory, &arg.mem),
+        Instruction::memory_init(arg) => {
+            visit_pair(visitor, Space::Data, &arg.segment, Space::Memory, &arg.mem)
+        }
+        Instruction::data_drop(data) => visitor.index(Space::Data, data),
+        Instruction::memory_copy(arg) => {
+            visit_pair(visitor, Space::Memory, &arg.src, Space::Memory, &arg.dst)
+        }
+        Instruction::i32_const(_)
+        | Instruction::i64_const(_)
+        | Instruction::f32_const(_)
+        | Instruction::f64_const(_) => {}
         Instruction::ref_null(heap) => heap.visit(visitor),
         Instruction::ref_func(func) => visitor.index(Space::Func, func),
     }

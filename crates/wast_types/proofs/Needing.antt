@@ -5,15 +5,16 @@ use Rattle.std.specs.List.{flat_map}
 use Rattle.std.proofs.lemmas.Grind.{common_steps, flat_map-append}
 use Rattle.wast_base.specs.Ids.{Name, Mark, generated}
 use Rattle.wast_base.specs.Spaces.{name_if}
-use Rattle.wast_tree.specs.Sites.{Ask, Site, Here, start, asking, at_index, in_heap, in_type, in_rec, in_instr, behind, in_instrs, in_expression, in_constant, param_marks, local_marks, declaring, body_here, in_func_kind, in_use, in_func, in_payload, in_field}
-use Rattle.wast_types.specs.Tree.{Index, Instruction, Expression, Local, FuncKind, Func, Table, Global, ElemPayload, Elem, Data, Rec}
+use Rattle.wast_tree.specs.Sites.{Ask, Site, Here, start, asking, at_index, in_heap, in_mem_arg, in_select, in_type, in_rec, in_instr, behind, in_instrs, in_expression, in_constant, param_marks, local_marks, declaring, body_here, in_func_kind, in_use, in_func, in_payload, in_field}
+use Rattle.wast_types.specs.Tree.{Index, SelectTypes, Instruction, Expression, Local, FuncKind, Func, Table, Global, ElemPayload, Elem, Data, Rec}
 use Rattle.wast_types.specs.Tree.space
 use Rattle.wast_types.specs.Tree.ty
 use Rattle.wast_types.specs.Tree.instr
 use Rattle.wast_types.specs.Tree.func
 use Rattle.wast_types.specs.Tree.field
-use Rattle.wast_map.specs.Mapped.{mapped_instr, mapped_instrs, mapped_expression, mapped_constant, mapped_local, mapped_func_kind}
+use Rattle.wast_map.specs.Mapped.{mapped_select, mapped_instr, mapped_instrs, mapped_expression, mapped_constant, mapped_local, mapped_func_kind}
 use Rattle.wast_map.proofs.Types.{val_at}
+use Rattle.wast_map.proofs.Fields.{select_at}
 use Rattle.wast_types.specs.Signatures.{Signature}
 use Rattle.wast_types.specs.NeedingUses.{needed_at, needed_in}
 use Rattle.wast_types.specs.Expanders.{LookUp}
@@ -65,6 +66,10 @@ kind_anywhere params (func.Inline locals e) = needed_inline params locals e ∙ 
 pub needed_func : (f : Func) → needed_in (in_func f) ≡ needed_in (in_use f.ty) ++ needed_in (in_func_kind [] f.kind)
 needed_func f = needed_both (in_use f.ty) (in_func_kind (param_marks f.ty.inline) f.kind) ∙ ap (λ ss. needed_in (in_use f.ty) ++ ss) (kind_anywhere (param_marks f.ty.inline) f.kind)
 
+-- no type stands in place in the types of what `select` gives
+pub select_stays : (t : SelectTypes) → mapped_select (λ s i. i) t ≡ t
+select_stays t = (select_at t).still
+
 -- And it is bound in the same way wherever it stands.
 module _ (find : LookUp) where
   bound_anywhere : (h : Here) (i : Instruction) → mapped_instr (binding find) h i ≡ mapped_instr (binding find) start i
@@ -91,6 +96,8 @@ module _ (find : LookUp) where
 
 -- No instruction has a type use today: so no expression needs a type, and no field but functions, imports and tags.
 instr_none : (i : Instruction) → needed_in (in_instr start i) ≡ []
+instr_none (instr.Mem op m) = needed_asking (in_mem_arg m)
+instr_none (instr.select t) = needed_asking (in_select t)
 instr_none (instr.ref_null t) = needed_asking (in_heap t)
 instr_none i = refl
 

@@ -1,7 +1,7 @@
-use Rattle.std.proofs.Common.{◌∙◌, ap, length, arith}
+use Rattle.std.proofs.Common.{◌∙◌, ap, length, refl, arith}
 use Rattle.wasm_ops.specs.Leb128.{unsigned}
-use Rattle.wast_core.specs.Meaning.{number}
-use Rattle.wast_core.proofs.Sizes.{narrow, start_size}
+use Rattle.wast_core.specs.Meaning.{number, start_part}
+use Rattle.wast_core.proofs.Sizes.{narrow, number_size}
 use Rattle.wast_core.proofs.entries.start_size.Goals as goal
 
 pub overflow_add-result : goal.overflow_add-result
@@ -9,4 +9,4 @@ overflow_add-result c = omega (arith, narrow c.from.result (omega (arith, c.from
 
 pub returns-in-Start : goal.returns-in-Start
 returns-in-Start c =
-    rw c.in-Start.is (start_size (number c.in-Start.func) c.width.result (omega (arith, c.index.ensures, c.index.type_inv)) (c.width.ensures ∙ ap (λ k. length (unsigned k)) (c.from.ensures ∙ c.index.ensures)))
+    rw c.in-Start.is (number_size (start_part (number c.in-Start.func)) 8 (number c.in-Start.func) c.width.result refl (omega (arith, c.index.ensures, c.index.type_inv)) (c.width.ensures ∙ ap (λ k. length (unsigned k)) (c.from.ensures ∙ c.index.ensures)))

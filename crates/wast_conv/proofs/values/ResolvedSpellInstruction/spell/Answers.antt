@@ -1,7 +1,7 @@
 use mir.Val.{SFits}
 use Rattle.std.specs.Int.{w32, w64}
 use Rattle.std.proofs.lemmas.Int.{to_z-of_z}
-use Rattle.wast_tree.specs.Sites.{in_heap}
+use Rattle.wast_tree.specs.Sites.{in_heap, in_mem_arg, in_select}
 use Rattle.wasm_ops.specs.ConstantInstrs.{i32_const_instr, i64_const_instr}
 use Rattle.wasm_ops.specs.Sinks.{Writes}
 use Rattle.wasm_ops.specs.Table.{instr, InRangeInstr}
@@ -10,14 +10,86 @@ use Rattle.wast_conv.specs.Encodable.{is_encodable_instr}
 use Rattle.wast_conv.proofs.Standing.{asking_passes}
 use Rattle.wast_conv.proofs.values.ResolvedSpellInstruction.spell.Goals as goal
 
+pub put_mem-requires : goal.put_mem-requires
+put_mem-requires g c = sym (asking_passes (in_mem_arg c.in-Mem.arg)) ∙ subst (λ i. is_encodable_instr i ≡ true) c.in-Mem.is c.requires
+
+pub put_select-requires : goal.put_select-requires
+put_select-requires g c = sym (asking_passes (in_select c.in-select.types)) ∙ subst (λ i. is_encodable_instr i ≡ true) c.in-select.is c.requires
+
 pub put_null-requires : goal.put_null-requires
 put_null-requires g c = sym (asking_passes (in_heap c.in-ref_null.ty)) ∙ subst (λ i. is_encodable_instr i ≡ true) c.in-ref_null.is c.requires
 
+pub returns-in-Mem : goal.returns-in-Mem
+returns-in-Mem g c = rw c.in-Mem.is c.put_mem.ensures
+
+pub returns-in-catch : goal.returns-in-catch
+returns-in-catch g c = rw c.in-catch.is c.put_index.ensures
+
+pub returns-in-throw : goal.returns-in-throw
+returns-in-throw g c = rw c.in-throw.is c.put_index-in-throw.ensures
+
 pub returns-in-call : goal.returns-in-call
-returns-in-call g c = rw c.in-call.is c.put_index.ensures
+returns-in-call g c = rw c.in-call.is c.put_index-in-call.ensures
+
+pub returns-in-return_call : goal.returns-in-return_call
+returns-in-return_call g c = rw c.in-return_call.is c.put_index-in-return_call.ensures
+
+pub returns-in-call_ref : goal.returns-in-call_ref
+returns-in-call_ref g c = rw c.in-call_ref.is c.put_index-in-call_ref.ensures
+
+pub returns-in-return_call_ref : goal.returns-in-return_call_ref
+returns-in-return_call_ref g c = rw c.in-return_call_ref.is c.put_index-in-return_call_ref.ensures
+
+pub returns-in-select : goal.returns-in-select
+returns-in-select g c = rw c.in-select.is c.put_select.ensures
 
 pub returns-in-global_get : goal.returns-in-global_get
 returns-in-global_get g c = rw c.in-global_get.is c.put_index-in-global_get.ensures
+
+pub returns-in-global_set : goal.returns-in-global_set
+returns-in-global_set g c = rw c.in-global_set.is c.put_index-in-global_set.ensures
+
+pub returns-in-table_get : goal.returns-in-table_get
+returns-in-table_get g c = rw c.in-table_get.is c.put_index-in-table_get.ensures
+
+pub returns-in-table_set : goal.returns-in-table_set
+returns-in-table_set g c = rw c.in-table_set.is c.put_index-in-table_set.ensures
+
+pub returns-in-table_init : goal.returns-in-table_init
+returns-in-table_init g c = rw c.in-table_init.is c.put_pair.ensures
+
+pub returns-in-elem_drop : goal.returns-in-elem_drop
+returns-in-elem_drop g c = rw c.in-elem_drop.is c.put_index-in-elem_drop.ensures
+
+pub returns-in-table_copy : goal.returns-in-table_copy
+returns-in-table_copy g c = rw c.in-table_copy.is c.put_pair-in-table_copy.ensures
+
+pub returns-in-table_grow : goal.returns-in-table_grow
+returns-in-table_grow g c = rw c.in-table_grow.is c.put_index-in-table_grow.ensures
+
+pub returns-in-table_size : goal.returns-in-table_size
+returns-in-table_size g c = rw c.in-table_size.is c.put_index-in-table_size.ensures
+
+pub returns-in-table_fill : goal.returns-in-table_fill
+returns-in-table_fill g c = rw c.in-table_fill.is c.put_index-in-table_fill.ensures
+
+pub returns-in-memory_size : goal.returns-in-memory_size
+returns-in-memory_size g c = rw c.in-memory_size.is c.put_index-in-memory_size.ensures
+
+pub returns-in-memory_grow : goal.returns-in-memory_grow
+returns-in-memory_grow g c = rw c.in-memory_grow.is c.put_index-in-memory_grow.ensures
+
+pub returns-in-memory_init : goal.returns-in-memory_init
+returns-in-memory_init g c = rw c.in-memory_init.is c.put_pair-in-memory_init.ensures
+
+pub returns-in-data_drop : goal.returns-in-data_drop
+returns-in-data_drop g c = rw c.in-data_drop.is c.put_index-in-data_drop.ensures
+
+pub returns-in-memory_copy : goal.returns-in-memory_copy
+returns-in-memory_copy g c = rw c.in-memory_copy.is c.put_pair-in-memory_copy.ensures
+
+pub returns-in-memory_fill : goal.returns-in-memory_fill
+returns-in-memory_fill g c = rw c.in-memory_fill.is c.put_index-in-memory_fill.ensures
 
 pub returns-in-i32_const : goal.returns-in-i32_const
 returns-in-i32_const g c =
@@ -28,6 +100,12 @@ pub returns-in-i64_const : goal.returns-in-i64_const
 returns-in-i64_const g c =
     let fits : SFits w64 c.in-i64_const.value = search rules in
     rw c.in-i64_const.is (subst (λ z. Writes g.S.Sink.rules (InRangeInstr (i64_const_instr z)) c.args.out.now c.encode-in-i64_const.new.out (instr (i64_const_instr z)) c.encode-in-i64_const.result) (to_z-of_z w64 c.in-i64_const.value fits) c.encode-in-i64_const.ensures)
+
+pub returns-in-f32_const : goal.returns-in-f32_const
+returns-in-f32_const g c = rw c.in-f32_const.is c.encode-in-f32_const.ensures
+
+pub returns-in-f64_const : goal.returns-in-f64_const
+returns-in-f64_const g c = rw c.in-f64_const.is c.encode-in-f64_const.ensures
 
 pub returns-in-ref_null : goal.returns-in-ref_null
 returns-in-ref_null g c = rw c.in-ref_null.is c.put_null.ensures

@@ -1,0 +1,83 @@
+//! The data count section, which tells before the code how many segments of data there are.
+
+ghost use Rattle.std.specs.Prelude.{◌≡◌, ◌≤◌, length, All, IsTrue};
+ghost use Rattle.std.specs.List.{flat_map, list_any};
+ghost use Rattle.wasm_ops.specs.Sinks.{Writes};
+ghost use Rattle.wasm_out.specs.Parts.{part, InRangePart};
+ghost use Rattle.wast_core.specs.DataCounts.{body_needs_count, needs_count, count_parts};
+ghost use Rattle.wast_core.specs.Extents.{is_counted};
+ghost use Rattle.wast_tree.specs.Instrs.{needs_data_count};
+ghost use Rattle.wast_reach.specs.Reaches.{are_reaches};
+
+use wasm_ops::{Encode, Refusal, Sink, WithLength, width};
+use wast_reach::{FieldKind, Reaches};
+use wast_tree::{FuncKind, Instruction, ModuleField};
+
+/// Whether one of these instructions needs a data count.
+fn any_needs(instrs: &[Instruction]) -> bool
+    ensures { result ≡ list_any needs_data_count instrs.now }
+{
+    instrs
+        .iter()
+        .any(|instruction| instruction.needs_data_count())
+}
+
+/// Whether a field is a function in whose body an instruction needs a data count.
+fn body_needs_count(field: &ModuleField) -> bool
+    ensures { result ≡ body_needs_count field.now }
+{
+    match field {
+        ModuleField::Func(func) => match &func.kind {
+            FuncKind::Import(..) => false,
+            FuncKind::Inline { expression, .. } => any_needs(expression.instrs.as_slice()),
+        },
+        _ => false,
+    }
+}
+
+/// Whether a body of these fields needs a data count.
+fn needs_count(fields: &[ModuleField]) -> bool
+    ensures { result ≡ needs_count fields.now }
+{
+    fields.iter().any(|field| body_needs_count(field))
+}
+
+/// The fields from the first function to the last.
+fn functions<'b, 'a>(fields: &'b [ModuleField<'a>], reaches: &Reaches) -> &'b [ModuleField<'a>]
+    requires { IsTrue (are_reaches fields.now reaches.now) }
+    ensures { needs_count result.now ≡ needs_count fields.now }
+{
+    reaches.of_kind(FieldKind::Func).of(fields)
+}
+
+/// Whether a body of these fields needs a data count. It needs where in these fields the functions stand.
+pub(crate) fn is_counted(fields: &[ModuleField], reaches: &Reaches) -> bool
+    requires { IsTrue (are_reaches fields.now reaches.now) }
+    ensures { IsTrue (is_counted fields.now result) }
+{
+    needs_count(functions(fields, reaches))
+}
+
+/// How many bytes the data count section has, of how many segments there are; none where it is not needed.
+pub(crate) fn count_size(needed: bool, count: u32) -> u64
+    ensures size { result ≡ length (flat_map part (count_parts needed count)) }
+    ensures within { result ≤ 7 }
+{
+    if needed {
+        2 + width(u64::from(count))
+    } else {
+        0
+    }
+}
+
+/// The data count section, of how many segments there are, where it is needed.
+pub(crate) fn put_count<S: Sink>(needed: bool, count: u32, out: &mut S) -> Result<(), Refusal>
+    ensures { Writes S.rules (All InRangePart (count_parts needed count))
+        out.old out.new (flat_map part (count_parts needed count)) result }
+{
+    if needed {
+        (12u8, WithLength(count)).encode(out)
+    } else {
+        Ok(())
+    }
+}

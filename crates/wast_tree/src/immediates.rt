@@ -1,0 +1,113 @@
+//! What instructions hold beside an index or a number (text format: instructions).
+
+use crate::types::ValType;
+use wast_base::{Index, Seq};
+
+/// The table of an instruction: `table.get $t` (text format, table instructions).
+#[derive(Clone, Copy, Debug, PartialEq, Eq)]
+pub struct TableArg<'a> {
+    /// The table.
+    pub dst: Index<'a>,
+}
+
+/// The memory of an instruction: `memory.size $m` (text format, memory instructions).
+#[derive(Clone, Copy, Debug, PartialEq, Eq)]
+pub struct MemoryArg<'a> {
+    /// The memory.
+    pub mem: Index<'a>,
+}
+
+/// What `memory.init $m $d` fills, and from where (text format, memory instructions).
+#[derive(Clone, Copy, Debug, PartialEq, Eq)]
+pub struct MemoryInit<'a> {
+    /// The data segment that is copied.
+    pub segment: Index<'a>,
+    /// The memory that it is copied to.
+    pub mem: Index<'a>,
+}
+
+/// What `memory.copy $to $from` copies (text format, memory instructions).
+#[derive(Clone, Copy, Debug, PartialEq, Eq)]
+pub struct MemoryCopy<'a> {
+    /// The memory that is copied.
+    pub src: Index<'a>,
+    /// The memory that it is copied to.
+    pub dst: Index<'a>,
+}
+
+/// What `table.init $t $e` fills, and from where (text format, table instructions).
+#[derive(Clone, Copy, Debug, PartialEq, Eq)]
+pub struct TableInit<'a> {
+    /// The table that is filled.
+    pub table: Index<'a>,
+    /// The element segment that is copied.
+    pub elem: Index<'a>,
+}
+
+/// What `table.copy $to $from` copies (text format, table instructions).
+#[derive(Clone, Copy, Debug, PartialEq, Eq)]
+pub struct TableCopy<'a> {
+    /// The table that it is copied to.
+    pub dst: Index<'a>,
+    /// The table that is copied.
+    pub src: Index<'a>,
+}
+
+/// The types of what `select` gives: `select (result i32)` (text format, parametric instructions).
+#[derive(Debug, Drop)]
+pub struct SelectTypes<'a> {
+    /// The types, where any `(result ..)` is written.
+    pub tys: Option<Seq<ValType<'a>>>,
+}
+
+/// A memory argument: `$m offset=4 align=2` (text format, memory instructions).
+#[derive(Clone, Copy, Debug, PartialEq, Eq)]
+pub struct MemArg<'a> {
+    /// The alignment, in bytes.
+    pub align: u64,
+    /// The offset, in bytes.
+    pub offset: u64,
+    /// What is read or written.
+    pub target: MemArgTarget<'a>,
+    /// The ordering, where one is written (threads).
+    pub ordering: Option<MemArgOrdering>,
+}
+
+/// What a memory argument reads or writes (text format, memory instructions).
+#[derive(Clone, Copy, Debug, PartialEq, Eq)]
+pub enum MemArgTarget<'a> {
+    /// A memory.
+    Memory(Index<'a>),
+}
+
+/// The ordering of a memory argument (threads).
+#[derive(Clone, Copy, Debug, PartialEq, Eq)]
+pub enum MemArgOrdering {
+    /// Of a load or a store.
+    Op(Ordering),
+    /// Of what reads, changes and writes at once.
+    Rmw(Ordering),
+}
+
+/// The ordering of an atomic instruction (threads).
+#[derive(Clone, Copy, Debug, PartialEq, Eq)]
+pub enum Ordering {
+    /// Sequentially consistent.
+    SeqCst,
+    /// To acquire and to release.
+    AcqRel,
+}
+
+/// A number of 32 bits with a fraction, as its bits (text format, floating-point).
+#[derive(Clone, Copy, Debug, PartialEq, Eq)]
+pub struct F32 {
+    /// The bits.
+    pub bits: u32,
+}
+
+/// A number of 64 bits with a fraction, as its bits (text format, floating-point).
+#[derive(Clone, Copy, Debug, PartialEq, Eq)]
+pub struct F64 {
+    /// The bits.
+    pub bits: u64,
+}

@@ -1,0 +1,19 @@
+use Rattle.std.proofs.Common.{◌≡◌, ap, sym, ◌∙◌, subst}
+use Rattle.wast_tree.specs.Sites.{start, in_select, in_instr}
+use Rattle.wast_map.specs.Mapped.{mapped_instr}
+use Rattle.wast_types.specs.Tree.instr
+use Rattle.wast_types.specs.Expanded.{binding}
+use Rattle.wast_types.specs.Expanders.{index_of, with_more}
+use Rattle.wast_types.specs.NeedingUses.{needed_in}
+use Rattle.wast_types.specs.Binding.{state}
+use Rattle.wast_types.proofs.Adding.{adds_nothing}
+use Rattle.wast_types.proofs.Needing.{select_stays, needed_asking}
+use Rattle.wast_types.proofs.binding.InstructionBind.bind.Goals as goal
+
+pub returns-in-select-clause-bound : goal.returns-in-select-clause-bound
+returns-in-select-clause-bound c = λ more.
+    subst (λ i. i ≡ mapped_instr (binding (with_more (index_of c.args._cx.now) more)) start i) (sym c.in-select.is) (ap instr.select (sym (select_stays c.in-select.field-0)))
+
+pub returns-in-select-clause-adds : goal.returns-in-select-clause-adds
+returns-in-select-clause-adds c =
+    adds_nothing (state c.args._cx.now c.args._implied.now c.args._gensym.now) (ap (λ i. needed_in (in_instr start i)) c.in-select.is ∙ needed_asking (in_select c.in-select.field-0))
