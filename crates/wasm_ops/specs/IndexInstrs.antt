@@ -35,6 +35,8 @@ index_instr op index = record { row = record { opcode = opcode_of (index_key op)
 
 -- the key of an instruction with two
 abbrev pub index_pair_key : IndexPairOp → ℕ
+index_pair_key pairs.CallIndirect = 0x11
+index_pair_key pairs.ReturnCallIndirect = 0x13
 index_pair_key pairs.MemoryInit = 0xfc0008
 index_pair_key pairs.MemoryCopy = 0xfc000a
 index_pair_key pairs.TableInit = 0xfc000c

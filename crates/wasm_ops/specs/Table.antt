@@ -117,7 +117,9 @@ table = rows_of (
     ∷ (0x0a, 1, [])  -- throw_ref
     ∷ (0x0f, 1, [])  -- return
     ∷ (0x10, 1, Index ∷ [])  -- call
+    ∷ (0x11, 1, Index ∷ Index ∷ [])  -- call_indirect
     ∷ (0x12, 1, Index ∷ [])  -- return_call
+    ∷ (0x13, 1, Index ∷ Index ∷ [])  -- return_call_indirect
     ∷ (0x14, 2, Index ∷ [])  -- call_ref, return_call_ref
     ∷ (0x19, 3, [])  -- catch_all, drop, select
     ∷ (0x1c, 1, Types ∷ [])  -- select with types

@@ -97,6 +97,10 @@ impl Encode for IndexInstr {
 /// An instruction whose immediates are two indices (binary format, instructions). The number of a variant is its key.
 #[derive(Clone, Copy, Debug, PartialEq, Eq)]
 pub enum IndexPairOp {
+    /// `call_indirect`, of a type and a table
+    CallIndirect = 0x11,
+    /// `return_call_indirect`, of a type and a table
+    ReturnCallIndirect = 0x13,
     /// `memory.init`, of a data segment and a memory
     MemoryInit = 0xfc0008,
     /// `memory.copy`, of the memory that is written and the one that is read

@@ -54,6 +54,8 @@ fn access(align: u32, memory: u32, offset: u64) -> MemArg {
 /// Instructions with two indices, constants and choices, one after another.
 fn write_others<'e>(out: &mut Vec<u8>) -> Result<(), Error<'e>> {
     let mut sink = InstructionSink::new(out);
+    sink.index_pair(IndexPairOp::CallIndirect, 128, 1)?;
+    sink.index_pair(IndexPairOp::ReturnCallIndirect, 2, 3)?;
     sink.index_pair(IndexPairOp::MemoryInit, 128, 2)?;
     sink.index_pair(IndexPairOp::MemoryCopy, 3, 4)?;
     sink.index_pair(IndexPairOp::TableInit, 5, 6)?;
@@ -184,8 +186,9 @@ fn instructions_with_immediates_have_their_bytes(rt: HostRuntime) {
     let mut out = Vec::new(rt.alloc());
     assert!(rt; write_others(&mut out).is_ok());
     let expected = [
-        0xfc, 8, 0x80, 0x01, 2, 0xfc, 10, 3, 4, 0xfc, 12, 5, 6, 0xfc, 14, 7, 8, 0x43, 0, 0, 0x80,
-        0x3f, 0x44, 0, 0, 0, 0, 0, 0, 0xf0, 0x3f, 0x1b, 0x1c, 2, 0x7f, 0x7c,
+        0x11, 0x80, 0x01, 1, 0x13, 2, 3, 0xfc, 8, 0x80, 0x01, 2, 0xfc, 10, 3, 4, 0xfc, 12, 5, 6,
+        0xfc, 14, 7, 8, 0x43, 0, 0, 0x80, 0x3f, 0x44, 0, 0, 0, 0, 0, 0, 0xf0, 0x3f, 0x1b, 0x1c, 2,
+        0x7f, 0x7c,
     ];
     assert!(rt; out.as_slice() == expected.as_slice());
     let mut room = Room::reserve(rt.alloc(), 3).expect(&rt, "memory");

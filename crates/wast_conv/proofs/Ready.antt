@@ -5,12 +5,12 @@ use Rattle.std.specs.Prelude.{is_some, Option, Some, None}
 use Rattle.std.specs.List.{flat_map, list_all}
 use Rattle.wast_base.specs.Ids.{Mark, is_number}
 use Rattle.wast_tree.specs.Clauses.{suits}
-use Rattle.wast_tree.specs.Sites.{Ask, Wants, Unasked, Clause, Supported, Site, Asked, Used, Declared, asking, if_there, at_index, in_type, in_rec, in_ref, in_type_use, in_use, in_local, in_func, in_func_kind, param_marks, in_table_type, in_global_type, in_tag_type, in_import, in_constant, in_payload, in_table_kind, in_memory_kind, in_global_kind, in_global, in_elem_kind, in_elem, in_data_kind, in_field, in_module, asked_in, asked}
+use Rattle.wast_tree.specs.Sites.{Ask, Wants, Unasked, Clause, Supported, OfItem, OfCall, Site, Asked, Used, Declared, asking, if_there, at_index, in_type, in_rec, in_ref, in_type_use, in_use, in_indirect, in_local, in_func, in_func_kind, param_marks, in_table_type, in_global_type, in_tag_type, in_import, in_constant, in_payload, in_table_kind, in_memory_kind, in_global_kind, in_global, in_elem_kind, in_elem, in_data_kind, in_field, in_module, asked_in, asked}
 use Rattle.wast_tree.specs.Known.{Known}
 use Rattle.wast_tree.specs.WellFormed.{is_kept, are_kept}
 use Rattle.wast_tree.specs.Resolved.{is_numbered, are_numbered, is_resolved_site, is_resolved}
 use Rattle.wast_tree.specs.WrittenOut.{exports_nothing, is_written_func, is_written_table, is_written_memory, is_written_global, is_written_field, is_written_out}
-use Rattle.wast_conv.specs.Tree.{Index, Space, TypeUse, FunctionType, Expression, Rec, Imports, FuncKind, Func, TableKind, Table, Memory, GlobalKind, Global, Export, ElemKind, ElemPayload, Elem, DataKind, Data, Tag, ModuleField}
+use Rattle.wast_conv.specs.Tree.{Index, Space, CallIndirect, TypeUse, FunctionType, Expression, Rec, Imports, FuncKind, Func, TableKind, Table, Memory, GlobalKind, Global, Export, ElemKind, ElemPayload, Elem, DataKind, Data, Tag, ModuleField}
 use Rattle.wast_conv.specs.Tree.space
 use Rattle.wast_conv.specs.Tree.ty
 use Rattle.wast_conv.specs.Tree.func
@@ -34,7 +34,7 @@ ask_ready k (Supported holds) kept numbered = kept
 
 site_ready : (k : Known) (s : Site) → are_kept k (asked_in s) ≡ true → is_resolved_site s ≡ true → is_encodable_site s ≡ true
 site_ready k (Asked a) kept resolved = ask_ready k a (both_pass (is_kept k a) true kept).0 resolved
-site_ready k (Used u) kept resolved =
+site_ready k (Used w u) kept resolved =
     let both = both_pass (is_some u.index) (are_numbered (in_type_use u)) resolved in
     both_true (is_some u.index) (are_encodable (in_type_use u)) both.0
     (each_by (is_kept k) is_numbered is_encodable_ask (ask_ready k) (in_type_use u) kept both.1)
@@ -64,16 +64,23 @@ asks_numbered asks h = each_then is_encodable_ask is_numbered ask_numbered asks 
 
 site_resolved : (s : Site) → is_encodable_site s ≡ true → is_resolved_site s ≡ true
 site_resolved (Asked a) h = ask_numbered a h
-site_resolved (Used u) h =
+site_resolved (Used w u) h =
     let both = both_pass (is_some u.index) (are_encodable (in_type_use u)) h in
     both_true (is_some u.index) (are_numbered (in_type_use u)) both.0 (asks_numbered (in_type_use u) both.1)
 site_resolved (Declared before m) h = refl
+
+-- the table and the type use of an indirect call
+pub indirect_ready : (c : CallIndirect) → encodable (in_indirect c) ≡ true → (is_number c.table ≡ true) × (are_resolved (in_use OfItem c.ty) ≡ true)
+indirect_ready c h =
+    let parts = both_pass (is_number c.table) (encodable (in_use OfCall c.ty)) h in
+    let used = (both_pass (is_encodable_site (Used OfCall c.ty)) true parts.1).0 in
+    (parts.0, both_true (is_resolved_site (Used OfItem c.ty)) true (site_resolved (Used OfCall c.ty) used) refl)
 
 -- ---- what a field that the encoder takes puts into the sections
 
 site_entered : (s : Site) → is_encodable_site s ≡ true → is_entered_site s ≡ true
 site_entered (Asked a) h = h
-site_entered (Used u) h = site_resolved (Used u) h
+site_entered (Used w u) h = site_resolved (Used w u) h
 site_entered (Declared before m) h = refl
 
 sites_entered : (sites : List Site) → encodable sites ≡ true → are_entered sites ≡ true
@@ -82,7 +89,7 @@ sites_entered sites h = each_then is_encodable_site is_entered_site site_entered
 -- what goes into an entry is resolved
 entry_resolved : (s : Site) → is_entered_site s ≡ true → is_resolved_site s ≡ true
 entry_resolved (Asked a) h = ask_numbered a h
-entry_resolved (Used u) h = h
+entry_resolved (Used w u) h = h
 entry_resolved (Declared before m) h = refl
 
 pub entered_resolved : (sites : List Site) → are_entered sites ≡ true → are_resolved sites ≡ true
@@ -97,8 +104,8 @@ group_ready r e = sym (asking_passes (in_rec r)) ∙ (both_pass (encodable (aski
 pub import_ready : (i : Imports) → is_encodable_field (field.Import i) ≡ true → is_encodable_import i ≡ true
 import_ready i e = sites_entered (in_import i.items) (both_pass (encodable (in_import i.items)) true e).0
 
-use_ready : (u : TypeUse FunctionType) → encodable (in_use u) ≡ true → is_encodable_type_use u ≡ true
-use_ready u e = (both_pass (is_encodable_type_use u) true (sites_entered (in_use u) e)).0
+use_ready : (u : TypeUse FunctionType) → encodable (in_use OfItem u) ≡ true → is_encodable_type_use u ≡ true
+use_ready u e = (both_pass (is_encodable_type_use u) true (sites_entered (in_use OfItem u) e)).0
 
 body_ready : (params : List (Option Mark)) (k : FuncKind) → encodable (in_func_kind params k) ≡ true → is_written_func k ≡ true → is_encodable_kind k ≡ true
 body_ready params (func.Import import exact) e written = written
@@ -115,7 +122,7 @@ pub func_ready : (f : Func) → is_encodable_field (field.Func f) ≡ true → (
 func_ready f e =
     let params = param_marks f.ty.inline in
     let whole = first_and_last (encodable (in_func f)) (exports_nothing f.exports) (is_written_func f.kind) e in
-    let parts = both_lists is_encodable_site (in_use f.ty) (in_func_kind params f.kind) whole.0 in
+    let parts = both_lists is_encodable_site (in_use OfItem f.ty) (in_func_kind params f.kind) whole.0 in
     (use_ready f.ty parts.0, body_ready params f.kind parts.1 whole.1)
 
 init_ready : (init : Option Expression) → encodable (if_there in_constant init) ≡ true → is_encodable_init init ≡ true

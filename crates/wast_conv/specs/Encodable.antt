@@ -4,7 +4,7 @@ use Rattle.std.specs.Prelude.{Bool, true, false, ◌&&◌, is_some, List, Option
 use Rattle.std.specs.List.{list_all, flat_map}
 use Rattle.wast_base.specs.Ids.{is_number}
 use Rattle.wast_tree.specs.Clauses.{suits}
-use Rattle.wast_tree.specs.Sites.{Ask, Wants, Unasked, Clause, Supported, Site, Asked, Used, Declared, start, in_type, in_ref, in_type_use, in_instr, in_instrs, in_local, in_table_type, in_global_type, in_import, in_tag_type, in_field}
+use Rattle.wast_tree.specs.Sites.{Ask, Wants, Unasked, Clause, Supported, OfItem, Site, Asked, Used, Declared, start, in_type, in_ref, in_type_use, in_instr, in_instrs, in_local, in_table_type, in_global_type, in_import, in_tag_type, in_field}
 use Rattle.wast_tree.specs.Resolved.{is_resolved_site}
 use Rattle.wast_tree.specs.WrittenOut.{is_written_memory, is_written_field}
 use Rattle.wast_conv.specs.Tree.{Index, TypeUse, FunctionType, Instruction, Expression, FuncKind, Imports, TableKind, Table, Memory, GlobalKind, Global, Tag, ElemKind, ElemPayload, Elem, DataKind, Data, ModuleField}
@@ -30,7 +30,7 @@ are_encodable asks = list_all is_encodable_ask asks
 -- a type use has an index, too
 abbrev pub is_encodable_site : Site → Bool
 is_encodable_site (Asked a) = is_encodable_ask a
-is_encodable_site (Used u) = is_some u.index && are_encodable (in_type_use u)
+is_encodable_site (Used w u) = is_some u.index && are_encodable (in_type_use u)
 is_encodable_site (Declared before m) = true
 
 -- all sites of a part
@@ -40,7 +40,7 @@ encodable sites = list_all is_encodable_site sites
 -- What goes into an entry of a section: of a type use the index alone, so that what stands beside it has numbers, and no more.
 abbrev pub is_entered_site : Site → Bool
 is_entered_site (Asked a) = is_encodable_ask a
-is_entered_site (Used u) = is_resolved_site (Used u)
+is_entered_site (Used w u) = is_resolved_site (Used w u)
 is_entered_site (Declared before m) = true
 
 -- all sites of a part
@@ -66,7 +66,7 @@ is_encodable_type t = are_encodable (in_type t)
 
 -- its index alone is written
 abbrev pub is_encodable_type_use : TypeUse FunctionType → Bool
-is_encodable_type_use u = is_resolved_site (Used u)
+is_encodable_type_use u = is_resolved_site (Used OfItem u)
 
 -- the locals and the instructions of a body; what stands in place is not written, here and of tables, memories and globals
 abbrev pub is_encodable_kind : FuncKind → Bool

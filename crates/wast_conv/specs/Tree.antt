@@ -30,6 +30,7 @@ pub use Rattle.wast_tree.specs.declared.immediates.MemoryInit.{MemoryInit}
 pub use Rattle.wast_tree.specs.declared.immediates.MemoryCopy.{MemoryCopy}
 pub use Rattle.wast_tree.specs.declared.immediates.TableInit.{TableInit}
 pub use Rattle.wast_tree.specs.declared.immediates.TableCopy.{TableCopy}
+pub use Rattle.wast_tree.specs.declared.immediates.CallIndirect.{CallIndirect}
 pub use Rattle.wast_tree.specs.declared.immediates.SelectTypes.{SelectTypes}
 pub use Rattle.wast_tree.specs.declared.immediates.MemArg.{MemArg}
 pub use Rattle.wast_tree.specs.declared.immediates.MemArgTarget.{MemArgTarget}

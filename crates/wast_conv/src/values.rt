@@ -3,7 +3,7 @@
 ghost use Rattle.std.specs.Prelude.{◌≡◌, true, map, option_map, IsTrue};
 ghost use Rattle.std.specs.List.{list_all};
 ghost use Rattle.wast_base.specs.Ids.{is_number};
-ghost use Rattle.wast_tree.specs.Sites.{in_heap, in_val, in_param, in_signature, in_struct_field, in_struct, in_array, in_inner, in_def, in_mem_arg, in_select, in_local};
+ghost use Rattle.wast_tree.specs.Sites.{in_heap, in_val, in_param, in_signature, in_struct_field, in_struct, in_array, in_inner, in_def, in_mem_arg, in_select, in_indirect, in_local};
 ghost use Rattle.wasm_ops.specs.declared.types.CompositeInnerType.TheVariants as composite;
 ghost use Rattle.wasm_ops.specs.ConstantInstrs.{ref_null_instr};
 ghost use Rattle.wasm_ops.specs.IndexInstrs.{index_instr, index_pair_instr};
@@ -16,7 +16,7 @@ ghost use Rattle.wasm_ops.specs.Spelling.{InRangeU32, InRangeValType, InRangeFie
 ghost use Rattle.wasm_ops.specs.Table.{instr, InRangeInstr};
 ghost use Rattle.wasm_out.specs.Bodies.{content, InRangeContent};
 ghost use Rattle.wasm_out.specs.Parts.{export_entry, InRangeExport};
-ghost use Rattle.wast_conv.specs.Encodable.{are_encodable, is_encodable_type, is_encodable_type_use, is_encodable_instr, is_encodable_kind};
+ghost use Rattle.wast_conv.specs.Encodable.{are_encodable, encodable, is_encodable_type, is_encodable_type_use, is_encodable_instr, is_encodable_kind};
 ghost use Rattle.wast_conv.specs.Meaning as meaning;
 
 use crate::conv;
@@ -27,9 +27,9 @@ use wasm_ops::{
 };
 use wasm_out::{LocalType, Locals};
 use wast_tree::{
-    ArrayType, Export, FuncKind, FunctionType, HeapType, Id, Index, InnerTypeKind, Instruction,
-    Local, MemArg, MemOp, NameAnnotation, SelectTypes, StructField, StructType, Type, TypeDef,
-    TypeUse, ValType,
+    ArrayType, CallIndirect, Export, FuncKind, FunctionType, HeapType, Id, Index, InnerTypeKind,
+    Instruction, Local, MemArg, MemOp, NameAnnotation, SelectTypes, StructField, StructType, Type,
+    TypeDef, TypeUse, ValType,
 };
 
 /// The way to spell parts of a resolved tree: by the numbers of their indices (binary format). It needs supported
@@ -232,6 +232,20 @@ fn put_pair<S: Sink>(
     .encode(out)
 }
 
+/// An indirect call: the index of its type, and then its table.
+fn put_indirect<S: Sink>(op: IndexPairOp, call: &CallIndirect, out: &mut S) -> Result<(), Refusal>
+    requires { IsTrue (encodable (in_indirect call.now)) }
+    ensures { Writes S.rules (InRangeInstr (index_pair_instr op (meaning.type_index call.now.ty) (meaning.number call.now.table)))
+        out.old out.new (instr (index_pair_instr op (meaning.type_index call.now.ty) (meaning.number call.now.table))) result }
+{
+    IndexPair {
+        op,
+        first: type_index(&call.ty),
+        second: conv::index(&call.table),
+    }
+    .encode(out)
+}
+
 /// A load or a store.
 fn put_mem<S: Sink>(op: MemOp, arg: &MemArg, out: &mut S) -> Result<(), Refusal>
     requires { IsTrue (are_encodable (in_mem_arg arg.now)) }
@@ -282,6 +296,10 @@ impl Spell<Instruction<'_>> for Resolved {
             Instruction::throw(tag) => put_index(IndexOp::Throw, tag, out),
             Instruction::call(func) => put_index(IndexOp::Call, func, out),
             Instruction::return_call(func) => put_index(IndexOp::ReturnCall, func, out),
+            Instruction::call_indirect(call) => put_indirect(IndexPairOp::CallIndirect, call, out),
+            Instruction::return_call_indirect(call) => {
+                put_indirect(IndexPairOp::ReturnCallIndirect, call, out)
+            }
             Instruction::call_ref(ty) => put_index(IndexOp::CallRef, ty, out),
             Instruction::return_call_ref(ty) => put_index(IndexOp::ReturnCallRef, ty, out),
             Instruction::select(types) => put_select(types, out),

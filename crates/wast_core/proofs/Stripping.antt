@@ -14,6 +14,8 @@ use Rattle.wast_core.specs.Tree.index
 use Rattle.wast_core.specs.Tree.ty
 use Rattle.wast_core.specs.Tree.instr
 use Rattle.wast_core.specs.Tree.func
+use Rattle.wasm_ops.specs.IndexInstrs.{index_pair_instr}
+use Rattle.wasm_ops.specs.declared.instrs.IndexPairOp.TheVariants as pair
 use Rattle.wast_conv.specs.FieldEntries.{imported, table_of, value_of}
 use Rattle.wast_core.specs.Meaning.{number, as_val_type, as_sub_type, type_index, as_tag_type, as_entity_type, as_instr, as_expression, as_body, as_element_mode, as_element_items, as_data_mode}
 
@@ -66,6 +68,8 @@ import_told i = grind (arith, common_steps, entity_told)
 instr_told : (h : Here) (i : Instruction) → as_instr (mapped_instr stripping h i) ≡ as_instr i
 instr_told h (instr.Mem op m) = ap (λ n. as_instr (instr.Mem op n)) (mem_arg_at m).still
 instr_told h (instr.select t) = ap (λ u. as_instr (instr.select u)) (select_at t).still
+instr_told h (instr.call_indirect c) = ap (λ n. index_pair_instr pair.CallIndirect n (number c.table)) (use_told c.ty)
+instr_told h (instr.return_call_indirect c) = ap (λ n. index_pair_instr pair.ReturnCallIndirect n (number c.table)) (use_told c.ty)
 instr_told h i = grind (arith, common_steps, heap_stays)
 
 instrs_told : (h : Here) (is : List Instruction) → map as_instr (mapped_instrs stripping h is) ≡ map as_instr is

@@ -3,7 +3,7 @@ use Rattle.std.proofs.Common.{◌≡◌, true, false, ◌||◌, List, [], ◌∷
 use Rattle.wast_base.specs.Ids.{Mark}
 use Rattle.wast_tree.specs.Items.{items}
 use Rattle.wast_tree.specs.Known.{Known, known}
-use Rattle.wast_tree.specs.Sites.{Site, param_marks, in_use, in_func_kind, in_field, in_module, asked}
+use Rattle.wast_tree.specs.Sites.{OfItem, Site, param_marks, in_use, in_func_kind, in_field, in_module, asked}
 use Rattle.wast_tree.specs.WellFormed.{is_kept, are_kept}
 use Rattle.wast_deinline.specs.Tree.{FuncKind, ModuleField}
 use Rattle.wast_deinline.specs.Tree.func
@@ -24,7 +24,7 @@ module _ (k : Known) where
   field_inexact : (x : ModuleField) → kept (in_field x) → is_exact x ≡ false
   field_inexact (field.Func f) h =
       let params = param_marks f.ty.inline in
-      kind_inexact params f.kind (parted (is_kept k) refl refl (in_use f.ty) (in_func_kind params f.kind) h).1
+      kind_inexact params f.kind (parted (is_kept k) refl refl (in_use OfItem f.ty) (in_func_kind params f.kind) h).1
   field_inexact x h = refl
 
   all_inexact : (xs : List ModuleField) → kept (in_module xs) → imports_exact xs ≡ false

@@ -6,7 +6,7 @@ use Rattle.std.proofs.lemmas.Bool.{and_parts}
 use Rattle.std.proofs.lemmas.List.{map-append}
 use Rattle.std.proofs.lemmas.List.Folds.{list_all-append}
 use Rattle.wast_tree.specs.Items.{Item, item, items_in, items}
-use Rattle.wast_tree.specs.Sites.{Ask, Wants, Clause, Supported, Site, Asked, asking, in_ref, in_use, in_func, in_global_type, in_constant, in_payload, in_table_kind, in_global_kind, in_tag_type, in_field, in_module, asked}
+use Rattle.wast_tree.specs.Sites.{Ask, Wants, Clause, Supported, OfItem, Site, Asked, asking, in_ref, in_use, in_func, in_global_type, in_constant, in_payload, in_table_kind, in_global_kind, in_tag_type, in_field, in_module, asked}
 use Rattle.wast_tree.specs.Known.{names_in}
 use Rattle.wast_base.specs.Filling.{one_if, given_if}
 use Rattle.wast_tree.proofs.Visiting.{asked_both}
@@ -72,7 +72,7 @@ module _ (ok : Ask → Bool) (clause : ok (Clause 4 true) ≡ true) (form : ok (
   offset_passes true = both_true form refl
 
   func_passes : (f : Func) (k : FuncKind) → pass (in_func (record f { kind = k })) ≡ true → list_all passes (func_alone f k ∷ []) ≡ true
-  func_passes f (func.Import source exact) h = both_true (parted (in_use f.ty) (Asked (Supported (not exact)) ∷ []) h).0 refl
+  func_passes f (func.Import source exact) h = both_true (parted (in_use OfItem f.ty) (Asked (Supported (not exact)) ∷ []) h).0 refl
   func_passes f (func.Inline locals e) h = both_true h refl
 
   table_passes : (t : Table) (k : TableKind) (i : Index) → ok (Wants space.Table i) ≡ true → pass (in_table_kind k) ≡ true → list_all passes (elem_in k t.span i ++ table_alone t k ∷ []) ≡ true

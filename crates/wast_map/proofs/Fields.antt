@@ -7,7 +7,7 @@ use Rattle.std.proofs.lemmas.Grind.{common_steps}
 use Rattle.std.proofs.lemmas.List.{map-append}
 use Rattle.wast_base.specs.Ids.{Name, Mark, marked}
 use Rattle.wast_base.specs.Spaces.{name_if}
-use Rattle.wast_map.specs.Tree.{Id, Index, RefType, HeapType, TableType, GlobalType, TypeUse, FunctionType, MemArg, MemArgTarget, SelectTypes, Instruction, Expression, Local, FuncKind, Func, ItemKind, ImportItems, TableKind, MemoryKind, GlobalKind, ElemKind, ElemPayload, Elem, DataKind, TagType, ModuleField, ValType}
+use Rattle.wast_map.specs.Tree.{Id, Index, RefType, HeapType, TableType, GlobalType, TypeUse, FunctionType, MemArg, MemArgTarget, CallIndirect, SelectTypes, Instruction, Expression, Local, FuncKind, Func, ItemKind, ImportItems, TableKind, MemoryKind, GlobalKind, ElemKind, ElemPayload, Elem, DataKind, TagType, ModuleField, ValType}
 use Rattle.wast_map.specs.Tree.space
 use Rattle.wast_map.specs.Tree.heap
 use Rattle.wast_map.specs.Tree.target
@@ -23,8 +23,8 @@ use Rattle.wast_map.specs.Tree.payload
 use Rattle.wast_map.specs.Tree.data_kind
 use Rattle.wast_map.specs.Tree.field
 use Rattle.wast_tree.specs.Clauses.{is_func_heap, suits}
-use Rattle.wast_tree.specs.Sites.{Here, start, Site, Asked, Declared, Clause, Supported, after, after_all, asking, at_index, if_there, in_heap, in_target, in_mem_arg, in_select, in_instr, behind, in_instrs, in_expression, in_constant, in_local, local_marks, param_marks, declaring, body_here, in_func_kind, in_use, in_func, in_item_kind, in_import, exported_space, in_payload, in_table_kind, in_memory_kind, in_global_kind, in_elem_kind, in_elem, in_data_kind, in_field}
-use Rattle.wast_map.specs.Mapped.{Change, same, mapped_site, KeepsMarks, Joins, AreJoint, Each, mapped_heap, mapped_target, mapped_mem_arg, mapped_select, mapped_instr, mapped_instrs, mapped_expression, mapped_constant, mapped_local, mapped_func_kind, mapped_func, mapped_item_kind, mapped_import_items, mapped_payload, mapped_table_kind, mapped_global_kind, mapped_elem_kind, mapped_elem, mapped_data_kind, mapped}
+use Rattle.wast_tree.specs.Sites.{Here, start, OfItem, OfCall, Site, Asked, Declared, Clause, Supported, after, after_all, asking, at_index, if_there, in_heap, in_target, in_mem_arg, in_select, in_indirect, in_instr, behind, in_instrs, in_expression, in_constant, in_local, local_marks, param_marks, declaring, body_here, in_func_kind, in_use, in_func, in_item_kind, in_import, exported_space, in_payload, in_table_kind, in_memory_kind, in_global_kind, in_elem_kind, in_elem, in_data_kind, in_field}
+use Rattle.wast_map.specs.Mapped.{Change, same, mapped_site, KeepsMarks, Joins, AreJoint, Each, mapped_heap, mapped_target, mapped_mem_arg, mapped_select, mapped_indirect, mapped_instr, mapped_instrs, mapped_expression, mapped_constant, mapped_local, mapped_func_kind, mapped_func, mapped_item_kind, mapped_import_items, mapped_payload, mapped_table_kind, mapped_global_kind, mapped_elem_kind, mapped_elem, mapped_data_kind, mapped}
 use Rattle.wast_map.proofs.Ways.{In, At, each_first, each_rest, index_in, index_at, mark_in, asked_at, item_id_at, use_at, fixed_at, both_at, made_at, tested_at, behind_at, option_at, list_at}
 use Rattle.wast_map.proofs.Types.{heap_at, ref_at, val_at, type_at, rec_at, table_type_at, global_type_at, tag_type_at}
 
@@ -40,6 +40,11 @@ mem_arg_at m =
 pub select_at : (t : SelectTypes) → In in_select (λ f. mapped_select f.index) t
 select_at t = made_at (λ (o : Option (List ValType)). record { tys = o }) (λ y. refl) (λ f y. refl) t.tys (option_at (list_at val_at) t.tys)
 
+pub indirect_at : (c : CallIndirect) → At in_indirect mapped_indirect c
+indirect_at c =
+    made_at (λ (q : Index × TypeUse FunctionType). record { table = q.0; ty = q.1 }) (λ y. refl) (λ f y. refl) (c.table, c.ty)
+    (both_at c.table c.ty (index_at space.Table c.table) (use_at OfCall c.ty))
+
 -- An instruction: a tactic goes through the variants, with one line for each kind of immediates that has parts of its own.
 module _ (f : Change) (k : KeepsMarks f) where
   heap_stands : (t : HeapType) → asking (in_heap (mapped_heap f.index t)) ≡ map (mapped_site f) (asking (in_heap t))
@@ -48,6 +53,8 @@ module _ (f : Change) (k : KeepsMarks f) where
   instr_stands : (h : Here) (i : Instruction) → in_instr h (mapped_instr f h i) ≡ map (mapped_site f) (in_instr h i)
   instr_stands h (instr.Mem op m) = (asked_at m (mem_arg_at m)).stands f k
   instr_stands h (instr.select t) = (asked_at t (select_at t)).stands f k
+  instr_stands h (instr.call_indirect c) = (indirect_at c).stands f k
+  instr_stands h (instr.return_call_indirect c) = (indirect_at c).stands f k
   instr_stands h i = grind (arith, common_steps, heap_stands)
 
 module _ (x g f : Change) (j : AreJoint x g f) where
@@ -57,6 +64,8 @@ module _ (x g f : Change) (j : AreJoint x g f) where
   instr_joins : (h : Here) (i : Instruction) → Each (Joins x g f) (in_instr h i) → mapped_instr g h (mapped_instr x h i) ≡ mapped_instr f h i
   instr_joins h (instr.Mem op m) e = ap (instr.Mem op) ((asked_at m (mem_arg_at m)).joins x g f j e)
   instr_joins h (instr.select t) e = ap instr.select ((asked_at t (select_at t)).joins x g f j e)
+  instr_joins h (instr.call_indirect c) e = ap instr.call_indirect ((indirect_at c).joins x g f j e)
+  instr_joins h (instr.return_call_indirect c) e = ap instr.return_call_indirect ((indirect_at c).joins x g f j e)
   instr_joins h i e = grind (arith, common_steps, heap_joins)
 
 heap_still : (t : HeapType) → mapped_heap same.index t ≡ t
@@ -65,6 +74,8 @@ heap_still t = (heap_at t).still
 instr_still : (h : Here) (i : Instruction) → mapped_instr same h i ≡ i
 instr_still h (instr.Mem op m) = ap (instr.Mem op) (mem_arg_at m).still
 instr_still h (instr.select t) = ap instr.select (select_at t).still
+instr_still h (instr.call_indirect c) = ap instr.call_indirect (indirect_at c).still
+instr_still h (instr.return_call_indirect c) = ap instr.return_call_indirect (indirect_at c).still
 instr_still h i = grind (arith, common_steps, heap_still)
 
 instr_at : (h : Here) (i : Instruction) → At (in_instr h) (λ f. mapped_instr f h) i
@@ -144,7 +155,7 @@ func_at x =
     let params = param_marks x.ty.inline in
     let a = func_kind_at params x.kind in
     record {
-      stands = λ f k. ap (λ ps. in_use (f.used x.ty) ++ in_func_kind ps (mapped_func_kind f params x.kind)) (k x.ty) ∙ ap (λ z. in_use (f.used x.ty) ++ z) (a.stands f k);
+      stands = λ f k. ap (λ ps. in_use OfItem (f.used OfItem x.ty) ++ in_func_kind ps (mapped_func_kind f params x.kind)) (k x.ty) ∙ ap (λ z. in_use OfItem (f.used OfItem x.ty) ++ z) (a.stands f k);
       joins = λ h g f j e t. record x {
         id = j.ids x.id t;
         ty = e.0 t;
@@ -154,7 +165,7 @@ func_at x =
     }
 
 item_kind_at : (k : ItemKind) → At in_item_kind mapped_item_kind k
-item_kind_at (kind.Func u) = made_at kind.Func (λ y. refl) (λ f y. refl) u (use_at u)
+item_kind_at (kind.Func u) = made_at kind.Func (λ y. refl) (λ f y. refl) u (use_at OfItem u)
 item_kind_at (kind.Table t) = made_at kind.Table (λ y. refl) (λ f y. refl) t (asked_at t (table_type_at t))
 item_kind_at (kind.Memory t) = fixed_at (kind.Memory t) (λ f. refl) (λ f. refl)
 item_kind_at (kind.Global t) = made_at kind.Global (λ y. refl) (λ f y. refl) t (asked_at t (global_type_at t))

@@ -32,7 +32,7 @@ joins_then h g (Asked (Wants s i)) = refl
 joins_then h g (Asked (Unasked m)) = tt
 joins_then h g (Asked (Clause n holds)) = tt
 joins_then h g (Asked (Supported holds)) = tt
-joins_then h g (Used u) = refl
+joins_then h g (Used w u) = refl
 joins_then h g (Declared before m) = tt
 
 -- Two changes after one another are one.

@@ -2,7 +2,7 @@
 -- uses, identifiers).
 use Rattle.std.specs.Prelude.{⊤, ◌≡◌, List, [], ◌∷◌, ◌++◌, map, Option, option_map}
 use Rattle.wast_base.specs.Ids.{Mark}
-use Rattle.wast_map.specs.Tree.{Id, Index, NameAnnotation, Space, RefType, HeapType, ValType, StorageType, StructField, StructType, ArrayType, FunctionType, TypeUse, InnerTypeKind, TypeDef, Rec, TableArg, MemoryArg, MemoryInit, MemoryCopy, TableInit, TableCopy, SelectTypes, MemArg, MemArgTarget, Instruction, Expression, TableType, GlobalType, TagType, Imports, ImportItems, ItemSig, ItemKind, Local, FuncKind, Func, Table, TableKind, Memory, Global, GlobalKind, Tag, Elem, ElemKind, ElemPayload, Data, DataKind, Export, ModuleField}
+use Rattle.wast_map.specs.Tree.{Id, Index, NameAnnotation, Space, RefType, HeapType, ValType, StorageType, StructField, StructType, ArrayType, FunctionType, TypeUse, InnerTypeKind, TypeDef, Rec, TableArg, MemoryArg, MemoryInit, MemoryCopy, TableInit, TableCopy, CallIndirect, SelectTypes, MemArg, MemArgTarget, Instruction, Expression, TableType, GlobalType, TagType, Imports, ImportItems, ItemSig, ItemKind, Local, FuncKind, Func, Table, TableKind, Memory, Global, GlobalKind, Tag, Elem, ElemKind, ElemPayload, Data, DataKind, Export, ModuleField}
 use Rattle.wast_map.specs.Tree.space
 use Rattle.wast_map.specs.Tree.heap
 use Rattle.wast_map.specs.Tree.value
@@ -21,7 +21,7 @@ use Rattle.wast_map.specs.Tree.elem
 use Rattle.wast_map.specs.Tree.payload
 use Rattle.wast_map.specs.Tree.data_kind
 use Rattle.wast_map.specs.Tree.field
-use Rattle.wast_tree.specs.Sites.{Here, start, behind, param_marks, local_marks, body_here, exported_space, Ask, Wants, Unasked, Clause, Supported, Site, Asked, Used, Declared}
+use Rattle.wast_tree.specs.Sites.{Here, start, behind, param_marks, local_marks, body_here, exported_space, Ask, Wants, Unasked, Clause, Supported, Where, OfItem, OfCall, Site, Asked, Used, Declared}
 
 -- what an index becomes where one of a space is wanted
 abbrev pub Indices : Type 0
@@ -30,18 +30,18 @@ Indices = Space → Index → Index
 -- what an index, a type use and the id of an item become
 pub record Change : Type 0 where
   pub index : Indices
-  -- a type use, with what stands in it
-  pub used : TypeUse FunctionType → TypeUse FunctionType
+  -- a type use, with what stands in it, by where it stands
+  pub used : Where → TypeUse FunctionType → TypeUse FunctionType
   -- the id of an item
   pub id : Option Id → Option Id
 
 -- nothing changes
 abbrev pub same : Change
-same = record { index = λ s i. i; used = λ u. u; id = λ o. o }
+same = record { index = λ s i. i; used = λ w u. u; id = λ o. o }
 
 -- one after the other
 abbrev pub then : Change → Change → Change
-then h g = record { index = λ s i. g.index s (h.index s i); used = λ u. g.used (h.used u); id = λ o. g.id (h.id o) }
+then h g = record { index = λ s i. g.index s (h.index s i); used = λ w u. g.used w (h.used w u); id = λ o. g.id (h.id o) }
 
 -- Types.
 abbrev pub mapped_heap : Indices → HeapType → HeapType
@@ -120,7 +120,7 @@ mapped_global_type f t = record t { ty = mapped_val f t.ty }
 
 -- a tag type
 abbrev pub mapped_tag_type : Change → TagType → TagType
-mapped_tag_type f (tag.Exception u) = tag.Exception (f.used u)
+mapped_tag_type f (tag.Exception u) = tag.Exception (f.used OfItem u)
 
 -- the table or the memory of an instruction
 abbrev pub mapped_table_arg : Indices → TableArg → TableArg
@@ -153,6 +153,10 @@ mapped_mem_arg f m = record m { target = mapped_target f m.target }
 abbrev pub mapped_select : Indices → SelectTypes → SelectTypes
 mapped_select f t = record { tys = option_map (map (mapped_val f)) t.tys }
 
+-- the table and the type of an indirect call
+abbrev pub mapped_indirect : Change → CallIndirect → CallIndirect
+mapped_indirect f c = record { table = f.index space.Table c.table; ty = f.used OfCall c.ty }
+
 -- Bodies: each instruction from where it stands.
 abbrev pub mapped_instr : Change → Here → Instruction → Instruction
 mapped_instr f h (instr.Plain op) = instr.Plain op
@@ -161,6 +165,8 @@ mapped_instr f h (instr.catch i) = instr.catch (f.index space.Tag i)
 mapped_instr f h (instr.throw i) = instr.throw (f.index space.Tag i)
 mapped_instr f h (instr.call i) = instr.call (f.index space.Func i)
 mapped_instr f h (instr.return_call i) = instr.return_call (f.index space.Func i)
+mapped_instr f h (instr.call_indirect c) = instr.call_indirect (mapped_indirect f c)
+mapped_instr f h (instr.return_call_indirect c) = instr.return_call_indirect (mapped_indirect f c)
 mapped_instr f h (instr.call_ref i) = instr.call_ref (f.index space.Ty i)
 mapped_instr f h (instr.return_call_ref i) = instr.return_call_ref (f.index space.Ty i)
 mapped_instr f h (instr.select a) = instr.select (mapped_select f.index a)
@@ -211,11 +217,11 @@ mapped_func_kind f params (func.Inline locals e) = func.Inline (map (mapped_loca
 
 -- a function
 abbrev pub mapped_func : Change → Func → Func
-mapped_func f x = record x { id = f.id x.id; kind = mapped_func_kind f (param_marks x.ty.inline) x.kind; ty = f.used x.ty }
+mapped_func f x = record x { id = f.id x.id; kind = mapped_func_kind f (param_marks x.ty.inline) x.kind; ty = f.used OfItem x.ty }
 
 -- what is imported: its type
 abbrev pub mapped_item_kind : Change → ItemKind → ItemKind
-mapped_item_kind f (kind.Func u) = kind.Func (f.used u)
+mapped_item_kind f (kind.Func u) = kind.Func (f.used OfItem u)
 mapped_item_kind f (kind.Table t) = kind.Table (mapped_table_type f.index t)
 mapped_item_kind f (kind.Memory t) = kind.Memory t
 mapped_item_kind f (kind.Global t) = kind.Global (mapped_global_type f.index t)
@@ -313,12 +319,12 @@ mapped_ask f (Supported holds) = Supported holds
 -- a site
 abbrev pub mapped_site : Change → Site → Site
 mapped_site f (Asked a) = Asked (mapped_ask f.index a)
-mapped_site f (Used u) = Used (f.used u)
+mapped_site f (Used w u) = Used w (f.used w u)
 mapped_site f (Declared before m) = Declared before m
 
--- A change keeps the ids of the parameters in a type use.
+-- A change keeps the ids of the parameters in the type use of an item: a body stands behind these.
 abbrev pub KeepsMarks : Change → Type 0
-KeepsMarks f = (u : TypeUse FunctionType) → param_marks (f.used u).inline ≡ param_marks u.inline
+KeepsMarks f = (u : TypeUse FunctionType) → param_marks (f.used OfItem u).inline ≡ param_marks u.inline
 
 -- At a site, two changes after one another are a third.
 abbrev pub JoinsAsk : Indices → Indices → Indices → Ask → Type 0
@@ -330,7 +336,7 @@ JoinsAsk h g f (Supported holds) = ⊤
 -- The same at a site.
 abbrev pub Joins : Change → Change → Change → Site → Type 0
 Joins h g f (Asked a) = JoinsAsk h.index g.index f.index a
-Joins h g f (Used u) = g.used (h.used u) ≡ f.used u
+Joins h g f (Used w u) = g.used w (h.used w u) ≡ f.used w u
 Joins h g f (Declared before m) = ⊤
 
 -- They are so at the ids of items, and the first keeps the ids of parameters.

@@ -118,7 +118,7 @@ module _ (ok : Ask → Bool) where
 
     site_alike : (s : Site) → pass ok (asked_in s) ≡ true → site_demand c s ≡ site_demand d s
     site_alike (Asked a) h = ask_alike a (first_so (ok a) true h)
-    site_alike (Used u) h =
+    site_alike (Used w u) h =
         ap (λ ds. ds ++ match_if c u.index u.inline) (asks_alike (in_type_use u) h) ∙ ap (λ ds. ask_demands d.known (in_type_use u) ++ ds) (if_alike u.index u.inline h)
     site_alike (Declared before m) h = refl
 

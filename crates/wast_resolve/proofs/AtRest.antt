@@ -1,7 +1,7 @@
 -- What is so of a resolved list: no id is left where an index is wanted, no generation is above those that were there, and
 -- it is well formed as it was.
-use Rattle.std.proofs.Common.{◌≡◌, ℕ, ◌≤◌, true, ◌&&◌, List, [], ◌∷◌, refl, ap, ◌∙◌, map, append-nil}
-use Rattle.std.specs.Prelude.{Option, Some, None, is_some}
+use Rattle.std.proofs.Common.{◌≡◌, ℕ, suc, ◌<◌, ◌≤◌, true, ◌&&◌, List, [], ◌∷◌, refl, ap, ◌∙◌, map, append-nil}
+use Rattle.std.specs.Prelude.{nat_lt, Option, Some, None, is_some}
 use Rattle.std.specs.Cmp.{first_so, second_so}
 use Rattle.std.proofs.lemmas.Grind.{flat_map-append}
 use native.Mathlib.Omega.{arith}
@@ -16,12 +16,13 @@ use Rattle.wast_tree.specs.WellFormed.{is_kept, are_kept, is_well_formed}
 use Rattle.wast_tree.specs.Resolved.{is_numbered, are_numbered, has_numbers}
 use Rattle.wast_map.specs.Mapped.{mapped_ask, mapped}
 use Rattle.wast_map.proofs.Alone.{items_alone}
+use Rattle.wast_deinline.proofs.Below.{each_below, greatest_below}
 use Rattle.wast_resolve.specs.Tree.{Id, Span, Space, Index, ModuleField}
 use Rattle.wast_resolve.specs.Tree.index
 use Rattle.wast_resolve.specs.Scopes.{Scope, scope}
 use Rattle.wast_resolve.specs.Demands.{first_unmet, ask_demand, ask_demands, match_if, site_demand, site_demands, item_demands, name_demands}
 use Rattle.wast_resolve.specs.Resolved.{numbered_at, numbered_by, numbering, resolved}
-use Rattle.wast_resolve.proofs.Standing.{asked_resolved}
+use Rattle.wast_resolve.proofs.Standing.{asked_passes}
 use Rattle.wast_resolve.proofs.Unmet.{first_unmet-append, met_parts}
 
 module _ (k : Known) where
@@ -84,7 +85,7 @@ module _ (k : Known) where
 module _ (c : Scope) where
   site_met : (s : Site) → first_unmet (site_demand c s) ≡ None → first_unmet (ask_demands c.known (asked_in s)) ≡ None
   site_met (Asked a) met = ap first_unmet (append-nil (ask_demand c.known a)) ∙ met
-  site_met (Used u) met = (met_parts (ask_demands c.known (in_type_use u)) (match_if c u.index u.inline) met).0
+  site_met (Used w u) met = (met_parts (ask_demands c.known (in_type_use u)) (match_if c u.index u.inline) met).0
   site_met (Declared before m) met = refl
 
   sites_met : (ss : List Site) → first_unmet (site_demands c ss) ≡ None → first_unmet (ask_demands c.known (asked ss)) ≡ None
@@ -101,17 +102,20 @@ asks_numbered fields met =
     met_asks c.known (asked (in_module fields)) (sites_met c (in_module fields) sites)
 
 pub all_numbered : (fields : List ModuleField) → first_unmet (name_demands fields) ≡ None → has_numbers (resolved fields) ≡ true
-all_numbered fields met = ap are_numbered (asked_resolved fields) ∙ asks_numbered fields met
+all_numbered fields met = asked_passes (known (items fields)) is_numbered fields (asks_numbered fields met)
 
 pub still_well_formed : (fields : List ModuleField) → is_well_formed fields ≡ true → first_unmet (name_demands fields) ≡ None → is_well_formed (resolved fields) ≡ true
 still_well_formed fields h met =
     let l = known (items (resolved fields)) in
-    ap (are_kept l) (asked_resolved fields) ∙ kept_asks (known (items fields)) l (asked (in_module fields)) h (asks_numbered fields met)
+    asked_passes (known (items fields)) (is_kept l) fields (kept_asks (known (items fields)) l (asked (in_module fields)) h (asks_numbered fields met))
 
 pub still_below : (fields : List ModuleField) → greatest_generation (resolved fields) ≤ greatest_generation fields
 still_below fields =
     let k = known (items fields) in
     let i : greatest_item (items (resolved fields)) ≡ greatest_item (items fields) = ap greatest_item (items_stay k fields) in
-    let a : greatest_asked (asked (in_module (resolved fields))) ≡ greatest_asked (map (mapped_ask (numbered_at k)) (asked (in_module fields))) = ap greatest_asked (asked_resolved fields) in
+    let g : ℕ = greatest_asked (asked (in_module fields)) in
     let b = below_asks k (asked (in_module fields)) in
-    omega arith
+    let each = each_below (suc g) generation_in (map (mapped_ask (numbered_at k)) (asked (in_module fields))) (omega (arith, b)) in
+    let a : greatest_asked (asked (in_module (resolved fields))) < suc g =
+    greatest_below (suc g) generation_in (asked (in_module (resolved fields))) (omega arith) (asked_passes k (λ x. nat_lt (generation_in x) (suc g)) fields each) in
+    omega (arith, i, a)

@@ -61,7 +61,7 @@ module _ (ok : Ask → Bool) where
 
   site_needs : (s : Site) → pass (asked_in s) ≡ true → all_pass_in (needed_at s) ≡ true
   site_needs (Asked a) h = refl
-  site_needs (Used u) h = use_needs u.index u.inline (second_part (if_there (in_index space.Ty) u.index) (if_there in_signature u.inline) h)
+  site_needs (Used w u) h = use_needs u.index u.inline (second_part (if_there (in_index space.Ty) u.index) (if_there in_signature u.inline) h)
   site_needs (Declared before m) h = refl
 
   sites_need : (ss : List Site) → pass (asked ss) ≡ true → all_pass_in (needed_in ss) ≡ true

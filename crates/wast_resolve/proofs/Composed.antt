@@ -112,7 +112,7 @@ module _ (n : ℕ) (fields : List ModuleField) where
 
     site_met : (s : Site) → first_unmet (site_demand new_scope (mapped_site (binding find) s)) ≡ first_unmet (site_demand new_scope s)
     site_met (Asked a) = ap (λ b. first_unmet (ask_demand new b)) (bound_ask find a)
-    site_met (Used u) = bound_use_met u.index u.inline
+    site_met (Used w u) = bound_use_met u.index u.inline
     site_met (Declared before m) = refl
 
     sites_met : (ss : List Site) → first_unmet (site_demands new_scope (map (mapped_site (binding find)) ss)) ≡ first_unmet (site_demands new_scope ss)

@@ -47,7 +47,7 @@ module _ {M : Type 0} (find : LookUp) (measure : List Ask → M) (each : (a : As
 
   site_measure : (s : Site) (ps qs : List Ask) → measure ps ≡ measure qs → measure (asked_in (mapped_site (binding find) s) ++ ps) ≡ measure (asked_in s ++ qs)
   site_measure (Asked a) ps qs h = ap (λ b. measure (b ∷ ps)) (bound_ask find a) ∙ each a ps qs h
-  site_measure (Used u) ps qs h = use_measure u ps qs h
+  site_measure (Used w u) ps qs h = use_measure u ps qs h
   site_measure (Declared before m) ps qs h = h
 
   sites_measure : (ss : List Site) → measure (asked (map (mapped_site (binding find)) ss)) ≡ measure (asked ss)

@@ -4,9 +4,9 @@ use Rattle.std.specs.Cmp.{first_so}
 use Rattle.std.specs.List.{list_all}
 use Rattle.wast_tree.specs.Items.{items}
 use Rattle.wast_tree.specs.Known.{Known, known}
-use Rattle.wast_tree.specs.Sites.{Site, Asked, Used, Declared, in_type_use, asked_in, asked, in_module}
+use Rattle.wast_tree.specs.Sites.{OfItem, OfCall, Site, Asked, Used, Declared, in_type_use, asked_in, asked, in_module}
 use Rattle.wast_tree.specs.Resolved.{is_numbered, are_numbered, is_resolved_site}
-use Rattle.wast_map.specs.Mapped.{mapped_signature, mapped_site, mapped}
+use Rattle.wast_map.specs.Mapped.{mapped_site, mapped}
 use Rattle.wast_map.proofs.Laws.{stands}
 use Rattle.wast_types.specs.NeedingUses.{needed_without, needed_at, needed_in, needed}
 use Rattle.wast_types.specs.Expanded.{expanded}
@@ -22,13 +22,14 @@ use Rattle.wast_resolve.proofs.ImpliedSignatures.{both_so}
 use Rattle.wast_resolve.proofs.Numbering.{numbering_keeps}
 
 module _ (k : Known) where
-  has_index : (i : Option Index) (inline : Option FunctionType) → needed_without i inline ≡ [] → needed_without (option_map (numbered_at k space.Ty) i) (option_map (mapped_signature (numbered_at k)) inline) ≡ []
-  has_index None inline h = absurd cc
-  has_index (Some i) inline h = refl
+  has_index : (i : Option Index) (inline now : Option FunctionType) → needed_without i inline ≡ [] → needed_without (option_map (numbered_at k space.Ty) i) now ≡ []
+  has_index None inline now h = absurd cc
+  has_index (Some i) inline now h = refl
 
   site_has : (s : Site) → needed_at s ≡ [] → needed_at (mapped_site (numbering k) s) ≡ []
   site_has (Asked a) none = refl
-  site_has (Used u) none = has_index u.index u.inline none
+  site_has (Used OfItem u) none = has_index u.index u.inline _ none
+  site_has (Used OfCall u) none = has_index u.index u.inline _ none
   site_has (Declared before m) none = refl
 
   sites_have : (ss : List Site) → needed_in ss ≡ [] → needed_in (map (mapped_site (numbering k)) ss) ≡ []
@@ -49,7 +50,7 @@ index_is_there (Some i) inline h = refl
 
 site_resolved : (s : Site) → needed_at s ≡ [] → are_numbered (asked_in s) ≡ true → is_resolved_site s ≡ true
 site_resolved (Asked a) none h = first_so (is_numbered a) true h
-site_resolved (Used u) none h = both_so (is_some u.index) (are_numbered (in_type_use u)) (index_is_there u.index u.inline none) h
+site_resolved (Used w u) none h = both_so (is_some u.index) (are_numbered (in_type_use u)) (index_is_there u.index u.inline none) h
 site_resolved (Declared before m) none h = refl
 
 sites_resolved : (ss : List Site) → needed_in ss ≡ [] → are_numbered (asked ss) ≡ true → list_all is_resolved_site ss ≡ true

@@ -1,8 +1,8 @@
 -- Instructions of a body, one after the other, in their place.
-use Rattle.std.proofs.Common.{◌≡◌, ℕ, suc, ◌+◌, ◌<◌, List, [], ◌∷◌, ◌++◌, None, refl, sym, ◌∙◌, ap, length, get_or, drop, take, arith, add-one, subst}
+use Rattle.std.proofs.Common.{◌≡◌, ℕ, suc, ◌+◌, ◌<◌, ◌≤◌, List, [], ◌∷◌, ◌++◌, None, refl, sym, ◌∙◌, ap, length, get_or, drop, take, arith, add-one, subst}
 use Rattle.std.proofs.Math.ListN.{set, length-set}
 use Rattle.std.proofs.Math.Seq.{drop-cons, take-suc}
-use Rattle.std.proofs.lemmas.List.{append-nil, drop-drop, drop-set-lt, take_more_set, take-append-drop}
+use Rattle.std.proofs.lemmas.List.{append-nil, drop-drop, drop-set-lt, take_more_set, take-append-drop, take_all}
 use Rattle.wast_base.specs.Faults.{Told}
 use Rattle.wast_tree.specs.Sites.{Here, after_all, behind, in_instr, in_instrs}
 use Rattle.wast_tree.proofs.Behind.{after-append, instrs-append}
@@ -68,3 +68,11 @@ module _ {c : Scope} {f : Change} {start : Here} {olds nows : List Instruction} 
       let rest = in_instrs (behind (reached start olds i) x) (drop (suc i) olds) in
       subst (λ ss. Answers K M t (first_unmet (site_demands c ss))) (sym sites_all)
       (second_fails (site_demand c) before (here ++ rest) K M t p.met (first_fails (site_demand c) here rest K M t failed))
+
+-- all of them are walked
+module _ {c : Scope} {f : Change} {start : Here} {olds nows : List Instruction} {i : ℕ} (p : IsPartway c f start olds nows i) (le : length olds ≤ i) where
+  pub all_met : first_unmet (site_demands c (in_instrs start olds)) ≡ None
+  all_met = subst (λ is. first_unmet (site_demands c (in_instrs start is)) ≡ None) (take_all i olds le) p.met
+
+  pub all_become : nows ≡ mapped_instrs f start olds
+  all_become = sym (take_all i nows (omega (arith, p.len, le))) ∙ (p.become ∙ ap (mapped_instrs f start) (take_all i olds le))

@@ -1,6 +1,6 @@
 -- The worked modules, computed.
 use Rattle.std.proofs.Common.{refl}
-use Rattle.wast_resolve.specs.WorkedAnswers.{Row27, Row31, Row32, Row2, Row7, Row8, Row24, TwoFunctions, ClashOfTypes, FieldsOfOneStruct, FieldsOfTwoStructs, ClashesInOrder, Row14, Row22, Row23, UnknownNames, MatchedByNumber, Row17}
+use Rattle.wast_resolve.specs.WorkedAnswers.{Row27, Row31, Row32, Row2, Row7, Row8, Row24, TwoFunctions, ClashOfTypes, FieldsOfOneStruct, FieldsOfTwoStructs, ClashesInOrder, Row14, Row22, Row23, UnknownNames, MatchedByNumber, Row17, IndirectCalls}
 use Rattle.wast_resolve.specs.WorkedImports.{Row12, Row13, Row21, BehindAMemory, ImportsInOrder, ImportedTwice, UnknownStart}
 use Rattle.wast_resolve.specs.WorkedUnknowns.{UnknownInSegments, UnknownInTables, UnknownInGlobals}
 
@@ -57,6 +57,9 @@ matched_by_number a b c d e = (refl, refl, refl)
 
 pub row17 : Row17
 row17 a b c = (refl, refl)
+
+pub indirect_calls : IndirectCalls
+indirect_calls a b c = (refl, refl, refl, refl, refl, refl, refl)
 
 pub row12 : Row12
 row12 a b = refl

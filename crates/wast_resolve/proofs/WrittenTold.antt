@@ -2,6 +2,7 @@
 use Rattle.std.proofs.Common.{◌≡◌, ℕ, List, [], Some, None, refl, ap}
 use Rattle.wast_base.specs.Ids.{generated}
 use Rattle.wast_tree.specs.Known.{Known}
+use Rattle.wast_tree.specs.Sites.{Where}
 use Rattle.wast_map.specs.Mapped.{Change, mapped, mapped_constant, mapped_payload}
 use Rattle.wast_map.specs.Laws.{all_mapped}
 use Rattle.wast_deinline.specs.Segments.{at_zero}
@@ -17,7 +18,7 @@ use Rattle.wast_resolve.proofs.WrittenSame.{called, IsBlind, AllOwn}
 use Rattle.wast_resolve.proofs.WrittenLooks.{completed_alike}
 use Rattle.wast_resolve.proofs.WrittenOwn.{Numbers}
 
-module _ (k : Known) (used : TypeUse FunctionType → TypeUse FunctionType) where
+module _ (k : Known) (used : Where → TypeUse FunctionType → TypeUse FunctionType) where
   abbrev pub telling_numbers : Change
   telling_numbers = record { index = numbered_at k; used = used; id = written_id }
 

@@ -34,12 +34,12 @@ unmet_at s (index.Id id) = first_unmet (unknown (word_of s) (mark_of id) false)
 module _ (c : Scope) where
   -- the indices outside type uses are numbers
   abbrev numbers : Change
-  numbers = telling_numbers c.known (λ u. u)
+  numbers = telling_numbers c.known (λ w u. u)
 
   abbrev unmet : Site → Option (Cause × Span)
   unmet (Asked (Wants s i)) = unmet_at s i
   unmet (Asked a) = None
-  unmet (Used u) = first_unmet (site_demand c (Used u))
+  unmet (Used w u) = first_unmet (site_demand c (Used w u))
   unmet (Declared before m) = first_unmet (site_demand c (Declared before m))
 
   index_unmet : (s : Space) (i : Index) → first_unmet (site_demand c (Asked (Wants s i))) ≡ unmet_at s (numbered_at c.known s i)
@@ -67,4 +67,4 @@ module _ (c : Scope) where
       → first_unmet (site_demands c (in_module (completed (written_out_from n fields)))) ≡ first_unmet (site_demands c (in_module (completed (written_out fields))))
   written_uses n fields own =
       fields_unmet (completed (written_out_from n fields))
-      ∙ (ap (λ xs. first_of (map unmet (in_module xs))) (told_alike c.known (λ u. u) n fields own) ∙ sym (fields_unmet (completed (written_out fields))))
+      ∙ (ap (λ xs. first_of (map unmet (in_module xs))) (told_alike c.known (λ w u. u) n fields own) ∙ sym (fields_unmet (completed (written_out fields))))

@@ -93,7 +93,7 @@ use_demand c u = ask_demands c.known (in_type_use u) ++ match_if c u.index u.inl
 -- No earlier parameter or local has the name of one that is declared.
 abbrev pub site_demand : Scope → Site → List Demand
 site_demand c (Asked a) = ask_demand c.known a
-site_demand c (Used u) = use_demand c u
+site_demand c (Used w u) = use_demand c u
 site_demand c (Declared before m) = new_name_in (codes "local") before m
 
 -- those of all sites

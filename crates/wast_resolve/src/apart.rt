@@ -2,19 +2,20 @@
 #![tactic(auto, using(crate::proofs::Parts::both_met, crate::proofs::Parts::first_fails, crate::proofs::Parts::second_fails))]
 
 ghost use Rattle.std.specs.Prelude.{List, map, flat_map, option_map};
-ghost use Rattle.wast_tree.specs.Sites.{Site, asking, at_index, if_there, in_use, in_tag_type, in_item_kind, in_import, in_constant, in_table_kind, in_memory_kind, in_global_kind, in_global, in_elem_kind, in_payload, in_elem, in_data_kind};
-ghost use Rattle.wast_map.specs.Mapped.{Change, mapped_tag_type, mapped_item_kind, mapped_sig, mapped_import_items, mapped_import, mapped_constant, mapped_table_kind, mapped_table, mapped_memory, mapped_global_kind, mapped_global, mapped_tag, mapped_elem_kind, mapped_payload, mapped_elem, mapped_data_kind, mapped_data};
+ghost use Rattle.wast_tree.specs.Sites.{OfItem, Site, asking, at_index, if_there, in_use, in_indirect, in_tag_type, in_item_kind, in_import, in_constant, in_table_kind, in_memory_kind, in_global_kind, in_global, in_elem_kind, in_payload, in_elem, in_data_kind};
+ghost use Rattle.wast_map.specs.Mapped.{Change, mapped_indirect, mapped_tag_type, mapped_item_kind, mapped_sig, mapped_import_items, mapped_import, mapped_constant, mapped_table_kind, mapped_table, mapped_memory, mapped_global_kind, mapped_global, mapped_tag, mapped_elem_kind, mapped_payload, mapped_elem, mapped_data_kind, mapped_data};
 ghost use Rattle.wast_resolve.specs.TwoSteps.{in_type_of_table, in_init, with_table_type, with_init, in_elem_table, in_elem_offset, with_elem_table, with_elem_offset, in_elements, in_element_type, with_elements, with_element_type, in_data_memory, in_data_offset, with_data_memory, with_data_offset};
 ghost use Rattle.wast_resolve.specs.Walking.{WalksSites};
 
 use crate::resolver::Resolver;
 use crate::walks::{
-    Walk, walk_each, walk_expression, walk_index, walk_indices, walk_optional, walk_type_use,
+    Walk, walk_called_type, walk_each, walk_expression, walk_index, walk_indices, walk_optional,
+    walk_type_use,
 };
 use wast_tree::{
-    Data, DataKind, Elem, ElemKind, ElemPayload, Error, Expression, FunctionType, Global,
-    GlobalKind, ImportItems, Imports, Index, ItemKind, ItemSig, Memory, MemoryKind, Seq, Space,
-    Table, TableKind, Tag, TagType, TypeUse,
+    CallIndirect, Data, DataKind, Elem, ElemKind, ElemPayload, Error, Expression, FunctionType,
+    Global, GlobalKind, ImportItems, Imports, Index, ItemKind, ItemSig, Memory, MemoryKind, Seq,
+    Space, Table, TableKind, Tag, TagType, TypeUse,
 };
 
 /// Walks over a part of a field in which nothing stands in a body.
@@ -87,12 +88,24 @@ fn walk_each_apart<'a, T: WalkApart<'a>>(
 }
 
 impl<'a> WalkApart<'a> for TypeUse<'a, FunctionType<'a>> {
-    ghost stands = { in_use };
+    ghost stands = { in_use OfItem };
 
-    ghost mapped = { λ f. f.used };
+    ghost mapped = { λ f. f.used OfItem };
 
     fn walk_apart(&mut self, names: &Resolver<'a>) -> Result<(), Error<'a>> {
         walk_type_use(names, self)?;
+        Ok(())
+    }
+}
+
+impl<'a> WalkApart<'a> for CallIndirect<'a> {
+    ghost stands = { in_indirect };
+
+    ghost mapped = { mapped_indirect };
+
+    fn walk_apart(&mut self, names: &Resolver<'a>) -> Result<(), Error<'a>> {
+        walk_outside_index(names, Space::Table, &mut self.table)?;
+        walk_called_type(names, &mut self.ty)?;
         Ok(())
     }
 }

@@ -1,6 +1,6 @@
 //! Worked modules, whose answers the definitions compute.
 
-ghost use Rattle.wast_resolve.specs.WorkedAnswers.{Row27, Row31, Row32, Row2, Row7, Row8, Row24, TwoFunctions, ClashOfTypes, FieldsOfOneStruct, FieldsOfTwoStructs, ClashesInOrder, Row14, Row22, Row23, UnknownNames, MatchedByNumber, Row17};
+ghost use Rattle.wast_resolve.specs.WorkedAnswers.{Row27, Row31, Row32, Row2, Row7, Row8, Row24, TwoFunctions, ClashOfTypes, FieldsOfOneStruct, FieldsOfTwoStructs, ClashesInOrder, Row14, Row22, Row23, UnknownNames, MatchedByNumber, Row17, IndirectCalls};
 ghost use Rattle.wast_resolve.specs.WorkedImports.{Row12, Row13, Row21, BehindAMemory, ImportsInOrder, ImportedTwice, UnknownStart};
 ghost use Rattle.wast_resolve.specs.WorkedUnknowns.{UnknownInSegments, UnknownInTables, UnknownInGlobals};
 
@@ -70,6 +70,12 @@ pub(crate) fn inline_references()
 #[tactic(auto, using(crate::proofs::Worked::row17))]
 pub(crate) fn row17()
     ensures { Row17 }
+{}
+
+/// Indirect calls: beside an index no inline type stays, and they ask for their table first.
+#[tactic(auto, using(crate::proofs::Worked::indirect_calls))]
+pub(crate) fn indirect_calls()
+    ensures { IndirectCalls }
 {}
 
 /// Imports behind what is defined: E1 at the first, by what is defined last, and before any clash of names.

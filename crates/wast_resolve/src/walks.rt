@@ -2,7 +2,7 @@
 #![tactic(auto, using(crate::proofs::Parts::both_met, crate::proofs::Parts::first_fails, crate::proofs::Parts::second_fails, crate::proofs::Parts::id_met))]
 
 ghost use Rattle.std.specs.Prelude.{⊤, ◌≤◌, ◌^◌, List, length, map, flat_map, option_map};
-ghost use Rattle.wast_tree.specs.Sites.{Ask, Here, if_there, in_index, in_heap, in_ref, in_val, in_signature, in_type, in_rec, in_type_use, in_mem_arg, in_pair, in_select, in_instr, in_instrs, in_expression, in_local, param_marks, in_func_kind, in_func, in_use, in_table_type, in_global_type, exported_space, in_field, in_module};
+ghost use Rattle.wast_tree.specs.Sites.{Ask, OfItem, OfCall, Here, if_there, in_index, in_heap, in_ref, in_val, in_signature, in_type, in_rec, in_type_use, in_mem_arg, in_pair, in_select, in_instr, in_instrs, in_expression, in_local, param_marks, in_func_kind, in_func, in_use, in_table_type, in_global_type, exported_space, in_field, in_module};
 ghost use Rattle.wast_map.specs.Mapped.{Change, mapped_heap, mapped_ref, mapped_val, mapped_signature, mapped_type, mapped_rec, mapped_table_type, mapped_global_type, mapped_local, mapped_export, mapped_mem_arg, mapped_select, mapped_memory_init, mapped_memory_copy, mapped_table_init, mapped_table_copy, mapped_instr, mapped_instrs, mapped_expression, mapped_func_kind, mapped_func, mapped};
 ghost use Rattle.wast_resolve.specs.Demands.{match_if, first_unmet, declared, local_counts_in, local_counts, HasMany};
 ghost use Rattle.wast_namespace.specs.Outcomes.{Outcome};
@@ -26,6 +26,7 @@ use wast_tree::{
     Index, InnerTypeKind, Instruction, Local, MemArg, MemArgTarget, MemoryCopy, MemoryInit,
     ModuleField, NameAnnotation, Rec, RefType, SelectTypes, Seq, Space, StorageType, StructField,
     StructType, TableCopy, TableInit, TableType, Type, TypeDef, TypeUse, ValType,
+    discard_said_inline,
 };
 
 /// Walks over an index of a space. The error is E4 at an id that denotes nothing.
@@ -196,7 +197,7 @@ impl<'a, T: Walk<'a>> Walk<'a> for Option<T> {
 impl<'a> Walk<'a> for TypeUse<'a, FunctionType<'a>> {
     ghost asks = { in_type_use };
 
-    ghost mapped = { λ f. f.used };
+    ghost mapped = { λ f. f.used OfItem };
 
     fn walk(&mut self, names: &Resolver<'a>) -> Result<(), Error<'a>> {
         walk_optional(names, Space::Ty, &mut self.index)?;
@@ -333,6 +334,8 @@ fn walk_instr<'a>(names: &Resolver<'a>, instr: &mut Instruction<'a>) -> Result<(
         Instruction::throw(tag) => walk_index(names, Space::Tag, tag),
         Instruction::call(func) => walk_index(names, Space::Func, func),
         Instruction::return_call(func) => walk_index(names, Space::Func, func),
+        Instruction::call_indirect(call) => call.walk_apart(names),
+        Instruction::return_call_indirect(call) => call.walk_apart(names),
         Instruction::call_ref(ty) => walk_index(names, Space::Ty, ty),
         Instruction::return_call_ref(ty) => walk_index(names, Space::Ty, ty),
         Instruction::select(types) => types.walk(names),
@@ -403,10 +406,22 @@ pub(crate) fn walk_type_use<'a>(
     names: &Resolver<'a>,
     ty: &mut TypeUse<'a, FunctionType<'a>>,
 ) -> Result<(), Error<'a>>
-    ensures { WalksSites names.now in_use (λ f. f.used) ty.old ty.new result }
+    ensures { WalksSites names.now (in_use OfItem) (λ f. f.used OfItem) ty.old ty.new result }
 {
     ty.walk(names)?;
     check_type_use(names, ty)?;
+    Ok(())
+}
+
+/// Walks over the type use of an indirect call: where it has an index, its inline type is dropped at the end.
+pub(crate) fn walk_called_type<'a>(
+    names: &Resolver<'a>,
+    ty: &mut TypeUse<'a, FunctionType<'a>>,
+) -> Result<(), Error<'a>>
+    ensures { WalksSites names.now (in_use OfCall) (λ f. f.used OfCall) ty.old ty.new result }
+{
+    walk_type_use(names, ty)?;
+    discard_said_inline(ty);
     Ok(())
 }
 

@@ -8,7 +8,7 @@ use Rattle.wast_base.specs.Ids.{Name, Mark}
 use Rattle.wast_base.specs.Spaces.{name_if}
 use Rattle.wast_tree.specs.Tree.{Index, Space, RefType, FunctionType, TypeUse, Instruction, Expression, Local}
 use Rattle.wast_tree.specs.Tree.func
-use Rattle.wast_tree.specs.Sites.{Ask, Wants, Site, Here, after_all, asking, at_index, if_there, in_index, in_use, in_ref, in_type_use, in_constant, in_local, in_instr, in_instrs, in_expression, local_marks, declaring, body_here, in_func_kind, asked_in, asked}
+use Rattle.wast_tree.specs.Sites.{Ask, Wants, Where, Site, Here, after_all, asking, at_index, if_there, in_index, in_use, in_ref, in_type_use, in_constant, in_local, in_instr, in_instrs, in_expression, local_marks, declaring, body_here, in_func_kind, asked_in, asked}
 use Rattle.wast_tree.specs.Visits.{Tells, Visits}
 use Rattle.wast_tree.proofs.Behind.{instrs-append}
 
@@ -46,8 +46,8 @@ asked_asking (a ∷ asks) = ap (λ zs. a ∷ zs) (asked_asking asks)
 pub asked_both : (xs ys : List Site) → asked (xs ++ ys) ≡ asked xs ++ asked ys
 asked_both xs ys = flat_map-append asked_in xs ys
 
-pub asked_use : (u : TypeUse FunctionType) → asked (in_use u) ≡ in_type_use u
-asked_use u = append-nil (in_type_use u)
+pub asked_use : (w : Where) (u : TypeUse FunctionType) → asked (in_use w u) ≡ in_type_use u
+asked_use w u = append-nil (in_type_use u)
 
 -- of parts that may be there, and of lists of parts
 pub asked_if : {A : Type 0} (f : A → List Site) (o : Option A) → asked (if_there f o) ≡ if_there (λ x. asked (f x)) o

@@ -23,7 +23,7 @@ has_numbers fields = are_numbered (asked (in_module fields))
 -- and no type use is without an index
 abbrev pub is_resolved_site : Site → Bool
 is_resolved_site (Asked a) = is_numbered a
-is_resolved_site (Used u) = is_some u.index && are_numbered (in_type_use u)
+is_resolved_site (Used w u) = is_some u.index && are_numbered (in_type_use u)
 is_resolved_site (Declared before m) = true
 
 -- a list of fields as resolving leaves it

@@ -1,7 +1,7 @@
 -- The one list of what stands in a module beside its items, in the order in which it is asked (text format: identifiers,
 -- indices): what stands in a type, and sites of fields and bodies, which carry what they may read of those before them.
 use Rattle.std.specs.Prelude.{ℕ, Bool, false, not, ◌==◌, is_none, length, List, [], ◌∷◌, ◌++◌, map, Option, Some, None, flat_map}
-use Rattle.wast_tree.specs.Tree.{Id, Index, NameAnnotation, Space, RefType, HeapType, ValType, StorageType, StructField, StructType, ArrayType, FunctionType, TypeUse, InnerTypeKind, TypeDef, Rec, MemArg, MemArgTarget, SelectTypes, Instruction, Expression, Local, FuncKind, Func, TableType, GlobalType, TagType, ItemKind, ImportItems, TableKind, MemoryKind, GlobalKind, Global, ExportKind, ElemKind, ElemPayload, Elem, DataKind, ModuleField}
+use Rattle.wast_tree.specs.Tree.{Id, Index, NameAnnotation, Space, RefType, HeapType, ValType, StorageType, StructField, StructType, ArrayType, FunctionType, TypeUse, InnerTypeKind, TypeDef, Rec, MemArg, MemArgTarget, CallIndirect, SelectTypes, Instruction, Expression, Local, FuncKind, Func, TableType, GlobalType, TagType, ItemKind, ImportItems, TableKind, MemoryKind, GlobalKind, Global, ExportKind, ElemKind, ElemPayload, Elem, DataKind, ModuleField}
 use Rattle.wast_tree.specs.Tree.space
 use Rattle.wast_tree.specs.Tree.heap
 use Rattle.wast_tree.specs.Tree.value
@@ -38,12 +38,17 @@ pub data Ask : Type 0 where
   -- whether what stands here is a form that the tree supports today
   Supported : Bool → Ask
 
+-- where a type use stands: in a function, an import or a tag; or in an indirect call, where an index says it all
+pub data Where : Type 0 where
+  OfItem : Where
+  OfCall : Where
+
 -- where something is asked: alone, in a type use, or of a parameter or a local
 pub data Site : Type 0 where
   -- what is asked of the names of the module alone
   Asked : Ask → Site
   -- a type use: its index, its inline type, and whether the two match
-  Used : TypeUse FunctionType → Site
+  Used : Where → TypeUse FunctionType → Site
   -- a parameter or a local, with its id if it has one, behind those of these names
   Declared : List (Option Name) → Option Mark → Site
 
@@ -58,7 +63,7 @@ start = record { locals = [] }
 -- no site of today moves the place
 abbrev pub after : Here → Site → Here
 after h (Asked a) = h
-after h (Used u) = h
+after h (Used w u) = h
 after h (Declared before m) = h
 
 -- where one stands behind these
@@ -175,6 +180,14 @@ in_pair s i t j = in_index s i ++ in_index t j
 abbrev pub in_select : SelectTypes → List Ask
 in_select t = if_there (flat_map in_val) t.tys
 
+-- a type use is a site as a whole
+abbrev pub in_use : Where → TypeUse FunctionType → List Site
+in_use w u = Used w u ∷ []
+
+-- an indirect call: its table, and then its type
+abbrev pub in_indirect : CallIndirect → List Site
+in_indirect c = at_index space.Table c.table ++ in_use OfCall c.ty
+
 -- an instruction, from where it stands
 abbrev pub in_instr : Here → Instruction → List Site
 in_instr h (instr.Plain op) = []
@@ -183,6 +196,8 @@ in_instr h (instr.catch e) = at_index space.Tag e
 in_instr h (instr.throw e) = at_index space.Tag e
 in_instr h (instr.call f) = at_index space.Func f
 in_instr h (instr.return_call f) = at_index space.Func f
+in_instr h (instr.call_indirect c) = in_indirect c
+in_instr h (instr.return_call_indirect c) = in_indirect c
 in_instr h (instr.call_ref t) = at_index space.Ty t
 in_instr h (instr.return_call_ref t) = at_index space.Ty t
 in_instr h (instr.select t) = asking (in_select t)
@@ -251,13 +266,9 @@ in_func_kind params (func.Inline locals e) =
     let marks = params ++ local_marks locals in
     asking (flat_map in_local locals) ++ (declaring [] marks ++ in_expression (body_here marks) e)
 
--- a type use is a site as a whole
-abbrev pub in_use : TypeUse FunctionType → List Site
-in_use u = Used u ∷ []
-
 -- a function: its type use, and then what it is made of
 abbrev pub in_func : Func → List Site
-in_func f = in_use f.ty ++ in_func_kind (param_marks f.ty.inline) f.kind
+in_func f = in_use OfItem f.ty ++ in_func_kind (param_marks f.ty.inline) f.kind
 
 -- a table type, which is not shared
 abbrev pub in_table_type : TableType → List Ask
@@ -269,11 +280,11 @@ in_global_type t = in_val t.ty ++ Supported (not t.shared) ∷ []
 
 -- a tag type
 abbrev pub in_tag_type : TagType → List Site
-in_tag_type (tag.Exception u) = in_use u
+in_tag_type (tag.Exception u) = in_use OfItem u
 
 -- what is imported: its type
 abbrev pub in_item_kind : ItemKind → List Site
-in_item_kind (kind.Func u) = in_use u
+in_item_kind (kind.Func u) = in_use OfItem u
 in_item_kind (kind.Table t) = asking (in_table_type t)
 in_item_kind (kind.Memory t) = []
 in_item_kind (kind.Global t) = asking (in_global_type t)
@@ -358,7 +369,7 @@ in_module fields = flat_map in_field fields
 -- What is asked, wherever it stands.
 abbrev pub asked_in : Site → List Ask
 asked_in (Asked a) = a ∷ []
-asked_in (Used u) = in_type_use u
+asked_in (Used w u) = in_type_use u
 asked_in (Declared before m) = []
 
 -- all that is asked at some sites

@@ -1,6 +1,6 @@
--- The types that a field defines (text format: types, recursive types).
+-- The types that a field defines, and what a type use says of one (text format: types, recursive types, type uses).
 use Rattle.std.specs.Prelude.{List, [], ◌∷◌, Option, Some, None}
-use Rattle.wast_tree.specs.Tree.{ModuleField}
+use Rattle.wast_tree.specs.Tree.{Index, FunctionType, TypeUse, ModuleField}
 use Rattle.wast_tree.specs.Tree.ty
 use Rattle.wast_tree.specs.Tree.field
 
@@ -14,3 +14,12 @@ abbrev pub types_of : ModuleField → List ty.«Type»
 types_of (field.Ty t) = t ∷ []
 types_of (field.Rec r) = r.types
 types_of x = []
+
+-- the inline type of a type use, unless an index says it
+abbrev pub inline_alone : Option Index → Option FunctionType → Option FunctionType
+inline_alone None inline = inline
+inline_alone (Some i) inline = None
+
+-- a type use without the inline type that stands beside an index
+abbrev pub said_once : TypeUse FunctionType → TypeUse FunctionType
+said_once u = record u { inline = inline_alone u.index u.inline }

@@ -1,6 +1,6 @@
 //! What instructions hold beside an index or a number (text format: instructions).
 
-use crate::types::ValType;
+use crate::types::{FunctionType, TypeUse, ValType};
 use wast_base::{Index, Seq};
 
 /// The table of an instruction: `table.get $t` (text format, table instructions).
@@ -51,6 +51,15 @@ pub struct TableCopy<'a> {
     pub dst: Index<'a>,
     /// The table that is copied.
     pub src: Index<'a>,
+}
+
+/// The table and the type of an indirect call: `call_indirect $t (type $f)` (text format, control instructions).
+#[derive(Debug, Drop)]
+pub struct CallIndirect<'a> {
+    /// The table.
+    pub table: Index<'a>,
+    /// The type of the function that is called.
+    pub ty: TypeUse<'a, FunctionType<'a>>,
 }
 
 /// The types of what `select` gives: `select (result i32)` (text format, parametric instructions).

@@ -5,8 +5,8 @@ ghost use Rattle.wast_base.specs.Faults.{out_of_memory};
 ghost use Rattle.wast_tree.specs.Instrs.{mem_arg_of, needs_data_count};
 
 use crate::immediates::{
-    F32, F64, MemArg, MemoryArg, MemoryCopy, MemoryInit, SelectTypes, TableArg, TableCopy,
-    TableInit,
+    CallIndirect, F32, F64, MemArg, MemoryArg, MemoryCopy, MemoryInit, SelectTypes, TableArg,
+    TableCopy, TableInit,
 };
 use crate::types::HeapType;
 use std::alloc::Global;
@@ -28,6 +28,10 @@ pub enum Instruction<'a> {
     call(Index<'a>),
     /// `return_call $f`
     return_call(Index<'a>),
+    /// `call_indirect $t (type $f)`
+    call_indirect(CallIndirect<'a>),
+    /// `return_call_indirect $t (type $f)`
+    return_call_indirect(CallIndirect<'a>),
     /// `call_ref $t`
     call_ref(Index<'a>),
     /// `return_call_ref $t`

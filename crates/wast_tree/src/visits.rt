@@ -5,11 +5,11 @@ ghost use Rattle.std.specs.Prelude.{◌≡◌, Bool, List, Option};
 ghost use Rattle.std.specs.Prelude.{flat_map};
 ghost use Rattle.wast_base.specs.Ids.{Mark, mark_of};
 ghost use Rattle.wast_tree.specs.Items.{Item, item, fields_of, items_of_type, items_of_import, items_in, items};
-ghost use Rattle.wast_tree.specs.Sites.{Ask, Wants, Unasked, Clause, Supported, Here, if_there, in_index, in_id, in_heap, in_ref, in_val, in_storage, in_param, in_signature, in_struct_field, in_struct, in_array, in_inner, in_descriptor, in_def, in_type, in_rec, in_type_use, in_mem_arg, in_pair, in_select, in_instr, in_instrs, in_expression, in_constant, in_local, in_func_kind, in_func, in_field, in_module, asked};
+ghost use Rattle.wast_tree.specs.Sites.{Ask, Wants, Unasked, Clause, Supported, Here, if_there, in_index, in_id, in_heap, in_ref, in_val, in_storage, in_param, in_signature, in_struct_field, in_struct, in_array, in_inner, in_descriptor, in_def, in_type, in_rec, in_type_use, in_mem_arg, in_pair, in_select, in_indirect, in_instr, in_instrs, in_expression, in_constant, in_local, in_func_kind, in_func, in_field, in_module, asked};
 ghost use Rattle.wast_tree.specs.Visits.{Visits};
 
 use crate::fields::{Func, FuncKind, Local, ModuleField};
-use crate::immediates::{MemArg, MemArgTarget, SelectTypes};
+use crate::immediates::{CallIndirect, MemArg, MemArgTarget, SelectTypes};
 use crate::imports::ImportItems;
 use crate::instrs::{Expression, Instruction};
 use crate::types::{
@@ -339,6 +339,15 @@ impl Visit for MemArg<'_> {
     }
 }
 
+impl Visit for CallIndirect<'_> {
+    ghost asks = { λ c. asked (in_indirect c) };
+
+    fn visit<V: Visitor>(&self, visitor: &mut V) {
+        visitor.index(Space::Table, &self.table);
+        self.ty.visit(visitor);
+    }
+}
+
 impl Visit for SelectTypes<'_> {
     ghost asks = { in_select };
 
@@ -373,6 +382,9 @@ fn visit_instr<V: Visitor>(instr: &Instruction<'_>, visitor: &mut V)
             Space::Func,
             func,
         ),
+        Instruction::call_indirect(call) | Instruction::return_call_indirect(call) => {
+            call.visit(visitor)
+        }
         Instruction::call_ref(ty) | Instruction::return_call_ref(ty) => visitor.index(
             Space::Ty,
             ty,

@@ -5,7 +5,7 @@ use Rattle.std.specs.List.{flat_map}
 use Rattle.std.proofs.lemmas.Grind.{common_steps, flat_map-append}
 use Rattle.wast_base.specs.Ids.{Name, Mark, generated}
 use Rattle.wast_base.specs.Spaces.{name_if}
-use Rattle.wast_tree.specs.Sites.{Ask, Site, Here, start, asking, at_index, in_heap, in_mem_arg, in_select, in_type, in_rec, in_instr, behind, in_instrs, in_expression, in_constant, param_marks, local_marks, declaring, body_here, in_func_kind, in_use, in_func, in_payload, in_field}
+use Rattle.wast_tree.specs.Sites.{Ask, OfItem, Site, Here, start, asking, at_index, in_heap, in_mem_arg, in_select, in_type, in_rec, in_instr, behind, in_instrs, in_expression, in_constant, param_marks, local_marks, declaring, body_here, in_func_kind, in_use, in_func, in_payload, in_field}
 use Rattle.wast_types.specs.Tree.{Index, SelectTypes, Instruction, Expression, Local, FuncKind, Func, Table, Global, ElemPayload, Elem, Data, Rec}
 use Rattle.wast_types.specs.Tree.space
 use Rattle.wast_types.specs.Tree.ty
@@ -28,7 +28,7 @@ pub needed_each : {T : Type 0} (sites : T → List Site) (xs : List T) → neede
 needed_each sites [] = refl
 needed_each sites (x ∷ xs) = needed_both (sites x) (flat_map sites xs) ∙ ap (λ ss. needed_in (sites x) ++ ss) (needed_each sites xs)
 
-each_none : {X A : Type 0} {f : X → List A} → ((x : X) → f x ≡ []) → (xs : List X) → flat_map f xs ≡ []
+pub each_none : {X A : Type 0} {f : X → List A} → ((x : X) → f x ≡ []) → (xs : List X) → flat_map f xs ≡ []
 each_none one [] = refl
 each_none {f = f} one (x ∷ xs) = ap (λ ys. ys ++ flat_map f xs) (one x) ∙ each_none one xs
 
@@ -63,8 +63,8 @@ kind_anywhere : (params : List (Option Mark)) (k : FuncKind) → needed_in (in_f
 kind_anywhere params (func.Import import exact) = refl
 kind_anywhere params (func.Inline locals e) = needed_inline params locals e ∙ sym (needed_inline [] locals e)
 
-pub needed_func : (f : Func) → needed_in (in_func f) ≡ needed_in (in_use f.ty) ++ needed_in (in_func_kind [] f.kind)
-needed_func f = needed_both (in_use f.ty) (in_func_kind (param_marks f.ty.inline) f.kind) ∙ ap (λ ss. needed_in (in_use f.ty) ++ ss) (kind_anywhere (param_marks f.ty.inline) f.kind)
+pub needed_func : (f : Func) → needed_in (in_func f) ≡ needed_in (in_use OfItem f.ty) ++ needed_in (in_func_kind [] f.kind)
+needed_func f = needed_both (in_use OfItem f.ty) (in_func_kind (param_marks f.ty.inline) f.kind) ∙ ap (λ ss. needed_in (in_use OfItem f.ty) ++ ss) (kind_anywhere (param_marks f.ty.inline) f.kind)
 
 -- no type stands in place in the types of what `select` gives
 pub select_stays : (t : SelectTypes) → mapped_select (λ s i. i) t ≡ t
@@ -94,42 +94,12 @@ module _ (find : LookUp) where
   bound_kind_anywhere params (func.Import import exact) = refl
   bound_kind_anywhere params (func.Inline locals e) = bound_inline params locals e ∙ sym (bound_inline [] locals e)
 
--- No instruction has a type use today: so no expression needs a type, and no field but functions, imports and tags.
-instr_none : (i : Instruction) → needed_in (in_instr start i) ≡ []
-instr_none (instr.Mem op m) = needed_asking (in_mem_arg m)
-instr_none (instr.select t) = needed_asking (in_select t)
-instr_none (instr.ref_null t) = needed_asking (in_heap t)
-instr_none i = refl
-
-constant_none : (e : Expression) → needed_in (in_constant e) ≡ []
-constant_none e = needed_body start e ∙ each_none instr_none e.instrs
-
-constants_none : (es : List Expression) → needed_in (flat_map in_constant es) ≡ []
-constants_none es = needed_each in_constant es ∙ each_none constant_none es
-
-functions_none : (is : List Index) → needed_in (flat_map (at_index space.Func) is) ≡ []
-functions_none is = needed_each (at_index space.Func) is ∙ each_none (λ i. refl) is
-
-payload_none : (p : ElemPayload) → needed_in (in_payload p) ≡ []
-payload_none p = grind (arith, common_steps, needed_both, needed_asking, constants_none, functions_none)
-
+-- No type needs another.
 pub ty_none : (t : ty.«Type») → needed_in (in_field (field.Ty t)) ≡ []
 ty_none t = needed_asking (in_type t)
 
 pub rec_none : (r : Rec) → needed_in (in_field (field.Rec r)) ≡ []
 rec_none r = needed_asking (in_rec r)
-
-pub table_none : (t : Table) → needed_in (in_field (field.Table t)) ≡ []
-table_none t = grind (arith, common_steps, needed_both, needed_asking, constant_none, payload_none)
-
-pub global_none : (g : Global) → needed_in (in_field (field.Global g)) ≡ []
-global_none g = grind (arith, common_steps, needed_both, needed_asking, constant_none)
-
-pub elem_none : (e : Elem) → needed_in (in_field (field.Elem e)) ≡ []
-elem_none e = grind (arith, common_steps, needed_both, constant_none, payload_none)
-
-pub data_none : (d : Data) → needed_in (in_field (field.Data d)) ≡ []
-data_none d = grind (arith, common_steps, constant_none)
 
 -- the type that is made for a signature, with its id
 abbrev pub made_type : ℕ → Signature → ty.«Type»

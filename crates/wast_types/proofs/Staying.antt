@@ -31,7 +31,7 @@ module _ (find : LookUp) where
   index_stays None inline h = absurd cc
 
   site_stays : (s : Site) → needed_at s ≡ [] → Joins same (binding find) same s
-  site_stays (Used u) h = ap (λ (i : Option Index). record u { index = i }) (index_stays u.index u.inline h)
+  site_stays (Used w u) h = ap (λ (i : Option Index). record u { index = i }) (index_stays u.index u.inline h)
   site_stays (Asked (Wants s i)) h = refl
   site_stays (Asked (Unasked m)) h = tt
   site_stays (Asked (Clause n holds)) h = tt
@@ -76,7 +76,7 @@ module _ (find : LookUp) where
 
   site_bound : (s : Site) → found (needed_at s) ≡ true → needed_at (mapped_site (binding find) s) ≡ []
   site_bound (Asked a) h = refl
-  site_bound (Used u) h = index_bound u.index u.inline h
+  site_bound (Used w u) h = index_bound u.index u.inline h
   site_bound (Declared before m) h = refl
 
   sites_bound : (ss : List Site) → found (needed_in ss) ≡ true → needed_in (map (mapped_site (binding find)) ss) ≡ []

@@ -91,7 +91,7 @@ bound_use find u = record u { index = bound_index find u.index u.inline }
 
 -- no other index changes, and no id
 abbrev pub binding : LookUp → Change
-binding find = record { index = λ s i. i; used = bound_use find; id = λ o. o }
+binding find = record { index = λ s i. i; used = λ w. bound_use find; id = λ o. o }
 
 -- a field, its type uses bound
 abbrev pub bound_field : LookUp → ModuleField → ModuleField

@@ -21,7 +21,7 @@ needed_by_use u = needed_without u.index u.inline
 -- nothing else needs one
 abbrev pub needed_at : Site → List Signature
 needed_at (Asked a) = []
-needed_at (Used u) = needed_by_use u
+needed_at (Used w u) = needed_by_use u
 needed_at (Declared before m) = []
 
 -- each site after the one before it

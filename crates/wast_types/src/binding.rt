@@ -5,8 +5,8 @@ ghost use Rattle.wast_base.specs.Ids.{generated};
 ghost use Rattle.wast_base.specs.Faults.{out_of_memory};
 ghost use Rattle.wast_types.specs.Tree.index;
 ghost use Rattle.wast_types.specs.Signatures.{Signature};
-ghost use Rattle.wast_tree.specs.Sites.{start, in_instr, in_constant, in_func_kind, in_use, in_func, in_tag_type, in_item_kind, in_import, in_field};
-ghost use Rattle.wast_map.specs.Mapped.{mapped_instr, mapped_constant, mapped_func_kind, mapped_func, mapped_tag_type, mapped_item_kind, mapped_sig, mapped_import_items, mapped_import, mapped_tag};
+ghost use Rattle.wast_tree.specs.Sites.{OfItem, start, in_instr, in_indirect, in_constant, in_func_kind, in_use, in_func, in_tag_type, in_item_kind, in_import, in_field};
+ghost use Rattle.wast_map.specs.Mapped.{mapped_indirect, mapped_instr, mapped_constant, mapped_func_kind, mapped_func, mapped_tag_type, mapped_item_kind, mapped_sig, mapped_import_items, mapped_import, mapped_tag};
 ghost use Rattle.wast_types.specs.NeedingUses.{needed_in, inline_signature};
 ghost use Rattle.wast_base.specs.Filling.{RunsOut};
 ghost use Rattle.wast_types.specs.Expanders.{BoundSignatures, LookUp, index_of, with_more, Extends};
@@ -17,8 +17,8 @@ use crate::expanders::Expander;
 use crate::keys::{FuncKey, TypeKey, TypeReference};
 use std::alloc::Global;
 use wast_tree::{
-    Error, Expression, Func, FuncKind, FunctionType, Gensym, ImportItems, Imports, Index,
-    Instruction, ItemKind, ItemSig, ModuleField, Seq, Span, Tag, TagType, Type, TypeUse,
+    CallIndirect, Error, Expression, Func, FuncKind, FunctionType, Gensym, ImportItems, Imports,
+    Index, Instruction, ItemKind, ItemSig, ModuleField, Seq, Span, Tag, TagType, Type, TypeUse,
     push_field,
 };
 
@@ -91,13 +91,25 @@ impl<'a> Bind<'a> for ModuleField<'a> {
                 func.bind(alloc, cx, implied, gensym)?;
                 Ok(())
             }
-            ModuleField::Table(_) => Ok(()),
+            ModuleField::Table(table) => {
+                table.bind(alloc, cx, implied, gensym)?;
+                Ok(())
+            }
             ModuleField::Memory(_) => Ok(()),
-            ModuleField::Global(_) => Ok(()),
+            ModuleField::Global(global) => {
+                global.bind(alloc, cx, implied, gensym)?;
+                Ok(())
+            }
             ModuleField::Export(_) => Ok(()),
             ModuleField::Start(_) => Ok(()),
-            ModuleField::Elem(_) => Ok(()),
-            ModuleField::Data(_) => Ok(()),
+            ModuleField::Elem(elem) => {
+                elem.bind(alloc, cx, implied, gensym)?;
+                Ok(())
+            }
+            ModuleField::Data(data) => {
+                data.bind(alloc, cx, implied, gensym)?;
+                Ok(())
+            }
             ModuleField::Tag(tag) => {
                 tag.bind(alloc, cx, implied, gensym)?;
                 Ok(())
@@ -267,6 +279,7 @@ impl<'a> Bind<'a> for FuncKind<'a> {
     }
 }
 
+/// A constant expression, or a body.
 impl<'a> Bind<'a> for Expression<'a> {
     ghost needed = { λ e. needed_in (in_constant e) };
 
@@ -291,10 +304,10 @@ impl<'a> Bind<'a> for Instruction<'a> {
 
     fn bind(
         &mut self,
-        _alloc: Global,
-        _cx: &mut Expander<'a>,
-        _implied: &mut Seq<ModuleField<'a>>,
-        _gensym: &mut Gensym,
+        alloc: Global,
+        cx: &mut Expander<'a>,
+        implied: &mut Seq<ModuleField<'a>>,
+        gensym: &mut Gensym,
     ) -> Result<(), Error<'a>> {
         match self {
             Instruction::Plain(_) => Ok(()),
@@ -303,6 +316,14 @@ impl<'a> Bind<'a> for Instruction<'a> {
             Instruction::throw(_) => Ok(()),
             Instruction::call(_) => Ok(()),
             Instruction::return_call(_) => Ok(()),
+            Instruction::call_indirect(call) => {
+                call.bind(alloc, cx, implied, gensym)?;
+                Ok(())
+            }
+            Instruction::return_call_indirect(call) => {
+                call.bind(alloc, cx, implied, gensym)?;
+                Ok(())
+            }
             Instruction::call_ref(_) => Ok(()),
             Instruction::return_call_ref(_) => Ok(()),
             Instruction::select(_) => Ok(()),
@@ -332,8 +353,26 @@ impl<'a> Bind<'a> for Instruction<'a> {
     }
 }
 
+impl<'a> Bind<'a> for CallIndirect<'a> {
+    ghost needed = { λ c. needed_in (in_indirect c) };
+
+    ghost bound = { λ find. mapped_indirect (binding find) };
+
+    fn bind(
+        &mut self,
+        alloc: Global,
+        cx: &mut Expander<'a>,
+        implied: &mut Seq<ModuleField<'a>>,
+        gensym: &mut Gensym,
+    ) -> Result<(), Error<'a>> {
+        self.ty.bind(alloc, cx, implied, gensym)?;
+        Ok(())
+    }
+}
+
+/// A type use needs the same wherever it stands.
 impl<'a> Bind<'a> for TypeUse<'a, FunctionType<'a>> {
-    ghost needed = { λ u. needed_in (in_use u) };
+    ghost needed = { λ u. needed_in (in_use OfItem u) };
 
     ghost bound = { bound_use };
 

@@ -21,7 +21,7 @@ use Rattle.wast_tree.specs.Tree.bytes
 use Rattle.wast_tree.specs.Tree.field
 use Rattle.wast_base.specs.Ids.{Name, Written, Generated, Mark, mark_of, generated, same_id, same_index}
 use Rattle.wast_tree.specs.Items.{items}
-use Rattle.wast_tree.specs.Sites.{Wants, Unasked, Clause, Supported, Site, Asked, Used, Declared, in_module, asked}
+use Rattle.wast_tree.specs.Sites.{Wants, Unasked, Clause, Supported, Site, OfItem, Asked, Used, Declared, in_module, asked}
 use Rattle.wast_tree.specs.Known.{known}
 use Rattle.wast_tree.specs.WellFormed.{is_well_formed}
 use Rattle.wast_tree.specs.WrittenOut.{is_written_out}
@@ -113,14 +113,14 @@ StandsInRow27 = (a b c d e f : Address) →
     ∷ [])
     × (in_module (row27 a b c d e f)
     ≡ supported true
-    ∷ Used (record { index = Some (by_id d (codes "t") 40); inline = None })
+    ∷ Used OfItem (record { index = Some (by_id d (codes "t") 40); inline = None })
     ∷ wanted space.Func (by_id e (codes "f") 49)
     ∷ supported true
     ∷ wanted space.Func (by_id f (codes "f") 71)
     ∷ [])
     × (in_module (row27_with a b c (by_number 0 40) (by_number 1 49) (by_number 2 71))
     ≡ supported true
-    ∷ Used (record { index = Some (by_number 0 40); inline = None })
+    ∷ Used OfItem (record { index = Some (by_number 0 40); inline = None })
     ∷ wanted space.Func (by_number 1 49)
     ∷ supported true
     ∷ wanted space.Func (by_number 2 71)
@@ -169,7 +169,7 @@ StandsEverywhere = (a : Address) →
     ∷ supported true
     ∷ wanted space.Ty (made_index 18)
     ∷ supported true
-    ∷ Used (record { index = Some (made_index 9); inline = Some (record { params = (Some (made 10), None, value.I32) ∷ []; results = [] }) })
+    ∷ Used OfItem (record { index = Some (made_index 9); inline = Some (record { params = (Some (made 10), None, value.I32) ∷ []; results = [] }) })
     ∷ wanted space.Ty (made_index 19)
     ∷ Asked (Unasked (made_mark 7))
     ∷ Declared [] (Some (made_mark 10))
@@ -343,7 +343,7 @@ StandsInPlace = (a : Address) →
     ∷ supported false
     ∷ [])
     × (in_module (func_alone (record nameless_func { kind = func.Import (from_m a) false; ty = record { index = Some (made_index 1); inline = None } }))
-    ≡ Used (record { index = Some (made_index 1); inline = None })
+    ≡ Used OfItem (record { index = Some (made_index 1); inline = None })
     ∷ supported true
     ∷ [])
     × (in_module (memory_in_place a None ∷ []) ≡ Asked (Clause 3 true) ∷ [])

@@ -13,6 +13,12 @@ use Rattle.wast_conv.proofs.values.ResolvedSpellInstruction.spell.Goals as goal
 pub put_mem-requires : goal.put_mem-requires
 put_mem-requires g c = sym (asking_passes (in_mem_arg c.in-Mem.arg)) ∙ subst (λ i. is_encodable_instr i ≡ true) c.in-Mem.is c.requires
 
+pub put_indirect-requires : goal.put_indirect-requires
+put_indirect-requires g c = subst (λ i. is_encodable_instr i ≡ true) c.in-call_indirect.is c.requires
+
+pub put_indirect-requires-in-return_call_indirect : goal.put_indirect-requires-in-return_call_indirect
+put_indirect-requires-in-return_call_indirect g c = subst (λ i. is_encodable_instr i ≡ true) c.in-return_call_indirect.is c.requires
+
 pub put_select-requires : goal.put_select-requires
 put_select-requires g c = sym (asking_passes (in_select c.in-select.types)) ∙ subst (λ i. is_encodable_instr i ≡ true) c.in-select.is c.requires
 
@@ -33,6 +39,12 @@ returns-in-call g c = rw c.in-call.is c.put_index-in-call.ensures
 
 pub returns-in-return_call : goal.returns-in-return_call
 returns-in-return_call g c = rw c.in-return_call.is c.put_index-in-return_call.ensures
+
+pub returns-in-call_indirect : goal.returns-in-call_indirect
+returns-in-call_indirect g c = rw c.in-call_indirect.is c.put_indirect.ensures
+
+pub returns-in-return_call_indirect : goal.returns-in-return_call_indirect
+returns-in-return_call_indirect g c = rw c.in-return_call_indirect.is c.put_indirect-in-return_call_indirect.ensures
 
 pub returns-in-call_ref : goal.returns-in-call_ref
 returns-in-call_ref g c = rw c.in-call_ref.is c.put_index-in-call_ref.ensures

@@ -12,8 +12,17 @@ use Rattle.wast_types.proofs.binding.InstructionBind.bind.Goals as goal
 
 pub returns-in-select-clause-bound : goal.returns-in-select-clause-bound
 returns-in-select-clause-bound c = λ more.
-    subst (λ i. i ≡ mapped_instr (binding (with_more (index_of c.args._cx.now) more)) start i) (sym c.in-select.is) (ap instr.select (sym (select_stays c.in-select.field-0)))
+    subst (λ i. i ≡ mapped_instr (binding (with_more (index_of c.args.cx.now) more)) start i) (sym c.in-select.is) (ap instr.select (sym (select_stays c.in-select.field-0)))
 
 pub returns-in-select-clause-adds : goal.returns-in-select-clause-adds
 returns-in-select-clause-adds c =
-    adds_nothing (state c.args._cx.now c.args._implied.now c.args._gensym.now) (ap (λ i. needed_in (in_instr start i)) c.in-select.is ∙ needed_asking (in_select c.in-select.field-0))
+    adds_nothing (state c.args.cx.now c.args.implied.now c.args.gensym.now) (ap (λ i. needed_in (in_instr start i)) c.in-select.is ∙ needed_asking (in_select c.in-select.field-0))
+
+pub returns-in_ok-bind-in-call_indirect-clause-bound : goal.returns-in_ok-bind-in-call_indirect-clause-bound
+returns-in_ok-bind-in-call_indirect-clause-bound c = λ more.
+    ap instr.call_indirect (c.in_ok-bind-in-call_indirect.ensures.bound more) ∙ sym (ap (mapped_instr (binding (with_more (index_of c.bind.new.cx) more)) start) c.in-call_indirect.is)
+
+pub returns-in_ok-bind-in-return_call_indirect-clause-bound : goal.returns-in_ok-bind-in-return_call_indirect-clause-bound
+returns-in_ok-bind-in-return_call_indirect-clause-bound c = λ more.
+    ap instr.return_call_indirect (c.in_ok-bind-in-return_call_indirect.ensures.bound more)
+    ∙ sym (ap (mapped_instr (binding (with_more (index_of c.bind-in-return_call_indirect.new.cx) more)) start) c.in-return_call_indirect.is)
