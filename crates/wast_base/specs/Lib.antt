@@ -1,5 +1,6 @@
--- What the contracts cite of what stands below the tree: ids, faults, index spaces, generated ids, and the borrows that
--- lists and boxes lend.
+-- What the contracts cite of what stands below the tree: ids, faults, index spaces, blocks, generated ids, and the borrows
+-- that lists and boxes lend.
+pub mod Blocks
 pub mod Faults
 pub mod Filling
 pub mod Gensym

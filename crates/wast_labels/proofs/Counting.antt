@@ -1,9 +1,9 @@
 -- Opening and closing blocks gives what counting openers and closers gives.
 use Rattle.std.proofs.Common.{◌≡◌, ℕ, zero, suc, ◌+◌, ◌-◌, ◌≤◌, List, [], ◌∷◌, ◌++◌, Option, Bool, cond, true, false, refl, ap, sym, ◌∙◌, length, take, arith, eqb, inl, inr, ◌⊎◌, append_assoc, append-nil, length-append}
 use Rattle.std.proofs.lemmas.Bool.{cases_eq, and_parts, and_from, leb-true, le-leb, eq-eqb, ne_eqb, false_from_ne_true}
+use Rattle.wast_base.specs.Blocks.{Blocks, closed, Turn, Opens, Closes, Stays, openers, closers, never_closed, stays_open}
 use Rattle.wast_base.specs.Ids.{Name}
-use Rattle.wast_labels.specs.OpenBlocks.{Blocks, closed}
-use Rattle.wast_labels.specs.Turns.{Turn, Opens, Closes, Stays, openers, closers, never_closed, stays_open, open_blocks, after, walked}
+use Rattle.wast_labels.specs.Turns.{open_blocks, after, walked}
 
 -- the closers that no opener of these stands before
 surplus : List Turn → ℕ

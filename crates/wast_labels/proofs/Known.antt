@@ -1,8 +1,9 @@
 -- What is gathered along an expression is counted and known.
 use Rattle.std.proofs.Common.{◌≡◌, ◌+◌, List, [], ◌∷◌, ◌++◌, Option, Some, None, Bool, true, false, ◌||◌, refl, ap, arith}
+use Rattle.wast_base.specs.Blocks.{Turn, Opens, Closes, Stays, openers}
 use Rattle.wast_base.specs.Ids.{Name, same_name}
 use Rattle.wast_labels.specs.Gathered.{Openers, no_opener, with_opener, is_among, knows}
-use Rattle.wast_labels.specs.Turns.{Turn, Opens, Closes, Stays, openers, gathered}
+use Rattle.wast_labels.specs.Turns.{gathered}
 use Rattle.wast_labels.proofs.Positions.{same_name_itself}
 
 counted_from : (s : Openers) (ts : List Turn) → (gathered s ts).count ≡ s.count + openers ts

@@ -1,10 +1,11 @@
 -- The last opener of an open block, and the last one of a label.
 use Rattle.std.proofs.Common.{◌≡◌, ℕ, zero, suc, ◌+◌, List, [], ◌∷◌, ◌++◌, Option, Some, None, option_map, Bool, true, false, cond, refl, ap, sym, ◌∙◌, length, drop, arith, length-append}
 use Rattle.std.proofs.lemmas.Bool.{false_from_ne_true}
+use Rattle.wast_base.specs.Blocks.{Blocks, Turn, Opens, Closes, Stays, stays_open}
 use Rattle.wast_base.specs.Ids.{Name}
 use Rattle.wast_base.specs.Spaces.{is_called}
-use Rattle.wast_labels.specs.OpenBlocks.{Blocks, denotes, expects}
-use Rattle.wast_labels.specs.Turns.{Turn, Opens, Closes, Stays, stays_open, open_blocks, open_count, IsOpen, IsLastOpen, IsLastOf}
+use Rattle.wast_labels.specs.OpenBlocks.{denotes, expects}
+use Rattle.wast_labels.specs.Turns.{open_blocks, open_count, IsOpen, IsLastOpen, IsLastOf}
 use Rattle.wast_labels.proofs.Positions.{called_is, position_head, same_name_itself}
 
 -- openers behind the first instruction

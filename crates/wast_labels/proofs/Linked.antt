@@ -5,12 +5,13 @@ use Rattle.std.proofs.lemmas.Bool.{cases_eq, false_from_ne_true}
 use Rattle.std.proofs.lemmas.List.{length-map, length-reverse, reverse-append, get_or-reverse, get_or-map}
 use Rattle.std.proofs.lemmas.List.Quantifiers.{position-Some}
 use Rattle.std.proofs.lemmas.Option.{slice_get-get_or, slice_get_within, get_or_from_slice_get}
+use Rattle.wast_base.specs.Blocks.{Blocks}
 use Rattle.wast_base.specs.declared.ids.Id.{Id}
 use Rattle.wast_base.specs.Ids.{Name, same_name, name_of}
 use Rattle.wast_base.specs.Spaces.{is_called}
 use Rattle.wast_labels.specs.Chains.{labels_of, IsChained, IsLinked}
 use Rattle.wast_labels.specs.Gathered.{knows}
-use Rattle.wast_labels.specs.OpenBlocks.{Blocks, denotes, is_innermost}
+use Rattle.wast_labels.specs.OpenBlocks.{denotes, is_innermost}
 use Rattle.wast_labels.specs.Places.{innermost_of, innermost_if, kept_at, keep_at}
 use Rattle.wast_labels.specs.Rows.{names_of, row_of, row_if, label_at}
 use Rattle.wast_labels.specs.declared.labels.Block.{Block}

@@ -1,6 +1,6 @@
 -- What the definitions say of a worked expression, computed.
 use Rattle.std.proofs.Common.{refl}
-use Rattle.wast_labels.specs.Turns.{stays_open}
+use Rattle.wast_base.specs.Blocks.{stays_open}
 use Rattle.wast_labels.specs.Worked.{ThreeAreOpen, LabelsThere, EndsThere, GatheredThere}
 
 pub three_are_open : ThreeAreOpen

@@ -1,6 +1,7 @@
 -- What is asked of labels where they are read, and which errors tell that it is not so (text format, control instructions:
 -- labels).
 use Rattle.std.specs.Prelude.{◌≡◌, ℕ, codes, if◌then◌else◌, Option, Some, None, Result, Ok, Err}
+use Rattle.wast_base.specs.Blocks.{Blocks}
 use Rattle.wast_base.specs.declared.ids.Id.{Id}
 use Rattle.wast_base.specs.declared.ids.Index.{Index}
 use Rattle.wast_base.specs.declared.ids.Index.TheVariants as index
@@ -8,7 +9,7 @@ use Rattle.wast_base.specs.declared.ids.Span.{Span}
 use Rattle.wast_base.specs.declared.faults.Error.{Error}
 use Rattle.wast_base.specs.Faults.{Cause, Unknown, Labels, Told, At, Nowhere, told}
 use Rattle.wast_base.specs.Ids.{Mark, name_of, place_of, text_of}
-use Rattle.wast_labels.specs.OpenBlocks.{Blocks, denotes, expects}
+use Rattle.wast_labels.specs.OpenBlocks.{denotes, expects}
 
 -- what a label index denotes; a number denotes itself
 abbrev pub denoted : Blocks → Index → Option ℕ

@@ -1,8 +1,8 @@
 -- Open blocks that are chained by their labels: each knows the next one further out that has its label, and each label
 -- knows the innermost one.
 use Rattle.std.specs.Prelude.{◌≡◌, ℕ, ◌^◌, ◌<◌, ⊤, List, [], ◌∷◌, length, map, slice_index_or, Option, Some, None}
+use Rattle.wast_base.specs.Blocks.{Blocks}
 use Rattle.wast_base.specs.Ids.{Name}
-use Rattle.wast_labels.specs.OpenBlocks.{Blocks}
 use Rattle.wast_labels.specs.Places.{innermost_of, innermost_if}
 use Rattle.wast_labels.specs.Rows.{row_of, row_if, label_at}
 use Rattle.wast_labels.specs.declared.labels.Block.{Block}

@@ -1,10 +1,11 @@
 -- Laws of open blocks: what is gathered, opened and closed along an expression is what counting its openers and closers gives.
 use Rattle.std.specs.Prelude.{◌≡◌, ℕ, suc, ◌+◌, ◌≤◌, true, List, [], ◌∷◌, ◌++◌, length, drop, Option, Some, None}
+use Rattle.wast_base.specs.Blocks.{Turn, Opens, openers}
 use Rattle.wast_base.specs.Ids.{Name}
 use Rattle.wast_base.specs.Spaces.{is_called}
 use Rattle.wast_labels.specs.Gathered.{no_opener, knows}
 use Rattle.wast_labels.specs.OpenBlocks.{denotes, expects}
-use Rattle.wast_labels.specs.Turns.{Turn, Opens, openers, open_blocks, open_count, IsOpen, IsLastOpen, IsLastOf, after, walked, gathered}
+use Rattle.wast_labels.specs.Turns.{open_blocks, open_count, IsOpen, IsLastOpen, IsLastOf, after, walked, gathered}
 
 -- As many openers are counted as there are.
 abbrev pub CountsItsOpeners : Type 0

@@ -1,21 +1,13 @@
 -- The open blocks of an expression by their labels, the innermost first, and what a label denotes among them (text format,
 -- control instructions: labels).
 use Rattle.std.specs.Prelude.{ℕ, Bool, true, false, List, [], ◌∷◌, Option, Some, None}
+use Rattle.wast_base.specs.Blocks.{Blocks, closed}
 use Rattle.wast_base.specs.Ids.{Name}
 use Rattle.wast_base.specs.Spaces.{is_called, position_of}
-
--- the labels of the open blocks, the innermost first; a block may have none
-abbrev pub Blocks : Type 0
-Blocks = List (Option Name)
 
 -- what a label denotes: how many open blocks were opened after the last one that has it
 abbrev pub denotes : Name → Blocks → Option ℕ
 denotes label blocks = position_of label blocks
-
--- the blocks once the innermost one is closed
-abbrev pub closed : Blocks → Blocks
-closed [] = []
-closed (l ∷ ls) = ls
 
 -- The innermost open block has this label.
 abbrev pub is_innermost : Name → Blocks → Bool

@@ -1,8 +1,8 @@
 -- Places of blocks that are kept by rows. The place of a block is the number of open blocks around it.
 use Rattle.std.specs.Prelude.{ℕ, ◌<◌, ⊤, List, [], ◌∷◌, length, if◌then◌else◌, slice_set, slice_index_or, Option, Some, None}
+use Rattle.wast_base.specs.Blocks.{Blocks}
 use Rattle.wast_base.specs.Ids.{Name}
 use Rattle.wast_base.specs.Spaces.{is_called}
-use Rattle.wast_labels.specs.OpenBlocks.{Blocks}
 
 -- The row, if there is one, is one of the list.
 abbrev pub IsWithin : Option ℕ → List (Option ℕ) → Type 0

@@ -1,37 +1,8 @@
 -- Which blocks are open at a place in an expression, by counting openers and closers (text format, control instructions).
 use Rattle.std.specs.Prelude.{◌≡◌, ℕ, zero, suc, ◌+◌, ◌<◌, nat_le, ◌&&◌, Bool, true, if◌then◌else◌, List, [], ◌∷◌, ◌++◌, length, take, drop, slice_get, Option, Some}
+use Rattle.wast_base.specs.Blocks.{Blocks, Turn, Opens, Closes, Stays, stays_open, closed}
 use Rattle.wast_base.specs.Ids.{Name}
 use Rattle.wast_labels.specs.Gathered.{Openers, with_opener}
-use Rattle.wast_labels.specs.OpenBlocks.{Blocks, closed}
-
--- what an instruction does to the open blocks: it opens one with its label, closes one, or does neither
-pub data Turn : Type 0 where
-  Opens : Option Name → Turn
-  Closes : Turn
-  Stays : Turn
-
--- how many of them are openers
-abbrev pub openers : List Turn → ℕ
-openers [] = 0
-openers (Opens l ∷ ts) = openers ts + 1
-openers (Closes ∷ ts) = openers ts
-openers (Stays ∷ ts) = openers ts
-
--- how many of them are closers
-abbrev pub closers : List Turn → ℕ
-closers [] = 0
-closers (Opens l ∷ ts) = closers ts
-closers (Closes ∷ ts) = closers ts + 1
-closers (Stays ∷ ts) = closers ts
-
--- Each of the first n fronts has at most as many closers as openers.
-abbrev pub never_closed : List Turn → ℕ → Bool
-never_closed ts zero = true
-never_closed ts (suc n) = never_closed ts n && nat_le (closers (take (suc n) ts)) (openers (take (suc n) ts))
-
--- A block whose opener stands right before these is open behind them.
-unfoldable pub stays_open : List Turn → Bool
-stays_open ts = never_closed ts (length ts)
 
 -- the labels of the blocks that are open behind them, the innermost first
 abbrev pub open_blocks : List Turn → Blocks

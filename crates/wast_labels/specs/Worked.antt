@@ -1,9 +1,10 @@
 -- The open blocks of a worked expression, and what labels are among them, computed.
 use Rattle.std.specs.Prelude.{◌≡◌, true, false, List, [], ◌∷◌, Some, None, codes}
+use Rattle.wast_base.specs.Blocks.{closed, Turn, Opens, Closes, Stays}
 use Rattle.wast_base.specs.Ids.{Name, Written, Generated}
 use Rattle.wast_labels.specs.Gathered.{no_opener, knows}
-use Rattle.wast_labels.specs.OpenBlocks.{denotes, closed, is_innermost, expects}
-use Rattle.wast_labels.specs.Turns.{Turn, Opens, Closes, Stays, open_blocks, open_count, walked, gathered}
+use Rattle.wast_labels.specs.OpenBlocks.{denotes, is_innermost, expects}
+use Rattle.wast_labels.specs.Turns.{open_blocks, open_count, walked, gathered}
 
 abbrev pub a : Name
 a = Written (codes "a")
