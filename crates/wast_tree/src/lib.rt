@@ -35,12 +35,13 @@ pub use fields::{
 };
 pub use generations::gensym_bound;
 pub use immediates::{
-    CallIndirect, F32, F64, MemArg, MemArgOrdering, MemArgTarget, MemoryArg, MemoryCopy,
-    MemoryInit, Ordering, SelectTypes, TableArg, TableCopy, TableInit,
+    BlockType, BrTableIndices, CallIndirect, F32, F64, MemArg, MemArgOrdering, MemArgTarget,
+    MemoryArg, MemoryCopy, MemoryInit, Ordering, SelectTypes, TableArg, TableCopy, TableInit,
+    TryTable, TryTableCatch, TryTableCatchKind,
 };
 pub use imports::{ImportItems, Imports, ItemKind, ItemSig};
 pub use instrs::{BranchHint, Expression, Instruction};
-pub use makers::Maker;
+pub use makers::{BlockKind, Maker};
 pub use moves::{
     discard_data, discard_elem_payload, discard_exports, discard_expression, discard_field,
     discard_fields, discard_func, discard_func_kind, discard_function_type, discard_instruction,
