@@ -11,7 +11,7 @@ use Rattle.wast_tree.specs.Generations.{greatest_generation}
 use Rattle.wast_types.specs.NeedingUses.{needed}
 use Rattle.wast_resolve.specs.Tree.{ModuleField}
 use Rattle.wast_resolve.specs.Tree.space
-use Rattle.wast_resolve.specs.Demands.{first_unmet, ask_demands, demands, counts}
+use Rattle.wast_resolve.specs.Demands.{first_unmet, ask_demands, demands, item_demands, item_counts, body_counts}
 use Rattle.wast_resolve.specs.Explicit.{explicit, explicit_from, by_positions, ids_filled}
 use Rattle.wast_map.specs.Mapped.{Indices}
 use Rattle.wast_map.specs.Laws.{all_mapped}
@@ -28,9 +28,14 @@ use Rattle.wast_resolve.specs.Finished.{finished}
 abbrev pub SameAnswer : Type 0
 SameAnswer = (n : ℕ) (fields : List ModuleField) → greatest_generation fields < n → first_unmet (demands (explicit_from n fields)) ≡ first_unmet (demands (explicit fields))
 
--- and there are as many of all that is counted.
+-- and there are as many items and fields of structs.
 abbrev pub SameCounts : Type 0
-SameCounts = (n : ℕ) (fields : List ModuleField) → greatest_generation fields < n → counts (explicit_from n fields) ≡ counts (explicit fields)
+SameCounts = (n : ℕ) (fields : List ModuleField) → greatest_generation fields < n → item_counts (items (explicit_from n fields)) ≡ item_counts (items (explicit fields))
+
+-- and, where no two of these have one name, as many parameters, locals and open blocks.
+abbrev pub SameBodyCounts : Type 0
+SameBodyCounts = (n : ℕ) (fields : List ModuleField) → greatest_generation fields < n → first_unmet (item_demands (items (explicit fields))) ≡ None
+    → body_counts (explicit_from n fields) ≡ body_counts (explicit fields)
 
 -- Well formed fields stay so with them.
 abbrev pub ExplicitStaysWellFormed : Type 0

@@ -16,12 +16,12 @@ Walks memory many ds want new (Err e) = Answers memory many (told e) (first_unme
 
 -- of a part in which this is asked, by the names of a module: nothing else is refused
 abbrev pub WalksAsks : {T : Type 0} → Resolution → (T → List Ask) → (Change → T → T) → T → T → Result (Unit {0}) Error → Type 0
-WalksAsks names asked mapped old new result = Walks ⊥ ⊥ (ask_demands (known_of names) (asked old)) (mapped (numbering (known_of names)) old) new result
+WalksAsks names asked mapped old new result = Walks ⊥ ⊥ (ask_demands (known_of names) (asked old)) (mapped (numbering (scope_of names)) old) new result
 
 -- of a part with these sites
 abbrev pub WalksSites : {T : Type 0} → Resolution → (T → List Site) → (Change → T → T) → T → T → Result (Unit {0}) Error → Type 0
-WalksSites names sites mapped old new result = Walks ⊥ ⊥ (site_demands (scope_of names) (sites old)) (mapped (numbering (known_of names)) old) new result
+WalksSites names sites mapped old new result = Walks ⊥ ⊥ (site_demands (scope_of names) (sites old)) (mapped (numbering (scope_of names)) old) new result
 
 -- of a part with functions: the names of their locals take memory, and may be too many
 abbrev pub WalksFunctions : {T : Type 0} → Type 0 → Resolution → (T → List Site) → (Change → T → T) → T → T → Result (Unit {0}) Error → Type 0
-WalksFunctions many names sites mapped old new result = Walks ⊤ many (site_demands (scope_of names) (sites old)) (mapped (numbering (known_of names)) old) new result
+WalksFunctions many names sites mapped old new result = Walks ⊤ many (site_demands (scope_of names) (sites old)) (mapped (numbering (scope_of names)) old) new result

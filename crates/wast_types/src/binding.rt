@@ -5,19 +5,20 @@ ghost use Rattle.wast_base.specs.Ids.{generated};
 ghost use Rattle.wast_base.specs.Faults.{out_of_memory};
 ghost use Rattle.wast_types.specs.Tree.index;
 ghost use Rattle.wast_types.specs.Signatures.{Signature};
-ghost use Rattle.wast_tree.specs.Sites.{OfItem, start, in_instr, in_indirect, in_constant, in_func_kind, in_use, in_func, in_tag_type, in_item_kind, in_import, in_field};
-ghost use Rattle.wast_map.specs.Mapped.{mapped_indirect, mapped_instr, mapped_constant, mapped_func_kind, mapped_func, mapped_tag_type, mapped_item_kind, mapped_sig, mapped_import_items, mapped_import, mapped_tag};
+ghost use Rattle.wast_tree.specs.Sites.{OfItem, start, in_block, in_try_table, in_instr, in_indirect, in_constant, in_func_kind, in_use, in_func, in_tag_type, in_item_kind, in_import, in_field};
+ghost use Rattle.wast_tree.specs.Types.{is_short};
+ghost use Rattle.wast_map.specs.Mapped.{mapped_block, mapped_try_table, mapped_indirect, mapped_instr, mapped_constant, mapped_func_kind, mapped_func, mapped_tag_type, mapped_item_kind, mapped_sig, mapped_import_items, mapped_import, mapped_tag};
 ghost use Rattle.wast_types.specs.NeedingUses.{needed_in, inline_signature};
 ghost use Rattle.wast_base.specs.Filling.{RunsOut};
 ghost use Rattle.wast_types.specs.Expanders.{BoundSignatures, LookUp, index_of, with_more, Extends};
 ghost use Rattle.wast_types.specs.Expanded.{start_of_text, implied_type, bound_use, binding, bound_field};
-ghost use Rattle.wast_types.specs.Binding.{state, next_after, AddsTypes};
+ghost use Rattle.wast_types.specs.Binding.{no_use, state, next_after, AddsTypes};
 
 use crate::expanders::Expander;
 use crate::keys::{FuncKey, TypeKey, TypeReference};
 use std::alloc::Global;
 use wast_tree::{
-    CallIndirect, Error, Expression, Func, FuncKind, FunctionType, Gensym, ImportItems, Imports,
+    BlockType, TryTable, CallIndirect, Error, Expression, Func, FuncKind, FunctionType, Gensym, ImportItems, Imports,
     Index, Instruction, ItemKind, ItemSig, ModuleField, Seq, Span, Tag, TagType, Type, TypeUse,
     push_field,
 };
@@ -258,9 +259,9 @@ impl<'a> Bind<'a> for Func<'a> {
 }
 
 impl<'a> Bind<'a> for FuncKind<'a> {
-    ghost needed = { λ k. needed_in (in_func_kind [] k) };
+    ghost needed = { λ k. needed_in (in_func_kind no_use k) };
 
-    ghost bound = { λ find. mapped_func_kind (binding find) [] };
+    ghost bound = { λ find. mapped_func_kind (binding find) no_use };
 
     fn bind(
         &mut self,
@@ -312,6 +313,38 @@ impl<'a> Bind<'a> for Instruction<'a> {
         match self {
             Instruction::Plain(_) => Ok(()),
             Instruction::Mem(..) => Ok(()),
+            Instruction::block(block) => {
+                block.get_mut().bind(alloc, cx, implied, gensym)?;
+                Ok(())
+            }
+            Instruction::loop_(block) => {
+                block.get_mut().bind(alloc, cx, implied, gensym)?;
+                Ok(())
+            }
+            Instruction::if_(block) => {
+                block.get_mut().bind(alloc, cx, implied, gensym)?;
+                Ok(())
+            }
+            Instruction::else_(_) => Ok(()),
+            Instruction::try_(block) => {
+                block.get_mut().bind(alloc, cx, implied, gensym)?;
+                Ok(())
+            }
+            Instruction::try_table(table) => {
+                table.bind(alloc, cx, implied, gensym)?;
+                Ok(())
+            }
+            Instruction::end_(_) => Ok(()),
+            Instruction::delegate(_) => Ok(()),
+            Instruction::br(_) => Ok(()),
+            Instruction::br_if(_) => Ok(()),
+            Instruction::br_table(_) => Ok(()),
+            Instruction::br_on_null(_) => Ok(()),
+            Instruction::br_on_non_null(_) => Ok(()),
+            Instruction::rethrow(_) => Ok(()),
+            Instruction::local_get(_) => Ok(()),
+            Instruction::local_set(_) => Ok(()),
+            Instruction::local_tee(_) => Ok(()),
             Instruction::catch(_) => Ok(()),
             Instruction::throw(_) => Ok(()),
             Instruction::call(_) => Ok(()),
@@ -353,6 +386,61 @@ impl<'a> Bind<'a> for Instruction<'a> {
     }
 }
 
+/// The type of a block needs one of its own only where it has a parameter or two results; without an index it has an inline
+/// type from then on.
+impl<'a> Bind<'a> for BlockType<'a> {
+    ghost needed = { λ b. needed_in (in_block [] b) };
+
+    ghost bound = { λ find. mapped_block (binding find) };
+
+    fn bind(
+        &mut self,
+        alloc: Global,
+        cx: &mut Expander<'a>,
+        implied: &mut Seq<ModuleField<'a>>,
+        gensym: &mut Gensym,
+    ) -> Result<(), Error<'a>> {
+        if self.ty.index.is_some() {
+            return Ok(());
+        }
+        match &self.ty.inline {
+            None => {
+                self.ty.inline = Some(FunctionType::empty(alloc));
+                Ok(())
+            }
+            Some(ty) if is_short(ty) => Ok(()),
+            Some(_) => {
+                self.ty.bind(alloc, cx, implied, gensym)?;
+                Ok(())
+            }
+        }
+    }
+}
+
+impl<'a> Bind<'a> for TryTable<'a> {
+    ghost needed = { λ t. needed_in (in_try_table [] t) };
+
+    ghost bound = { λ find t. mapped_try_table (binding find) [] t };
+
+    fn bind(
+        &mut self,
+        alloc: Global,
+        cx: &mut Expander<'a>,
+        implied: &mut Seq<ModuleField<'a>>,
+        gensym: &mut Gensym,
+    ) -> Result<(), Error<'a>> {
+        self.block.get_mut().bind(alloc, cx, implied, gensym)?;
+        Ok(())
+    }
+}
+
+/// Whether a function type has no parameters and at most one result, so that a block may have it without an index.
+fn is_short(ty: &FunctionType<'_>) -> bool
+    ensures { result ≡ is_short ty.now }
+{
+    ty.params.is_empty() && ty.results.len() < 2
+}
+
 impl<'a> Bind<'a> for CallIndirect<'a> {
     ghost needed = { λ c. needed_in (in_indirect c) };
 
@@ -370,11 +458,11 @@ impl<'a> Bind<'a> for CallIndirect<'a> {
     }
 }
 
-/// A type use needs the same wherever it stands.
+/// A type use needs the same wherever it stands, but in a block.
 impl<'a> Bind<'a> for TypeUse<'a, FunctionType<'a>> {
     ghost needed = { λ u. needed_in (in_use OfItem u) };
 
-    ghost bound = { bound_use };
+    ghost bound = { λ find. bound_use find OfItem };
 
     fn bind(
         &mut self,
