@@ -1,6 +1,6 @@
 use Rattle.std.proofs.lemmas.Result.{err_from_is_err_and}
 use Rattle.wast_tree.specs.Sites.{start}
-use Rattle.wast_resolve.proofs.apart.ExpressionWalkApart.walk_apart.Goals as goal
+use Rattle.wast_resolve.proofs.constants.ExpressionWalkConstants.walk_constants.Goals as goal
 
 pub returns-in_err-walk_expression : goal.returns-in_err-walk_expression
 returns-in_err-walk_expression c =

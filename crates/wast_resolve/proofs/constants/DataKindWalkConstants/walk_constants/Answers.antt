@@ -6,7 +6,7 @@ use Rattle.wast_resolve.specs.Resolved.{numbering}
 use Rattle.wast_resolve.specs.Resolvers.{scope_of}
 use Rattle.wast_resolve.specs.TwoSteps.{in_data_memory, in_data_offset, with_data_offset}
 use Rattle.wast_resolve.proofs.TwoSteps.{first_fails, second_fails, both_met, data_parts, data_stays, data_becomes}
-use Rattle.wast_resolve.proofs.apart.DataKindWalkApart.walk_apart.Goals as goal
+use Rattle.wast_resolve.proofs.constants.DataKindWalkConstants.walk_constants.Goals as goal
 
 pub returns-in_err-walk_data_memory : goal.returns-in_err-walk_data_memory
 returns-in_err-walk_data_memory c =

@@ -6,7 +6,7 @@ use Rattle.wast_resolve.specs.Resolved.{numbering}
 use Rattle.wast_resolve.specs.Resolvers.{scope_of}
 use Rattle.wast_resolve.specs.TwoSteps.{in_type_of_table, in_init, with_init}
 use Rattle.wast_resolve.proofs.TwoSteps.{first_fails, second_fails, both_met, table_parts, table_stays, table_becomes}
-use Rattle.wast_resolve.proofs.apart.TableKindWalkApart.walk_apart.Goals as goal
+use Rattle.wast_resolve.proofs.constants.TableKindWalkConstants.walk_constants.Goals as goal
 
 pub returns-in_err-walk_table_type : goal.returns-in_err-walk_table_type
 returns-in_err-walk_table_type c =

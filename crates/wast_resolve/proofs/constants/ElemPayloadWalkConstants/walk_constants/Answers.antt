@@ -6,7 +6,7 @@ use Rattle.wast_resolve.specs.Resolved.{numbering}
 use Rattle.wast_resolve.specs.Resolvers.{scope_of}
 use Rattle.wast_resolve.specs.TwoSteps.{in_elements, in_element_type, with_element_type}
 use Rattle.wast_resolve.proofs.TwoSteps.{first_fails, second_fails, both_met, payload_parts, payload_stays, payload_becomes}
-use Rattle.wast_resolve.proofs.apart.ElemPayloadWalkApart.walk_apart.Goals as goal
+use Rattle.wast_resolve.proofs.constants.ElemPayloadWalkConstants.walk_constants.Goals as goal
 
 pub returns-in_err-walk_elements : goal.returns-in_err-walk_elements
 returns-in_err-walk_elements c =

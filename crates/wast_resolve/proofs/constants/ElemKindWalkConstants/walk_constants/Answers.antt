@@ -6,7 +6,7 @@ use Rattle.wast_resolve.specs.Resolved.{numbering}
 use Rattle.wast_resolve.specs.Resolvers.{scope_of}
 use Rattle.wast_resolve.specs.TwoSteps.{in_elem_table, in_elem_offset, with_elem_offset}
 use Rattle.wast_resolve.proofs.TwoSteps.{first_fails, second_fails, both_met, elem_parts, elem_stays, elem_becomes}
-use Rattle.wast_resolve.proofs.apart.ElemKindWalkApart.walk_apart.Goals as goal
+use Rattle.wast_resolve.proofs.constants.ElemKindWalkConstants.walk_constants.Goals as goal
 
 pub returns-in_err-walk_elem_table : goal.returns-in_err-walk_elem_table
 returns-in_err-walk_elem_table c =

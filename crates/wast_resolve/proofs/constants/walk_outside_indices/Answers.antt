@@ -5,7 +5,7 @@ use Rattle.wast_resolve.specs.Demands.{first_unmet, ask_demands, site_demands}
 use Rattle.wast_resolve.specs.Resolved.{numbered_at}
 use Rattle.wast_resolve.specs.Resolvers.{known_of, scope_of}
 use Rattle.wast_resolve.proofs.Parts.{indices_demands, walks_as}
-use Rattle.wast_resolve.proofs.apart.walk_outside_indices.Goals as goal
+use Rattle.wast_resolve.proofs.constants.walk_outside_indices.Goals as goal
 
 pub returns : goal.returns
 returns c =
