@@ -7,7 +7,6 @@ use Rattle.wasm_ops.specs.declared.blocks.BlockType.{BlockType}
 use Rattle.wasm_ops.specs.declared.blocks.BlockType.TheVariants as block
 use Rattle.wasm_ops.specs.declared.blocks.Catch.{Catch}
 use Rattle.wasm_ops.specs.declared.blocks.Catch.TheVariants as catches
-use Rattle.wasm_ops.specs.declared.types.ValType.{ValType}
 
 -- nothing is a byte, one result is its type, and the index of a type is a signed number
 abbrev pub block_type : BlockType → List ℕ
