@@ -139,7 +139,7 @@ module _ (ok : Ask → Bool) where
 
     body_alike : (x : ModuleField) → pass ok (asked (in_field x)) ≡ true → body_counts_in c x ≡ body_counts_in d x
     body_alike (field.Func f) h =
-        ap (λ m. m + length (declared f.ty.inline f.kind) ∷ open_counts (in_field (field.Func f)))
+        ap (λ m. (m + length (declared f.ty.inline f.kind)) ∷ open_counts (in_field (field.Func f)))
         (unsaid_same f.ty.index f.ty.inline (first_part ok (in_type_use f.ty) (asked (in_func_kind f.ty f.kind)) h))
     body_alike x h = refl
 

@@ -115,7 +115,7 @@ module _ (c : Scope) where
     site_under (LocalAt locals i) h =
         ap (λ b. b && true) (under (Within i) (Within (numbered (local_number c locals) i)) (below_index (local_number c locals) i) (first_so (is_under (Within i)) true h))
     site_under (LabelAt blocks i) h =
-        let number = λ name. denotes name blocks in
+        let number : Name → Option ℕ = λ name. denotes name blocks in
         ap (λ b. b && true) (under (Within i) (Within (numbered number i)) (below_index number i) (first_so (is_under (Within i)) true h))
     site_under s h = h
 

@@ -61,9 +61,9 @@ module _ (n : ℕ) (fields : List ModuleField) (free : first_unmet (item_demands
   bound_body (field.Func f) =
       let x : ModuleField = bound_field find (field.Func f) in
       let now : ℕ = length (declared f.ty.inline (mapped_func_kind (binding find) f.ty f.kind)) in
-      ap (λ m. m + now ∷ open_counts (in_field x)) (bound_unsaid f.ty.index f.ty.inline)
-      ∙ (ap (λ ms. unsaid_params new f.ty.index f.ty.inline + length (param_marks f.ty.inline ++ ms) ∷ open_counts (in_field x)) (kind_declared (binding find) f.ty f.kind)
-      ∙ ap (λ ns. unsaid_params new f.ty.index f.ty.inline + length (declared f.ty.inline f.kind) ∷ ns) (still_open (binding find) (λ u. refl) (field.Func f)))
+      ap (λ m. (m + now) ∷ open_counts (in_field x)) (bound_unsaid f.ty.index f.ty.inline)
+      ∙ (ap (λ ms. (unsaid_params new f.ty.index f.ty.inline + length (param_marks f.ty.inline ++ ms)) ∷ open_counts (in_field x)) (kind_declared (binding find) f.ty f.kind)
+      ∙ ap (λ ns. (unsaid_params new f.ty.index f.ty.inline + length (declared f.ty.inline f.kind)) ∷ ns) (still_open (binding find) (λ u. refl) (field.Func f)))
   bound_body x = still_open (binding find) (λ u. refl) x
 
   given_body : (m : ℕ) (x : ModuleField) → body_counts_in new (with_type_id m x) ≡ body_counts_in new x

@@ -72,8 +72,8 @@ expanded_said n fields =
 module _ (c : Scope) where
   short_still : (t : FunctionType) → is_short (mapped_signature (numbered_at c.known) t) ≡ is_short t
   short_still t =
-      ap (λ m. m == 0 && nat_lt (length (map (mapped_val (numbered_at c.known)) t.results)) 2) (length-map (mapped_param (numbered_at c.known)) t.params)
-      ∙ ap (λ m. length t.params == 0 && nat_lt m 2) (length-map (mapped_val (numbered_at c.known)) t.results)
+      ap (λ m. m == 0 && nat_lt (length (map (mapped_val (numbered_at c.known)) t.results)) 2) (length-map t.params (mapped_param (numbered_at c.known)))
+      ∙ ap (λ m. length t.params == 0 && nat_lt m 2) (length-map t.results (mapped_val (numbered_at c.known)))
 
   use_has : (w : Where) (i : Option Index) (t : Option FunctionType) → needed_without w i t ≡ [] → needed_by_use w (resolved_use c.known w (record { index = i; inline = t })) ≡ []
   use_has OfItem (Some i) t h = refl
