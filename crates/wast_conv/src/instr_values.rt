@@ -22,7 +22,7 @@ use wasm_ops::{
     I64Const, IndexInstr, IndexOp, IndexPair, IndexPairOp, MemInstr, RefNull, Refusal, Sink, Spell,
 };
 use wast_tree::{
-    BlockType, BrTableIndices, CallIndirect, HeapType, Index, Instruction, MemArg, MemOp,
+    BlockType, Boxed, BrTableIndices, CallIndirect, HeapType, Index, Instruction, MemArg, MemOp,
     SelectTypes, TryTable, TryTableCatch,
 };
 
@@ -87,14 +87,14 @@ fn put_mem<S: Sink>(op: MemOp, arg: &MemArg, out: &mut S) -> Result<(), Refusal>
 }
 
 /// An instruction that opens a block.
-fn put_block<S: Sink>(op: BlockOp, block: &BlockType, out: &mut S) -> Result<(), Refusal>
+fn put_block<S: Sink>(op: BlockOp, block: &Boxed<BlockType>, out: &mut S) -> Result<(), Refusal>
     requires { IsTrue (encodable (in_use OfBlock block.now.ty)) }
     ensures { Writes S.rules (InRangeInstr (block_instr op (meaning.as_block_type block.now)))
         out.old out.new (instr (block_instr op (meaning.as_block_type block.now))) result }
 {
     BlockInstr {
         op,
-        ty: conv::block_type(block),
+        ty: conv::block_type(block.get()),
     }
     .encode(out)
 }
@@ -176,11 +176,11 @@ impl Spell<Instruction<'_>> for Resolved {
         match instruction {
             Instruction::Plain(op) => op.encode(out),
             Instruction::Mem(op, arg) => put_mem(*op, arg, out),
-            Instruction::block(block) => put_block(BlockOp::Block, block.get(), out),
-            Instruction::loop_(block) => put_block(BlockOp::Loop, block.get(), out),
-            Instruction::if_(block) => put_block(BlockOp::If, block.get(), out),
+            Instruction::block(block) => put_block(BlockOp::Block, block, out),
+            Instruction::loop_(block) => put_block(BlockOp::Loop, block, out),
+            Instruction::if_(block) => put_block(BlockOp::If, block, out),
             Instruction::else_(_) => Delimiter::Else.encode(out),
-            Instruction::try_(block) => put_block(BlockOp::Try, block.get(), out),
+            Instruction::try_(block) => put_block(BlockOp::Try, block, out),
             Instruction::try_table(table) => put_try_table(table, out),
             Instruction::end_(_) => Delimiter::End.encode(out),
             Instruction::delegate(label) => put_index(IndexOp::Delegate, label, out),

@@ -23,5 +23,5 @@ encode-requires g c =
 
 pub returns : goal.returns
 returns g c =
-    rw (c.block_type.ensures, c.get.ensures)
+    rw (← c.get.ensures, ← c.block_type.ensures)
     (catches_written g.S.Sink.rules c.args.out.now c.encode.new.out c.block_type.result c.as_slice.result.now c.args.table.now.catches c.encode.result c.as_slice.ensures c.encode.ensures)
