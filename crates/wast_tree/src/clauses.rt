@@ -74,7 +74,7 @@ pub(crate) fn suits(kind: &ElemKind<'_>, payload: &ElemPayload<'_>) -> bool
 pub(crate) fn is_balanced(instrs: &[Instruction<'_>]) -> bool
     ensures { result ≡ is_balanced (turns instrs.now) }
 {
-    let mut open = 0;
+    let mut open: usize = 0;
     for instr in instrs {
         if instr.block_type().is_some() {
             open += 1;

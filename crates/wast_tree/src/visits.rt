@@ -382,6 +382,7 @@ impl Visit for TryTableCatch<'_> {
 impl Visit for TryTable<'_> {
     ghost asks = { λ t. asked (in_try_table [] t) };
 
+    #[tactic(auto, using(crate::proofs::Visiting::visits_both, crate::proofs::Visiting::asked_try_table))]
     fn visit<V: Visitor>(&self, visitor: &mut V) {
         let block = self.block.get();
         block.ty.visit(visitor);
@@ -402,6 +403,7 @@ fn visit_labels<V: Visitor>(labels: &[Index<'_>], visitor: &mut V)
 impl Visit for BrTableIndices<'_> {
     ghost asks = { λ t. asked (in_br_table [] t) };
 
+    #[tactic(auto, using(crate::proofs::Visiting::visits_both, crate::proofs::Visiting::visits_one, crate::proofs::Visiting::asked_br_table))]
     fn visit<V: Visitor>(&self, visitor: &mut V) {
         visit_labels(self.labels.as_slice(), visitor);
         visitor.within(&self.default);
