@@ -1,6 +1,6 @@
 -- What an expanded list answers, and what is so of it when it is resolved.
-use Rattle.std.proofs.Common.{◌≡◌, ℕ, ◌+◌, ◌<◌, true, not, ◌&&◌, ◌||◌, List, [], ◌∷◌, ◌++◌, map, append-nil, Option, Some, None, is_some, refl, sym, ap, ◌∙◌, subst, arith}
-use Rattle.std.specs.Prelude.{max}
+use Rattle.std.proofs.Common.{◌≡◌, ℕ, ◌+◌, ◌<◌, Bool, true, false, not, ◌&&◌, ◌||◌, List, [], ◌∷◌, ◌++◌, map, append-nil, Option, Some, None, is_some, refl, sym, ap, ◌∙◌, subst, arith}
+use Rattle.std.specs.Prelude.{max, codes}
 use Rattle.std.proofs.Math.Bool.{or-true}
 use Rattle.std.specs.Option.{option_or}
 use Rattle.wast_base.specs.Ids.{Name, name_of, mark_of, generation_of, is_generated}
@@ -8,33 +8,35 @@ use Rattle.wast_base.specs.Faults.{Cause}
 use Rattle.wast_base.specs.Spaces.{word_of}
 use Rattle.wast_tree.specs.Items.{items}
 use Rattle.wast_tree.specs.Known.{Known, known}
-use Rattle.wast_tree.specs.Sites.{Ask, Wants, Site, Asked, Used, Declared, if_there, in_index, in_signature, asked, in_module}
+use Rattle.wast_tree.specs.Sites.{Ask, Wants, Where, OfItem, OfCall, OfBlock, Locals, Site, Asked, Used, LocalAt, if_there, in_index, in_signature, asked, in_module}
 use Rattle.wast_tree.specs.Generations.{generation_in, greatest_item, greatest_asked, greatest_generation}
 use Rattle.wast_tree.specs.WellFormed.{is_kept, are_kept, is_well_formed}
-use Rattle.wast_map.specs.Mapped.{mapped_site}
+use Rattle.wast_map.specs.Mapped.{mapped_locals, mapped_site}
 use Rattle.wast_map.proofs.Laws.{stands}
 use Rattle.wast_types.specs.Signatures.{Signature, signature_of}
-use Rattle.wast_types.specs.NeedingUses.{inline_signature}
+use Rattle.wast_types.specs.NeedingUses.{inline_signature, needs_type}
 use Rattle.wast_types.specs.Expanders.{LookUp, index_of}
-use Rattle.wast_types.specs.Expanded.{typed, bindings, bound_index, binding, expanded, ids_wanted}
+use Rattle.wast_types.specs.Expanded.{typed, bindings, bound_if, bound_index, bound_inline, binding, expanded, ids_wanted}
 use Rattle.wast_types.specs.Completed.{completed}
 use Rattle.wast_deinline.proofs.Below.{each_below}
 use Rattle.wast_resolve.specs.Tree.{Index, Span, Space, FunctionType, ModuleField}
 use Rattle.wast_resolve.specs.Tree.space
 use Rattle.wast_resolve.specs.Scopes.{Scope, scope}
-use Rattle.wast_resolve.specs.Demands.{Demand, first_unmet, unknown, ask_demand, ask_demands, item_demands, match_demands, match_if, site_demand, site_demands, order_demands, name_demands, demands, item_counts, local_counts}
-use Rattle.wast_resolve.proofs.OfExpanded.{SameUnmet, SameNumbers, StaysWellFormed, IsNumbered, IsWellFormedNumbered, IsBelowNext}
+use Rattle.wast_resolve.specs.Demands.{Demand, first_unmet, unknown, ask_demand, ask_demands, item_demands, match_demands, match_if, site_demand, site_demands, order_demands, name_demands, demands, body_counts}
+use Rattle.wast_resolve.proofs.OfExpanded.{SameUnmet, SameNumbers, SameBodies, StaysWellFormed, IsNumbered, IsWellFormedNumbered, IsBelowNext}
 use Rattle.wast_resolve.proofs.AtRest.{all_numbered, still_well_formed, still_below}
 use Rattle.wast_resolve.proofs.Unmet.{first_unmet-or, alike_behind, met_parts}
 use Rattle.wast_resolve.proofs.OrderKept.{expanded_orders}
 use Rattle.wast_resolve.proofs.ExpandedItems.{bound_items, expanded_position, expanded_clashes, expanded_item_counts, expanded_below}
-use Rattle.wast_resolve.proofs.ExpandedTypes.{same_signatures, same_local_counts}
+use Rattle.wast_resolve.proofs.ExpandedTypes.{same_signatures}
+use Rattle.wast_resolve.proofs.ExpandedBodies.{expanded_bodies}
 use Rattle.wast_resolve.proofs.FoundMatches.{what_is_found, it_matches}
-use Rattle.wast_resolve.proofs.AlikeScopes.{old_uses}
+use Rattle.wast_resolve.proofs.AlikeScopes.{old_uses, old_bodies}
 use Rattle.wast_resolve.proofs.ExpandedAsks.{bound_ask, bound_measure, typed_asks}
 use Rattle.wast_resolve.proofs.CompletedAsks.{completed_pass, completed_below}
 use Rattle.wast_resolve.proofs.FoundTypes.{IsTypeOf, found}
 use Rattle.wast_resolve.proofs.KeptAlike.{completed_borne, all_kept_alike}
+use Rattle.wast_resolve.proofs.Nameless.{by_names}
 
 module _ (n : ℕ) (fields : List ModuleField) where
   abbrev types : List ModuleField
@@ -102,18 +104,34 @@ module _ (n : ℕ) (fields : List ModuleField) where
         ∙ (nothing_more (first_unmet (ask_demands new asked)) (first_unmet matched) (λ met. it_matches new_scope t i (what_is_found n fields free (signature_of t) i e) met)
         ∙ sym (first_unmet-or (ask_demands new asked) [])))
 
-    bound_use_met : (i : Option Index) (inline : Option FunctionType) → first_unmet (use_demanded (bound_index find i inline) inline) ≡ first_unmet (use_demanded i inline)
-    bound_use_met (Some i) inline = refl
-    bound_use_met None inline = by_found (find (inline_signature inline)) refl
+    index_met : (w : Where) (i : Option Index) (inline : Option FunctionType) → first_unmet (use_demanded (bound_index find w i inline) inline) ≡ first_unmet (use_demanded i inline)
+    index_met w (Some i) inline = refl
+    index_met w None inline = by_need (needs_type w inline)
       where
         by_found : (o : Option Index) → find (inline_signature inline) ≡ o → first_unmet (use_demanded o inline) ≡ first_unmet (use_demanded None inline)
         by_found None e = refl
         by_found (Some i) e = given_index i inline e
 
+        by_need : (b : Bool) → first_unmet (use_demanded (bound_if b (find (inline_signature inline))) inline) ≡ first_unmet (use_demanded None inline)
+        by_need true = by_found (find (inline_signature inline)) refl
+        by_need false = refl
+
+    -- the inline type that a block is given demands nothing
+    bound_use_met : (w : Where) (i : Option Index) (inline : Option FunctionType) → first_unmet (use_demanded (bound_index find w i inline) (bound_inline w i inline)) ≡ first_unmet (use_demanded i inline)
+    bound_use_met OfItem i inline = index_met OfItem i inline
+    bound_use_met OfCall i inline = index_met OfCall i inline
+    bound_use_met OfBlock (Some i) inline = refl
+    bound_use_met OfBlock None (Some t) = index_met OfBlock None (Some t)
+    bound_use_met OfBlock None None = refl
+
+    local_met : (l : Locals) (i : Index) → site_demand new_scope (LocalAt (mapped_locals (binding find) l) i) ≡ site_demand new_scope (LocalAt l i)
+    local_met l i = by_names new_scope (mapped_locals (binding find) l) (codes "local") i ∙ sym (by_names new_scope l (codes "local") i)
+
     site_met : (s : Site) → first_unmet (site_demand new_scope (mapped_site (binding find) s)) ≡ first_unmet (site_demand new_scope s)
     site_met (Asked a) = ap (λ b. first_unmet (ask_demand new b)) (bound_ask find a)
-    site_met (Used w u) = bound_use_met u.index u.inline
-    site_met (Declared before m) = refl
+    site_met (Used w u) = bound_use_met w u.index u.inline
+    site_met (LocalAt locals i) = ap first_unmet (local_met locals i)
+    site_met s = refl
 
     sites_met : (ss : List Site) → first_unmet (site_demands new_scope (map (mapped_site (binding find)) ss)) ≡ first_unmet (site_demands new_scope ss)
     sites_met [] = refl
@@ -146,6 +164,11 @@ module _ (n : ℕ) (fields : List ModuleField) where
         ∙ ap first_unmet
         (old_uses n (expanded n fields) (completed fields) (same_signatures n fields) (λ s q lt. expanded_position n fields old_items_below q s lt) (each_below n generation_in (asked (in_module (completed fields))) old_asks_below))
 
+    pub same_bodies_if : first_unmet (item_demands (items (completed fields))) ≡ None → body_counts (expanded n fields) ≡ body_counts (completed fields)
+    same_bodies_if free =
+        expanded_bodies n fields (expanded_clashes n fields old_items_below ∙ free)
+        ∙ old_bodies n (expanded n fields) (completed fields) (same_signatures n fields) (λ s q lt. expanded_position n fields old_items_below q s lt) (each_below n generation_in (asked (in_module (completed fields))) old_asks_below)
+
     still_kept : is_well_formed fields ≡ true → is_well_formed (expanded n fields) ≡ true
     still_kept h =
         let old = known (items fields) in
@@ -175,8 +198,13 @@ pub names_met : (n : ℕ) (fields : List ModuleField) → greatest_generation fi
 names_met n fields above met = same_names n fields above ∙ (met_parts (order_demands (completed fields)) (name_demands (completed fields)) met).1
 
 pub same_counts : SameNumbers
-same_counts n fields above =
-    ap (λ ms. ms ++ local_counts (expanded n fields)) (expanded_item_counts n fields (old_items_below n fields above)) ∙ ap (λ ms. item_counts (items (completed fields)) ++ ms) (same_local_counts n fields)
+same_counts n fields above = expanded_item_counts n fields (old_items_below n fields above)
+
+pub same_clashes : (n : ℕ) (fields : List ModuleField) → greatest_generation fields < n → first_unmet (item_demands (items (expanded n fields))) ≡ first_unmet (item_demands (items (completed fields)))
+same_clashes n fields above = expanded_clashes n fields (old_items_below n fields above)
+
+pub same_bodies : SameBodies
+same_bodies n fields above free = same_bodies_if n fields above free
 
 pub expanded_well_formed : StaysWellFormed
 expanded_well_formed n fields above h = still_kept n fields above h

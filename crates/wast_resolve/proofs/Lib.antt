@@ -1,5 +1,6 @@
 pub mod AlikeScopes
 pub mod AtRest
+pub mod Bodies
 pub mod BothPasses
 pub mod ByPosition
 pub mod Calling
@@ -14,6 +15,7 @@ pub mod Counted
 pub mod Declaring
 pub mod Each
 pub mod ExpandedAsks
+pub mod ExpandedBodies
 pub mod ExpandedItems
 pub mod ExpandedTypes
 pub mod Explicit
@@ -28,6 +30,7 @@ pub mod Indexed
 pub mod InPlace
 pub mod KeptAlike
 pub mod Matching
+pub mod Nameless
 pub mod Numbering
 pub mod OfExpanded
 pub mod OrderKept

@@ -149,12 +149,12 @@ declared inline k = param_marks inline ++ kind_marks k
 
 -- the parameters and locals of a function, those without names too
 abbrev pub local_counts_in : Scope → ModuleField → List ℕ
-local_counts_in c (field.Func f) = nameless c (Some f.ty) + length (declared f.ty.inline f.kind) ∷ []
+local_counts_in c (field.Func f) = (nameless c (Some f.ty) + length (declared f.ty.inline f.kind)) ∷ []
 local_counts_in c x = []
 
 -- where a block begins, the open blocks with it
 abbrev pub open_counts_at : Site → List ℕ
-open_counts_at (Begins blocks m) = length blocks + 1 ∷ []
+open_counts_at (Begins blocks m) = (length blocks + 1) ∷ []
 open_counts_at s = []
 
 -- at all sites of a list

@@ -17,5 +17,6 @@ pub mod Tree
 pub mod TwoSteps
 pub mod Walking
 pub mod WorkedAnswers
+pub mod WorkedBodies
 pub mod WorkedImports
 pub mod WorkedUnknowns

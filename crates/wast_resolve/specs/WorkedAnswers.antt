@@ -1,6 +1,7 @@
 -- What worked modules answer, computed. A text may lie anywhere in memory.
 use Rattle.std.specs.Prelude.{◌≡◌, ℕ, false, List, [], ◌∷◌, ◌++◌, map, Option, Some, None, codes}
 use Rattle.wast_base.specs.Faults.{Duplicate, DuplicateField, Unknown, OutOfBounds, NotFunc, NoMatch}
+use Rattle.wast_tree.specs.Items.{items}
 use Rattle.wast_tree.specs.WorkedModules.{Address, place, id_at, by_id, by_number, plain_def, plain_type, plain_func, type_field, export_field, row27_with, row27, row31, row32}
 use Rattle.wast_types.specs.Signatures.{empty_signature}
 use Rattle.wast_types.specs.Expanded.{unnamed_type, implied_type, implied_types, expanded}
@@ -14,7 +15,7 @@ use Rattle.wast_resolve.specs.Tree.inner
 use Rattle.wast_resolve.specs.Tree.instr
 use Rattle.wast_resolve.specs.Tree.func
 use Rattle.wast_resolve.specs.Tree.field
-use Rattle.wast_resolve.specs.Demands.{first_unmet, demands, counts}
+use Rattle.wast_resolve.specs.Demands.{first_unmet, demands, item_counts}
 use Rattle.wast_resolve.specs.Resolved.{resolved}
 use Rattle.wast_resolve.specs.Finished.{finished}
 
@@ -99,7 +100,7 @@ abbrev pub FieldsOfOneStruct : Type 0
 FieldsOfOneStruct = (a b : Address) →
     (first_unmet (demands (twice_named a b)) ≡ Some (DuplicateField (codes "field") (codes "a"), place 44))
     × (first_unmet (demands (expanded 5 (twice_named a b))) ≡ Some (DuplicateField (codes "field") (codes "a"), place 44))
-    × (counts (twice_named a b) ≡ 0 ∷ 0 ∷ 0 ∷ 0 ∷ 0 ∷ 0 ∷ 0 ∷ 1 ∷ 2 ∷ [])
+    × (item_counts (items (twice_named a b)) ≡ 0 ∷ 0 ∷ 0 ∷ 0 ∷ 0 ∷ 0 ∷ 0 ∷ 1 ∷ 2 ∷ [])
 
 -- `(module (type (struct (field $a i32))) (type (struct (field $a i32))))`: each struct has fields of its own.
 abbrev pub FieldsOfTwoStructs : Type 0

@@ -5,14 +5,14 @@ ghost use Rattle.wast_base.specs.Ids.{generated};
 ghost use Rattle.wast_base.specs.Faults.{out_of_memory};
 ghost use Rattle.wast_types.specs.Tree.index;
 ghost use Rattle.wast_types.specs.Signatures.{Signature};
-ghost use Rattle.wast_tree.specs.Sites.{OfItem, start, in_block, in_try_table, in_instr, in_indirect, in_constant, in_func_kind, in_use, in_func, in_tag_type, in_item_kind, in_import, in_field};
+ghost use Rattle.wast_tree.specs.Sites.{OfItem, OfBlock, start, in_block, in_try_table, in_instr, in_indirect, in_constant, in_func_kind, in_use, in_func, in_tag_type, in_item_kind, in_import, in_field};
 ghost use Rattle.wast_tree.specs.Types.{is_short};
 ghost use Rattle.wast_map.specs.Mapped.{mapped_block, mapped_try_table, mapped_indirect, mapped_instr, mapped_constant, mapped_func_kind, mapped_func, mapped_tag_type, mapped_item_kind, mapped_sig, mapped_import_items, mapped_import, mapped_tag};
 ghost use Rattle.wast_types.specs.NeedingUses.{needed_in, inline_signature};
 ghost use Rattle.wast_base.specs.Filling.{RunsOut};
 ghost use Rattle.wast_types.specs.Expanders.{BoundSignatures, LookUp, index_of, with_more, Extends};
-ghost use Rattle.wast_types.specs.Expanded.{start_of_text, implied_type, bound_use, binding, bound_field};
-ghost use Rattle.wast_types.specs.Binding.{no_use, state, next_after, AddsTypes};
+ghost use Rattle.wast_types.specs.Expanded.{start_of_text, implied_type, bound_inline, bound_use, binding, bound_field};
+ghost use Rattle.wast_types.specs.Binding.{no_use, wants_type, state, next_after, AddsTypes};
 
 use crate::expanders::Expander;
 use crate::keys::{FuncKey, TypeKey, TypeReference};
@@ -400,20 +400,12 @@ impl<'a> Bind<'a> for BlockType<'a> {
         implied: &mut Seq<ModuleField<'a>>,
         gensym: &mut Gensym,
     ) -> Result<(), Error<'a>> {
-        if self.ty.index.is_some() {
+        if !wants_type(&self.ty) {
+            say_inline(alloc, &mut self.ty);
             return Ok(());
         }
-        match &self.ty.inline {
-            None => {
-                self.ty.inline = Some(FunctionType::empty(alloc));
-                Ok(())
-            }
-            Some(ty) if is_short(ty) => Ok(()),
-            Some(_) => {
-                self.ty.bind(alloc, cx, implied, gensym)?;
-                Ok(())
-            }
-        }
+        self.ty.bind(alloc, cx, implied, gensym)?;
+        Ok(())
     }
 }
 
@@ -434,11 +426,31 @@ impl<'a> Bind<'a> for TryTable<'a> {
     }
 }
 
+/// Whether the type use of a block needs a type: it has no index, and an inline type with a parameter or two results.
+fn wants_type<'a>(ty: &TypeUse<'a, FunctionType<'a>>) -> bool
+    ensures { result ≡ wants_type ty.now.index ty.now.inline }
+{
+    match (&ty.index, &ty.inline) {
+        (Some(_), _) => false,
+        (None, None) => false,
+        (None, Some(inline)) => !is_short(inline),
+    }
+}
+
 /// Whether a function type has no parameters and at most one result, so that a block may have it without an index.
 fn is_short(ty: &FunctionType<'_>) -> bool
     ensures { result ≡ is_short ty.now }
 {
     ty.params.is_empty() && ty.results.len() < 2
+}
+
+/// Gives the type use of a block that says nothing the empty inline type.
+fn say_inline<'a>(alloc: Global, ty: &mut TypeUse<'a, FunctionType<'a>>)
+    ensures { ty.new ≡ record ty.old { inline = bound_inline OfBlock ty.old.index ty.old.inline } }
+{
+    if ty.index.is_none() && ty.inline.is_none() {
+        ty.inline = Some(FunctionType::empty(alloc));
+    }
 }
 
 impl<'a> Bind<'a> for CallIndirect<'a> {

@@ -1,13 +1,13 @@
 use Rattle.std.proofs.Common.{ap, sym, ◌∙◌}
 use Rattle.wast_types.specs.Tree.field
 use Rattle.wast_types.specs.Expanders.{index_of, with_more}
-use Rattle.wast_tree.specs.Sites.{in_field}
+use Rattle.wast_tree.specs.Sites.{in_type, in_rec, in_field}
 use Rattle.wast_types.specs.NeedingUses.{needed_in}
 use Rattle.wast_types.specs.Expanded.{bound_field}
 use Rattle.wast_types.specs.Binding.{state}
 use Rattle.wast_types.proofs.Adding.{adds_nothing}
 use Rattle.wast_types.proofs.Needing.{ty_none, rec_none}
-use Rattle.wast_types.proofs.Staying.{stays_as}
+use Rattle.wast_types.proofs.Staying.{stays_as, asking_says}
 use Rattle.wast_types.proofs.binding.ModuleFieldBind.bind.Goals as goal
 
 pub returns-in_ok-bind-in-Func-clause-bound : goal.returns-in_ok-bind-in-Func-clause-bound
@@ -20,13 +20,13 @@ pub returns-in_ok-bind-in-Tag-clause-bound : goal.returns-in_ok-bind-in-Tag-clau
 returns-in_ok-bind-in-Tag-clause-bound c = λ more. ap field.Tag (c.in_ok-bind-in-Tag.ensures.bound more) ∙ sym (ap (bound_field (with_more (index_of c.bind-in-Tag.new.cx) more)) c.in-Tag.is)
 
 pub returns-in-Ty-clause-bound : goal.returns-in-Ty-clause-bound
-returns-in-Ty-clause-bound c = λ more. stays_as (with_more (index_of c.args.cx.now) more) c.in-Ty.is (ty_none c.in-Ty.field-0)
+returns-in-Ty-clause-bound c = λ more. stays_as (with_more (index_of c.args.cx.now) more) c.in-Ty.is (ty_none c.in-Ty.field-0) (asking_says (in_type c.in-Ty.field-0))
 
 pub returns-in-Ty-clause-adds : goal.returns-in-Ty-clause-adds
 returns-in-Ty-clause-adds c = adds_nothing (state c.args.cx.now c.args.implied.now c.args.gensym.now) (ap (λ x. needed_in (in_field x)) c.in-Ty.is ∙ ty_none c.in-Ty.field-0)
 
 pub returns-in-Rec-clause-bound : goal.returns-in-Rec-clause-bound
-returns-in-Rec-clause-bound c = λ more. stays_as (with_more (index_of c.args.cx.now) more) c.in-Rec.is (rec_none c.in-Rec.field-0)
+returns-in-Rec-clause-bound c = λ more. stays_as (with_more (index_of c.args.cx.now) more) c.in-Rec.is (rec_none c.in-Rec.field-0) (asking_says (in_rec c.in-Rec.field-0))
 
 pub returns-in-Rec-clause-adds : goal.returns-in-Rec-clause-adds
 returns-in-Rec-clause-adds c = adds_nothing (state c.args.cx.now c.args.implied.now c.args.gensym.now) (ap (λ x. needed_in (in_field x)) c.in-Rec.is ∙ rec_none c.in-Rec.field-0)
