@@ -1,25 +1,12 @@
--- The openers of an expression as they are gathered, and the table of their labels (text format, control instructions).
-use Rattle.std.specs.Prelude.{◌≡◌, ℕ, ◌+◌, Bool, true, false, ◌||◌, List, [], ◌∷◌, ◌++◌, Option, Some, None}
+-- The labels of the openers of an expression as they are gathered, and the table of them (text format, control instructions).
+use Rattle.std.specs.Prelude.{◌≡◌, Bool, true, false, ◌||◌, List, [], ◌∷◌, ◌++◌, Option, Some, None}
 use Rattle.wast_base.specs.Ids.{Name, same_name}
 use Rattle.wast_labels.specs.OpenBlocks.{OpenBlocks}
 
--- the labels of openers, and how many openers there are
-pub record Openers : Type 0 where
-  pub labels : List Name
-  pub count : ℕ
-
--- no openers
-abbrev pub no_opener : Openers
-no_opener = record { labels = []; count = 0 }
-
--- a label that there may be, behind others
-abbrev pub with_label : Option Name → List Name → List Name
-with_label None labels = labels
-with_label (Some label) labels = labels ++ label ∷ []
-
--- one more opener
-abbrev pub with_opener : Option Name → Openers → Openers
-with_opener label s = record { labels = with_label label s.labels; count = s.count + 1 }
+-- the label of one more opener, if it has one, behind those of others
+abbrev pub with_opener : Option Name → List Name → List Name
+with_opener None labels = labels
+with_opener (Some label) labels = labels ++ label ∷ []
 
 -- The label is one of these.
 abbrev pub is_among : Name → List Name → Bool

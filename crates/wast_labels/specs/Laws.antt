@@ -3,21 +3,17 @@ use Rattle.std.specs.Prelude.{◌≡◌, ℕ, suc, ◌+◌, ◌≤◌, true, Lis
 use Rattle.wast_base.specs.Blocks.{Turn, Opens, openers}
 use Rattle.wast_base.specs.Ids.{Name}
 use Rattle.wast_base.specs.Spaces.{is_called}
-use Rattle.wast_labels.specs.Gathered.{no_opener, knows}
+use Rattle.wast_labels.specs.Gathered.{knows}
 use Rattle.wast_labels.specs.OpenBlocks.{denotes, expects}
 use Rattle.wast_labels.specs.Turns.{open_blocks, open_count, IsOpen, IsLastOpen, IsLastOf, after, walked, gathered}
 
--- As many openers are counted as there are.
-abbrev pub CountsItsOpeners : Type 0
-CountsItsOpeners = (ts : List Turn) → (gathered no_opener ts).count ≡ openers ts
-
--- Openers are gathered in their order.
+-- Labels are gathered in the order of their openers.
 abbrev pub GathersInOrder : Type 0
-GathersInOrder = (ts us : List Turn) → gathered no_opener (ts ++ us) ≡ gathered (gathered no_opener ts) us
+GathersInOrder = (ts us : List Turn) → gathered [] (ts ++ us) ≡ gathered (gathered [] ts) us
 
 -- The label of each opener is known.
 abbrev pub KnowsItsLabels : Type 0
-KnowsItsLabels = (ts us : List Turn) (label : Option Name) → knows (gathered no_opener (ts ++ Opens label ∷ us)).labels label ≡ true
+KnowsItsLabels = (ts us : List Turn) (label : Option Name) → knows (gathered [] (ts ++ Opens label ∷ us)) label ≡ true
 
 -- One more instruction opens or closes a block, or does neither.
 abbrev pub StepsAsCounted : Type 0

@@ -2,7 +2,7 @@
 use Rattle.std.specs.Prelude.{◌≡◌, ℕ, zero, suc, ◌+◌, ◌<◌, nat_le, ◌&&◌, Bool, true, if◌then◌else◌, List, [], ◌∷◌, ◌++◌, length, take, drop, slice_get, Option, Some}
 use Rattle.wast_base.specs.Blocks.{Blocks, Turn, Opens, Closes, Stays, stays_open, closed}
 use Rattle.wast_base.specs.Ids.{Name}
-use Rattle.wast_labels.specs.Gathered.{Openers, with_opener}
+use Rattle.wast_labels.specs.Gathered.{with_opener}
 
 -- the labels of the blocks that are open behind them, the innermost first
 abbrev pub open_blocks : List Turn → Blocks
@@ -44,9 +44,9 @@ abbrev pub walked : Blocks → List Turn → Blocks
 walked blocks [] = blocks
 walked blocks (t ∷ ts) = walked (after blocks t) ts
 
--- the openers as they are gathered, one after the other
-abbrev pub gathered : Openers → List Turn → Openers
-gathered s [] = s
-gathered s (Opens l ∷ ts) = gathered (with_opener l s) ts
-gathered s (Closes ∷ ts) = gathered s ts
-gathered s (Stays ∷ ts) = gathered s ts
+-- the labels of openers as they are gathered, one after the other
+abbrev pub gathered : List Name → List Turn → List Name
+gathered labels [] = labels
+gathered labels (Opens l ∷ ts) = gathered (with_opener l labels) ts
+gathered labels (Closes ∷ ts) = gathered labels ts
+gathered labels (Stays ∷ ts) = gathered labels ts

@@ -2,7 +2,7 @@
 use Rattle.std.specs.Prelude.{◌≡◌, true, false, List, [], ◌∷◌, Some, None, codes}
 use Rattle.wast_base.specs.Blocks.{closed, Turn, Opens, Closes, Stays}
 use Rattle.wast_base.specs.Ids.{Name, Written, Generated}
-use Rattle.wast_labels.specs.Gathered.{no_opener, knows}
+use Rattle.wast_labels.specs.Gathered.{knows}
 use Rattle.wast_labels.specs.OpenBlocks.{denotes, is_innermost, expects}
 use Rattle.wast_labels.specs.Turns.{open_blocks, open_count, walked, gathered}
 
@@ -33,8 +33,8 @@ EndsThere =
     (expects (Some a) (walked [] nested) ≡ true) × (expects (Some b) (walked [] nested) ≡ false) × (expects None (walked [] nested) ≡ true)
     × (expects (Some b) [] ≡ true) × (is_innermost b [] ≡ false)
 
--- Four openers are gathered, of which three have a label.
+-- Of its four openers three have a label that is gathered.
 abbrev pub GatheredThere : Type 0
 GatheredThere =
-    (gathered no_opener nested ≡ record { labels = a ∷ b ∷ a ∷ []; count = 4 }) × (knows (gathered no_opener nested).labels (Some b) ≡ true)
-    × (knows (gathered no_opener nested).labels (Some (Generated 1)) ≡ false)
+    (gathered [] nested ≡ a ∷ b ∷ a ∷ []) × (knows (gathered [] nested) (Some b) ≡ true)
+    × (knows (gathered [] nested) (Some (Generated 1)) ≡ false)

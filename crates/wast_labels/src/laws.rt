@@ -1,14 +1,12 @@
 //! What holds of the open blocks of each expression.
 
-ghost use Rattle.wast_labels.specs.Laws.{CountsItsOpeners, GathersInOrder, KnowsItsLabels, StepsAsCounted, WalksAsCounted, HasFewBlocks, HasRoom, DenotesTheLast, DenotesNothing, ExpectsTheLast, ExpectsAny};
+ghost use Rattle.wast_labels.specs.Laws.{GathersInOrder, KnowsItsLabels, StepsAsCounted, WalksAsCounted, HasFewBlocks, HasRoom, DenotesTheLast, DenotesNothing, ExpectsTheLast, ExpectsAny};
 
-/// The laws of gathering: the openers of an expression are gathered in their order, as many are counted as there are, and the
-/// label of each is known.
+/// The laws of gathering: the labels of an expression are gathered in the order of its openers, and the label of each is known.
 ///
 /// It does nothing: what it ensures holds for each list of instructions, seen as what they do to the open blocks.
 pub fn gathering_law()
     ensures order { GathersInOrder }
-    ensures count { CountsItsOpeners }
     ensures known { KnowsItsLabels }
 {}
 

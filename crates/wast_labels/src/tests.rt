@@ -9,7 +9,6 @@ fn id<'a>(name: &'a str) -> Id<'a> {
 }
 
 fn add<'a>(rt: &impl Abort, names: &mut LabelNames<'a>, label: Option<Id<'a>>) {
-    assert!(rt; !names.is_full());
     names.add(label).expect(rt, "memory");
 }
 

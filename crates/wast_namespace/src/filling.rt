@@ -75,6 +75,21 @@ impl<'a> Gathering<'a> {
         first_tie(&pairs)
     }
 
+    /// The name space of the items, or the position of the first item that has the name of an earlier one. It takes no memory.
+    ///
+    /// A name is found by halving over whole names: where many are looked up among many, [`filled`](Gathering::filled) has
+    /// heads for them.
+    pub fn sorted(self, alloc: Global) -> Result<Namespace<'a>, u32>
+        ensures { FillsSpace self.entry result }
+    {
+        let Gathering { mut pairs, count } = self;
+        put_in_order(&mut pairs);
+        if let Some(number) = first_tie(&pairs) {
+            return Err(number);
+        }
+        Ok(Namespace::from_sorted(pairs, Heads::none(alloc), count))
+    }
+
     /// The name space of the items, or the position of the first item that has the name of an earlier one.
     pub fn filled(self, alloc: Global) -> Result<Result<Namespace<'a>, u32>, AllocError>
         ensures { IfOk result (FillsSpace self.entry) }

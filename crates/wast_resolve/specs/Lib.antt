@@ -9,6 +9,7 @@ pub mod Laws
 pub mod Locals
 pub mod LookUps
 pub mod Matches
+pub mod Openable
 pub mod Resolved
 pub mod Resolvers
 pub mod Scopes

@@ -3,12 +3,15 @@
 
 mod apart;
 mod clashes;
+mod constants;
 mod core_types;
 mod examples;
 mod func_types;
 mod gathers;
 mod imports;
+mod instrs;
 mod laws;
+mod local_names;
 mod locals;
 mod matches;
 mod passes;

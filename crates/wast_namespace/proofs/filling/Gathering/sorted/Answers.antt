@@ -1,0 +1,32 @@
+use Rattle.std.proofs.Common.{◌∙◌, None, ap, length, arith}
+use Rattle.wast_namespace.specs.Places.{entries_of}
+use Rattle.wast_namespace.specs.Filling.{keys_of, numbered_from, IsLeastTie, IsFirstTie}
+use Rattle.wast_namespace.proofs.Gathered.{gathered_entries, gathered_length}
+use Rattle.wast_namespace.proofs.FilledSpaces.{first_clash, names_rise, filled_space}
+use Rattle.wast_namespace.proofs.filling.Gathering.sorted.Goals as goal
+
+pub returns-in-Some : goal.returns-in-Some
+returns-in-Some c =
+    let own = c.self.inside in
+    let es = c.put_in_order.new.pairs.items in
+    let are = gathered_entries 0 own.pairs.items own.count c.self.invariant ∙ ap (λ names. numbered_from 0 (keys_of names)) c.self.view_is in
+    let tie : IsLeastTie (entries_of es) c.in-Some.number = rw c.deref.ensures.value at c.in-Some.ensures in
+    first_clash c.args.self own.pairs.items es are c.put_in_order.ensures.permutation c.put_in_order.ensures.sorted c.in-Some.number tie
+
+pub from_sorted-requires-clause-sorted : goal.from_sorted-requires-clause-sorted
+from_sorted-requires-clause-sorted c =
+    let own = c.self.inside in
+    let es = c.put_in_order.new.pairs.items in
+    let are = gathered_entries 0 own.pairs.items own.count c.self.invariant ∙ ap (λ names. numbered_from 0 (keys_of names)) c.self.view_is in
+    let free : IsFirstTie (entries_of es) None = rw c.deref.ensures.value at c.in_default.ensures in
+    names_rise c.args.self own.pairs.items es are c.put_in_order.ensures.permutation c.put_in_order.ensures.sorted free
+
+pub returns : goal.returns
+returns c =
+    let own = c.self.inside in
+    let es = c.put_in_order.new.pairs.items in
+    let are = gathered_entries 0 own.pairs.items own.count c.self.invariant ∙ ap (λ names. numbered_from 0 (keys_of names)) c.self.view_is in
+    let free : IsFirstTie (entries_of es) None = rw c.deref.ensures.value at c.in_default.ensures in
+    let long = gathered_length 0 own.pairs.items own.count c.self.invariant in
+    let seen = ap length c.self.view_is in
+    filled_space c.args.self own.pairs.items es are c.put_in_order.ensures.permutation c.put_in_order.ensures.sorted free own.count (omega (arith, long, seen)) c.from_sorted.result c.from_sorted.ensures
