@@ -6,7 +6,7 @@ use Rattle.std.proofs.lemmas.List.{drop_more}
 use Rattle.std.proofs.Math.ListN.{drop_of_length-le}
 use Rattle.wast_base.specs.Blocks.{Turn, Opens, Closes, Stays, openers, closers, never_closed, stays_open, is_balanced}
 use Rattle.wast_tree.specs.Tree.{BlockType, Instruction}
-use Rattle.wast_tree.specs.Instrs.{block_of, is_closer, turn_by, turn_of, turns}
+use Rattle.wast_tree.specs.Instrs.{turn_by, turn_of, turns}
 
 -- These close all that they open and as many blocks as were open before, and none before it is open.
 abbrev pub balanced_from : List Turn → ℕ → Bool

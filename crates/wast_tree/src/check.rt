@@ -117,13 +117,12 @@ fn keep<S: Settler + Drop>(fields: &[ModuleField<'_>], settler: S) -> bool
 /// label, and where they keep to what the tree covers today: no expression has hints; types, tables and globals are not
 /// shared, types are without descriptor and describes, and no shared heap type is referred to; the alignment of a memory
 /// argument is a power of two, and it has no ordering; a constant expression closes as many blocks as it opens, and none
-/// before it is open. What is imported in place is not exact, and where a memory holds its bytes in place, its page size is 2
-/// to less than 64. Of an active element segment
-/// without a table, which stands for the first one, expressions are of type `funcref`: for another type the binary format
-/// wants the table written. A type use may have no index, and an inline type may be another than
-/// that of the index beside it: this is E5, E6 or E7, which resolving answers. A written id may be that of no item (E4), a
-/// label at an `else` or an `end` may be another than that of its block (E8), and
-/// two parameters and locals of a function (E2), or two fields of a struct (E3), may have one id.
+/// before it is open. What is imported in place is not exact, and where a memory holds its bytes in place, its page size is
+/// 2 to less than 64. Of an active element segment without a table, which stands for the first one, expressions are of type
+/// `funcref`: for another type the binary format wants the table written. A type use may have no index, and an inline type
+/// may be another than that of the index beside it: this is E5, E6 or E7, which resolving answers. A written id may be that
+/// of no item (E4), a label at an `else` or an `end` may be another than that of its block (E8), and two parameters and
+/// locals of a function (E2), or two fields of a struct (E3), may have one id.
 ///
 /// It is quick where generated ids stand in the order of their items. In another order each may be looked for through all
 /// the fields.

@@ -9,8 +9,8 @@ ghost use Rattle.wast_tree.specs.Items.{Item, item, fields_of, items_of_type, it
 ghost use Rattle.wast_tree.specs.Sites.{Ask, Wants, Within, Unasked, Clause, Supported, Here, if_there, in_index, in_id, in_heap, in_ref, in_val, in_storage, in_param, in_signature, in_struct_field, in_struct, in_array, in_inner, in_descriptor, in_def, in_type, in_rec, in_type_use, in_block, in_caught, in_catch, in_try_table, in_br_table, in_mem_arg, in_pair, in_select, in_indirect, mark_asked, in_instr, in_instrs, in_expression, in_constant, in_local, in_func_kind, in_func, in_field, in_module, asked};
 ghost use Rattle.wast_tree.specs.Visits.{Visits};
 
-use crate::fields::{Func, FuncKind, Local, ModuleField};
 use crate::clauses::is_balanced;
+use crate::fields::{Func, FuncKind, Local, ModuleField};
 use crate::immediates::{
     BlockType, BrTableIndices, CallIndirect, MemArg, MemArgTarget, SelectTypes, TryTable,
     TryTableCatch, TryTableCatchKind,
@@ -595,5 +595,7 @@ impl Visit for ModuleField<'_> {
 pub(crate) fn visit_fields<V: Visitor>(fields: &[ModuleField<'_>], visitor: &mut V)
     ensures { Visits V.told visitor.old (asked (in_module fields.now)) visitor.new }
 {
-    visit_each(fields, visitor);
+    for field in fields {
+        field.visit(visitor);
+    }
 }

@@ -456,11 +456,11 @@ param_used a = record { index = None; inline = Some (record { params = (Some (id
 abbrev pub StandsInBlocks : Type 0
 StandsInBlocks = (a : Address) →
     (in_module (func_alone (func_of (param_used a) (
-      instr.block (block_of (Some (label_at a 30)) nothing_used)
-      ∷ instr.local_get (by_id a (codes "p") 40)
-      ∷ instr.br_if (index.Id (label_at a 50))
-      ∷ instr.end_ (Some (label_at a 60))
-      ∷ [])))
+    instr.block (block_of (Some (label_at a 30)) nothing_used)
+    ∷ instr.local_get (by_id a (codes "p") 40)
+    ∷ instr.br_if (index.Id (label_at a 50))
+    ∷ instr.end_ (Some (label_at a 60))
+    ∷ [])))
     ≡ Used OfItem (param_used a)
     ∷ Declared [] (Some (Written (codes "p"), place 20))
     ∷ Used OfBlock nothing_used

@@ -1,4 +1,4 @@
-use Rattle.std.proofs.Common.{◌≡◌, ◌+◌, ◌∷◌, true, false, sym, ap, ◌∙◌, drop, arith}
+use Rattle.std.proofs.Common.{◌≡◌, ◌+◌, ◌∷◌, sym, ap, ◌∙◌, drop, arith}
 use Rattle.std.specs.Prelude.{is_some}
 use Rattle.wast_base.specs.Blocks.{is_balanced}
 use Rattle.wast_tree.specs.Instrs.{block_of, is_closer, turn_of, turns}
