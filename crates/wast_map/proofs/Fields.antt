@@ -54,7 +54,7 @@ block_at blocks b =
     made_at (λ (u : TypeUse FunctionType). record b { ty = u }) (λ y. refl) (λ f y. refl) b.ty
     (tested_at b.ty (Begins blocks (marked b.label) ∷ []) (λ f. refl) (use_at OfBlock b.ty))
 
-caught_at : (c : TryTableCatchKind) → In in_caught (λ f. mapped_caught f.index) c
+pub caught_at : (c : TryTableCatchKind) → In in_caught (λ f. mapped_caught f.index) c
 caught_at (caught.Catch e) = made_at caught.Catch (λ y. refl) (λ f y. refl) e (index_in space.Tag e)
 caught_at (caught.CatchRef e) = made_at caught.CatchRef (λ y. refl) (λ f y. refl) e (index_in space.Tag e)
 caught_at c = fixed_at c (λ f. refl) (λ f. refl)

@@ -49,16 +49,16 @@ needed_label : (blocks : Blocks) (l : Index) → needed_in (at_label blocks l) �
 needed_label blocks l = refl
 
 needed_catch : (blocks : Blocks) (c : TryTableCatch) → needed_in (in_catch blocks c) ≡ []
-needed_catch blocks c = needed_both (asking (in_caught c.kind)) (at_label blocks c.label) ∙ (append-nil _ ∙ needed_asking (in_caught c.kind))
+needed_catch blocks c = needed_both (asking (in_caught c.kind)) (at_label blocks c.label) ∙ (append-nil (needed_in (asking (in_caught c.kind))) ∙ needed_asking (in_caught c.kind))
 
 pub needed_br_table : (blocks : Blocks) (t : BrTableIndices) → needed_in (in_br_table blocks t) ≡ []
 needed_br_table blocks t =
     needed_both (flat_map (at_label blocks) t.labels) (at_label blocks t.default)
-    ∙ (append-nil _ ∙ (needed_each (at_label blocks) t.labels ∙ each_none (needed_label blocks) t.labels))
+    ∙ (append-nil (needed_in (flat_map (at_label blocks) t.labels)) ∙ (needed_each (at_label blocks) t.labels ∙ each_none (needed_label blocks) t.labels))
 
 -- A block needs the type that its type use needs, and one that catches no more.
 pub needed_block : (blocks : Blocks) (b : BlockType) → needed_in (in_block blocks b) ≡ needed_in (in_use OfBlock b.ty)
-needed_block blocks b = needed_both (in_use OfBlock b.ty) _ ∙ append-nil _
+needed_block blocks b = needed_both (in_use OfBlock b.ty) (Begins blocks (marked b.label) ∷ []) ∙ append-nil (needed_in (in_use OfBlock b.ty))
 
 pub needed_try_table : (blocks : Blocks) (t : TryTable) → needed_in (in_try_table blocks t) ≡ needed_in (in_use OfBlock t.block.ty)
 needed_try_table blocks t =
@@ -66,8 +66,8 @@ needed_try_table blocks t =
     let begins = Begins blocks (marked t.block.label) ∷ [] in
     needed_both (in_use OfBlock t.block.ty) (catches ++ begins)
     ∙ (ap (λ ss. needed_in (in_use OfBlock t.block.ty) ++ ss)
-    (needed_both catches begins ∙ (append-nil _ ∙ (needed_each (in_catch blocks) t.catches ∙ each_none (needed_catch blocks) t.catches)))
-    ∙ append-nil _)
+    (needed_both catches begins ∙ (append-nil (needed_in catches) ∙ (needed_each (in_catch blocks) t.catches ∙ each_none (needed_catch blocks) t.catches)))
+    ∙ append-nil (needed_in (in_use OfBlock t.block.ty)))
 
 -- An instruction has the same type uses wherever it stands, and so has a body.
 instr_anywhere : (h : Here) (i : Instruction) → needed_in (in_instr h i) ≡ needed_in (in_instr start i)
@@ -85,7 +85,7 @@ pub needed_body : (h : Here) (e : Expression) → needed_in (in_expression h e) 
 needed_body h e = needed_both (in_instrs h e.instrs) _ ∙ (append-nil (needed_in (in_instrs h e.instrs)) ∙ instrs_anywhere h e.instrs)
 
 pub needed_constant : (e : Expression) → needed_in (in_constant e) ≡ flat_map (λ i. needed_in (in_instr start i)) e.instrs
-needed_constant e = needed_both (in_expression start e) _ ∙ (append-nil (needed_in (in_expression start e)) ∙ needed_body start e)
+needed_constant e = needed_both (in_expression start e) (Asked (Clause 5 (is_balanced (turns e.instrs))) ∷ []) ∙ (append-nil (needed_in (in_expression start e)) ∙ needed_body start e)
 
 -- a body alone needs types
 pub needed_inline : (u : TypeUse FunctionType) (locals : List Local) (e : Expression) → needed_in (in_func_kind u (func.Inline locals e)) ≡ needed_in (in_constant e)
@@ -144,12 +144,12 @@ module _ (find : LookUp) where
   locals_stay [] = refl
   locals_stay (l ∷ ls) = λ t. record l { ty = (val_at l.ty).still t } ∷ locals_stay ls t
 
-  pub bound_inline : (u : TypeUse FunctionType) (locals : List Local) (e : Expression) → mapped_func_kind (binding find) u (func.Inline locals e) ≡ func.Inline locals (mapped_constant (binding find) e)
-  bound_inline u locals e = λ t. func.Inline (locals_stay locals t) (bound_body (body_here u (param_marks u.inline ++ local_marks locals)) e t)
+  pub inline_bound : (u : TypeUse FunctionType) (locals : List Local) (e : Expression) → mapped_func_kind (binding find) u (func.Inline locals e) ≡ func.Inline locals (mapped_constant (binding find) e)
+  inline_bound u locals e = λ t. func.Inline (locals_stay locals t) (bound_body (body_here u (param_marks u.inline ++ local_marks locals)) e t)
 
   pub bound_kind_anywhere : (u : TypeUse FunctionType) (k : FuncKind) → mapped_func_kind (binding find) u k ≡ mapped_func_kind (binding find) no_use k
   bound_kind_anywhere u (func.Import import exact) = refl
-  bound_kind_anywhere u (func.Inline locals e) = bound_inline u locals e ∙ sym (bound_inline no_use locals e)
+  bound_kind_anywhere u (func.Inline locals e) = inline_bound u locals e ∙ sym (inline_bound no_use locals e)
 
 -- The type use of a block that wants a type is bound as another, and else its inline type is all that is said.
 module _ (find : LookUp) where

@@ -29,7 +29,9 @@ pub use Rattle.wast_base.specs.declared.plain.BareOp.TheVariants as bare
 pub use Rattle.wast_base.specs.declared.plain.Plain.{Plain}
 pub use Rattle.wast_base.specs.declared.plain.Plain.TheVariants as plain
 pub use Rattle.wast_tree.specs.declared.immediates.BlockType.{BlockType}
+pub use Rattle.wast_tree.specs.declared.immediates.BrTableIndices.{BrTableIndices}
 pub use Rattle.wast_tree.specs.declared.immediates.TryTable.{TryTable}
+pub use Rattle.wast_tree.specs.declared.immediates.TryTableCatch.{TryTableCatch}
 pub use Rattle.wast_tree.specs.declared.immediates.CallIndirect.{CallIndirect}
 pub use Rattle.wast_tree.specs.declared.immediates.SelectTypes.{SelectTypes}
 pub use Rattle.wast_tree.specs.declared.instrs.Instruction.{Instruction}

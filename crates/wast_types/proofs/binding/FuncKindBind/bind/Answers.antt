@@ -10,7 +10,7 @@ use Rattle.wast_types.specs.Expanders.{index_of, with_more}
 use Rattle.wast_types.specs.Expanded.{binding}
 use Rattle.wast_types.specs.Binding.{no_use, state, next_after}
 use Rattle.wast_types.proofs.Adding.{adds_as}
-use Rattle.wast_types.proofs.Needing.{needed_inline, bound_inline}
+use Rattle.wast_types.proofs.Needing.{needed_inline, inline_bound}
 use Rattle.wast_types.proofs.binding.FuncKindBind.bind.Goals as goal
 
 pub returns-in_err-bind-in-Inline-clause-refusal : goal.returns-in_err-bind-in-Inline-clause-refusal
@@ -22,7 +22,7 @@ returns-in_err-bind-in-Inline-clause-refusal c =
 pub returns-in_ok-bind-in-Inline-clause-bound : goal.returns-in_ok-bind-in-Inline-clause-bound
 returns-in_ok-bind-in-Inline-clause-bound c = λ more.
     ap (λ (e : Expression). func.Inline c.in-Inline.locals e) (c.in_ok-bind-in-Inline.ensures.bound more)
-    ∙ (sym (bound_inline (with_more (index_of c.bind.new.cx) more) no_use c.in-Inline.locals c.in-Inline.expression) ∙ sym (ap (mapped_func_kind (binding (with_more (index_of c.bind.new.cx) more)) no_use) c.in-Inline.is))
+    ∙ (sym (inline_bound (with_more (index_of c.bind.new.cx) more) no_use c.in-Inline.locals c.in-Inline.expression) ∙ sym (ap (mapped_func_kind (binding (with_more (index_of c.bind.new.cx) more)) no_use) c.in-Inline.is))
 
 pub returns-in_ok-bind-in-Inline-clause-adds : goal.returns-in_ok-bind-in-Inline-clause-adds
 returns-in_ok-bind-in-Inline-clause-adds c =
