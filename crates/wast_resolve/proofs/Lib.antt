@@ -31,6 +31,7 @@ pub mod Indexed
 pub mod InPlace
 pub mod KeptAlike
 pub mod Matching
+pub mod Moving
 pub mod Nameless
 pub mod Numbering
 pub mod OfExpanded
@@ -48,6 +49,7 @@ pub mod Trying
 pub mod TwoSteps
 pub mod TypeParts
 pub mod Unmet
+pub mod Within
 pub mod Worked
 pub mod WrittenAlike
 pub mod WrittenItems

@@ -33,6 +33,11 @@ module _ (K M : Type 0) (c : Scope) (xs ys : List Site) (t : Told) where
   pub fails_second : first_unmet (site_demands c xs) ≡ None → Answers K M t (first_unmet (site_demands c ys)) → Answers K M t (first_unmet (site_demands c (xs ++ ys)))
   fails_second met a = second_fails (site_demand c) xs ys K M t met a
 
+-- and where nothing else is promised of the second part
+module _ (K M : Type 0) (c : Scope) (xs ys : List Site) (t : Told) where
+  pub fails_behind : first_unmet (site_demands c xs) ≡ None → Answers ⊥ ⊥ t (first_unmet (site_demands c ys)) → Answers K M t (first_unmet (site_demands c (xs ++ ys)))
+  fails_behind met a = second_fails (site_demand c) xs ys K M t met (answers_more t _ _ (λ l. absurd l) (λ m. absurd m) (λ f h. h) a)
+
 pub more_answers : (K M N : Type 0) (t : Told) (o : Option (Cause × Span)) → (M → N) → Answers K M t o → Answers K N t o
 more_answers K M N t o n a = answers_more t o o (λ l. l) n (λ f h. h) a
 
@@ -75,3 +80,11 @@ pub walks_made : {T U : Type 0} (c : Scope) (asks : List Ask) (make : T → U) (
     → Walks ⊥ ⊥ (ask_demands c.known asks) want new result → Walks ⊥ ⊥ (site_demands c (asking asks)) (make want) (make new) result
 walks_made c asks make want new result walked =
     walks_as (λ l. l) (λ m. m) (ask_demands c.known asks) (site_demands c (asking asks)) want new (make want) (make new) result (ap first_unmet (sym (asking_demands c asks))) (ap make) walked
+
+-- more may be refused
+pub more_refused : {T : Type 0} (K M : Type 0) (ds : List Demand) (want new : T) (result : Result (Unit {0}) Error) → Walks ⊥ ⊥ ds want new result → Walks K M ds want new result
+more_refused K M ds want new result walked = walks_as {L = K} {N = M} (λ l. absurd l) (λ m. absurd m) ds ds want new want new result refl (λ h. h) walked
+
+-- what is made of a part
+pub walks_in : {T U : Type 0} (K M : Type 0) (make : T → U) (ds : List Demand) (want new : T) (result : Result (Unit {0}) Error) → Walks K M ds want new result → Walks K M ds (make want) (make new) result
+walks_in K M make ds want new result walked = walks_as {L = K} {N = M} (λ l. l) (λ m. m) ds ds want new (make want) (make new) result refl (ap make) walked

@@ -25,7 +25,7 @@ use crate::local_names::LocalNames;
 use crate::resolver::Resolver;
 use crate::walks::{Walk, walk_body_type, walk_index};
 use std::alloc::{AllocError, Global};
-use wast_labels::{LabelNames, Labels};
+use wast_labels::{LabelNames, Labels, gathering_law};
 use wast_tree::{
     BlockType, BrTableIndices, CallIndirect, Error, Expression, Fault, FunctionType, Id, Index,
     Instruction, Seq, Space, TryTable, TryTableCatch, TryTableCatchKind, TypeUse,
@@ -62,10 +62,6 @@ fn walk_label<'a>(labels: &Labels<'a>, label: &mut Index<'a>) -> Result<(), Erro
     ensures { (names : Resolution) →
         WalksSites names (at_label labels.now.blocks) (λ f. f.label labels.now.blocks) label.old label.new result }
 {
-    // A second walk meets numbers alone.
-    if let Index::Num(_, _) = label {
-        return Ok(());
-    }
     labels.number(label)?;
     Ok(())
 }
@@ -353,7 +349,10 @@ fn table_of_labels<'a>(
     ensures known { IfOk result (λ labels. AreOpenable labels.known instrs.now) }
     ensures none_open { IfOk result (λ labels. labels.blocks ≡ []) }
 {
-    gather_labels(alloc, instrs)?.table(alloc)
+    // the label of each opener is known to the table of what was gathered
+    gathering_law();
+    let labels = gather_labels(alloc, instrs)?.table(alloc)?;
+    Ok(labels)
 }
 
 /// Walks over an expression, in a function whose parameters and locals have these names.
