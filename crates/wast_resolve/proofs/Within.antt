@@ -1,10 +1,10 @@
 -- Indices of what stands within a function: locals by the names of the function, and labels by the open blocks.
-use Rattle.std.proofs.Common.{◌≡◌, ℕ, List, [], ◌∷◌, ◌++◌, Option, Some, None, is_some, Bool, true, false, cond, codes, Result, Ok, Err, refl, sym, ap, ◌∙◌, append-nil}
+use Rattle.std.proofs.Common.{◌≡◌, ℕ, List, [], ◌∷◌, ◌++◌, Option, Some, None, is_some, Bool, true, false, cond, codes, Result, Ok, Err, refl, sym, ap, ◌∙◌, subst, append-nil}
 use Rattle.std.specs.Prelude.{⊤}
 use Rattle.wast_base.specs.Blocks.{Blocks}
 use Rattle.wast_base.specs.declared.faults.Error.{Error}
 use Rattle.wast_base.specs.Faults.{Cause, Labels, Told, At, Nowhere, told}
-use Rattle.wast_base.specs.Ids.{Name, Mark, name_of, mark_of}
+use Rattle.wast_base.specs.Ids.{Name, Mark, name_of, mark_of, marked}
 use Rattle.wast_labels.specs.OpenBlocks.{denotes, expects}
 use Rattle.wast_labels.specs.Asked as labels
 use Rattle.wast_labels.specs.Asked.{Tells, unknown_label, unless_denoted, wrong_label}
@@ -18,7 +18,7 @@ use Rattle.wast_resolve.specs.Demands.{first_unmet, known_index, site_demands, r
 use Rattle.wast_resolve.specs.Locals.{LocalSpace, local_in, Numbers}
 use Rattle.wast_resolve.specs.Walking.{Walks}
 use Rattle.wast_resolve.proofs.Unmet.{answers_more}
-use Rattle.wast_tree.specs.Sites.{Locals, LocalAt}
+use Rattle.wast_tree.specs.Sites.{Locals, LocalAt, Repeated}
 
 -- where names denote the same, indices do
 module _ (f g : Name → Option ℕ) (same : (name : Name) → f name ≡ g name) where
@@ -66,3 +66,9 @@ label_numbered blocks (index.Id id) = same_by (denotes (name_of id) blocks) id
 pub repeated_unmet : (blocks : Blocks) (m : Option Mark) → wrong_label blocks m ≡ first_unmet (repeated_demand blocks m ++ [])
 repeated_unmet blocks None = refl
 repeated_unmet blocks (Some m) = refl
+
+-- a label at an `else` or an `end`
+pub label_checked : (M : Type 0) (c : Scope) (blocks : Blocks) (o : Option Id) (result : Result (Unit {0}) Error) → labels.Outcome (wrong_label blocks (marked o)) result
+    → Walks ⊤ M (site_demands c (Repeated blocks (marked o) ∷ [])) o o result
+label_checked M c blocks o (Ok x) h = (sym (repeated_unmet blocks (marked o)) ∙ h, refl)
+label_checked M c blocks o (Err e) h = tells_answers ⊤ M (told e) _ (subst (Tells (told e)) (repeated_unmet blocks (marked o)) h)

@@ -27,7 +27,7 @@ use crate::walks::{Walk, walk_body_type, walk_index};
 use std::alloc::{AllocError, Global};
 use wast_labels::{LabelNames, Labels, gathering_law};
 use wast_tree::{
-    BlockType, BrTableIndices, CallIndirect, Error, Expression, Fault, FunctionType, Id, Index,
+    BlockType, Boxed, BrTableIndices, CallIndirect, Error, Expression, Fault, FunctionType, Id, Index,
     Instruction, Seq, Space, TryTable, TryTableCatch, TryTableCatchKind, TypeUse,
 };
 
@@ -121,18 +121,29 @@ fn open_label<'a>(labels: &mut Labels<'a>, label: Option<Id<'a>>) -> Result<(), 
     Ok(())
 }
 
+/// Walks over the type of a block.
+fn walk_block_type<'a>(
+    names: &Resolver<'a>,
+    block: &mut Boxed<BlockType<'a>>,
+) -> Result<(), Error<'a>>
+    ensures { WalksSites names.now (λ b. in_use OfBlock b.ty) mapped_block block.old block.new result }
+{
+    walk_body_type(names, &mut block.get_mut().ty)?;
+    Ok(())
+}
+
 /// Walks over a block: its type, and then it is opened.
 fn walk_block<'a>(
     names: &Resolver<'a>,
     labels: &mut Labels<'a>,
-    block: &mut BlockType<'a>,
+    block: &mut Boxed<BlockType<'a>>,
 ) -> Result<(), Error<'a>>
     requires { IsTrue (knows labels.old.known (name_if (marked block.old.label))) }
     ensures walks { WalksBodies names.now (in_block labels.old.blocks) mapped_block block.old block.new result }
     ensures blocks { Moves labels.old (λ h. in_block labels.old.blocks block.old) labels.new result }
 {
-    walk_body_type(names, &mut block.ty)?;
-    open_label(labels, block.label)?;
+    walk_block_type(names, block)?;
+    open_label(labels, block.get().label)?;
     Ok(())
 }
 
@@ -190,7 +201,7 @@ fn walk_try_table<'a>(
         (λ f. mapped_try_table f labels.old.blocks) table.old table.new result }
     ensures blocks { Moves labels.old (λ h. in_try_table labels.old.blocks table.old) labels.new result }
 {
-    walk_body_type(names, &mut table.block.get_mut().ty)?;
+    walk_block_type(names, &mut table.block)?;
     walk_catches(names, labels, &mut table.catches)?;
     open_label(labels, table.block.get().label)?;
     Ok(())
@@ -244,11 +255,11 @@ fn walk_instr<'a>(
     match instr {
         Instruction::Plain(_) => Ok(()),
         Instruction::Mem(_, arg) => walk_part(names, arg),
-        Instruction::block(block) => walk_block(names, labels, block.get_mut()),
-        Instruction::loop_(block) => walk_block(names, labels, block.get_mut()),
-        Instruction::if_(block) => walk_block(names, labels, block.get_mut()),
+        Instruction::block(block) => walk_block(names, labels, block),
+        Instruction::loop_(block) => walk_block(names, labels, block),
+        Instruction::if_(block) => walk_block(names, labels, block),
         Instruction::else_(label) => walk_else(labels, label),
-        Instruction::try_(block) => walk_block(names, labels, block.get_mut()),
+        Instruction::try_(block) => walk_block(names, labels, block),
         Instruction::try_table(table) => walk_try_table(names, labels, table),
         Instruction::end_(label) => walk_end(labels, label),
         Instruction::delegate(label) => walk_delegate(labels, label),
