@@ -24,6 +24,12 @@ pub use Rattle.wast_tree.specs.declared.types.InnerTypeKind.TheVariants as inner
 pub use Rattle.wast_tree.specs.declared.types.TypeDef.{TypeDef}
 pub use Rattle.wast_tree.specs.declared.types.Type as ty
 pub use Rattle.wast_tree.specs.declared.types.Rec.{Rec}
+pub use Rattle.wast_tree.specs.declared.immediates.BlockType.{BlockType}
+pub use Rattle.wast_tree.specs.declared.immediates.BrTableIndices.{BrTableIndices}
+pub use Rattle.wast_tree.specs.declared.immediates.TryTable.{TryTable}
+pub use Rattle.wast_tree.specs.declared.immediates.TryTableCatch.{TryTableCatch}
+pub use Rattle.wast_tree.specs.declared.immediates.TryTableCatchKind.{TryTableCatchKind}
+pub use Rattle.wast_tree.specs.declared.immediates.TryTableCatchKind.TheVariants as caught
 pub use Rattle.wast_tree.specs.declared.immediates.TableArg.{TableArg}
 pub use Rattle.wast_tree.specs.declared.immediates.MemoryArg.{MemoryArg}
 pub use Rattle.wast_tree.specs.declared.immediates.MemoryInit.{MemoryInit}

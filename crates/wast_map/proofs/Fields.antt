@@ -151,7 +151,7 @@ instrs_join x g f j h [] e = refl
 instrs_join x g f j h (i ∷ is) e =
     ap (λ n. mapped_instr g (mapped_here x h) (mapped_instr x h i) ∷ mapped_instrs g n (mapped_instrs x (behind h i) is)) (behind_mapped x j.keeps h i)
     ∙ (λ t. instr_joins x g f j h i (each_first (Joins x g f) (in_instr h i) (in_instrs (behind h i) is) e) t
-        ∷ instrs_join x g f j (behind h i) is (each_rest (Joins x g f) (in_instr h i) (in_instrs (behind h i) is) e) t)
+    ∷ instrs_join x g f j (behind h i) is (each_rest (Joins x g f) (in_instr h i) (in_instrs (behind h i) is) e) t)
 
 instrs_still : (h : Here) (is : List Instruction) → mapped_instrs same h is ≡ is
 instrs_still h [] = refl
@@ -217,7 +217,7 @@ kind_stands f k u (func.Inline locals e) =
     let names = declaring [] marks in
     let body = in_expression here e in
     ap (λ ps. asking (flat_map in_local (map (mapped_local f) locals)) ++ (declaring [] (ps ++ local_marks (map (mapped_local f) locals))
-        ++ in_expression (body_here (f.used OfItem u) (ps ++ local_marks (map (mapped_local f) locals))) (mapped_expression f here e))) (k u)
+    ++ in_expression (body_here (f.used OfItem u) (ps ++ local_marks (map (mapped_local f) locals))) (mapped_expression f here e))) (k u)
     ∙ (ap (λ ms. asking (flat_map in_local (map (mapped_local f) locals)) ++ (declaring [] (params ++ ms) ++ in_expression (body_here (f.used OfItem u) (params ++ ms)) (mapped_expression f here e))) (marks_still f locals)
     ∙ (ap (λ z. z ++ (names ++ in_expression (mapped_here f here) (mapped_expression f here e))) ((locals_at locals).stands f k)
     ∙ (ap (λ z. map (mapped_site f) types ++ (names ++ z)) (expression_stands f k here e)

@@ -55,7 +55,7 @@ fn reach_within(within: Within, reaches: &Reaches) -> Reach
         → IsTrue (is_reach (has_lists within) fields result) }
 {
     match within {
-        Within::Locals => either(reaches, FieldKind::Import, FieldKind::Func),
+        Within::Locals | Within::Labels => either(reaches, FieldKind::Import, FieldKind::Func),
         Within::Fields | Within::Parameters => either(reaches, FieldKind::Ty, FieldKind::Rec),
         Within::TagParameters => either(reaches, FieldKind::Import, FieldKind::Tag),
     }

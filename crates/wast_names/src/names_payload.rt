@@ -184,6 +184,7 @@ fn id_within(within: Within) -> u8
 {
     match within {
         Within::Locals => 2,
+        Within::Labels => 3,
         Within::Fields => 10,
         Within::Parameters => 12,
         Within::TagParameters => 13,
@@ -232,9 +233,10 @@ impl Spell<NameMap> for NamesOf<'_, '_> {
 }
 
 /// The maps of names, in the order of their subsections.
-const NAME_MAPS: [NameMap; 12] = [
+const NAME_MAPS: [NameMap; 13] = [
     NameMap::Items(Space::Func),
     NameMap::Within(Within::Locals),
+    NameMap::Within(Within::Labels),
     NameMap::Items(Space::Ty),
     NameMap::Items(Space::Table),
     NameMap::Items(Space::Memory),

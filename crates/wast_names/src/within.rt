@@ -1,20 +1,20 @@
-//! What stands within items and has names of its own: locals of functions, fields of structs, parameters of types and of
-//! tags.
+//! What stands within items and has names of its own: locals and labels of functions, fields of structs, parameters of
+//! types and of tags.
 
 ghost use Rattle.std.specs.Prelude.{◌≡◌, ◌+◌, ℕ, List, length, map, slice_get, IfOk};
 ghost use Rattle.std.specs.List.{flat_map};
 ghost use Rattle.wasm_out.specs.NameSectionBytes.{map_entry, InRangeMapEntry};
 ghost use Rattle.wast_names.specs.GivenNames.{named_from};
 ghost use Rattle.wast_names.specs.FoundNames.{counted, names_listed, lists_found, lists_seen, WritesItems};
-ghost use Rattle.wast_names.specs.WithinItems.{param_name, local_name, lists_in_type, lists_in_func, lists_in_tag, lists_in_imported_func, lists_in_imported_tag, lists_in_kind, lists_in_import, lists_within, types_within, arity, arity_of, arity_at, behind, params_used, locals_of, locals_in, field_names_of, param_names_of, inline_params, tag_params};
+ghost use Rattle.wast_names.specs.WithinItems.{param_name, local_name, lists_in_type, lists_in_func, lists_in_tag, lists_in_imported_func, lists_in_imported_tag, lists_in_kind, lists_in_import, lists_within, types_within, arity, arity_of, arity_at, behind, params_used, locals_of, locals_in, label_in, labels_in, field_names_of, param_names_of, inline_params, tag_params};
 
 use crate::name_lists::{Listed, count_found, no_names, none, put_found};
 use crate::name_maps::{NameItems, Own, count_each, put_each};
 use std::slice;
 use wasm_ops::{Refusal, Sink};
 use wast_tree::{
-    Func, FuncKind, FunctionType, ImportItems, Index, InnerTypeKind, ItemKind, Local, ModuleField,
-    TagType, Type, TypeUse,
+    Func, FuncKind, FunctionType, ImportItems, Index, InnerTypeKind, Instruction, ItemKind, Local,
+    ModuleField, TagType, Type, TypeUse,
 };
 
 /// What stands within items and has names.
@@ -22,6 +22,8 @@ use wast_tree::{
 pub(crate) enum Within {
     /// The parameters and locals of functions.
     Locals,
+    /// The labels of functions.
+    Labels,
     /// The fields of struct types.
     Fields,
     /// The parameters of function types.
@@ -37,7 +39,7 @@ fn listed_in_type<'b, 'a>(within: Within, ty: &'b Type<'a>) -> Option<Listed<'b,
     match within {
         Within::Fields => Some(field_names_of(&ty.def.kind)),
         Within::Parameters => Some(param_names_of(&ty.def.kind)),
-        Within::Locals | Within::TagParameters => None,
+        Within::Locals | Within::Labels | Within::TagParameters => None,
     }
 }
 
@@ -162,6 +164,23 @@ fn locals_of<'b, 'a>(fields: &[ModuleField], func: &'b Func<'a>) -> Listed<'b, '
     locals_behind(fields, &func.ty, locals_in(&func.kind))
 }
 
+/// The instructions of a function; none where it is imported.
+fn instrs_in<'b, 'a>(kind: &'b FuncKind<'a>) -> &'b [Instruction<'a>]
+    ensures { flat_map label_in result.now ≡ labels_in kind.now }
+{
+    match kind {
+        FuncKind::Import(..) => &[],
+        FuncKind::Inline { expression, .. } => expression.instrs.as_slice(),
+    }
+}
+
+/// The labels of a function.
+fn labels_of<'b, 'a>(func: &'b Func<'a>) -> Listed<'b, 'a>
+    ensures { names_listed result ≡ named_from 0 (labels_in func.now.kind) }
+{
+    Listed::Labels(instrs_in(&func.kind))
+}
+
 /// The list that stands within a function.
 fn listed_in_func<'b, 'a>(
     within: Within,
@@ -172,6 +191,7 @@ fn listed_in_func<'b, 'a>(
 {
     match within {
         Within::Locals => Some(locals_of(fields, func)),
+        Within::Labels => Some(labels_of(func)),
         Within::Fields | Within::Parameters | Within::TagParameters => None,
     }
 }
@@ -201,11 +221,11 @@ fn listed_in_tag<'b, 'a>(within: Within, ty: &'b TagType<'a>) -> Option<Listed<'
 {
     match within {
         Within::TagParameters => Some(tag_params(ty)),
-        Within::Locals | Within::Fields | Within::Parameters => None,
+        Within::Locals | Within::Labels | Within::Fields | Within::Parameters => None,
     }
 }
 
-/// The list that stands within an imported function.
+/// The list that stands within an imported function, which has a position among functions, and no labels.
 fn listed_in_imported_func<'b, 'a>(
     within: Within,
     ty: &'b TypeUse<'a, FunctionType<'a>>,
@@ -214,6 +234,7 @@ fn listed_in_imported_func<'b, 'a>(
 {
     match within {
         Within::Locals => Some(inline_params(ty)),
+        Within::Labels => Some(no_names()),
         Within::Fields | Within::Parameters | Within::TagParameters => None,
     }
 }
@@ -224,7 +245,7 @@ fn listed_in_imported_tag<'b, 'a>(within: Within) -> Option<Listed<'b, 'a>>
 {
     match within {
         Within::TagParameters => Some(no_names()),
-        Within::Locals | Within::Fields | Within::Parameters => None,
+        Within::Locals | Within::Labels | Within::Fields | Within::Parameters => None,
     }
 }
 

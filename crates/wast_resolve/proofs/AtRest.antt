@@ -25,7 +25,8 @@ use Rattle.wast_resolve.specs.Tree.index
 use Rattle.wast_resolve.specs.Scopes.{Scope, scope, local_number}
 use Rattle.wast_resolve.specs.Demands.{first_unmet, known_index, ask_demand, ask_demands, match_if, site_demand, site_demands, item_demands, name_demands}
 use Rattle.wast_resolve.specs.Resolved.{numbered_at, numbered_by, numbered, numbering, resolved}
-use Rattle.wast_resolve.proofs.Bodies.{outer, IsOuter, all_outer, outer_use}
+use Rattle.wast_resolve.proofs.Bodies.{IsOuter, all_outer}
+use Rattle.wast_resolve.proofs.OwnLocals.{outer, outer_use}
 use Rattle.wast_resolve.proofs.ImpliedSignatures.{both_so, all_pass, all_parts}
 use Rattle.wast_resolve.proofs.Standing.{numbered_in, asked_passes}
 use Rattle.wast_resolve.proofs.Unmet.{met_parts}

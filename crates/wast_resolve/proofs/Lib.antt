@@ -18,6 +18,7 @@ pub mod ExpandedAsks
 pub mod ExpandedBodies
 pub mod ExpandedItems
 pub mod ExpandedTypes
+pub mod ExpandedUses
 pub mod Explicit
 pub mod FieldClashes
 pub mod FoundClashes
@@ -36,6 +37,7 @@ pub mod Numbering
 pub mod OfExpanded
 pub mod OrderKept
 pub mod Orders
+pub mod OwnLocals
 pub mod Parts
 pub mod PartsOfTypes
 pub mod Resolving

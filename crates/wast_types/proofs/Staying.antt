@@ -79,9 +79,10 @@ module _ (find : LookUp) where
 
   sites_stay : (ss : List Site) → needed_in ss ≡ [] → list_all says ss ≡ true → Each (Joins same (binding find) same) ss
   sites_stay [] h e = tt
-  sites_stay (s ∷ ss) h e =
-      (site_stays s (left_none (needed_at s) (needed_in ss) h) (first_so (says s) (list_all says ss) e),
-      sites_stay ss (right_none (needed_at s) (needed_in ss) h) (second_so (says s) (list_all says ss) e))
+  sites_stay (s ∷ ss) h e = (
+    site_stays s (left_none (needed_at s) (needed_in ss) h) (first_so (says s) (list_all says ss) e),
+    sites_stay ss (right_none (needed_at s) (needed_in ss) h) (second_so (says s) (list_all says ss) e),
+  )
 
   -- What needs nothing stays, where each type use of a block says what it is.
   pub fields_stay : (xs : List ModuleField) → needed xs ≡ [] → list_all says (in_module xs) ≡ true → map (bound_field find) xs ≡ xs

@@ -18,9 +18,9 @@ use crate::expanders::Expander;
 use crate::keys::{FuncKey, TypeKey, TypeReference};
 use std::alloc::Global;
 use wast_tree::{
-    BlockType, TryTable, CallIndirect, Error, Expression, Func, FuncKind, FunctionType, Gensym, ImportItems, Imports,
-    Index, Instruction, ItemKind, ItemSig, ModuleField, Seq, Span, Tag, TagType, Type, TypeUse,
-    push_field,
+    BlockType, CallIndirect, Error, Expression, Func, FuncKind, FunctionType, Gensym, ImportItems,
+    Imports, Index, Instruction, ItemKind, ItemSig, ModuleField, Seq, Span, Tag, TagType, TryTable,
+    Type, TypeUse, push_field,
 };
 
 /// A part of the tree in which type uses may stand. They are the same wherever it stands, so a part of a body is seen as if

@@ -1,6 +1,6 @@
 use Rattle.std.proofs.Common.{◌≡◌, [], ap, sym, ◌∙◌, subst}
 use Rattle.wast_tree.specs.Sites.{start, in_select, in_instr}
-use Rattle.wast_map.specs.Mapped.{mapped_instr}
+use Rattle.wast_map.specs.Mapped.{mapped_block, mapped_instr}
 use Rattle.wast_types.specs.Tree.instr
 use Rattle.wast_types.specs.Expanded.{binding}
 use Rattle.wast_types.specs.Expanders.{index_of, with_more}
@@ -29,19 +29,23 @@ returns-in_ok-bind-in-return_call_indirect-clause-bound c = λ more.
 
 pub returns-in_ok-bind-in-block-clause-bound : goal.returns-in_ok-bind-in-block-clause-bound
 returns-in_ok-bind-in-block-clause-bound c = λ more.
-    ap instr.block (c.in_ok-bind-in-block.ensures.bound more) ∙ sym (ap (mapped_instr (binding (with_more (index_of c.bind.new.cx) more)) start) c.in-block.is)
+    ap instr.block (c.in_ok-bind-in-block.ensures.bound more ∙ ap (mapped_block (binding (with_more (index_of c.bind.new.cx) more))) c.get_mut.ensures.value)
+    ∙ sym (ap (mapped_instr (binding (with_more (index_of c.bind.new.cx) more)) start) c.in-block.is)
 
 pub returns-in_ok-bind-in-loop_-clause-bound : goal.returns-in_ok-bind-in-loop_-clause-bound
 returns-in_ok-bind-in-loop_-clause-bound c = λ more.
-    ap instr.loop_ (c.in_ok-bind-in-loop_.ensures.bound more) ∙ sym (ap (mapped_instr (binding (with_more (index_of c.bind-in-loop_.new.cx) more)) start) c.in-loop_.is)
+    ap instr.loop_ (c.in_ok-bind-in-loop_.ensures.bound more ∙ ap (mapped_block (binding (with_more (index_of c.bind-in-loop_.new.cx) more))) c.get_mut-in-loop_.ensures.value)
+    ∙ sym (ap (mapped_instr (binding (with_more (index_of c.bind-in-loop_.new.cx) more)) start) c.in-loop_.is)
 
 pub returns-in_ok-bind-in-if_-clause-bound : goal.returns-in_ok-bind-in-if_-clause-bound
 returns-in_ok-bind-in-if_-clause-bound c = λ more.
-    ap instr.if_ (c.in_ok-bind-in-if_.ensures.bound more) ∙ sym (ap (mapped_instr (binding (with_more (index_of c.bind-in-if_.new.cx) more)) start) c.in-if_.is)
+    ap instr.if_ (c.in_ok-bind-in-if_.ensures.bound more ∙ ap (mapped_block (binding (with_more (index_of c.bind-in-if_.new.cx) more))) c.get_mut-in-if_.ensures.value)
+    ∙ sym (ap (mapped_instr (binding (with_more (index_of c.bind-in-if_.new.cx) more)) start) c.in-if_.is)
 
 pub returns-in_ok-bind-in-try_-clause-bound : goal.returns-in_ok-bind-in-try_-clause-bound
 returns-in_ok-bind-in-try_-clause-bound c = λ more.
-    ap instr.try_ (c.in_ok-bind-in-try_.ensures.bound more) ∙ sym (ap (mapped_instr (binding (with_more (index_of c.bind-in-try_.new.cx) more)) start) c.in-try_.is)
+    ap instr.try_ (c.in_ok-bind-in-try_.ensures.bound more ∙ ap (mapped_block (binding (with_more (index_of c.bind-in-try_.new.cx) more))) c.get_mut-in-try_.ensures.value)
+    ∙ sym (ap (mapped_instr (binding (with_more (index_of c.bind-in-try_.new.cx) more)) start) c.in-try_.is)
 
 pub returns-in_ok-bind-in-try_table-clause-bound : goal.returns-in_ok-bind-in-try_table-clause-bound
 returns-in_ok-bind-in-try_table-clause-bound c = λ more.

@@ -8,10 +8,28 @@ use Rattle.wasm_ops.specs.Table.{instr, InRangeInstr}
 use Rattle.std.proofs.Common.{rules, ◌≡◌, true, sym, ◌∙◌, subst}
 use Rattle.wast_conv.specs.Encodable.{is_encodable_instr}
 use Rattle.wast_conv.proofs.Standing.{asking_passes}
-use Rattle.wast_conv.proofs.values.ResolvedSpellInstruction.spell.Goals as goal
+use Rattle.wast_conv.proofs.instr_values.ResolvedSpellInstruction.spell.Goals as goal
 
 pub put_mem-requires : goal.put_mem-requires
 put_mem-requires g c = sym (asking_passes (in_mem_arg c.in-Mem.arg)) ∙ subst (λ i. is_encodable_instr i ≡ true) c.in-Mem.is c.requires
+
+pub put_block-requires : goal.put_block-requires
+put_block-requires g c = subst (λ i. is_encodable_instr i ≡ true) c.in-block.is c.requires
+
+pub put_block-requires-in-loop_ : goal.put_block-requires-in-loop_
+put_block-requires-in-loop_ g c = subst (λ i. is_encodable_instr i ≡ true) c.in-loop_.is c.requires
+
+pub put_block-requires-in-if_ : goal.put_block-requires-in-if_
+put_block-requires-in-if_ g c = subst (λ i. is_encodable_instr i ≡ true) c.in-if_.is c.requires
+
+pub put_block-requires-in-try_ : goal.put_block-requires-in-try_
+put_block-requires-in-try_ g c = subst (λ i. is_encodable_instr i ≡ true) c.in-try_.is c.requires
+
+pub put_try_table-requires : goal.put_try_table-requires
+put_try_table-requires g c = subst (λ i. is_encodable_instr i ≡ true) c.in-try_table.is c.requires
+
+pub put_br_table-requires : goal.put_br_table-requires
+put_br_table-requires g c = subst (λ i. is_encodable_instr i ≡ true) c.in-br_table.is c.requires
 
 pub put_indirect-requires : goal.put_indirect-requires
 put_indirect-requires g c = subst (λ i. is_encodable_instr i ≡ true) c.in-call_indirect.is c.requires
@@ -28,8 +46,50 @@ put_null-requires g c = sym (asking_passes (in_heap c.in-ref_null.ty)) ∙ subst
 pub returns-in-Mem : goal.returns-in-Mem
 returns-in-Mem g c = rw c.in-Mem.is c.put_mem.ensures
 
+pub returns-in-block : goal.returns-in-block
+returns-in-block g c = rw c.in-block.is c.put_block.ensures
+
+pub returns-in-loop_ : goal.returns-in-loop_
+returns-in-loop_ g c = rw c.in-loop_.is c.put_block-in-loop_.ensures
+
+pub returns-in-if_ : goal.returns-in-if_
+returns-in-if_ g c = rw c.in-if_.is c.put_block-in-if_.ensures
+
+pub returns-in-else_ : goal.returns-in-else_
+returns-in-else_ g c = rw c.in-else_.is c.encode-in-else_.ensures
+
+pub returns-in-try_ : goal.returns-in-try_
+returns-in-try_ g c = rw c.in-try_.is c.put_block-in-try_.ensures
+
+pub returns-in-try_table : goal.returns-in-try_table
+returns-in-try_table g c = rw c.in-try_table.is c.put_try_table.ensures
+
+pub returns-in-end_ : goal.returns-in-end_
+returns-in-end_ g c = rw c.in-end_.is c.encode-in-end_.ensures
+
+pub returns-in-delegate : goal.returns-in-delegate
+returns-in-delegate g c = rw c.in-delegate.is c.put_index.ensures
+
+pub returns-in-br : goal.returns-in-br
+returns-in-br g c = rw c.in-br.is c.put_index-in-br.ensures
+
+pub returns-in-br_if : goal.returns-in-br_if
+returns-in-br_if g c = rw c.in-br_if.is c.put_index-in-br_if.ensures
+
+pub returns-in-br_table : goal.returns-in-br_table
+returns-in-br_table g c = rw c.in-br_table.is c.put_br_table.ensures
+
+pub returns-in-br_on_null : goal.returns-in-br_on_null
+returns-in-br_on_null g c = rw c.in-br_on_null.is c.put_index-in-br_on_null.ensures
+
+pub returns-in-br_on_non_null : goal.returns-in-br_on_non_null
+returns-in-br_on_non_null g c = rw c.in-br_on_non_null.is c.put_index-in-br_on_non_null.ensures
+
+pub returns-in-rethrow : goal.returns-in-rethrow
+returns-in-rethrow g c = rw c.in-rethrow.is c.put_index-in-rethrow.ensures
+
 pub returns-in-catch : goal.returns-in-catch
-returns-in-catch g c = rw c.in-catch.is c.put_index.ensures
+returns-in-catch g c = rw c.in-catch.is c.put_index-in-catch.ensures
 
 pub returns-in-throw : goal.returns-in-throw
 returns-in-throw g c = rw c.in-throw.is c.put_index-in-throw.ensures
@@ -54,6 +114,15 @@ returns-in-return_call_ref g c = rw c.in-return_call_ref.is c.put_index-in-retur
 
 pub returns-in-select : goal.returns-in-select
 returns-in-select g c = rw c.in-select.is c.put_select.ensures
+
+pub returns-in-local_get : goal.returns-in-local_get
+returns-in-local_get g c = rw c.in-local_get.is c.put_index-in-local_get.ensures
+
+pub returns-in-local_set : goal.returns-in-local_set
+returns-in-local_set g c = rw c.in-local_set.is c.put_index-in-local_set.ensures
+
+pub returns-in-local_tee : goal.returns-in-local_tee
+returns-in-local_tee g c = rw c.in-local_tee.is c.put_index-in-local_tee.ensures
 
 pub returns-in-global_get : goal.returns-in-global_get
 returns-in-global_get g c = rw c.in-global_get.is c.put_index-in-global_get.ensures

@@ -1,6 +1,6 @@
 use Rattle.std.proofs.lemmas.Bool.{lt-ltb}
 use Rattle.wast_conv.proofs.MemArgs.{mem_arg_parts}
-use Rattle.wast_conv.proofs.values.put_mem.Goals as goal
+use Rattle.wast_conv.proofs.instr_values.put_mem.Goals as goal
 
 pub mem_arg-requires : goal.mem_arg-requires
 mem_arg-requires g c = (mem_arg_parts c.args.arg.now c.requires).0

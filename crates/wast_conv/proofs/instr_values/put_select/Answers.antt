@@ -7,7 +7,7 @@ use Rattle.wast_conv.specs.Encodable.{is_encodable_ask, are_encodable}
 use Rattle.wast_conv.specs.Meaning as meaning
 use Rattle.wast_conv.proofs.EachPasses.{each_passes}
 use Rattle.wast_conv.proofs.Spelled.{list_written, select_written}
-use Rattle.wast_conv.proofs.values.put_select.Goals as goal
+use Rattle.wast_conv.proofs.instr_values.put_select.Goals as goal
 
 pub encode-requires-in-Some : goal.encode-requires-in-Some
 encode-requires-in-Some g c =

@@ -1,5 +1,5 @@
 use Rattle.wast_conv.proofs.Ready.{indirect_ready}
-use Rattle.wast_conv.proofs.values.put_indirect.Goals as goal
+use Rattle.wast_conv.proofs.instr_values.put_indirect.Goals as goal
 
 pub type_index-requires : goal.type_index-requires
 type_index-requires g c = (indirect_ready c.args.call.now c.requires).1
