@@ -11,4 +11,4 @@ returns-in-select c = λ h.
     let names = c.args.names.now in
     let types = c.in-select.types in
     rw c.in-select.is
-    (walks_made (scope_of names) (in_select types) instr.select (mapped_select (numbering (known_of names)).index types) c.walk-in-select.new.self c.walk-in-select.result c.walk-in-select.ensures)
+    (walks_made (scope_of names) (in_select types) instr.select (mapped_select (numbering (scope_of names)).index types) c.walk-in-select.new.self c.walk-in-select.result c.walk-in-select.ensures)

@@ -5,4 +5,4 @@ use Rattle.wast_resolve.proofs.Stepping.{IsPartway}
 use Rattle.wast_resolve.proofs.walks.walk_instrs.Given as goal
 
 abbrev pub invariant-loop-i : goal.invariant-loop-i
-invariant-loop-i l = (h : Here) → IsPartway (scope_of l.names) (numbering (known_of l.names)) h l.fn.instrs l.instrs l.i
+invariant-loop-i l = (h : Here) → IsPartway (scope_of l.names) (numbering (scope_of l.names)) h l.fn.instrs l.instrs l.i

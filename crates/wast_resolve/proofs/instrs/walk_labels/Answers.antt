@@ -1,8 +1,8 @@
-use Rattle.std.proofs.Common.{arith, []}
+use Rattle.std.proofs.Common.{arith, [], ◌≤◌, length}
 use Rattle.std.proofs.lemmas.Result.{err_from_is_err_and}
 use Rattle.wast_base.specs.Faults.{told}
 use Rattle.wast_resolve.specs.Resolvers.{Resolution, without_types}
-use Rattle.wast_resolve.proofs.Each.{stops, goes_on}
+use Rattle.wast_resolve.proofs.Each.{stops, goes_on, all_done}
 use Rattle.wast_resolve.proofs.instrs.walk_labels.Goals as goal
 
 pub returns-in_err-walk_label : goal.returns-in_err-walk_label
@@ -17,3 +17,8 @@ loop-i-preserved c names =
 
 pub at_mut-requires : goal.at_mut-requires
 at_mut-requires c = omega (arith, (c.loop-i.invariant (without_types [])).len, c.loop-i-test.true, c.len-i-end.ensures)
+
+pub returns : goal.returns
+returns c names =
+    let le : length c.args.indices.now ≤ c.loop-i.i = omega (arith, c.loop-i-test.false, c.len-i-end.ensures) in
+    all_done (c.loop-i.invariant names) le
