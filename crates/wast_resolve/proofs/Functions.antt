@@ -4,10 +4,10 @@ use Rattle.std.proofs.Common.{◌≡◌, List, [], ◌∷◌, ◌++◌, refl, ap
 use Rattle.std.proofs.lemmas.Grind.{flat_map-append}
 use Rattle.std.specs.List.{flat_map}
 use Rattle.wast_base.specs.Ids.{Mark}
-use Rattle.wast_tree.specs.Sites.{Here, in_local, local_marks, declaring, body_here, in_expression, in_func_kind, asking}
+use Rattle.wast_tree.specs.Sites.{Here, in_local, param_marks, local_marks, declaring, body_here, in_expression, in_func_kind, asking}
 use Rattle.wast_map.specs.Mapped.{Change, mapped_local, mapped_func_kind}
 use Rattle.wast_map.proofs.Fields.{marks_still}
-use Rattle.wast_resolve.specs.Tree.{FuncKind}
+use Rattle.wast_resolve.specs.Tree.{FunctionType, TypeUse, FuncKind}
 use Rattle.wast_resolve.specs.Tree.func
 use Rattle.wast_resolve.specs.Scopes.{Scope}
 use Rattle.wast_resolve.specs.Demands.{ask_demands, site_demand, site_demands, kind_marks}
@@ -16,17 +16,17 @@ use Rattle.wast_resolve.specs.TwoSteps.{in_locals, in_body, with_locals, with_bo
 use Rattle.wast_resolve.proofs.Parts.{asking_demands}
 
 -- where the body of a function stands
-abbrev pub inside : List (Option Mark) → FuncKind → Here
-inside params k = body_here (params ++ kind_marks k)
+abbrev pub inside : TypeUse FunctionType → FuncKind → Here
+inside u k = body_here u (param_marks u.inline ++ kind_marks k)
 
 -- the types of the locals, the names of parameters and locals, and the body
-pub kind_demands : (c : Scope) (params : List (Option Mark)) (k : FuncKind)
-    → site_demands c (in_func_kind params k) ≡ ask_demands c.known (in_locals k) ++ (site_demands c (opening params k) ++ site_demands c (in_body (inside params k) k))
-kind_demands c params (func.Import import exact) = refl
-kind_demands c params (func.Inline locals e) =
-    let marks = params ++ local_marks locals in
+pub kind_demands : (c : Scope) (u : TypeUse FunctionType) (k : FuncKind)
+    → site_demands c (in_func_kind u k) ≡ ask_demands c.known (in_locals k) ++ (site_demands c (opening (param_marks u.inline) k) ++ site_demands c (in_body (inside u k) k))
+kind_demands c u (func.Import import exact) = refl
+kind_demands c u (func.Inline locals e) =
+    let marks = param_marks u.inline ++ local_marks locals in
     let types = flat_map in_local locals in
-    let body = in_expression (body_here marks) e in
+    let body = in_expression (body_here u marks) e in
     flat_map-append (site_demand c) (asking types) (declaring [] marks ++ body)
     ∙ (ap (λ ds. ds ++ site_demands c (declaring [] marks ++ body)) (asking_demands c types) ∙ ap (λ ds. ask_demands c.known types ++ ds) (flat_map-append (site_demand c) (declaring [] marks) body))
 
@@ -45,6 +45,6 @@ module _ (f : Change) where
   opening_stays params (func.Inline locals e) = ap (λ ms. declaring [] (params ++ ms)) (marks_still f locals)
 
   -- and then the body
-  pub kind_becomes : (params : List (Option Mark)) (k : FuncKind) → with_body f (inside params k) (with_locals f k) ≡ mapped_func_kind f params k
-  kind_becomes params (func.Import import exact) = refl
-  kind_becomes params (func.Inline locals e) = refl
+  pub kind_becomes : (u : TypeUse FunctionType) (k : FuncKind) → with_body f (inside u k) (with_locals f k) ≡ mapped_func_kind f u k
+  kind_becomes u (func.Import import exact) = refl
+  kind_becomes u (func.Inline locals e) = refl
