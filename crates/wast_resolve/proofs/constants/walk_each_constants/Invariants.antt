@@ -5,4 +5,4 @@ use Rattle.wast_resolve.proofs.Each.{IsHalfway}
 use Rattle.wast_resolve.proofs.constants.walk_each_constants.Given as goal
 
 abbrev pub invariant-loop-i : goal.invariant-loop-i
-invariant-loop-i g l = IsHalfway (site_demand (scope_of l.names)) g.T.WalkConstants.stands (g.T.WalkConstants.mapped (numbering (known_of l.names))) l.fn.parts l.parts l.i
+invariant-loop-i g l = IsHalfway (site_demand (scope_of l.names)) g.T.WalkConstants.stands (g.T.WalkConstants.mapped (numbering (scope_of l.names))) l.fn.parts l.parts l.i
