@@ -1,5 +1,5 @@
 -- A walk over each item of a list, in its place.
-use Rattle.std.proofs.Common.{◌≡◌, ℕ, suc, ◌+◌, ◌<◌, ◌≤◌, List, [], ◌∷◌, ◌++◌, None, sym, ◌∙◌, ap, length, map, get_or, drop, take, arith, add-one, subst}
+use Rattle.std.proofs.Common.{◌≡◌, ℕ, suc, ◌+◌, ◌<◌, List, [], ◌∷◌, ◌++◌, ◌≤◌, None, sym, ◌∙◌, ap, length, map, get_or, drop, take, arith, add-one, subst}
 use Rattle.std.proofs.Math.ListN.{set, length-set}
 use Rattle.std.proofs.Math.Seq.{drop-cons, take-suc}
 use Rattle.std.specs.Prelude.{flat_map}
@@ -47,12 +47,6 @@ module _ {X A : Type 0} {g : A → List Demand} {f : X → List A} {w : X → X}
         become = take_more_set nows i y lt2 ∙ (ap (λ zs. zs ++ y ∷ []) p.become ∙ (ap (λ z. map w (take i olds) ++ z ∷ []) new ∙ (sym (map-append w (take i olds) (x ∷ [])) ∙ ap (map w) (sym more))));
       }
 
-  -- all items are walked
-  pub all_done : {nows : List X} {i : ℕ} → IsHalfway g f w olds nows i → length olds ≤ i → (first_unmet (flat_map g (flat_map f olds)) ≡ None) × (nows ≡ map w olds)
-  all_done {nows} {i} p le =
-      (ap (λ zs. first_unmet (flat_map g (flat_map f zs))) (sym (take_all i olds le)) ∙ p.met,
-      sym (take_all i nows (omega (arith, p.len, le))) ∙ (p.become ∙ ap (map w) (take_all i olds le)))
-
   -- what is refused at an item, where K and M say what may be refused without a place
   pub stops_with : {nows : List X} {i : ℕ} {x : X} (K M : Type 0) (t : Told) → IsHalfway g f w olds nows i → i < length olds → x ≡ get_or nows i x → Answers K M t (first_unmet (flat_map g (f x)))
       → Answers K M t (first_unmet (flat_map g (flat_map f olds)))
@@ -63,3 +57,10 @@ module _ {X A : Type 0} {g : A → List Demand} {f : X → List A} {w : X → X}
 
   pub stops : {nows : List X} {i : ℕ} {x : X} (t : Told) → IsHalfway g f w olds nows i → i < length olds → x ≡ get_or nows i x → Answers ⊥ ⊥ t (first_unmet (flat_map g (f x))) → Answers ⊥ ⊥ t (first_unmet (flat_map g (flat_map f olds)))
   stops t p lt is failed = stops_with ⊥ ⊥ t p lt is failed
+
+  -- all of them are walked
+  pub all_met : {nows : List X} {i : ℕ} → IsHalfway g f w olds nows i → length olds ≤ i → first_unmet (flat_map g (flat_map f olds)) ≡ None
+  all_met {nows} {i} p le = subst (λ xs. first_unmet (flat_map g (flat_map f xs)) ≡ None) (take_all i olds le) p.met
+
+  pub all_become : {nows : List X} {i : ℕ} → IsHalfway g f w olds nows i → length olds ≤ i → nows ≡ map w olds
+  all_become {nows} {i} p le = sym (take_all i nows (omega (arith, p.len, le))) ∙ (p.become ∙ ap (map w) (take_all i olds le))

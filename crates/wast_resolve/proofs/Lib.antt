@@ -27,7 +27,6 @@ pub mod FoundTypes
 pub mod FreeNames
 pub mod Functions
 pub mod ImpliedSignatures
-pub mod Gathered
 pub mod Indexed
 pub mod InPlace
 pub mod KeptAlike

@@ -13,7 +13,7 @@ use Rattle.wast_labels.specs.Turns.{gathered}
 use Rattle.wast_tree.specs.Instrs.{block_of, is_closer, turn_by, turn_of, turns}
 use Rattle.wast_tree.specs.Sites.{Site, Asked, Used, Declared, LocalAt, LabelAt, Repeated, Begins, Ends, Here, Locals, after, after_all, in_catch, in_caught}
 use Rattle.wast_tree.proofs.Behind.{after-append}
-use Rattle.wast_resolve.specs.Tree.{BlockType, Instruction, TryTableCatch, TryTableCatchKind}
+use Rattle.wast_resolve.specs.Tree.{Index, BlockType, Instruction, TryTableCatch, TryTableCatchKind}
 use Rattle.wast_resolve.specs.Tree.caught
 use Rattle.wast_resolve.specs.Openable.{is_openable_if, is_openable, AreOpenable, here, with_blocks}
 
@@ -38,14 +38,17 @@ stands_by l s ss t is =
     ap (here l) is ∙ sym (λ i. record { locals = locals_stay (here l s) ss i; blocks = (after_all (here l s) ss).blocks })
 
 -- what a clause of `try_table` catches, and its label, open and close nothing
-catch_stays : (h : Here) (blocks : Blocks) (k : TryTableCatchKind) (c : TryTableCatch) → c.kind ≡ k → after_all h (in_catch blocks c) ≡ h
-catch_stays h blocks k c is = ?
+catch_stays : (h : Here) (blocks : Blocks) (k : TryTableCatchKind) (l : Index) → after_all h (in_catch blocks (record { kind = k; label = l })) ≡ h
+catch_stays h blocks (caught.Catch e) l = refl
+catch_stays h blocks (caught.CatchRef e) l = refl
+catch_stays h blocks caught.CatchAll l = refl
+catch_stays h blocks caught.CatchAllRef l = refl
 
 pub catches_stay : (h : Here) (blocks : Blocks) (cs : List TryTableCatch) → after_all h (flat_map (in_catch blocks) cs) ≡ h
 catches_stay h blocks [] = refl
 catches_stay h blocks (c ∷ cs) =
     after-append h (in_catch blocks c) (flat_map (in_catch blocks) cs)
-    ∙ (ap (λ g. after_all g (flat_map (in_catch blocks) cs)) (catch_stays h blocks c.kind c refl) ∙ catches_stay h blocks cs)
+    ∙ (ap (λ g. after_all g (flat_map (in_catch blocks) cs)) (catch_stays h blocks c.kind c.label) ∙ catches_stay h blocks cs)
 
 -- one more instruction, of which the label is gathered
 pub gathered_one : (o : Option BlockType) (closes : Bool) (labels : List Name) (b : BlockType) → o ≡ Some b → gathered labels (turn_by o closes ∷ []) ≡ with_opener (name_if (marked b.label)) labels

@@ -7,7 +7,7 @@ use Rattle.wast_tree.specs.Sites.{Ask, Wants, Site, Asked, if_there, in_index, a
 use Rattle.wast_tree.specs.Known.{Known}
 use Rattle.wast_base.specs.declared.faults.Error.{Error}
 use Rattle.wast_resolve.specs.Tree.{Span, Space, Id, Index}
-use Rattle.wast_resolve.specs.Demands.{Demand, first_unmet, Answers, ask_demand, ask_demands, site_demand, site_demands}
+use Rattle.wast_resolve.specs.Demands.{Demand, first_unmet, Answers, ask_demand, ask_demands, site_demand, site_demands, open_counts_at, open_counts}
 use Rattle.wast_resolve.specs.Scopes.{Scope}
 use Rattle.wast_resolve.specs.Walking.{Walks}
 use Rattle.wast_resolve.proofs.Unmet.{first_unmet-append, answers_more, answers_first, answers_after}
@@ -63,6 +63,10 @@ optional_demands c s (Some i) = refl
 -- whether what stands there is supported, or a clause holds, demands nothing
 pub all_but_last : (c : Scope) (ss : List Site) (last : Ask) → ask_demand c.known last ≡ [] → site_demands c (ss ++ Asked last ∷ []) ≡ site_demands c ss
 all_but_last c ss last none = flat_map-append (site_demand c) ss (Asked last ∷ []) ∙ (ap (λ ds. site_demands c ss ++ (ds ++ [])) none ∙ append-nil (site_demands c ss))
+
+-- and opens nothing
+pub all_counts_but_last : (ss : List Site) (last : Ask) → open_counts (ss ++ Asked last ∷ []) ≡ open_counts ss
+all_counts_but_last ss last = flat_map-append open_counts_at ss (Asked last ∷ []) ∙ append-nil (open_counts ss)
 
 -- a walk over a part of what is walked
 pub walks_as : {T U K L M N : Type 0} (l : K → L) (n : M → N) (ds es : List Demand) (want new : T) (want2 new2 : U) (result : Result (Unit {0}) Error) → first_unmet ds ≡ first_unmet es → (new ≡ want → new2 ≡ want2)

@@ -19,13 +19,13 @@ returns-in_err-walk_data_offset c =
     let x = c.args.self.now in
     let s = scope_of c.args.names.now in
     let p = err_from_is_err_and c.from_residual-in_err-walk_data_offset.result c.from_residual-in_err-walk_data_offset.ensures.1 in
-    rw (p.1, p.2) (second_fails s (in_data_kind x) (in_data_memory x) (in_data_offset x) (data_parts (scope_of c.args.names.now) x) (told c.in_err-walk_data_offset.field-0.0) (in_data_offset c.walk_data_memory.new.kind) (ap in_data_offset c.in_ok-walk_data_memory.ensures.1 ∙ data_stays (numbering s.known) x)
+    rw (p.1, p.2) (second_fails s (in_data_kind x) (in_data_memory x) (in_data_offset x) (data_parts (scope_of c.args.names.now) x) (told c.in_err-walk_data_offset.field-0.0) (in_data_offset c.walk_data_memory.new.kind) (ap in_data_offset c.in_ok-walk_data_memory.ensures.1 ∙ data_stays (numbering s) x)
     c.in_ok-walk_data_memory.ensures.0 c.in_err-walk_data_offset.ensures)
 
 pub returns : goal.returns
 returns c =
     let x = c.args.self.now in
     let s = scope_of c.args.names.now in (
-      both_met s (in_data_kind x) (in_data_memory x) (in_data_offset x) (data_parts (scope_of c.args.names.now) x) (in_data_offset c.walk_data_memory.new.kind) (ap in_data_offset c.in_ok-walk_data_memory.ensures.1 ∙ data_stays (numbering s.known) x) c.in_ok-walk_data_memory.ensures.0 c.in_ok-walk_data_offset.ensures.0,
-      c.in_ok-walk_data_offset.ensures.1 ∙ (ap (with_data_offset (numbering s.known)) c.in_ok-walk_data_memory.ensures.1 ∙ data_becomes (numbering s.known) x),
+      both_met s (in_data_kind x) (in_data_memory x) (in_data_offset x) (data_parts (scope_of c.args.names.now) x) (in_data_offset c.walk_data_memory.new.kind) (ap in_data_offset c.in_ok-walk_data_memory.ensures.1 ∙ data_stays (numbering s) x) c.in_ok-walk_data_memory.ensures.0 c.in_ok-walk_data_offset.ensures.0,
+      c.in_ok-walk_data_offset.ensures.1 ∙ (ap (with_data_offset (numbering s)) c.in_ok-walk_data_memory.ensures.1 ∙ data_becomes (numbering s) x),
     )

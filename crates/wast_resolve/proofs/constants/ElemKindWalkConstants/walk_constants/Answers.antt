@@ -19,13 +19,13 @@ returns-in_err-walk_elem_offset c =
     let x = c.args.self.now in
     let s = scope_of c.args.names.now in
     let p = err_from_is_err_and c.from_residual-in_err-walk_elem_offset.result c.from_residual-in_err-walk_elem_offset.ensures.1 in
-    rw (p.1, p.2) (second_fails s (in_elem_kind x) (in_elem_table x) (in_elem_offset x) (elem_parts (scope_of c.args.names.now) x) (told c.in_err-walk_elem_offset.field-0.0) (in_elem_offset c.walk_elem_table.new.kind) (ap in_elem_offset c.in_ok-walk_elem_table.ensures.1 ∙ elem_stays (numbering s.known) x)
+    rw (p.1, p.2) (second_fails s (in_elem_kind x) (in_elem_table x) (in_elem_offset x) (elem_parts (scope_of c.args.names.now) x) (told c.in_err-walk_elem_offset.field-0.0) (in_elem_offset c.walk_elem_table.new.kind) (ap in_elem_offset c.in_ok-walk_elem_table.ensures.1 ∙ elem_stays (numbering s) x)
     c.in_ok-walk_elem_table.ensures.0 c.in_err-walk_elem_offset.ensures)
 
 pub returns : goal.returns
 returns c =
     let x = c.args.self.now in
     let s = scope_of c.args.names.now in (
-      both_met s (in_elem_kind x) (in_elem_table x) (in_elem_offset x) (elem_parts (scope_of c.args.names.now) x) (in_elem_offset c.walk_elem_table.new.kind) (ap in_elem_offset c.in_ok-walk_elem_table.ensures.1 ∙ elem_stays (numbering s.known) x) c.in_ok-walk_elem_table.ensures.0 c.in_ok-walk_elem_offset.ensures.0,
-      c.in_ok-walk_elem_offset.ensures.1 ∙ (ap (with_elem_offset (numbering s.known)) c.in_ok-walk_elem_table.ensures.1 ∙ elem_becomes (numbering s.known) x),
+      both_met s (in_elem_kind x) (in_elem_table x) (in_elem_offset x) (elem_parts (scope_of c.args.names.now) x) (in_elem_offset c.walk_elem_table.new.kind) (ap in_elem_offset c.in_ok-walk_elem_table.ensures.1 ∙ elem_stays (numbering s) x) c.in_ok-walk_elem_table.ensures.0 c.in_ok-walk_elem_offset.ensures.0,
+      c.in_ok-walk_elem_offset.ensures.1 ∙ (ap (with_elem_offset (numbering s)) c.in_ok-walk_elem_table.ensures.1 ∙ elem_becomes (numbering s) x),
     )

@@ -19,13 +19,13 @@ returns-in_err-walk_element_type c =
     let x = c.args.self.now in
     let s = scope_of c.args.names.now in
     let p = err_from_is_err_and c.from_residual-in_err-walk_element_type.result c.from_residual-in_err-walk_element_type.ensures.1 in
-    rw (p.1, p.2) (second_fails s (in_payload x) (in_elements x) (in_element_type x) (payload_parts (scope_of c.args.names.now) x) (told c.in_err-walk_element_type.field-0.0) (in_element_type c.walk_elements.new.payload) (ap in_element_type c.in_ok-walk_elements.ensures.1 ∙ payload_stays (numbering s.known) x)
+    rw (p.1, p.2) (second_fails s (in_payload x) (in_elements x) (in_element_type x) (payload_parts (scope_of c.args.names.now) x) (told c.in_err-walk_element_type.field-0.0) (in_element_type c.walk_elements.new.payload) (ap in_element_type c.in_ok-walk_elements.ensures.1 ∙ payload_stays (numbering s) x)
     c.in_ok-walk_elements.ensures.0 c.in_err-walk_element_type.ensures)
 
 pub returns : goal.returns
 returns c =
     let x = c.args.self.now in
     let s = scope_of c.args.names.now in (
-      both_met s (in_payload x) (in_elements x) (in_element_type x) (payload_parts (scope_of c.args.names.now) x) (in_element_type c.walk_elements.new.payload) (ap in_element_type c.in_ok-walk_elements.ensures.1 ∙ payload_stays (numbering s.known) x) c.in_ok-walk_elements.ensures.0 c.in_ok-walk_element_type.ensures.0,
-      c.in_ok-walk_element_type.ensures.1 ∙ (ap (with_element_type (numbering s.known)) c.in_ok-walk_elements.ensures.1 ∙ payload_becomes (numbering s.known) x),
+      both_met s (in_payload x) (in_elements x) (in_element_type x) (payload_parts (scope_of c.args.names.now) x) (in_element_type c.walk_elements.new.payload) (ap in_element_type c.in_ok-walk_elements.ensures.1 ∙ payload_stays (numbering s) x) c.in_ok-walk_elements.ensures.0 c.in_ok-walk_element_type.ensures.0,
+      c.in_ok-walk_element_type.ensures.1 ∙ (ap (with_element_type (numbering s)) c.in_ok-walk_elements.ensures.1 ∙ payload_becomes (numbering s) x),
     )

@@ -19,13 +19,13 @@ returns-in_err-walk_init c =
     let x = c.args.self.now in
     let s = scope_of c.args.names.now in
     let p = err_from_is_err_and c.from_residual-in_err-walk_init.result c.from_residual-in_err-walk_init.ensures.1 in
-    rw (p.1, p.2) (second_fails s (in_table_kind x) (in_type_of_table x) (in_init x) (table_parts (scope_of c.args.names.now) x) (told c.in_err-walk_init.field-0.0) (in_init c.walk_table_type.new.kind) (ap in_init c.in_ok-walk_table_type.ensures.1 ∙ table_stays (numbering s.known) x)
+    rw (p.1, p.2) (second_fails s (in_table_kind x) (in_type_of_table x) (in_init x) (table_parts (scope_of c.args.names.now) x) (told c.in_err-walk_init.field-0.0) (in_init c.walk_table_type.new.kind) (ap in_init c.in_ok-walk_table_type.ensures.1 ∙ table_stays (numbering s) x)
     c.in_ok-walk_table_type.ensures.0 c.in_err-walk_init.ensures)
 
 pub returns : goal.returns
 returns c =
     let x = c.args.self.now in
     let s = scope_of c.args.names.now in (
-      both_met s (in_table_kind x) (in_type_of_table x) (in_init x) (table_parts (scope_of c.args.names.now) x) (in_init c.walk_table_type.new.kind) (ap in_init c.in_ok-walk_table_type.ensures.1 ∙ table_stays (numbering s.known) x) c.in_ok-walk_table_type.ensures.0 c.in_ok-walk_init.ensures.0,
-      c.in_ok-walk_init.ensures.1 ∙ (ap (with_init (numbering s.known)) c.in_ok-walk_table_type.ensures.1 ∙ table_becomes (numbering s.known) x),
+      both_met s (in_table_kind x) (in_type_of_table x) (in_init x) (table_parts (scope_of c.args.names.now) x) (in_init c.walk_table_type.new.kind) (ap in_init c.in_ok-walk_table_type.ensures.1 ∙ table_stays (numbering s) x) c.in_ok-walk_table_type.ensures.0 c.in_ok-walk_init.ensures.0,
+      c.in_ok-walk_init.ensures.1 ∙ (ap (with_init (numbering s)) c.in_ok-walk_table_type.ensures.1 ∙ table_becomes (numbering s) x),
     )
