@@ -1,9 +1,10 @@
 -- The open blocks along a body: which sites move them, and which labels the openers have.
-use Rattle.std.proofs.Common.{◌≡◌, ℕ, suc, ◌+◌, ◌<◌, List, [], ◌∷◌, ◌++◌, map, length, get_or, take, drop, Option, Some, None, Bool, true, false, if◌then◌else◌, refl, sym, ap, ◌∙◌, subst, arith}
+use Rattle.std.proofs.Common.{◌≡◌, ℕ, suc, ◌+◌, ◌<◌, List, [], ◌∷◌, ◌++◌, map, length, get_or, take, drop, Option, Some, None, Result, Ok, Err, OnOk, Bool, true, false, if◌then◌else◌, refl, sym, ap, ◌∙◌, subst, arith}
 use Rattle.std.proofs.lemmas.List.{map-append, take-append-drop}
 use Rattle.std.proofs.Math.Seq.{drop-cons}
 use Rattle.std.specs.List.{flat_map}
 use Rattle.wast_base.specs.Blocks.{Blocks, Turn, Opens, Closes, Stays}
+use Rattle.wast_base.specs.declared.faults.Error.{Error}
 use Rattle.wast_base.specs.Ids.{Name, marked}
 use Rattle.wast_base.specs.Spaces.{name_if}
 use Rattle.wast_labels.specs.Gathered.{is_among, knows, with_opener, IsTable}
@@ -11,9 +12,9 @@ use Rattle.wast_labels.specs.Laws.{KnowsItsLabels, GathersInOrder}
 use Rattle.wast_labels.specs.OpenBlocks.{OpenBlocks}
 use Rattle.wast_labels.specs.Turns.{gathered}
 use Rattle.wast_tree.specs.Instrs.{block_of, is_closer, turn_by, turn_of, turns}
-use Rattle.wast_tree.specs.Sites.{Site, Asked, Used, Declared, LocalAt, LabelAt, Repeated, Begins, Ends, Here, Locals, after, after_all, in_catch, in_caught}
+use Rattle.wast_tree.specs.Sites.{Ask, Site, Asked, Used, Declared, LocalAt, LabelAt, Repeated, Begins, Ends, Here, Locals, after, after_all, asking, at_label, in_br_table, in_catch, in_caught}
 use Rattle.wast_tree.proofs.Behind.{after-append}
-use Rattle.wast_resolve.specs.Tree.{Index, BlockType, Instruction, TryTableCatch, TryTableCatchKind}
+use Rattle.wast_resolve.specs.Tree.{Index, BlockType, BrTableIndices, Instruction, TryTableCatch, TryTableCatchKind}
 use Rattle.wast_resolve.specs.Tree.caught
 use Rattle.wast_resolve.specs.Openable.{is_openable_if, is_openable, AreOpenable, here, with_blocks}
 
@@ -49,6 +50,28 @@ catches_stay h blocks [] = refl
 catches_stay h blocks (c ∷ cs) =
     after-append h (in_catch blocks c) (flat_map (in_catch blocks) cs)
     ∙ (ap (λ g. after_all g (flat_map (in_catch blocks) cs)) (catch_stays h blocks c.kind c.label) ∙ catches_stay h blocks cs)
+
+-- what is asked of names alone does so too, and labels
+asking_stays : (h : Here) (asks : List Ask) → after_all h (asking asks) ≡ h
+asking_stays h [] = refl
+asking_stays h (a ∷ asks) = asking_stays h asks
+
+labels_stay : (h : Here) (blocks : Blocks) (is : List Index) → after_all h (flat_map (at_label blocks) is) ≡ h
+labels_stay h blocks [] = refl
+labels_stay h blocks (i ∷ is) = labels_stay h blocks is
+
+on_ok : {T A : Type 0} (r : Result T Error) → A → OnOk r A
+on_ok (Ok x) a = a
+on_ok (Err e) a = tt
+
+pub asking_moves : {T : Type 0} (s : OpenBlocks) (l : Locals) (asks : List Ask) (r : Result T Error) → OnOk r (s ≡ with_blocks s (after_all (here l s) (asking asks)))
+asking_moves s l asks r = on_ok r (ap (with_blocks s) (sym (asking_stays (here l s) asks)))
+
+pub br_table_moves : {T : Type 0} (s : OpenBlocks) (l : Locals) (t : BrTableIndices) (r : Result T Error) → OnOk r (s ≡ with_blocks s (after_all (here l s) (in_br_table s.blocks t)))
+br_table_moves s l t r =
+    let h = here l s in
+    let stays = after-append h (flat_map (at_label s.blocks) t.labels) (at_label s.blocks t.default) ∙ ap (λ g. after_all g (at_label s.blocks t.default)) (labels_stay h s.blocks t.labels) in
+    on_ok r (ap (with_blocks s) (sym stays))
 
 -- one more instruction, of which the label is gathered
 pub gathered_one : (o : Option BlockType) (closes : Bool) (labels : List Name) (b : BlockType) → o ≡ Some b → gathered labels (turn_by o closes ∷ []) ≡ with_opener (name_if (marked b.label)) labels

@@ -2,11 +2,12 @@ use Rattle.std.specs.Prelude.{⊤, [], ◌∷◌}
 use Rattle.wast_base.specs.Blocks.{closed}
 use Rattle.wast_base.specs.Ids.{marked}
 use Rattle.wast_map.specs.Mapped.{mapped_br_table}
-use Rattle.wast_tree.specs.Sites.{Ends, Repeated, at_label, in_br_table}
+use Rattle.wast_tree.specs.Sites.{Ends, LocalAt, Repeated, at_label, in_br_table, in_select}
 use Rattle.wast_resolve.specs.Tree.instr
 use Rattle.wast_resolve.specs.Demands.{HasMany, open_counts, site_demands}
 use Rattle.wast_resolve.specs.Resolved.{numbering}
 use Rattle.wast_resolve.specs.Resolvers.{scope_of}
+use Rattle.wast_resolve.proofs.Moving.{asking_moves, br_table_moves}
 use Rattle.wast_resolve.proofs.Parts.{walks_in}
 use Rattle.wast_resolve.proofs.instrs.walk_instr.Goals as goal
 
@@ -29,7 +30,7 @@ pub returns-in-delegate-clause-blocks : goal.returns-in-delegate-clause-blocks
 returns-in-delegate-clause-blocks c l = rw c.in-delegate.is (c.walk_delegate.ensures.blocks l)
 
 pub returns-in-br_table-clause-blocks : goal.returns-in-br_table-clause-blocks
-returns-in-br_table-clause-blocks c l = ?
+returns-in-br_table-clause-blocks c l = rw c.in-br_table.is (br_table_moves c.args.labels.now l c.in-br_table.table c.walk_br_table.result)
 
 pub returns-in-else_-clause-walks : goal.returns-in-else_-clause-walks
 returns-in-else_-clause-walks c l numbers =
@@ -93,3 +94,24 @@ returns-in-rethrow-clause-walks c l numbers =
     let blocks = c.args.labels.now.blocks in
     let label = c.in-rethrow.label in
     rw c.in-rethrow.is (walks_in ⊤ (HasMany []) instr.rethrow (site_demands (scope_of names) (at_label blocks label)) ((numbering (scope_of names)).label blocks label) c.walk_branch-in-rethrow.new.label c.walk_branch-in-rethrow.result (c.walk_branch-in-rethrow.ensures names))
+
+pub returns-in-select-clause-blocks : goal.returns-in-select-clause-blocks
+returns-in-select-clause-blocks c l = rw c.in-select.is (asking_moves c.args.labels.now l (in_select c.in-select.types) c.walk_part-in-select.result)
+
+pub returns-in-local_get-clause-walks : goal.returns-in-local_get-clause-walks
+returns-in-local_get-clause-walks c l numbers =
+    let names = c.args.names.now in
+    let i = c.in-local_get.local in
+    rw c.in-local_get.is (walks_in ⊤ (HasMany []) instr.local_get (site_demands (scope_of names) (LocalAt l i ∷ [])) ((numbering (scope_of names)).local l i) c.walk_local.new.index c.walk_local.result (c.walk_local.ensures names l numbers))
+
+pub returns-in-local_set-clause-walks : goal.returns-in-local_set-clause-walks
+returns-in-local_set-clause-walks c l numbers =
+    let names = c.args.names.now in
+    let i = c.in-local_set.local in
+    rw c.in-local_set.is (walks_in ⊤ (HasMany []) instr.local_set (site_demands (scope_of names) (LocalAt l i ∷ [])) ((numbering (scope_of names)).local l i) c.walk_local-in-local_set.new.index c.walk_local-in-local_set.result (c.walk_local-in-local_set.ensures names l numbers))
+
+pub returns-in-local_tee-clause-walks : goal.returns-in-local_tee-clause-walks
+returns-in-local_tee-clause-walks c l numbers =
+    let names = c.args.names.now in
+    let i = c.in-local_tee.local in
+    rw c.in-local_tee.is (walks_in ⊤ (HasMany []) instr.local_tee (site_demands (scope_of names) (LocalAt l i ∷ [])) ((numbering (scope_of names)).local l i) c.walk_local-in-local_tee.new.index c.walk_local-in-local_tee.result (c.walk_local-in-local_tee.ensures names l numbers))
