@@ -8,11 +8,7 @@ use Rattle.std.proofs.lemmas.Bool.{lt-ltb}
 use Rattle.std.proofs.lemmas.List.Elements.{All-nil, All-head}
 use Rattle.std.proofs.lemmas.List.Folds.{list_any-append}
 use Rattle.wast_tree.specs.DataBytes.{all_bytes}
-<<<<<<< HEAD
-use Rattle.wast_tree.specs.Items.{Item, items_in, items}
-=======
 use Rattle.wast_tree.specs.Items.{Item, items_in}
->>>>>>> 45b0e5ffcef4907d24b159a363214c45f1d1ac93
 use Rattle.wasm_ops.proofs.Everywhere.{all_left, all_right}
 use Rattle.wasm_out.specs.DataSegments.{DataEntry, InRangeDataEntry}
 use Rattle.wasm_out.specs.Parts.{Data, InRangePart}

@@ -19,12 +19,8 @@ use Rattle.wast_core.specs.Tree.import_items
 use Rattle.wast_core.specs.Tree.func
 use Rattle.wast_core.specs.Tree.field
 use Rattle.wast_names.specs.GivenNames.{written_text, id_text, given_name}
-<<<<<<< HEAD
-use Rattle.wast_names.specs.WithinItems.{arity, types_within, arity_at, params_or, local_name, locals_in, label_in, labels_in, behind as names_behind, locals_of, tag_params, lists_in_type}
-=======
 use Rattle.wast_names.specs.WithinItems as within
 use Rattle.wast_names.specs.WithinItems.{arity, types_within, arity_at, params_or, local_name, locals_in, label_in, labels_in, locals_of, tag_params, lists_in_type}
->>>>>>> 45b0e5ffcef4907d24b159a363214c45f1d1ac93
 use Rattle.wast_names.specs.ModuleNames.{type_name, import_names, item_names_in}
 use Rattle.wast_names.proofs.Each.{each_like}
 use Rattle.wast_names.proofs.SameNameSection.{SameLists, SameInKind, SameInImport, KeepsNames, arity_in, same_arity, in_type, in_func, in_tag, in_imported_func}
@@ -72,11 +68,7 @@ names_inside u (func.Import import exact) = refl
 names_inside u (func.Inline locals e) = each_alike (mapped_local stripping) local_name (λ l. refl) locals
 
 same_locals : (xs : List ModuleField) (f : Func) → locals_of (all_mapped stripping xs) (mapped_func stripping f) ≡ locals_of xs f
-<<<<<<< HEAD
-same_locals xs f = λ i. names_behind (params_or (arity_stays xs f.ty.index i) f.ty.inline) (names_inside f.ty f.kind i)
-=======
 same_locals xs f = λ i. within.behind (params_or (arity_stays xs f.ty.index i) f.ty.inline) (names_inside f.ty f.kind i)
->>>>>>> 45b0e5ffcef4907d24b159a363214c45f1d1ac93
 
 same_label : (h : Here) (i : Instruction) → label_in (mapped_instr stripping h i) ≡ label_in i
 same_label h i = grind (arith, common_steps)

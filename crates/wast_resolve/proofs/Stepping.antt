@@ -4,16 +4,15 @@ use Rattle.std.proofs.Math.ListN.{set, length-set}
 use Rattle.std.proofs.Math.Seq.{drop-cons, take-suc}
 use Rattle.std.proofs.lemmas.List.{append-nil, drop-drop, drop-set-lt, take_more_set, take-append-drop, take_all}
 use Rattle.wast_base.specs.Faults.{Told}
-use Rattle.std.proofs.lemmas.Grind.{flat_map-append}
 use Rattle.wast_labels.specs.OpenBlocks.{OpenBlocks}
 use Rattle.wast_tree.specs.Sites.{Locals, Here, start, after_all, behind, in_instr, in_instrs}
 use Rattle.wast_tree.proofs.Behind.{after-append, instrs-append}
 use Rattle.wast_map.specs.Mapped.{Change, mapped_instr, mapped_instrs}
 use Rattle.wast_resolve.specs.Tree.{Instruction}
 use Rattle.wast_resolve.specs.Scopes.{Scope}
-use Rattle.wast_resolve.specs.Demands.{first_unmet, Answers, site_demand, site_demands, open_counts_at, open_counts, HasMany}
+use Rattle.wast_resolve.specs.Demands.{first_unmet, Answers, site_demand, site_demands, open_counts, HasMany}
 use Rattle.wast_resolve.specs.Openable.{is_openable, AreOpenable, here, with_blocks}
-use Rattle.wast_resolve.proofs.Counted.{many_at}
+use Rattle.wast_resolve.proofs.Counted.{many_sites}
 use Rattle.wast_resolve.proofs.Moving.{stands_by}
 use Rattle.wast_resolve.proofs.Parts.{both_met, first_fails, second_fails}
 
@@ -126,8 +125,7 @@ module _ {c : Scope} {f : Change} {start : Here} {olds nows : List Instruction} 
       let before = in_instrs start (take i olds) in
       let here = in_instr (reached start olds i) x in
       let rest = in_instrs (behind (reached start olds i) x) (drop (suc i) olds) in
-      many_at (open_counts (in_instrs start olds)) (open_counts before) (open_counts here) (open_counts rest)
-      (ap open_counts sites_all ∙ (flat_map-append open_counts_at before (here ++ rest) ∙ ap (λ ns. open_counts before ++ ns) (flat_map-append open_counts_at here rest))) many
+      many_sites (in_instrs start olds) before here rest sites_all many
 
 -- all of them are walked
 module _ {c : Scope} {f : Change} {start : Here} {olds nows : List Instruction} {i : ℕ} (p : IsPartway c f start olds nows i) (le : length olds ≤ i) where

@@ -1,6 +1,7 @@
 -- Indices of what stands within a function: locals by the names of the function, and labels by the open blocks.
 use Rattle.std.proofs.Common.{◌≡◌, ℕ, List, [], ◌∷◌, ◌++◌, Option, Some, None, is_some, Bool, true, false, cond, codes, Result, Ok, Err, refl, sym, ap, ◌∙◌, subst, append-nil}
-use Rattle.std.specs.Prelude.{⊤}
+use Rattle.std.specs.FinMap.{get-empty}
+use Rattle.std.specs.Prelude.{⊤, option_map}
 use Rattle.wast_base.specs.Blocks.{Blocks}
 use Rattle.wast_base.specs.declared.faults.Error.{Error}
 use Rattle.wast_base.specs.Faults.{Cause, Labels, Told, At, Nowhere, told}
@@ -9,6 +10,7 @@ use Rattle.wast_labels.specs.OpenBlocks.{denotes, expects}
 use Rattle.wast_labels.specs.Asked as labels
 use Rattle.wast_labels.specs.Asked.{Tells, unknown_label, unless_denoted, wrong_label}
 use Rattle.wast_namespace.specs.FirstUnmet.{unknown}
+use Rattle.wast_namespace.specs.Namespaces.{key_of, key_cmp, empty_from}
 use Rattle.wast_namespace.specs.Outcomes.{Outcome}
 use Rattle.wast_resolve.specs.Tree.{Span, Id, Index}
 use Rattle.wast_resolve.specs.Tree.index
@@ -18,7 +20,7 @@ use Rattle.wast_resolve.specs.Demands.{first_unmet, known_index, site_demands, r
 use Rattle.wast_resolve.specs.Locals.{LocalSpace, local_in, Numbers}
 use Rattle.wast_resolve.specs.Walking.{Walks}
 use Rattle.wast_resolve.proofs.Unmet.{answers_more}
-use Rattle.wast_tree.specs.Sites.{Locals, LocalAt, Repeated}
+use Rattle.wast_tree.specs.Sites.{Locals, LocalAt, Repeated, start}
 
 -- where names denote the same, indices do
 module _ (f g : Name → Option ℕ) (same : (name : Name) → f name ≡ g name) where
@@ -72,3 +74,7 @@ pub label_checked : (M : Type 0) (c : Scope) (blocks : Blocks) (o : Option Id) (
     → Walks ⊤ M (site_demands c (Repeated blocks (marked o) ∷ [])) o o result
 label_checked M c blocks o (Ok x) h = (sym (repeated_unmet blocks (marked o)) ∙ h, refl)
 label_checked M c blocks o (Err e) h = tells_answers ⊤ M (told e) _ (subst (Tells (told e)) (repeated_unmet blocks (marked o)) h)
+
+-- a constant expression has no names
+pub none_numbers : (c : Scope) (s : LocalSpace) → s ≡ record { space = empty_from 0; nameless = 0 } → Numbers c start.locals s
+none_numbers c s is name = ap (λ (s : LocalSpace). local_in s name) is ∙ ap (option_map (λ n. 0 + n)) (get-empty key_cmp (key_of name))
