@@ -10,7 +10,7 @@ ghost use Rattle.wast_reach.specs.Reaches.{are_reaches};
 ghost use Rattle.wast_names.specs.NamesPart.{names_part, names_payload_of};
 ghost use Rattle.wast_names.specs.GivenNames.{id_text, given_name, named_from};
 ghost use Rattle.wast_names.specs.FoundNames.{text_seen, items_seen, counted, WritesItems};
-ghost use Rattle.wast_names.specs.ModuleNames.{type_name, import_names, item_names_in, given_name_in, names_given, named_of, named_within, map_names, module_name, name_subsections, InRangeNames};
+ghost use Rattle.wast_names.specs.ModuleNames.{type_name, import_names, item_names_in, given_name_in, names_given, named_of, named_items, named_within, named_lists, direct, indirect, map_names, module_name, name_subsections, InRangeNames};
 
 use crate::name_maps::{NameItems, count_each, put_each, put_map, put_name};
 use crate::named_fields::{with_items, with_lists};
@@ -200,6 +200,37 @@ pub(crate) enum NameMap {
     Within(Within),
 }
 
+/// Appends the subsection of the names of the items of a space, where there are any.
+fn put_items<S: Sink>(
+    space: Space,
+    fields: &[ModuleField],
+    reaches: &Reaches,
+    out: &mut S,
+) -> Result<(), Refusal>
+    requires { IsTrue (are_reaches fields.now reaches.now) }
+    ensures { Writes S.rules (All InRangeNameSubsection (direct (named_of space) (named_items space fields.now)))
+        out.old out.new (flat_map name_subsection (direct (named_of space) (named_items space fields.now))) result }
+{
+    let there = with_items(space, fields, reaches);
+    put_map(id_of(space), space, there, out)
+}
+
+/// Appends the subsection of the lists of names within items, where there are any.
+fn put_lists<S: Sink>(
+    within: Within,
+    fields: &[ModuleField],
+    reaches: &Reaches,
+    out: &mut S,
+) -> Result<(), Refusal>
+    requires { IsTrue (are_reaches fields.now reaches.now) }
+    ensures { Writes S.rules (All InRangeNameSubsection (indirect (named_within within) (named_lists within fields.now)))
+        out.old out.new (flat_map name_subsection (indirect (named_within within) (named_lists within fields.now))) result }
+{
+    let way = WithinItems { within, fields };
+    let there = with_lists(within, fields, reaches);
+    put_map(id_within(within), way, there, out)
+}
+
 /// The names in these fields, of which those of each kind are found.
 #[derive(Clone, Copy)]
 struct NamesOf<'b, 'a> {
@@ -216,18 +247,8 @@ impl Spell<NameMap> for NamesOf<'_, '_> {
 
     fn spell<S: Sink>(&self, map: &NameMap, out: &mut S) -> Result<(), Refusal> {
         match map {
-            NameMap::Items(space) => {
-                let there = with_items(*space, self.fields, self.reaches);
-                put_map(id_of(*space), *space, there, out)
-            }
-            NameMap::Within(within) => {
-                let way = WithinItems {
-                    within: *within,
-                    fields: self.fields,
-                };
-                let there = with_lists(*within, self.fields, self.reaches);
-                put_map(id_within(*within), way, there, out)
-            }
+            NameMap::Items(space) => put_items(*space, self.fields, self.reaches, out),
+            NameMap::Within(within) => put_lists(*within, self.fields, self.reaches, out),
         }
     }
 }
@@ -288,6 +309,18 @@ impl Encode for Subsections<'_, '_> {
     }
 }
 
+/// The subsections of these fields.
+fn subsections_of<'b, 'a>(
+    name: Option<&'b str>,
+    fields: &'b [ModuleField<'a>],
+    reaches: &'b Reaches,
+) -> Subsections<'b, 'a>
+    ensures { result ≡ record { name = name; names = record { fields = fields; reaches = reaches } } }
+{
+    let names = NamesOf { fields, reaches };
+    Subsections { name, names }
+}
+
 /// How long the payload of the name section is, of a module with this name and these resolved fields; 0 where there are
 /// no names, and the section is left out (custom sections, name section). It needs where in these fields those of each kind
 /// stand, as [`Reaches::of`] tells it, and goes through those alone that can have names. It takes no memory, and refuses
@@ -303,8 +336,7 @@ pub fn names_size(
         × (All InRangePart (names_part (name_subsections (text_seen name.entry) fields.now))
         × InRangeNames (text_seen name.entry) fields.now → ⊥)) }
 {
-    let names = NamesOf { fields, reaches };
-    let subsections = length_of(&Subsections { name, names })?;
+    let subsections = length_of(&subsections_of(name, fields, reaches))?;
     if subsections == 0 {
         return Ok(0);
     }
@@ -335,6 +367,6 @@ pub fn put_names<S: Sink>(
     if size == 0 {
         return Ok(());
     }
-    let names = NamesOf { fields, reaches };
-    (0u8, (size, (Name("name"), Subsections { name, names }))).encode(out)
+    let subsections = subsections_of(name, fields, reaches);
+    (0u8, (size, (Name("name"), subsections))).encode(out)
 }

@@ -327,6 +327,16 @@ impl<'a> NameItems<Type<'a>> for WithinItems<'_, '_> {
     }
 }
 
+/// How many items of a field have such a list.
+fn count_lists(within: Within, fields: &[ModuleField], field: &ModuleField) -> u64
+    ensures { result ≡ counted (length (named_from 0 (lists_within fields.now within field.now))) }
+{
+    match lists_in(within, fields, field) {
+        Lists::One(found) => count_found(found),
+        Lists::Types(types) => count_each(&WithinItems { within, fields }, types),
+    }
+}
+
 impl<'a> NameItems<ModuleField<'a>> for WithinItems<'_, '_> {
     ghost Entry = { List (ℕ × List ℕ) };
 
@@ -337,10 +347,7 @@ impl<'a> NameItems<ModuleField<'a>> for WithinItems<'_, '_> {
     ghost in_range = { InRangeMapEntry };
 
     fn count(&self, part: &ModuleField<'a>) -> u64 {
-        match lists_in(self.within, self.fields, part) {
-            Lists::One(found) => count_found(found),
-            Lists::Types(types) => count_each(self, types),
-        }
+        count_lists(self.within, self.fields, part)
     }
 
     fn put<S: Sink>(
