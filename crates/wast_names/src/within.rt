@@ -336,6 +336,16 @@ impl<'a> NameItems<Type<'a>> for WithinItems<'_, '_> {
     }
 }
 
+/// How many items of a field have such a list.
+fn count_lists(within: Within, fields: &[ModuleField], field: &ModuleField) -> u64
+    ensures { result ≡ counted (length (named_from 0 (lists_within fields.now within field.now))) }
+{
+    match lists_in(within, fields, field) {
+        Lists::One(found) => count_found(found),
+        Lists::Types(types) => count_each(&WithinItems { within, fields }, types),
+    }
+}
+
 impl<'a> NameItems<ModuleField<'a>> for WithinItems<'_, '_> {
     ghost Entry = { List (ℕ × List ℕ) };
 
@@ -346,10 +356,14 @@ impl<'a> NameItems<ModuleField<'a>> for WithinItems<'_, '_> {
     ghost in_range = { InRangeMapEntry };
 
     fn count(&self, part: &ModuleField<'a>) -> u64 {
+<<<<<<< HEAD
         match self.lists(part) {
             Lists::One(found) => count_found(found),
             Lists::Types(types) => count_each(self, types),
         }
+=======
+        count_lists(self.within, self.fields, part)
+>>>>>>> 7e1299350f81d898637144c6e61c97bec4acec9b
     }
 
     fn put<S: Sink>(

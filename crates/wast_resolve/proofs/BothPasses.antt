@@ -1,6 +1,6 @@
 -- The walk over the uses, after the items had what they demand.
-use Rattle.std.specs.Prelude.{⊤}
-use Rattle.std.proofs.Common.{◌≡◌, List, flat_map, inr, None, Option, sym, ◌∙◌, ap, subst}
+use Rattle.std.specs.Prelude.{⊤, flat_map}
+use Rattle.std.proofs.Common.{◌≡◌, List, None, Option, inr, sym, ◌∙◌, ap, subst}
 use Rattle.wast_base.specs.Faults.{Told}
 use Rattle.wast_tree.specs.Items.{items}
 use Rattle.wast_tree.specs.Sites.{in_module}
@@ -32,7 +32,7 @@ scope_known fs r names types k t is = ap scope_of is ∙ (λ i. record { known =
 module _ (fs : List ModuleField) (c : Scope) (same : c ≡ scope fs) (met : first_unmet (item_demands (items fs)) ≡ None) where
   pub uses_stop : (t : Told) → Answers ⊤ (HasMany (flat_map (body_counts_in c) fs)) t (first_unmet (site_demands c (in_module fs))) → Answers ⊤ (IsCrowded fs) t (first_unmet (name_demands fs))
   uses_stop t h =
-      answers_after t (item_demands (items fs)) (site_demands (scope fs) (in_module fs)) (λ l. l) (λ many. inr (met, many)) met
+      answers_after t (item_demands (items fs)) (site_demands (scope fs) (in_module fs)) (λ l. l) (λ m. inr (met, m)) met
       (subst (λ (c : Scope). Answers ⊤ (HasMany (flat_map (body_counts_in c) fs)) t (first_unmet (site_demands c (in_module fs)))) same h)
 
   pub both_pass : first_unmet (site_demands c (in_module fs)) ≡ None → first_unmet (name_demands fs) ≡ None
