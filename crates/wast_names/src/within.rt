@@ -309,15 +309,6 @@ pub(crate) struct WithinItems<'b, 'a> {
     pub(crate) fields: &'b [ModuleField<'a>],
 }
 
-impl WithinItems<'_, '_> {
-    /// The lists that stand within a field.
-    fn lists<'b, 'a>(&self, field: &'b ModuleField<'a>) -> Lists<'b, 'a>
-        ensures { lists_seen self.now.within result ≡ lists_within self.now.fields.now self.now.within field.now }
-    {
-        lists_in(self.within, self.fields, field)
-    }
-}
-
 impl<'a> NameItems<Type<'a>> for WithinItems<'_, '_> {
     ghost Entry = { List (ℕ × List ℕ) };
 
@@ -356,14 +347,7 @@ impl<'a> NameItems<ModuleField<'a>> for WithinItems<'_, '_> {
     ghost in_range = { InRangeMapEntry };
 
     fn count(&self, part: &ModuleField<'a>) -> u64 {
-<<<<<<< HEAD
-        match self.lists(part) {
-            Lists::One(found) => count_found(found),
-            Lists::Types(types) => count_each(self, types),
-        }
-=======
         count_lists(self.within, self.fields, part)
->>>>>>> 7e1299350f81d898637144c6e61c97bec4acec9b
     }
 
     fn put<S: Sink>(
@@ -372,7 +356,7 @@ impl<'a> NameItems<ModuleField<'a>> for WithinItems<'_, '_> {
         position: u64,
         out: &mut S,
     ) -> Result<u64, Refusal> {
-        match self.lists(part) {
+        match lists_in(self.within, self.fields, part) {
             Lists::One(found) => put_found(position, found, out),
             Lists::Types(types) => put_each(self, types, position, out),
         }
