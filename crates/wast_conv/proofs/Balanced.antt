@@ -1,6 +1,6 @@
 -- Instructions open and close blocks as the rows do that they become; and what is balanced does not depend on labels.
 use native.Mathlib.Omega.{arith}
-use Rattle.std.proofs.Common.{◌≡◌, ◌+◌, ◌==◌, ℕ, zero, suc, true, ◌&&◌, length, take, map, List, [], ◌∷◌, Option, refl, sym, ap, ◌∙◌}
+use Rattle.std.proofs.Common.{◌≡◌, ◌+◌, ◌==◌, ℕ, zero, suc, true, ◌&&◌, length, take, map, List, [], ◌∷◌, Option, refl, ap, ◌∙◌}
 use Rattle.std.specs.Prelude.{nat_le, None, Some, option_map}
 use Rattle.std.proofs.lemmas.List.{length-map, take-map}
 use Rattle.wast_base.specs.Blocks.{Turn, Opens, Closes, Stays, openers, closers, never_closed, stays_open, is_balanced}

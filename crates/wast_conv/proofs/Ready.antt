@@ -6,7 +6,7 @@ use Rattle.std.specs.List.{flat_map, list_all}
 use Rattle.wast_base.specs.Ids.{is_number}
 use Rattle.wast_tree.specs.Clauses.{suits}
 use Rattle.wast_tree.specs.Types.{says_enough}
-use Rattle.wast_tree.specs.Sites.{Ask, Wants, Within, Unasked, Clause, Supported, OfItem, OfCall, Site, Asked, Used, Declared, LocalAt, LabelAt, Repeated, Begins, Ends, start, asking, if_there, at_index, in_type, in_rec, in_ref, in_type_use, in_use, in_indirect, in_local, in_func, in_func_kind, in_expression, in_table_type, in_global_type, in_tag_type, in_import, in_constant, in_payload, in_table_kind, in_memory_kind, in_global_kind, in_global, in_elem_kind, in_elem, in_data_kind, in_field, in_module, asked_in, asked}
+use Rattle.wast_tree.specs.Sites.{Ask, Wants, Within, Unasked, Clause, Supported, OfItem, OfCall, Site, Asked, Used, Declared, LocalAt, LabelAt, start, asking, if_there, at_index, in_type, in_rec, in_ref, in_type_use, in_use, in_indirect, in_local, in_func, in_func_kind, in_expression, in_table_type, in_global_type, in_tag_type, in_import, in_constant, in_payload, in_table_kind, in_memory_kind, in_global_kind, in_global, in_elem_kind, in_elem, in_data_kind, in_field, in_module, asked_in, asked}
 use Rattle.wast_tree.specs.Known.{Known}
 use Rattle.wast_tree.specs.WellFormed.{is_kept, are_kept}
 use Rattle.wast_tree.specs.Resolved.{is_numbered, are_numbered, is_resolved_site, is_resolved}
