@@ -1,6 +1,6 @@
 -- What is so of a resolved list: no id is left where an index is wanted, no generation is above those that were there, and
 -- it is well formed as it was.
-use Rattle.std.proofs.Common.{◌≡◌, ℕ, suc, ◌<◌, ◌≤◌, Bool, true, ◌&&◌, List, [], ◌∷◌, ◌++◌, refl, sym, ap, ◌∙◌, map}
+use Rattle.std.proofs.Common.{◌≡◌, ℕ, suc, ◌<◌, ◌≤◌, Bool, true, ◌&&◌, List, [], ◌∷◌, refl, sym, ap, ◌∙◌, map}
 use Rattle.std.specs.Prelude.{nat_lt, Option, Some, None, is_some}
 use Rattle.std.specs.Cmp.{first_so, second_so}
 use Rattle.std.specs.List.{flat_map, list_all}
@@ -20,7 +20,7 @@ use Rattle.wast_map.specs.Mapped.{mapped_ask, mapped, Each}
 use Rattle.wast_map.proofs.Alone.{items_alone}
 use Rattle.wast_deinline.proofs.Below.{each_below, greatest_below}
 use Rattle.wast_labels.specs.OpenBlocks.{denotes}
-use Rattle.wast_resolve.specs.Tree.{Id, Span, Space, Index, ModuleField}
+use Rattle.wast_resolve.specs.Tree.{Id, Span, Index, ModuleField}
 use Rattle.wast_resolve.specs.Tree.index
 use Rattle.wast_resolve.specs.Scopes.{Scope, scope, local_number}
 use Rattle.wast_resolve.specs.Demands.{first_unmet, known_index, ask_demand, ask_demands, match_if, site_demand, site_demands, item_demands, name_demands}

@@ -1,13 +1,13 @@
 -- Where no items clash, the functions of an expanded list have as many parameters and locals as those of the completed one, and
 -- as many blocks are open where one begins.
-use Rattle.std.proofs.Common.{◌≡◌, ℕ, ◌+◌, ◌<◌, true, List, [], ◌∷◌, ◌++◌, map, length, Option, Some, None, refl, sym, ap, ◌∙◌, arith}
+use Rattle.std.proofs.Common.{◌≡◌, ℕ, ◌+◌, true, List, [], ◌∷◌, ◌++◌, map, length, Option, Some, None, refl, ap, ◌∙◌, arith}
 use Rattle.std.specs.List.{flat_map}
 use Rattle.std.proofs.lemmas.Grind.{common_steps}
 use Rattle.wast_tree.specs.Items.{items}
 use Rattle.wast_tree.specs.Sites.{Site, OfItem, param_marks, in_field}
 use Rattle.wast_map.specs.Mapped.{Change, KeepsMarks, mapped_site, mapped_func_kind, mapped}
 use Rattle.wast_map.proofs.Fields.{field_at}
-use Rattle.wast_types.specs.Signatures.{Signature, empty_signature, same_signature}
+use Rattle.wast_types.specs.Signatures.{empty_signature, same_signature}
 use Rattle.wast_types.specs.Expanders.{LookUp, index_of}
 use Rattle.wast_types.specs.Expanded.{with_type_id, typed, bindings, bound_index, binding, bound_field, expanded}
 use Rattle.wast_types.specs.Completed.{completed}

@@ -8,7 +8,7 @@ use Rattle.wast_types.specs.TypeSpace.{taken_kind}
 use Rattle.wast_types.specs.ImpliedTypes.{implied}
 use Rattle.wast_base.specs.Filling.{one_if, given_if, filled, wanted}
 use Rattle.wast_types.specs.Expanders.{LookUp, index_of}
-use Rattle.wast_types.specs.Expanded.{lacks_id, with_type_id, unnamed_type, implied_types, typed, bindings, binding, bound_field, expanded}
+use Rattle.wast_types.specs.Expanded.{lacks_id, with_type_id, unnamed_type, implied_types, typed, bindings, bound_field, expanded}
 use Rattle.wast_types.specs.Completed.{completed}
 use Rattle.wast_resolve.specs.Tree.{Rec, ModuleField}
 use Rattle.wast_resolve.specs.Tree.ty

@@ -5,7 +5,7 @@ use Rattle.wast_base.specs.Ids.{Name, name_of, mark_of}
 use Rattle.wast_base.specs.Spaces.{position_of}
 use Rattle.wast_tree.specs.Known.{Known}
 use Rattle.wast_tree.specs.Sites.{Locals}
-use Rattle.wast_resolve.specs.Tree.{Id, Index, FunctionType}
+use Rattle.wast_resolve.specs.Tree.{Index, FunctionType}
 use Rattle.wast_resolve.specs.Tree.index
 use Rattle.wast_resolve.specs.Tree.space
 use Rattle.wast_resolve.specs.Scopes.{Scope, denoted, type_at, params_of, unsaid_params, nameless, local_number}

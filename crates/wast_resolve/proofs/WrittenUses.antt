@@ -12,7 +12,7 @@ use Rattle.wast_map.specs.Laws.{all_mapped}
 use Rattle.wast_map.proofs.Laws.{stands}
 use Rattle.wast_deinline.specs.Written.{written_out_from, written_out}
 use Rattle.wast_types.specs.Completed.{completed}
-use Rattle.wast_resolve.specs.Tree.{Id, Index, Space, Span, ModuleField}
+use Rattle.wast_resolve.specs.Tree.{Index, Space, Span, ModuleField}
 use Rattle.wast_resolve.specs.Tree.index
 use Rattle.wast_resolve.specs.Scopes.{Scope}
 use Rattle.wast_resolve.specs.Demands.{first_unmet, unknown, site_demand, site_demands}
