@@ -37,13 +37,26 @@ pub(crate) enum To<'a> {
     Number(u32, usize),
 }
 
+/// What is written of results.
+#[derive(Clone, Copy)]
+pub(crate) enum Results {
+    /// Nothing.
+    Left,
+    /// `(result)`
+    Empty,
+    /// `(result i32)`
+    One,
+    /// `(result i32 i64)`
+    Two,
+}
+
 /// An instruction, as what is written of it.
 #[derive(Clone, Copy)]
 pub(crate) enum Word<'a> {
     /// An opener without a type, and its label.
     Open(BlockKind, Option<Name<'a>>),
     /// `block (type 0) (result i32)`, and what is written of it.
-    OpenOf(Option<To<'a>>, Option<&'a [ValType<'a>]>),
+    OpenOf(Option<To<'a>>, Results),
     /// `try_table $h (catch_all $h)`
     TryTable(Name<'a>, To<'a>),
     /// `else $l`
@@ -55,9 +68,9 @@ pub(crate) enum Word<'a> {
     /// `br $l`
     Br(To<'a>),
     /// `br_table $a $b $c`, the default last
-    BrTable([To<'a>; 3]),
+    BrTable(To<'a>, To<'a>, To<'a>),
     /// `call_indirect (type 0) (result i32)`
-    CallOf(To<'a>, &'a [ValType<'a>]),
+    CallOf(To<'a>, Results),
     /// `local.get $x`
     Get(To<'a>),
     /// `i32.const 0`
@@ -65,7 +78,7 @@ pub(crate) enum Word<'a> {
     /// `i32.load`, of this alignment and offset
     Load(u64, u64),
     /// `select`, and what is written of the results
-    Select(Option<&'a [ValType<'a>]>),
+    Select(Results),
 }
 
 /// An id that may be missing.
@@ -83,19 +96,29 @@ fn index(to: To<'_>) -> Index<'_> {
     }
 }
 
+/// The types of results, where any are written.
+fn types<'a>(alloc: Global, maker: &mut Maker, results: Results) -> Option<Seq<ValType<'a>>> {
+    match results {
+        Results::Left => None,
+        Results::Empty => Some(Seq::new(alloc)),
+        Results::One => Some(maker.values(&[ValType::I32])),
+        Results::Two => Some(maker.values(&[ValType::I32, ValType::I64])),
+    }
+}
+
 /// `(type ..) (result ..)`
 fn type_use<'a>(
     alloc: Global,
     maker: &mut Maker,
     to: Option<To<'a>>,
-    results: Option<&[ValType<'a>]>,
+    written: Results,
 ) -> TypeUse<'a, FunctionType<'a>> {
     let index = match to {
         Some(to) => Some(index(to)),
         None => None,
     };
-    let inline = match results {
-        Some(results) => Some(FunctionType::new(Seq::new(alloc), maker.values(results))),
+    let inline = match types(alloc, maker, written) {
+        Some(results) => Some(FunctionType::new(Seq::new(alloc), results)),
         None => None,
     };
     TypeUse { index, inline }
@@ -132,18 +155,21 @@ fn push_block_of<'a>(
     maker: &mut Maker,
     instrs: &mut Seq<Instruction<'a>>,
     to: Option<To<'a>>,
-    results: Option<&[ValType<'a>]>,
+    written: Results,
 ) {
-    let ty = type_use(alloc, maker, to, results);
+    let ty = type_use(alloc, maker, to, written);
     maker.push_block(instrs, BlockKind::Block, block_type(None, ty));
 }
 
 /// `br_table ..` at the end of a body.
-fn push_br_table<'a>(maker: &mut Maker, instrs: &mut Seq<Instruction<'a>>, to: [To<'a>; 3]) {
-    let table = BrTableIndices {
-        labels: maker.indices(&[index(to[0]), index(to[1])]),
-        default: index(to[2]),
-    };
+fn push_br_table<'a>(
+    maker: &mut Maker,
+    instrs: &mut Seq<Instruction<'a>>,
+    labels: &[Index<'a>],
+    default: Index<'a>,
+) {
+    let labels = maker.indices(labels);
+    let table = BrTableIndices { labels, default };
     maker.push_instruction(instrs, Instruction::br_table(table));
 }
 
@@ -153,11 +179,11 @@ fn push_call_of<'a>(
     maker: &mut Maker,
     instrs: &mut Seq<Instruction<'a>>,
     to: To<'a>,
-    results: &[ValType<'a>],
+    written: Results,
 ) {
     let call = CallIndirect {
         table: Index::Num(0, at(0)),
-        ty: type_use(alloc, maker, Some(to), Some(results)),
+        ty: type_use(alloc, maker, Some(to), written),
     };
     maker.push_instruction(instrs, Instruction::call_indirect(call));
 }
@@ -175,14 +201,12 @@ fn push_load<'a>(maker: &mut Maker, instrs: &mut Seq<Instruction<'a>>, align: u6
 
 /// `select (result ..)` at the end of a body.
 fn push_select<'a>(
+    alloc: Global,
     maker: &mut Maker,
     instrs: &mut Seq<Instruction<'a>>,
-    types: Option<&[ValType<'a>]>,
+    written: Results,
 ) {
-    let tys = match types {
-        Some(types) => Some(maker.values(types)),
-        None => None,
-    };
+    let tys = types(alloc, maker, written);
     maker.push_instruction(instrs, Instruction::select(SelectTypes { tys }));
 }
 
@@ -192,18 +216,25 @@ fn push<'a>(alloc: Global, maker: &mut Maker, instrs: &mut Seq<Instruction<'a>>,
         Word::Open(kind, label) => {
             maker.push_block(instrs, kind, block_type(label, TypeUse::none()));
         }
-        Word::OpenOf(to, results) => push_block_of(alloc, maker, instrs, to, results),
+        Word::OpenOf(to, written) => push_block_of(alloc, maker, instrs, to, written),
         Word::TryTable(label, to) => push_try_table(maker, instrs, label, to),
         Word::Else(label) => maker.push_instruction(instrs, Instruction::else_(id(label))),
         Word::End(label) => maker.push_instruction(instrs, Instruction::end_(id(label))),
         Word::Delegate(to) => maker.push_instruction(instrs, Instruction::delegate(index(to))),
         Word::Br(to) => maker.push_instruction(instrs, Instruction::br(index(to))),
-        Word::BrTable(to) => push_br_table(maker, instrs, to),
-        Word::CallOf(to, results) => push_call_of(alloc, maker, instrs, to, results),
+        Word::BrTable(first, second, default) => {
+            push_br_table(
+                maker,
+                instrs,
+                &[index(first), index(second)],
+                index(default),
+            );
+        }
+        Word::CallOf(to, written) => push_call_of(alloc, maker, instrs, to, written),
         Word::Get(to) => maker.push_instruction(instrs, Instruction::local_get(index(to))),
         Word::Zero => maker.push_instruction(instrs, Instruction::i32_const(0)),
         Word::Load(align, offset) => push_load(maker, instrs, align, offset),
-        Word::Select(types) => push_select(maker, instrs, types),
+        Word::Select(written) => push_select(alloc, maker, instrs, written),
     }
 }
 

@@ -3,6 +3,7 @@
 use crate::bodies::Around::{
     BehindFunc, BehindStruct, Function, Global, OfManyParams, OfNamedType,
 };
+use crate::bodies::Results::{Empty, Left, One, Two};
 use crate::bodies::To::{Name, Number};
 use crate::bodies::Word::{
     Br, BrTable, CallOf, Delegate, Else, End, Get, Load, Open, OpenOf, Select, TryTable, Zero,
@@ -14,7 +15,7 @@ use std::process::Abort;
 use wast_core::{Module, discard_module};
 use wast_rows::run;
 use wast_tree::BlockKind::{Block, If, Try};
-use wast_tree::{BlockType, Gensym, Id, Index, Instruction, Maker, Seq, TypeUse, ValType};
+use wast_tree::{BlockType, Gensym, Id, Index, Instruction, Maker, Seq, TypeUse};
 
 /// The line that answers a body.
 fn line(rt: &impl Abort, alloc: alloc::Global, around: Around, words: &[Word<'_>]) -> Vec<u8> {
@@ -82,7 +83,7 @@ fn labels_denote_open_blocks(rt: HostRuntime) {
                 Function,
                 &[
                     Open(Block, Some(("a", 20))),
-                    BrTable([Name("a", 32), Name("x", 35), Name("y", 38)]),
+                    BrTable(Name("a", 32), Name("x", 35), Name("y", 38)),
                     End(None),
                 ],
                 "fault at 35: unknown label: failed to find name `$x`",
@@ -91,7 +92,7 @@ fn labels_denote_open_blocks(rt: HostRuntime) {
                 Function,
                 &[
                     Open(Block, Some(("a", 20))),
-                    BrTable([Name("a", 32), Name("a", 35), Name("z", 38)]),
+                    BrTable(Name("a", 32), Name("a", 35), Name("z", 38)),
                     End(None),
                 ],
                 "fault at 38: unknown label: failed to find name `$z`",
@@ -101,7 +102,7 @@ fn labels_denote_open_blocks(rt: HostRuntime) {
                 &[
                     Open(Block, Some(("a", 20))),
                     Open(Block, None),
-                    BrTable([Name("a", 38), Number(0, 41), Name("a", 43)]),
+                    BrTable(Name("a", 38), Number(0, 41), Name("a", 43)),
                     End(None),
                     End(None),
                 ],
@@ -224,56 +225,47 @@ fn types_of_blocks_and_calls_are_matched(rt: HostRuntime) {
         &[
             (
                 BehindStruct,
-                &[
-                    OpenOf(Some(Number(0, 42)), Some(&[ValType::I32])),
-                    End(None),
-                ],
+                &[OpenOf(Some(Number(0, 42)), One), End(None)],
                 "fault at 42: invalid type: not a function type",
             ),
             (
                 BehindFunc,
-                &[
-                    OpenOf(Some(Number(5, 40)), Some(&[ValType::I32])),
-                    End(None),
-                ],
+                &[OpenOf(Some(Number(5, 40)), One), End(None)],
                 "fault at 40: unknown type: type index out of bounds",
             ),
             (
                 BehindFunc,
-                &[
-                    OpenOf(Some(Number(0, 40)), Some(&[ValType::I32])),
-                    End(None),
-                ],
+                &[OpenOf(Some(Number(0, 40)), One), End(None)],
                 "fault at 40: inline function type doesn't match type reference",
             ),
             (
                 BehindStruct,
-                &[CallOf(Number(0, 50), &[ValType::I32])],
+                &[CallOf(Number(0, 50), One)],
                 "fault at 50: invalid type: not a function type",
             ),
             (
                 BehindFunc,
-                &[CallOf(Number(5, 48), &[ValType::I32])],
+                &[CallOf(Number(5, 48), One)],
                 "fault at 48: unknown type: type index out of bounds",
             ),
             (
                 BehindFunc,
-                &[CallOf(Number(0, 48), &[ValType::I32])],
+                &[CallOf(Number(0, 48), One)],
                 "fault at 48: inline function type doesn't match type reference",
             ),
             (
                 Function,
-                &[OpenOf(Some(Number(5, 26)), None), End(None)],
+                &[OpenOf(Some(Number(5, 26)), Left), End(None)],
                 "0061736d01000000010401600000030201000a0701050002050b0b",
             ),
             (
                 BehindFunc,
-                &[OpenOf(Some(Number(0, 40)), None), End(None)],
+                &[OpenOf(Some(Number(0, 40)), Left), End(None)],
                 "0061736d01000000010401600000030201000a0701050002000b0b",
             ),
             (
                 Function,
-                &[OpenOf(None, Some(&[ValType::I32])), End(None)],
+                &[OpenOf(None, One), End(None)],
                 "0061736d01000000010401600000030201000a07010500027f0b0b",
             ),
         ],
@@ -300,22 +292,22 @@ fn immediates_have_their_bytes(rt: HostRuntime) {
             ),
             (
                 Function,
-                &[Select(None)],
+                &[Select(Left)],
                 "0061736d01000000010401600000030201000a050103001b0b",
             ),
             (
                 Function,
-                &[Select(Some(&[]))],
+                &[Select(Empty)],
                 "0061736d01000000010401600000030201000a060104001c000b",
             ),
             (
                 Function,
-                &[Select(Some(&[ValType::I32]))],
+                &[Select(One)],
                 "0061736d01000000010401600000030201000a070105001c017f0b",
             ),
             (
                 Function,
-                &[Select(Some(&[ValType::I32, ValType::I64]))],
+                &[Select(Two)],
                 "0061736d01000000010401600000030201000a080106001c027f7e0b",
             ),
         ],
@@ -341,7 +333,7 @@ fn branch_and_end<'a>(maker: &mut Maker, instrs: &mut Seq<Instruction<'a>>, name
     }
 }
 
-/// The module has these bytes behind its types and functions, 4 bytes of lengths, and 10,000 openers.
+/// Behind 27 bytes and 9,999 openers, of two bytes each, the module has these bytes.
 fn branches_by(rt: &impl Abort, alloc: alloc::Global, module: Module<'_>, branch: &[u8]) {
     let mut module = ready(rt, module);
     let bytes = module
