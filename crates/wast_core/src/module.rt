@@ -41,9 +41,11 @@ impl<'a> Module<'a> {
     /// Whether the module can be resolved and encoded. It takes no memory.
     ///
     /// Binary and refused modules are well formed. Fields are, where each generated id that stands for an index is
-    /// borne by an item of its space, and where they keep to what the tree covers today: no expression has hints; types,
-    /// tables and globals are not shared, types are without descriptor and describes, and no shared heap type is referred
-    /// to; expressions of an active element segment without a table are of type `funcref`; a function that is imported in
+    /// borne by an item of its space, none stands for a local or a label, and where they keep to what the tree covers
+    /// today: no expression has hints; types, tables and globals are not shared, types are without descriptor and
+    /// describes, and no shared heap type is referred to; the alignment of a memory argument is a power of two, and it
+    /// has no ordering; a constant expression closes as many blocks as it opens, and none before it is open;
+    /// expressions of an active element segment without a table are of type `funcref`; a function that is imported in
     /// place is not exact, and the page exponent of a memory with bytes in place is below 64.
     pub fn well_formed(&self) -> bool
         ensures { result ≡ is_well_formed self.now }
