@@ -46,6 +46,7 @@ pub mod SameUses
 pub mod Standing
 pub mod Stepping
 pub mod Trying
+pub mod Turned
 pub mod TwoSteps
 pub mod TypeParts
 pub mod Unmet

@@ -52,11 +52,11 @@ catches_stay h blocks (c ∷ cs) =
     ∙ (ap (λ g. after_all g (flat_map (in_catch blocks) cs)) (catch_stays h blocks c.kind c.label) ∙ catches_stay h blocks cs)
 
 -- what is asked of names alone does so too, and labels
-asking_stays : (h : Here) (asks : List Ask) → after_all h (asking asks) ≡ h
+pub asking_stays : (h : Here) (asks : List Ask) → after_all h (asking asks) ≡ h
 asking_stays h [] = refl
 asking_stays h (a ∷ asks) = asking_stays h asks
 
-labels_stay : (h : Here) (blocks : Blocks) (is : List Index) → after_all h (flat_map (at_label blocks) is) ≡ h
+pub labels_stay : (h : Here) (blocks : Blocks) (is : List Index) → after_all h (flat_map (at_label blocks) is) ≡ h
 labels_stay h blocks [] = refl
 labels_stay h blocks (i ∷ is) = labels_stay h blocks is
 

@@ -350,4 +350,3 @@ impl<'a> WalkConstants<'a> for Data<'a> {
         Ok(())
     }
 }
-

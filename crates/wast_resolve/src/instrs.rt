@@ -27,8 +27,8 @@ use crate::walks::{Walk, walk_body_type, walk_index};
 use std::alloc::{AllocError, Global};
 use wast_labels::{LabelNames, Labels, gathering_law};
 use wast_tree::{
-    BlockType, Boxed, BrTableIndices, CallIndirect, Error, Expression, Fault, FunctionType, Id, Index,
-    Instruction, Seq, Space, TryTable, TryTableCatch, TryTableCatchKind, TypeUse,
+    BlockType, Boxed, BrTableIndices, CallIndirect, Error, Expression, Fault, FunctionType, Id,
+    Index, Instruction, Seq, Space, TryTable, TryTableCatch, TryTableCatchKind, TypeUse,
 };
 
 /// Walks over an index of a space. No block is opened.
@@ -86,10 +86,7 @@ fn walk_labels<'a>(labels: &Labels<'a>, indices: &mut Seq<Index<'a>>) -> Result<
 }
 
 /// Walks over the labels that a number chooses from, and then the one for all others.
-fn walk_br_table<'a>(
-    labels: &Labels<'a>,
-    table: &mut BrTableIndices<'a>,
-) -> Result<(), Error<'a>>
+fn walk_br_table<'a>(labels: &Labels<'a>, table: &mut BrTableIndices<'a>) -> Result<(), Error<'a>>
     ensures { (names : Resolution) →
         WalksBodies names (in_br_table labels.now.blocks) (λ f. mapped_br_table f labels.now.blocks) table.old table.new result }
 {
@@ -148,10 +145,7 @@ fn walk_block<'a>(
 }
 
 /// Walks over what a clause of `try_table` catches.
-fn walk_caught<'a>(
-    names: &Resolver<'a>,
-    kind: &mut TryTableCatchKind<'a>,
-) -> Result<(), Error<'a>>
+fn walk_caught<'a>(names: &Resolver<'a>, kind: &mut TryTableCatchKind<'a>) -> Result<(), Error<'a>>
     ensures { WalksAsks names.now in_caught (λ f. mapped_caught f.index) kind.old kind.new result }
 {
     match kind {
@@ -326,10 +320,7 @@ fn walk_instrs<'a>(
 }
 
 /// Takes in the label of a block, where an instruction opens one.
-fn gather_label<'a>(
-    labels: &mut LabelNames<'a>,
-    instr: &Instruction<'a>,
-) -> Result<(), AllocError>
+fn gather_label<'a>(labels: &mut LabelNames<'a>, instr: &Instruction<'a>) -> Result<(), AllocError>
     ensures { OnOk result (labels.new ≡ gathered labels.old (turn_of instr.now ∷ [])) }
 {
     match instr.block_type() {
@@ -353,10 +344,7 @@ fn gather_labels<'a>(
 }
 
 /// The labels that instructions may open, with no block open. It takes memory only where there is a label.
-fn table_of_labels<'a>(
-    alloc: Global,
-    instrs: &[Instruction<'a>],
-) -> Result<Labels<'a>, AllocError>
+fn table_of_labels<'a>(alloc: Global, instrs: &[Instruction<'a>]) -> Result<Labels<'a>, AllocError>
     ensures known { IfOk result (λ labels. AreOpenable labels.known instrs.now) }
     ensures none_open { IfOk result (λ labels. labels.blocks ≡ []) }
 {

@@ -1,9 +1,12 @@
-//! Laws for callers to cite: of the resolved list of fields, and of types that the resolver of a module resolves.
+//! Laws for callers to cite: of the resolved list of fields, of types that the resolver of a module resolves, and of the open
+//! blocks of a body.
 
 ghost use Rattle.wast_tree.specs.Sites.{in_heap, in_ref, in_val, in_storage, in_signature, in_def, in_type};
 ghost use Rattle.wast_map.specs.Mapped.{mapped_heap, mapped_ref, mapped_val, mapped_storage, mapped_signature, mapped_def};
 ghost use Rattle.wast_resolve.specs.CoreTypes.{with_def};
-ghost use Rattle.wast_resolve.specs.Laws.{ByResolver, NeedsOfResolver, SameAnswer, SameCounts, SameBodyCounts, ExplicitStaysWellFormed, NoIdIsLeft, FinishedStaysWellFormed, SamePositions, FinishedIsResolved, FinishedIsBelow, UsesHaveIndices, FinishedIsWrittenOut, ItemsStay};
+ghost use Rattle.wast_resolve.specs.Laws.{ByResolver, NeedsOfResolver, SameAnswer, SameCounts, SameBodyCounts, ExplicitStaysWellFormed, NoIdIsLeft, FinishedStaysWellFormed, SamePositions, FinishedIsResolved, FinishedIsBelow, UsesHaveIndices, FinishedIsWrittenOut, ItemsStay, BlocksAreCounted};
+
+use wast_labels::walking_law;
 
 /// Where the counter begins above the ids of the fields, the ids that are filled in change no answer and no count of items, nor
 /// one in bodies where no items clash, and well formed fields stay well formed. In the resolved list of fields whose demands are met no id is left where an index
@@ -47,3 +50,11 @@ pub fn core_type_laws()
     ensures heaps_needs { NeedsOfResolver in_heap }
     ensures storages_needs { NeedsOfResolver in_storage }
 {}
+
+/// Behind the instructions of a body, the blocks that are open, by which labels are looked up (text format, control
+/// instructions: labels), are those that counting its openers and closers gives, each with its label. It does nothing.
+pub fn label_law()
+    ensures { BlocksAreCounted }
+{
+    walking_law();
+}

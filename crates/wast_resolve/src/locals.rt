@@ -133,7 +133,12 @@ pub(crate) fn name_locals<'a>(
     match kind {
         FuncKind::Import(..) => Ok(LocalNames::none(alloc)),
         FuncKind::Inline { locals, .. } => {
-            name_declared(alloc, names.unsaid_params(ty), &ty.inline, locals.as_slice())
+            name_declared(
+                alloc,
+                names.unsaid_params(ty),
+                &ty.inline,
+                locals.as_slice(),
+            )
         }
     }
 }

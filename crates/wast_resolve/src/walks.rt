@@ -28,11 +28,10 @@ use crate::locals::name_locals;
 use crate::resolver::Resolver;
 use std::alloc::Global;
 use wast_tree::{
-    ArrayType, Error, Export, Func, FuncKind, FunctionType, GlobalType, HeapType, Id,
-    Index, InnerTypeKind, Local, MemArg, MemArgTarget, MemoryCopy, MemoryInit,
-    ModuleField, NameAnnotation, Rec, RefType, SelectTypes, Seq, Space, StorageType, StructField,
-    StructType, TableCopy, TableInit, TableType, Type, TypeDef, TypeUse, ValType,
-    discard_said_inline,
+    ArrayType, Error, Export, Func, FuncKind, FunctionType, GlobalType, HeapType, Id, Index,
+    InnerTypeKind, Local, MemArg, MemArgTarget, MemoryCopy, MemoryInit, ModuleField,
+    NameAnnotation, Rec, RefType, SelectTypes, Seq, Space, StorageType, StructField, StructType,
+    TableCopy, TableInit, TableType, Type, TypeDef, TypeUse, ValType, discard_said_inline,
 };
 
 /// Walks over an index of a space. The error is E4 at an id that denotes nothing.

@@ -24,7 +24,7 @@ returns-in_err-walk_instrs c l numbers =
     let last = Supported (length x.branch_hints == 0) in
     let p = err_from_is_err_and c.from_residual-in_err-walk_instrs.result c.from_residual-in_err-walk_instrs.ensures.1 in
     let failed = subst (λ (bs : Blocks). let g = record h { blocks = bs } in Answers ⊤ (HasMany (open_counts (in_instrs g x.instrs))) e (first_unmet (site_demands s (in_instrs g x.instrs))))
-        c.in_ok-labels.ensures.none_open (c.in_err-walk_instrs.ensures l numbers) in
+    c.in_ok-labels.ensures.none_open (c.in_err-walk_instrs.ensures l numbers) in
     rw (p.1, p.2) (subst (λ ns. Answers ⊤ (HasMany ns) e (first_unmet (site_demands s (in_expression h x)))) (sym (all_counts_but_last (in_instrs h x.instrs) last))
     (subst (λ ds. Answers ⊤ (HasMany (open_counts (in_instrs h x.instrs))) e (first_unmet ds)) (sym (all_but_last s (in_instrs h x.instrs) last refl)) failed))
 
@@ -34,5 +34,5 @@ returns c l numbers =
     let s = scope_of c.args.names.now in
     let h = begin l in
     let done = subst (λ (bs : Blocks). let g = record h { blocks = bs } in (first_unmet (site_demands s (in_instrs g x.instrs)) ≡ None) × (c.walk_instrs.new.instrs ≡ mapped_instrs (numbering s) g x.instrs))
-        c.in_ok-labels.ensures.none_open (c.in_ok-walk_instrs.ensures l numbers) in
+    c.in_ok-labels.ensures.none_open (c.in_ok-walk_instrs.ensures l numbers) in
     (ap first_unmet (all_but_last s (in_instrs h x.instrs) (Supported (length x.branch_hints == 0)) refl) ∙ done.0, ap (λ (is : List Instruction). record x { instrs = is }) done.1)

@@ -40,12 +40,14 @@ loop-i-preserved c =
     let sc = scope_of c.args.names.now in
     let x = c.at_mut.result.now in
     let lt : c.loop-i.i < length c.args.instrs.now = omega (arith, c.loop-i-test.true, c.len-i-end.ensures) in
-    let along = c.loop-i.invariant.0 in
-    (along_more c.walk_instr.new.instr along lt c.at_mut.ensures.value c.in_ok-walk_instr.ensures.blocks, λ l numbers.
-    let h = here l s in
-    let there = stands_by l s (in_instrs h (take c.loop-i.i c.args.instrs.now)) c.loop-i.labels (along.moved l) in
-    let done = subst (λ (g : Here). (first_unmet (site_demands sc (in_instr g x)) ≡ None) × (c.walk_instr.new.instr ≡ mapped_instr (numbering sc) g x)) there (c.in_ok-walk_instr.ensures.walks l numbers) in
-    partway_more (c.loop-i.invariant.1 l numbers) lt c.at_mut.ensures.value done.0 done.1)
+    let along = c.loop-i.invariant.0 in (
+      along_more c.walk_instr.new.instr along lt c.at_mut.ensures.value c.in_ok-walk_instr.ensures.blocks,
+      λ l numbers.
+          let h = here l s in
+          let there = stands_by l s (in_instrs h (take c.loop-i.i c.args.instrs.now)) c.loop-i.labels (along.moved l) in
+          let done = subst (λ (g : Here). (first_unmet (site_demands sc (in_instr g x)) ≡ None) × (c.walk_instr.new.instr ≡ mapped_instr (numbering sc) g x)) there (c.in_ok-walk_instr.ensures.walks l numbers) in
+          partway_more (c.loop-i.invariant.1 l numbers) lt c.at_mut.ensures.value done.0 done.1,
+    )
 
 pub at_mut-requires : goal.at_mut-requires
 at_mut-requires c = omega (arith, c.loop-i.invariant.0.len, c.loop-i-test.true, c.len-i-end.ensures)
