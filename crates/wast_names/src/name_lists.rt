@@ -46,24 +46,25 @@ struct Openers;
 impl<'a> NameItems<Instruction<'a>> for Openers {
     ghost Entry = { List ℕ };
 
-    ghost items = { λ _ i. label_in i };
+    ghost items = { λ _ _ i. label_in i };
 
     ghost entry = { name_entry };
 
     ghost in_range = { InRangeNameEntry };
 
-    fn count(&self, part: &Instruction<'a>) -> u64 {
+    fn count<'b>(self, _: &'b [Instruction<'a>], part: &'b Instruction<'a>) -> u64 {
         match part.block_type() {
             Some(block) => u64::from(given_name(&block.label_name, &block.label).is_some()),
             None => 0,
         }
     }
 
-    fn put<S: Sink>(
-        &self,
-        part: &Instruction<'a>,
+    fn put<'b, S: Sink>(
+        self,
+        _: &'b [Instruction<'a>],
+        part: &'b Instruction<'a>,
         position: u64,
-        out: &mut S,
+        out: &'b mut S,
     ) -> Result<u64, Refusal> {
         match part.block_type() {
             Some(block) => put_name(position, given_name(&block.label_name, &block.label), out),
@@ -88,11 +89,11 @@ fn count_listed(listed: Listed) -> u64
     ensures { result ≡ counted (length (names_listed listed.entry)) }
 {
     match listed {
-        Listed::Fields(fields) => count_each(&Own, fields),
+        Listed::Fields(fields) => count_each(Own, fields, fields),
         Listed::Locals(params, _, locals) => {
-            count_each(&Own, params).saturating_add(count_each(&Own, locals))
+            count_each(Own, params, params).saturating_add(count_each(Own, locals, locals))
         }
-        Listed::Labels(instrs) => count_each(&Openers, instrs),
+        Listed::Labels(instrs) => count_each(Openers, instrs, instrs),
     }
 }
 
@@ -112,6 +113,7 @@ impl Encode for ListedNames<'_, '_> {
             Listed::Fields(parts) => Entries {
                 way: Own,
                 first: 0,
+                among: parts,
                 parts,
             }
             .encode(out),
@@ -119,11 +121,13 @@ impl Encode for ListedNames<'_, '_> {
                 let params = Entries {
                     way: Own,
                     first: 0,
+                    among: params,
                     parts: params,
                 };
                 let locals = Entries {
                     way: Own,
                     first,
+                    among: locals,
                     parts: locals,
                 };
                 (params, locals).encode(out)
@@ -131,6 +135,7 @@ impl Encode for ListedNames<'_, '_> {
             Listed::Labels(parts) => Entries {
                 way: Openers,
                 first: 0,
+                among: parts,
                 parts,
             }
             .encode(out),

@@ -138,7 +138,7 @@ fn locals_behind<'b, 'a>(
         let params = inline.params.as_slice();
         return Listed::Locals(params, params.len() as u64, locals);
     }
-    if count_each(&Own, locals) == 0 {
+    if count_each(Own, locals, locals) == 0 {
         return Listed::Fields(none());
     }
     match arity_at(fields, &ty.index) {
@@ -302,63 +302,58 @@ fn lists_in<'b, 'a>(
     }
 }
 
-/// The way to see what stands within the items of these fields.
-#[derive(Clone, Copy)]
-pub(crate) struct WithinItems<'b, 'a> {
-    pub(crate) within: Within,
-    pub(crate) fields: &'b [ModuleField<'a>],
-}
-
-impl<'a> NameItems<Type<'a>> for WithinItems<'_, '_> {
+/// The way to see what stands within types.
+impl<'a> NameItems<Type<'a>> for Within {
     ghost Entry = { List (ℕ × List ℕ) };
 
-    ghost items = { λ w t. lists_in_type w.within t };
+    ghost items = { λ w _ t. lists_in_type w t };
 
     ghost entry = { map_entry };
 
     ghost in_range = { InRangeMapEntry };
 
-    fn count(&self, part: &Type<'a>) -> u64 {
-        count_found(listed_in_type(self.within, part))
+    fn count<'b>(self, _: &'b [Type<'a>], part: &'b Type<'a>) -> u64 {
+        count_found(listed_in_type(self, part))
     }
 
-    fn put<S: Sink>(&self, part: &Type<'a>, position: u64, out: &mut S) -> Result<u64, Refusal> {
-        put_found(position, listed_in_type(self.within, part), out)
-    }
-}
-
-/// How many items of a field have such a list.
-fn count_lists(within: Within, fields: &[ModuleField], field: &ModuleField) -> u64
-    ensures { result ≡ counted (length (named_from 0 (lists_within fields.now within field.now))) }
-{
-    match lists_in(within, fields, field) {
-        Lists::One(found) => count_found(found),
-        Lists::Types(types) => count_each(&WithinItems { within, fields }, types),
-    }
-}
-
-impl<'a> NameItems<ModuleField<'a>> for WithinItems<'_, '_> {
-    ghost Entry = { List (ℕ × List ℕ) };
-
-    ghost items = { λ w f. lists_within w.fields.now w.within f };
-
-    ghost entry = { map_entry };
-
-    ghost in_range = { InRangeMapEntry };
-
-    fn count(&self, part: &ModuleField<'a>) -> u64 {
-        count_lists(self.within, self.fields, part)
-    }
-
-    fn put<S: Sink>(
-        &self,
-        part: &ModuleField<'a>,
+    fn put<'b, S: Sink>(
+        self,
+        _: &'b [Type<'a>],
+        part: &'b Type<'a>,
         position: u64,
-        out: &mut S,
+        out: &'b mut S,
     ) -> Result<u64, Refusal> {
-        match lists_in(self.within, self.fields, part) {
+        put_found(position, listed_in_type(self, part), out)
+    }
+}
+
+/// The way to see what stands within the items of fields.
+impl<'a> NameItems<ModuleField<'a>> for Within {
+    ghost Entry = { List (ℕ × List ℕ) };
+
+    ghost items = { λ w fields f. lists_within fields w f };
+
+    ghost entry = { map_entry };
+
+    ghost in_range = { InRangeMapEntry };
+
+    fn count<'b>(self, fields: &'b [ModuleField<'a>], part: &'b ModuleField<'a>) -> u64 {
+        match lists_in(self, fields, part) {
+            Lists::One(found) => count_found(found),
+            Lists::Types(types) => count_each(self, types, types),
+        }
+    }
+
+    fn put<'b, S: Sink>(
+        self,
+        fields: &'b [ModuleField<'a>],
+        part: &'b ModuleField<'a>,
+        position: u64,
+        out: &'b mut S,
+    ) -> Result<u64, Refusal> {
+        match lists_in(self, fields, part) {
             Lists::One(found) => put_found(position, found, out),
-            Lists::Types(types) => put_each(self, types, position, out),
+            Lists::Types(types) => put_each(self, types, types, position, out),
         }
     }
 }

@@ -1,0 +1,24 @@
+use Rattle.std.proofs.Common.{subst}
+use Rattle.wasm_ops.specs.Sinks.{Writes}
+use Rattle.wasm_out.specs.NameSectionBytes.{name_entry, map_entry, InRangeNameEntry, InRangeMapEntry}
+use Rattle.wast_names.specs.GivenNames.{named_from}
+use Rattle.wast_names.specs.FoundNames.{map_bytes, InRangeMap}
+use Rattle.wast_names.specs.ModuleNames.{named_of, named_items, named_within, named_lists}
+use Rattle.wast_names.proofs.NameMaps.{direct_written, indirect_written}
+use Rattle.wast_names.proofs.names_payload.put_subsection.Goals as goal
+
+pub returns-in-Items : goal.returns-in-Items
+returns-in-Items g c =
+    let rules = g.S.Sink.rules in
+    let space = c.in-Items.space in
+    let id = c.id_of.result in
+    rw c.in-Items.is (direct_written rules c.args.out.now c.put_map.new.out (named_of space) (named_items space c.args.fields.now) id c.put_map.result c.id_of.ensures
+    (subst (λ xs. Writes rules (InRangeMap name_entry InRangeNameEntry (named_from 0 xs)) c.args.out.now c.put_map.new.out (map_bytes id name_entry (named_from 0 xs)) c.put_map.result) c.with_items-there.ensures c.put_map.ensures))
+
+pub returns-in-Within : goal.returns-in-Within
+returns-in-Within g c =
+    let rules = g.S.Sink.rules in
+    let w = c.in-Within.within in
+    let id = c.id_within.result in
+    rw c.in-Within.is (indirect_written rules c.args.out.now c.put_map-in-Within.new.out (named_within w) (named_lists w c.args.fields.now) id c.put_map-in-Within.result c.id_within.ensures
+    (subst (λ xs. Writes rules (InRangeMap map_entry InRangeMapEntry (named_from 0 xs)) c.args.out.now c.put_map-in-Within.new.out (map_bytes id map_entry (named_from 0 xs)) c.put_map-in-Within.result) c.with_lists-there.ensures c.put_map-in-Within.ensures))
