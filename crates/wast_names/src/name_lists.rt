@@ -46,25 +46,24 @@ struct Openers;
 impl<'a> NameItems<Instruction<'a>> for Openers {
     ghost Entry = { List ℕ };
 
-    ghost items = { λ _ _ i. label_in i };
+    ghost items = { λ _ i. label_in i };
 
     ghost entry = { name_entry };
 
     ghost in_range = { InRangeNameEntry };
 
-    fn count<'b>(self, _: &'b [Instruction<'a>], part: &'b Instruction<'a>) -> u64 {
+    fn count(&self, part: &Instruction<'a>) -> u64 {
         match part.block_type() {
             Some(block) => u64::from(given_name(&block.label_name, &block.label).is_some()),
             None => 0,
         }
     }
 
-    fn put<'b, S: Sink>(
-        self,
-        _: &'b [Instruction<'a>],
-        part: &'b Instruction<'a>,
+    fn put<S: Sink>(
+        &self,
+        part: &Instruction<'a>,
         position: u64,
-        out: &'b mut S,
+        out: &mut S,
     ) -> Result<u64, Refusal> {
         match part.block_type() {
             Some(block) => put_name(position, given_name(&block.label_name, &block.label), out),
@@ -89,11 +88,11 @@ fn count_listed(listed: Listed) -> u64
     ensures { result ≡ counted (length (names_listed listed.entry)) }
 {
     match listed {
-        Listed::Fields(fields) => count_each(Own, fields, fields),
+        Listed::Fields(fields) => count_each(&Own, fields),
         Listed::Locals(params, _, locals) => {
-            count_each(Own, params, params).saturating_add(count_each(Own, locals, locals))
+            count_each(&Own, params).saturating_add(count_each(&Own, locals))
         }
-        Listed::Labels(instrs) => count_each(Openers, instrs, instrs),
+        Listed::Labels(instrs) => count_each(&Openers, instrs),
     }
 }
 
@@ -113,7 +112,6 @@ impl Encode for ListedNames<'_, '_> {
             Listed::Fields(parts) => Entries {
                 way: Own,
                 first: 0,
-                among: parts,
                 parts,
             }
             .encode(out),
@@ -121,13 +119,11 @@ impl Encode for ListedNames<'_, '_> {
                 let params = Entries {
                     way: Own,
                     first: 0,
-                    among: params,
                     parts: params,
                 };
                 let locals = Entries {
                     way: Own,
                     first,
-                    among: locals,
                     parts: locals,
                 };
                 (params, locals).encode(out)
@@ -135,7 +131,6 @@ impl Encode for ListedNames<'_, '_> {
             Listed::Labels(parts) => Entries {
                 way: Openers,
                 first: 0,
-                among: parts,
                 parts,
             }
             .encode(out),

@@ -10,15 +10,15 @@ ghost use Rattle.wast_names.specs.FoundNames.{counted, text_seen, WritesItems, m
 
 use wasm_ops::{Encode, Name, Refusal, Sink, WithLength};
 
-/// A way to see items in values of a type, each with an entry of a map of names, or without one. A value is seen among
-/// others, of which it is one. Positions and counts stay at the greatest `u64` where they would pass it: from 2^32 on, no
-/// entry stands at a position, and no count is in range.
+/// A way to see items in values of a type, each with an entry of a map of names, or without one. Positions and counts
+/// stay at the greatest `u64` where they would pass it: from 2^32 on, no entry stands at a position, and no count is in
+/// range.
 pub(crate) trait NameItems<T> {
     /// What an entry holds behind its position.
     ghost Entry: { Type 0 };
 
-    /// The items of a value among others, those without an entry too.
-    ghost items: { Self → List T → T → List (Option Entry) };
+    /// The items of a value, those without an entry too.
+    ghost items: { Self → T → List (Option Entry) };
 
     /// The bytes of an entry.
     ghost entry: { ℕ × Entry → List ℕ };
@@ -27,42 +27,41 @@ pub(crate) trait NameItems<T> {
     ghost in_range: { ℕ × Entry → Type 0 };
 
     /// How many items of a value have an entry.
-    fn count<'b>(self, among: &'b [T], part: &'b T) -> u64
-        ensures { result ≡ counted (length (named_from 0 (items self among.now part.now))) };
+    fn count(&self, part: &T) -> u64
+        ensures { result ≡ counted (length (named_from 0 (items self.now part.now))) };
 
     /// Appends the entries of the items of a value, the first of which stands at a position, and answers the position
     /// behind the last. It refuses as [`Encode::encode`] does; then nothing was appended.
-    fn put<'b, S: Sink>(self, among: &'b [T], part: &'b T, position: u64, out: &'b mut S) -> Result<u64, Refusal>
-        ensures written { WritesItems S.rules entry in_range (items self among.now part.now) position out.old out.new result }
-        ensures next { IfOk result (λ p. p ≡ counted (position + length (items self among.now part.now))) };
+    fn put<S: Sink>(&self, part: &T, position: u64, out: &mut S) -> Result<u64, Refusal>
+        ensures written { WritesItems S.rules entry in_range (items self.now part.now) position out.old out.new result }
+        ensures next { IfOk result (λ p. p ≡ counted (position + length (items self.now part.now))) };
 }
 
-/// How many items in these values have an entry.
-pub(crate) fn count_each<T, W: NameItems<T> + Copy>(way: W, among: &[T], parts: &[T]) -> u64
-    ensures { result ≡ counted (length (named_from 0 (flat_map (W.items way among.now) parts.now))) }
+/// How many items in a list have an entry.
+pub(crate) fn count_each<T, W: NameItems<T>>(way: &W, parts: &[T]) -> u64
+    ensures { result ≡ counted (length (named_from 0 (flat_map (W.items way.now) parts.now))) }
 {
     let mut sum = 0u64;
     for part in parts {
-        sum = sum.saturating_add(way.count(among, part));
+        sum = sum.saturating_add(way.count(part));
     }
     sum
 }
 
-/// Appends the entries of the items in these values, and answers the position behind the last.
-pub(crate) fn put_each<T, W: NameItems<T> + Copy, S: Sink>(
-    way: W,
-    among: &[T],
+/// Appends the entries of the items in a list, and answers the position behind the last.
+pub(crate) fn put_each<T, W: NameItems<T>, S: Sink>(
+    way: &W,
     parts: &[T],
     first: u64,
     out: &mut S,
 ) -> Result<u64, Refusal>
-    ensures written { WritesItems S.rules W.entry W.in_range (flat_map (W.items way among.now) parts.now) first out.old out.new result }
-    ensures next { IfOk result (λ p. p ≡ counted (first + length (flat_map (W.items way among.now) parts.now))) }
+    ensures written { WritesItems S.rules W.entry W.in_range (flat_map (W.items way.now) parts.now) first out.old out.new result }
+    ensures next { IfOk result (λ p. p ≡ counted (first + length (flat_map (W.items way.now) parts.now))) }
 {
     let start = out.size();
     let mut position = first;
     for part in parts {
-        match way.put(among, part, position, out) {
+        match way.put(part, position, out) {
             Ok(next) => position = next,
             Err(refusal) => {
                 out.cut(start);
@@ -95,40 +94,38 @@ pub(crate) fn put_entry<T: Encode + Copy, S: Sink>(
     Ok(position.saturating_add(1))
 }
 
-/// The entries of the items in these values, by their positions from this one on.
+/// The entries of the items in a list, by their positions from this one on.
 #[derive(Clone, Copy)]
 pub(crate) struct Entries<'b, T, W> {
     pub(crate) way: W,
     pub(crate) first: u64,
-    pub(crate) among: &'b [T],
     pub(crate) parts: &'b [T],
 }
 
-impl<T, W: NameItems<T> + Copy> Encode for Entries<'_, T, W> {
-    ghost spelling = { λ s. flat_map W.entry (named_from s.first (flat_map (W.items s.way s.among.now) s.parts.now)) };
+impl<T, W: NameItems<T>> Encode for Entries<'_, T, W> {
+    ghost spelling = { λ s. flat_map W.entry (named_from s.first (flat_map (W.items s.way) s.parts.now)) };
 
-    ghost in_range = { λ s. All W.in_range (named_from s.first (flat_map (W.items s.way s.among.now) s.parts.now)) };
+    ghost in_range = { λ s. All W.in_range (named_from s.first (flat_map (W.items s.way) s.parts.now)) };
 
     ghost is_ready = { λ _. true };
 
     fn encode<S: Sink>(&self, out: &mut S) -> Result<(), Refusal> {
-        put_each(self.way, self.among, self.parts, self.first, out)?;
+        put_each(&self.way, self.parts, self.first, out)?;
         Ok(())
     }
 }
 
 /// A map as a subsection of this id, where it has entries.
-pub(crate) fn put_map<'b, T, W: NameItems<T> + Copy, S: Sink>(
+pub(crate) fn put_map<T, W: NameItems<T> + Copy, S: Sink>(
     id: u8,
     way: W,
-    among: &'b [T],
-    parts: &'b [T],
+    parts: &[T],
     out: &mut S,
 ) -> Result<(), Refusal>
-    ensures { Writes S.rules (InRangeMap W.entry W.in_range (named_from 0 (flat_map (W.items way among.now) parts.now)))
-        out.old out.new (map_bytes id W.entry (named_from 0 (flat_map (W.items way among.now) parts.now))) result }
+    ensures { Writes S.rules (InRangeMap W.entry W.in_range (named_from 0 (flat_map (W.items way) parts.now)))
+        out.old out.new (map_bytes id W.entry (named_from 0 (flat_map (W.items way) parts.now))) result }
 {
-    let count = count_each(way, among, parts);
+    let count = count_each(&way, parts);
     if count == 0 {
         return Ok(());
     }
@@ -138,7 +135,6 @@ pub(crate) fn put_map<'b, T, W: NameItems<T> + Copy, S: Sink>(
     let entries = Entries {
         way,
         first: 0,
-        among,
         parts,
     };
     (id, WithLength((count, entries))).encode(out)
@@ -161,17 +157,17 @@ pub(crate) struct Own;
 impl<T: HasName> NameItems<T> for Own {
     ghost Entry = { List ℕ };
 
-    ghost items = { λ _ _ x. T.name x ∷ [] };
+    ghost items = { λ _ x. T.name x ∷ [] };
 
     ghost entry = { name_entry };
 
     ghost in_range = { InRangeNameEntry };
 
-    fn count<'b>(self, _: &'b [T], part: &'b T) -> u64 {
+    fn count(&self, part: &T) -> u64 {
         u64::from(part.name().is_some())
     }
 
-    fn put<'b, S: Sink>(self, _: &'b [T], part: &'b T, position: u64, out: &'b mut S) -> Result<u64, Refusal> {
+    fn put<S: Sink>(&self, part: &T, position: u64, out: &mut S) -> Result<u64, Refusal> {
         put_name(position, part.name(), out)
     }
 }

@@ -1,21 +1,22 @@
 //! The name section of a module.
 
-ghost use Rattle.std.specs.Prelude.{◌≡◌, ◌++◌, length, true, All, IfOk, IfErr, IsTrue, ◌+◌, ℕ, List, Option};
+ghost use Rattle.std.specs.Prelude.{◌≡◌, ◌++◌, length, true, All, IfOk, IfErr, IsTrue, ◌+◌, ℕ, List, Option, map};
 ghost use Rattle.std.specs.List.{flat_map};
 ghost use Rattle.wasm_ops.specs.Sinks.{Writes};
 ghost use Rattle.wasm_ops.specs.Spelling.{InRangeSized};
 ghost use Rattle.wasm_ops.specs.declared.sink.Refusal.TheVariants as refusal;
-ghost use Rattle.wasm_out.specs.NameSectionBytes.{name_entry, name_subsection, subsection_id, InRangeNameEntry, InRangeNameSubsection};
+ghost use Rattle.wasm_out.specs.NameSectionBytes.{name_entry, map_entry, name_subsection, subsection_id, InRangeNameEntry, InRangeMapEntry, InRangeNameSubsection};
 ghost use Rattle.wasm_out.specs.Parts.{part, InRangePart};
 ghost use Rattle.wast_reach.specs.Reaches.{are_reaches};
 ghost use Rattle.wast_names.specs.NamesPart.{names_part, names_payload_of};
 ghost use Rattle.wast_names.specs.GivenNames.{id_text, given_name, named_from};
-ghost use Rattle.wast_names.specs.FoundNames.{text_seen, items_seen, counted, WritesItems};
+ghost use Rattle.wast_names.specs.FoundNames.{text_seen, items_seen, counted, WritesItems, map_bytes, InRangeMap};
+ghost use Rattle.wast_names.specs.WithinItems.{lists_within};
 ghost use Rattle.wast_names.specs.ModuleNames.{type_name, import_names, item_names_in, given_name_in, names_given, named_of, named_within, map_names, module_name, name_maps, name_subsections, InRangeNames};
 
 use crate::name_maps::{NameItems, count_each, put_each, put_map, put_name};
 use crate::named_fields::{with_items, with_lists};
-use crate::within::Within;
+use crate::within::{NamedField, Within, WithinItems};
 use wasm_ops::{Encode, Length, Name, Refusal, Sink, WithLength};
 use wast_reach::Reaches;
 use wast_tree::{Id, ImportItems, ModuleField, NameAnnotation, Space, Type};
@@ -116,56 +117,49 @@ fn put_item<S: Sink>(
 impl<'a> NameItems<Type<'a>> for Space {
     ghost Entry = { List ℕ };
 
-    ghost items = { λ s _ t. given_name_in s (type_name t) };
+    ghost items = { λ s t. given_name_in s (type_name t) };
 
     ghost entry = { name_entry };
 
     ghost in_range = { InRangeNameEntry };
 
-    fn count<'b>(self, _: &'b [Type<'a>], part: &'b Type<'a>) -> u64 {
-        count_item(self, Space::Ty, given_name(&part.name, &part.id))
+    fn count(&self, part: &Type<'a>) -> u64 {
+        count_item(*self, Space::Ty, given_name(&part.name, &part.id))
     }
 
-    fn put<'b, S: Sink>(
-        self,
-        _: &'b [Type<'a>],
-        part: &'b Type<'a>,
-        position: u64,
-        out: &'b mut S,
-    ) -> Result<u64, Refusal> {
+    fn put<S: Sink>(&self, part: &Type<'a>, position: u64, out: &mut S) -> Result<u64, Refusal> {
         let name = given_name(&part.name, &part.id);
-        put_item(self, Space::Ty, name, position, out)
+        put_item(*self, Space::Ty, name, position, out)
     }
 }
 
 impl<'a> NameItems<ModuleField<'a>> for Space {
     ghost Entry = { List ℕ };
 
-    ghost items = { λ s _ f. names_given s f };
+    ghost items = { names_given };
 
     ghost entry = { name_entry };
 
     ghost in_range = { InRangeNameEntry };
 
-    fn count<'b>(self, _: &'b [ModuleField<'a>], part: &'b ModuleField<'a>) -> u64 {
+    fn count(&self, part: &ModuleField<'a>) -> u64 {
         match items_of(part) {
             Items::Nothing => 0,
-            Items::One(own, name) => count_item(self, own, name),
-            Items::Types(types) => count_each(self, types, types),
+            Items::One(own, name) => count_item(*self, own, name),
+            Items::Types(types) => count_each(self, types),
         }
     }
 
-    fn put<'b, S: Sink>(
-        self,
-        _: &'b [ModuleField<'a>],
-        part: &'b ModuleField<'a>,
+    fn put<S: Sink>(
+        &self,
+        part: &ModuleField<'a>,
         position: u64,
-        out: &'b mut S,
+        out: &mut S,
     ) -> Result<u64, Refusal> {
         match items_of(part) {
             Items::Nothing => Ok(position),
-            Items::One(own, name) => put_item(self, own, name, position, out),
-            Items::Types(types) => put_each(self, types, types, position, out),
+            Items::One(own, name) => put_item(*self, own, name, position, out),
+            Items::Types(types) => put_each(self, types, position, out),
         }
     }
 }
@@ -208,6 +202,19 @@ pub(crate) enum NameMap {
     Within(Within),
 }
 
+/// Appends the subsection of the lists of names within items of some of these fields, where there are any.
+fn put_lists<'b, T: NamedField, S: Sink>(
+    within: Within,
+    fields: &'b [T],
+    there: &'b [T],
+    out: &mut S,
+) -> Result<(), Refusal>
+    ensures { Writes S.rules (InRangeMap map_entry InRangeMapEntry (named_from 0 (flat_map (λ t. lists_within (map T.field fields.now) within (T.field t)) there.now)))
+        out.old out.new (map_bytes (subsection_id (named_within within)) map_entry (named_from 0 (flat_map (λ t. lists_within (map T.field fields.now) within (T.field t)) there.now))) result }
+{
+    put_map(id_within(within), WithinItems { within, fields }, there, out)
+}
+
 /// Appends the subsection of a map of the names in these fields, where there are any.
 fn put_subsection<S: Sink>(
     map: &NameMap,
@@ -222,11 +229,11 @@ fn put_subsection<S: Sink>(
     match map {
         NameMap::Items(space) => {
             let there = with_items(*space, reaches, fields);
-            put_map(id_of(*space), *space, fields, there, out)
+            put_map(id_of(*space), *space, there, out)
         }
         NameMap::Within(within) => {
             let there = with_lists(*within, reaches, fields);
-            put_map(id_within(*within), *within, fields, there, out)
+            put_lists(*within, fields, there, out)
         }
     }
 }

@@ -8,7 +8,7 @@ use Rattle.wast_names.proofs.name_maps.count_each.Goals as goal
 
 pub loop-part-preserved : goal.loop-part-preserved
 loop-part-preserved g c =
-    let f = g.W.NameItems.items c.args.way c.args.among.now in
+    let f = g.W.NameItems.items c.args.way.now in
     let xs = c.args.parts.now in
     let k = c.loop-part.part-index in
     let x = c.part-item.result in

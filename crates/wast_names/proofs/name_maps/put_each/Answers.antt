@@ -7,14 +7,14 @@ use Rattle.wast_names.proofs.name_maps.put_each.Goals as goal
 
 pub cut-requires : goal.cut-requires
 cut-requires g c =
-    let f = g.W.NameItems.items c.args.way c.args.among.now in
+    let f = g.W.NameItems.items c.args.way.now in
     let i = c.loop-part.invariant in
     names_kept g.S.Sink.rules g.W.NameItems.entry g.W.NameItems.in_range c.args.out.now c.loop-part.out c.put.new.out (flat_map f (take c.loop-part.part-index c.args.parts.now)) (f c.part-item.result) c.args.first c.loop-part.position c.size-start.result c.loop-part.position c.in-Err.refusal
     g.met.S.Sink.laws (omega arith) i.written i.next c.in-Err.ensures.written i.at
 
 pub returns-in-Err-clause-written : goal.returns-in-Err-clause-written
 returns-in-Err-clause-written g c =
-    let f = g.W.NameItems.items c.args.way c.args.among.now in
+    let f = g.W.NameItems.items c.args.way.now in
     let xs = c.args.parts.now in
     let k = c.loop-part.part-index in
     let x = c.part-item.result in
@@ -25,7 +25,7 @@ returns-in-Err-clause-written g c =
 pub loop-part-preserved : goal.loop-part-preserved
 loop-part-preserved g c =
     let rules = g.S.Sink.rules in
-    let f = g.W.NameItems.items c.args.way c.args.among.now in
+    let f = g.W.NameItems.items c.args.way.now in
     let xs = c.args.parts.now in
     let k = c.loop-part.part-index in
     let x = c.part-item.result in

@@ -6,7 +6,7 @@ use Rattle.wast_names.proofs.name_maps.put_each.Given as goal
 
 abbrev pub invariant-loop-part : goal.invariant-loop-part
 invariant-loop-part g l = record {
-  written : WritesItems g.S.Sink.rules g.W.NameItems.entry g.W.NameItems.in_range (flat_map (g.W.NameItems.items l.way l.among) (take l.part-index l.parts)) l.first l.fn.out l.out (Ok l.position);
-  next : l.position ≡ counted (l.first + length (flat_map (g.W.NameItems.items l.way l.among) (take l.part-index l.parts)));
+  written : WritesItems g.S.Sink.rules g.W.NameItems.entry g.W.NameItems.in_range (flat_map (g.W.NameItems.items l.way) (take l.part-index l.parts)) l.first l.fn.out l.out (Ok l.position);
+  next : l.position ≡ counted (l.first + length (flat_map (g.W.NameItems.items l.way) (take l.part-index l.parts)));
   at : l.start ≡ g.S.Sink.rules.size_of l.fn.out;
 }

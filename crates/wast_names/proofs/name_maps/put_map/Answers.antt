@@ -6,12 +6,12 @@ use Rattle.wast_names.proofs.name_maps.put_map.Goals as goal
 
 pub returns-in_default : goal.returns-in_default
 returns-in_default g c =
-    let es = named_from 0 (flat_map (g.W.NameItems.items c.args.way c.args.among.now) c.args.parts.now) in
+    let es = named_from 0 (flat_map (g.W.NameItems.items c.args.way) c.args.parts.now) in
     (g.met.S.Sink.laws.none c.args.out.now, inr (refl, λ h. c.in_default.ensures (map_counted g.W.NameItems.entry g.W.NameItems.in_range es c.count_each-count.result c.count_each-count.ensures (omega arith) h)))
 
 pub returns : goal.returns
 returns g c =
-    let es = named_from 0 (flat_map (g.W.NameItems.items c.args.way c.args.among.now) c.args.parts.now) in
+    let es = named_from 0 (flat_map (g.W.NameItems.items c.args.way) c.args.parts.now) in
     let small = c.in-Ok.ensures in
     let counted = c.count_each-count.ensures in
     map_written g.S.Sink.rules g.W.NameItems.entry g.W.NameItems.in_range c.args.out.now c.encode.new.out es c.args.id c.in-Ok.count c.encode.result (omega arith) (omega arith) c.encode.ensures

@@ -1,9 +1,12 @@
-use Rattle.std.proofs.Common.{subst}
+use Rattle.std.proofs.Common.{subst, refl}
+use Rattle.std.specs.List.{flat_map}
+use Rattle.std.proofs.lemmas.List.{map-id}
 use Rattle.wasm_ops.specs.Sinks.{Writes}
-use Rattle.wasm_out.specs.NameSectionBytes.{name_entry, map_entry, InRangeNameEntry, InRangeMapEntry}
+use Rattle.wasm_out.specs.NameSectionBytes.{subsection_id, name_entry, map_entry, InRangeNameEntry, InRangeMapEntry}
 use Rattle.wast_names.specs.GivenNames.{named_from}
 use Rattle.wast_names.specs.FoundNames.{map_bytes, InRangeMap}
 use Rattle.wast_names.specs.ModuleNames.{named_of, named_items, named_within, named_lists}
+use Rattle.wast_names.specs.WithinItems.{lists_within}
 use Rattle.wast_names.proofs.NameMaps.{direct_written, indirect_written}
 use Rattle.wast_names.proofs.names_payload.put_subsection.Goals as goal
 
@@ -19,6 +22,9 @@ pub returns-in-Within : goal.returns-in-Within
 returns-in-Within g c =
     let rules = g.S.Sink.rules in
     let w = c.in-Within.within in
-    let id = c.id_within.result in
-    rw c.in-Within.is (indirect_written rules c.args.out.now c.put_map-in-Within.new.out (named_within w) (named_lists w c.args.fields.now) id c.put_map-in-Within.result c.id_within.ensures
-    (subst (λ xs. Writes rules (InRangeMap map_entry InRangeMapEntry (named_from 0 xs)) c.args.out.now c.put_map-in-Within.new.out (map_bytes id map_entry (named_from 0 xs)) c.put_map-in-Within.result) c.with_lists-there.ensures c.put_map-in-Within.ensures))
+    let fields = c.args.fields.now in
+    let r = c.put_lists.result in
+    let id = subsection_id (named_within w) in
+    rw c.in-Within.is (indirect_written rules c.args.out.now c.put_lists.new.out (named_within w) (named_lists w fields) id r refl
+    (subst (λ xs. Writes rules (InRangeMap map_entry InRangeMapEntry (named_from 0 xs)) c.args.out.now c.put_lists.new.out (map_bytes id map_entry (named_from 0 xs)) r) c.with_lists-there.ensures
+    (subst (λ fs. Writes rules (InRangeMap map_entry InRangeMapEntry (named_from 0 (flat_map (lists_within fs w) c.with_lists-there.result.now))) c.args.out.now c.put_lists.new.out (map_bytes id map_entry (named_from 0 (flat_map (lists_within fs w) c.with_lists-there.result.now))) r) (map-id fields) c.put_lists.ensures)))

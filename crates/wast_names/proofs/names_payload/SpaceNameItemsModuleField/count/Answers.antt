@@ -7,4 +7,4 @@ use Rattle.wast_names.proofs.names_payload.SpaceNameItemsModuleField.count.Goals
 
 pub returns-in-Types : goal.returns-in-Types
 returns-in-Types c =
-    c.count_each.ensures ∙ ap (λ z. counted (length (named_from 0 z))) (sym (group_names c.args.self c.in-Types.types.now (item_names_in c.args.part.now) c.in-Types.ensures))
+    c.count_each.ensures ∙ ap (λ z. counted (length (named_from 0 z))) (sym (group_names c.args.self.now c.in-Types.types.now (item_names_in c.args.part.now) c.in-Types.ensures))
