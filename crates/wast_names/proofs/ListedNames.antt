@@ -75,3 +75,12 @@ found_in f xs i j x part d lt item is within =
     let inside : j < length (f (get_or xs i x)) = subst (λ p. j < length p) (sym here) within in
     slice_get-get_or (flat_map f xs) (length (flat_map f (take i xs)) + j) d (omega (arith, length-flat_map-take f xs i x lt))
     ∙ ap Some (get_or-flat_map f xs i j x d lt inside ∙ ap (λ p. get_or p j d) here)
+
+-- the same of what stands there, whatever element is read
+pub found_at : {A B : Type 0} (f : A → List B) (xs : List A) (i j : ℕ) (x : A) → i < length xs → x ≡ get_or xs i x → j < length (f x)
+    → slice_get (flat_map f xs) (length (flat_map f (take i xs)) + j) ≡ slice_get (f x) j
+found_at f xs i j x lt item within = by_first (f x) refl within
+  where
+    by_first : (part : List B) → part ≡ f x → j < length part → slice_get (flat_map f xs) (length (flat_map f (take i xs)) + j) ≡ slice_get part j
+    by_first [] is inside = absurd (omega arith)
+    by_first (d ∷ ds) is inside = found_in f xs i j x (d ∷ ds) d lt item is inside ∙ sym (slice_get-get_or (d ∷ ds) j d inside)

@@ -40,13 +40,14 @@ fn reach_of(space: Space, reaches: &Reaches) -> Reach
 /// The fields from the first to the last that can have items of a space.
 pub(crate) fn with_items<'b, 'a>(
     space: Space,
-    fields: &'b [ModuleField<'a>],
     reaches: &Reaches,
+    fields: &'b [ModuleField<'a>],
 ) -> &'b [ModuleField<'a>]
     requires { IsTrue (are_reaches fields.now reaches.now) }
     ensures { flat_map (names_given space) result.now ≡ flat_map (names_given space) fields.now }
 {
-    reach_of(space, reaches).of(fields)
+    let reach = reach_of(space, reaches);
+    &fields[reach.first..reach.end]
 }
 
 /// Where the fields stand within whose items such lists can stand.
@@ -64,11 +65,12 @@ fn reach_within(within: Within, reaches: &Reaches) -> Reach
 /// The fields from the first to the last within whose items such lists can stand.
 pub(crate) fn with_lists<'b, 'a>(
     within: Within,
-    fields: &'b [ModuleField<'a>],
     reaches: &Reaches,
+    fields: &'b [ModuleField<'a>],
 ) -> &'b [ModuleField<'a>]
     requires { IsTrue (are_reaches fields.now reaches.now) }
     ensures { flat_map (lists_within fields.now within) result.now ≡ flat_map (lists_within fields.now within) fields.now }
 {
-    reach_within(within, reaches).of(fields)
+    let reach = reach_within(within, reaches);
+    &fields[reach.first..reach.end]
 }

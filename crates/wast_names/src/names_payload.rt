@@ -1,21 +1,23 @@
 //! The name section of a module.
 
-ghost use Rattle.std.specs.Prelude.{◌≡◌, length, true, All, IfOk, IfErr, IsTrue, ◌+◌, ℕ, List, Option};
+ghost use Rattle.std.specs.Prelude.{◌≡◌, ◌++◌, length, true, All, IfOk, IfErr, IsTrue, ◌+◌, ℕ, List, Option, map};
 ghost use Rattle.std.specs.List.{flat_map};
 ghost use Rattle.wasm_ops.specs.Sinks.{Writes};
+ghost use Rattle.wasm_ops.specs.Spelling.{InRangeSized};
 ghost use Rattle.wasm_ops.specs.declared.sink.Refusal.TheVariants as refusal;
-ghost use Rattle.wasm_out.specs.NameSectionBytes.{name_entry, name_subsection, subsection_id, InRangeNameEntry, InRangeNameSubsection};
+ghost use Rattle.wasm_out.specs.NameSectionBytes.{name_entry, map_entry, name_subsection, subsection_id, InRangeNameEntry, InRangeMapEntry, InRangeNameSubsection};
 ghost use Rattle.wasm_out.specs.Parts.{part, InRangePart};
 ghost use Rattle.wast_reach.specs.Reaches.{are_reaches};
 ghost use Rattle.wast_names.specs.NamesPart.{names_part, names_payload_of};
 ghost use Rattle.wast_names.specs.GivenNames.{id_text, given_name, named_from};
-ghost use Rattle.wast_names.specs.FoundNames.{text_seen, items_seen, counted, WritesItems};
-ghost use Rattle.wast_names.specs.ModuleNames.{type_name, import_names, item_names_in, given_name_in, names_given, named_of, named_items, named_within, named_lists, direct, indirect, map_names, module_name, name_subsections, InRangeNames};
+ghost use Rattle.wast_names.specs.FoundNames.{text_seen, items_seen, counted, WritesItems, map_bytes, InRangeMap};
+ghost use Rattle.wast_names.specs.WithinItems.{lists_within};
+ghost use Rattle.wast_names.specs.ModuleNames.{type_name, import_names, item_names_in, given_name_in, names_given, named_of, named_within, map_names, module_name, name_maps, name_subsections, InRangeNames};
 
 use crate::name_maps::{NameItems, count_each, put_each, put_map, put_name};
 use crate::named_fields::{with_items, with_lists};
-use crate::within::{Within, WithinItems};
-use wasm_ops::{Each, Encode, Name, Refusal, Sink, Spell, WithLength, length_of};
+use crate::within::{NamedField, Within, WithinItems};
+use wasm_ops::{Encode, Length, Name, Refusal, Sink, WithLength};
 use wast_reach::Reaches;
 use wast_tree::{Id, ImportItems, ModuleField, NameAnnotation, Space, Type};
 
@@ -200,57 +202,62 @@ pub(crate) enum NameMap {
     Within(Within),
 }
 
-/// Appends the subsection of the names of the items of a space, where there are any.
-fn put_items<S: Sink>(
-    space: Space,
-    fields: &[ModuleField],
-    reaches: &Reaches,
-    out: &mut S,
-) -> Result<(), Refusal>
-    requires { IsTrue (are_reaches fields.now reaches.now) }
-    ensures { Writes S.rules (All InRangeNameSubsection (direct (named_of space) (named_items space fields.now)))
-        out.old out.new (flat_map name_subsection (direct (named_of space) (named_items space fields.now))) result }
-{
-    let there = with_items(space, fields, reaches);
-    put_map(id_of(space), space, there, out)
-}
-
-/// Appends the subsection of the lists of names within items, where there are any.
-fn put_lists<S: Sink>(
+/// Appends the subsection of the lists of names within items of some of these fields, where there are any.
+fn put_lists<'b, T: NamedField, S: Sink>(
     within: Within,
+    fields: &'b [T],
+    there: &'b [T],
+    out: &mut S,
+) -> Result<(), Refusal>
+    ensures { Writes S.rules (InRangeMap map_entry InRangeMapEntry (named_from 0 (flat_map (λ t. lists_within (map T.field fields.now) within (T.field t)) there.now)))
+        out.old out.new (map_bytes (subsection_id (named_within within)) map_entry (named_from 0 (flat_map (λ t. lists_within (map T.field fields.now) within (T.field t)) there.now))) result }
+{
+    put_map(id_within(within), WithinItems { within, fields }, there, out)
+}
+
+/// Appends the subsection of a map of the names in these fields, where there are any.
+fn put_subsection<S: Sink>(
+    map: &NameMap,
     fields: &[ModuleField],
     reaches: &Reaches,
     out: &mut S,
 ) -> Result<(), Refusal>
     requires { IsTrue (are_reaches fields.now reaches.now) }
-    ensures { Writes S.rules (All InRangeNameSubsection (indirect (named_within within) (named_lists within fields.now)))
-        out.old out.new (flat_map name_subsection (indirect (named_within within) (named_lists within fields.now))) result }
+    ensures { Writes S.rules (All InRangeNameSubsection (map_names fields.now map.now))
+        out.old out.new (flat_map name_subsection (map_names fields.now map.now)) result }
 {
-    let way = WithinItems { within, fields };
-    let there = with_lists(within, fields, reaches);
-    put_map(id_within(within), way, there, out)
-}
-
-/// The names in these fields, of which those of each kind are found.
-#[derive(Clone, Copy)]
-struct NamesOf<'b, 'a> {
-    fields: &'b [ModuleField<'a>],
-    reaches: &'b Reaches,
-}
-
-impl Spell<NameMap> for NamesOf<'_, '_> {
-    ghost spelling = { λ w m. flat_map name_subsection (map_names w.fields.now m) };
-
-    ghost in_range = { λ w m. All InRangeNameSubsection (map_names w.fields.now m) };
-
-    ghost is_ready = { λ w _. are_reaches w.fields.now w.reaches.now };
-
-    fn spell<S: Sink>(&self, map: &NameMap, out: &mut S) -> Result<(), Refusal> {
-        match map {
-            NameMap::Items(space) => put_items(*space, self.fields, self.reaches, out),
-            NameMap::Within(within) => put_lists(*within, self.fields, self.reaches, out),
+    match map {
+        NameMap::Items(space) => {
+            let there = with_items(*space, reaches, fields);
+            put_map(id_of(*space), *space, there, out)
+        }
+        NameMap::Within(within) => {
+            let there = with_lists(*within, reaches, fields);
+            put_lists(*within, fields, there, out)
         }
     }
+}
+
+/// Appends the subsections of maps of the names in these fields, one after another.
+fn put_subsections<S: Sink>(
+    maps: &[NameMap],
+    fields: &[ModuleField],
+    reaches: &Reaches,
+    out: &mut S,
+) -> Result<(), Refusal>
+    requires { IsTrue (are_reaches fields.now reaches.now) }
+    ensures { Writes S.rules (All (λ m. All InRangeNameSubsection (map_names fields.now m)) maps.now)
+        out.old out.new (flat_map (λ m. flat_map name_subsection (map_names fields.now m)) maps.now) result }
+{
+    let start = out.size();
+    for map in maps {
+        let result = put_subsection(map, fields, reaches, out);
+        if result.is_err() {
+            out.cut(start);
+            return result;
+        }
+    }
+    Ok(())
 }
 
 /// The maps of names, in the order of their subsections.
@@ -289,36 +296,46 @@ impl Encode for ModuleName<'_> {
     }
 }
 
-/// The subsections of a module with this name, of these fields.
-#[derive(Clone, Copy)]
-struct Subsections<'b, 'a> {
-    name: Option<&'b str>,
-    names: NamesOf<'b, 'a>,
-}
-
-impl Encode for Subsections<'_, '_> {
-    ghost spelling = { λ s. flat_map name_subsection (name_subsections (text_seen s.name) s.names.fields.now) };
-
-    ghost in_range = { λ s. InRangeNames (text_seen s.name) s.names.fields.now };
-
-    ghost is_ready = { λ s. are_reaches s.names.fields.now s.names.reaches.now };
-
-    fn encode<S: Sink>(&self, out: &mut S) -> Result<(), Refusal> {
-        let maps = NAME_MAPS;
-        (ModuleName(self.name), Each(&maps, self.names)).encode(out)
-    }
-}
-
-/// The subsections of these fields.
-fn subsections_of<'b, 'a>(
-    name: Option<&'b str>,
-    fields: &'b [ModuleField<'a>],
-    reaches: &'b Reaches,
-) -> Subsections<'b, 'a>
-    ensures { result ≡ record { name = name; names = record { fields = fields; reaches = reaches } } }
+/// Appends what stands before the maps of names, and then those of these fields.
+fn put_behind<P: Encode, S: Sink>(
+    front: &P,
+    fields: &[ModuleField],
+    reaches: &Reaches,
+    out: &mut S,
+) -> Result<(), Refusal>
+    requires front { IsTrue (P.is_ready front.now) }
+    requires reaches { IsTrue (are_reaches fields.now reaches.now) }
+    ensures { Writes S.rules (P.in_range front.now × All (λ m. All InRangeNameSubsection (map_names fields.now m)) name_maps)
+        out.old out.new (P.spelling front.now ++ flat_map (λ m. flat_map name_subsection (map_names fields.now m)) name_maps) result }
 {
-    let names = NamesOf { fields, reaches };
-    Subsections { name, names }
+    let start = out.size();
+    front.encode(out)?;
+    let maps = NAME_MAPS;
+    let second = put_subsections(&maps, fields, reaches, out);
+    if second.is_err() {
+        out.cut(start);
+    }
+    second
+}
+
+/// How long the subsections are, of a module with this name and these fields.
+fn subsections_size(
+    name: Option<&str>,
+    fields: &[ModuleField],
+    reaches: &Reaches,
+) -> Result<u32, Refusal>
+    requires { IsTrue (are_reaches fields.now reaches.now) }
+    ensures ok { IfOk result (λ n. (n ≡ length (flat_map name_subsection (name_subsections (text_seen name.entry) fields.now)))
+        × InRangeNames (text_seen name.entry) fields.now) }
+    ensures err { IfErr result (λ e. (e ≡ refusal.TooLarge)
+        × (InRangeSized (All InRangeNameSubsection) (flat_map name_subsection) (name_subsections (text_seen name.entry) fields.now) → ⊥)) }
+{
+    let mut length = Length::new();
+    put_behind(&ModuleName(name), fields, reaches, &mut length)?;
+    match u32::try_from(length.count()) {
+        Ok(count) => Ok(count),
+        Err(_) => Err(Refusal::TooLarge),
+    }
 }
 
 /// How long the payload of the name section is, of a module with this name and these resolved fields; 0 where there are
@@ -336,7 +353,7 @@ pub fn names_size(
         × (All InRangePart (names_part (name_subsections (text_seen name.entry) fields.now))
         × InRangeNames (text_seen name.entry) fields.now → ⊥)) }
 {
-    let subsections = length_of(&subsections_of(name, fields, reaches))?;
+    let subsections = subsections_size(name, fields, reaches)?;
     if subsections == 0 {
         return Ok(0);
     }
@@ -367,6 +384,6 @@ pub fn put_names<S: Sink>(
     if size == 0 {
         return Ok(());
     }
-    let subsections = subsections_of(name, fields, reaches);
-    (0u8, (size, (Name("name"), subsections))).encode(out)
+    let front = (0u8, (size, (Name("name"), ModuleName(name))));
+    put_behind(&front, fields, reaches, out)
 }

@@ -1,16 +1,13 @@
-use Rattle.std.proofs.Common.{subst}
+use Rattle.std.proofs.Common.{map, subst}
+use Rattle.std.specs.List.{flat_map}
 use Rattle.wasm_ops.specs.Sinks.{Writes}
 use Rattle.wasm_out.specs.NameSectionBytes.{map_entry, InRangeMapEntry}
 use Rattle.wast_names.specs.GivenNames.{named_from}
 use Rattle.wast_names.specs.FoundNames.{map_bytes, InRangeMap}
-use Rattle.wast_names.specs.ModuleNames.{named_within, named_lists}
-use Rattle.wast_names.proofs.NameMaps.{indirect_written}
+use Rattle.wast_names.specs.WithinItems.{lists_within}
 use Rattle.wast_names.proofs.names_payload.put_lists.Goals as goal
 
 pub returns : goal.returns
 returns g c =
-    let rules = g.S.Sink.rules in
-    let w = c.args.within in
-    let id = c.id_within.result in
-    indirect_written rules c.args.out.now c.put_map.new.out (named_within w) (named_lists w c.args.fields.now) id c.put_map.result c.id_within.ensures
-    (subst (λ xs. Writes rules (InRangeMap map_entry InRangeMapEntry (named_from 0 xs)) c.args.out.now c.put_map.new.out (map_bytes id map_entry (named_from 0 xs)) c.put_map.result) c.with_lists-there.ensures c.put_map.ensures)
+    let lists = named_from 0 (flat_map (λ t. lists_within (map g.T.NamedField.field c.args.fields.now) c.args.within (g.T.NamedField.field t)) c.args.there.now) in
+    subst (λ id. Writes g.S.Sink.rules (InRangeMap map_entry InRangeMapEntry lists) c.args.out.now c.put_map.new.out (map_bytes id map_entry lists) c.put_map.result) c.id_within.ensures c.put_map.ensures
