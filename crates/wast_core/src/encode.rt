@@ -25,15 +25,15 @@ use wast_tree::{Error, Fault, Gensym, ModuleField};
 /// The bytes of a module with this name, of these resolved fields. It needs names that are UTF-8.
 fn encode_fields<'e>(
     alloc: Global,
-    name: Option<&str>,
     fields: &[ModuleField],
+    name: Option<&str>,
 ) -> Result<Vec<u8>, Error<'e>>
     requires encodable { IsTrue (is_encodable fields.now) }
     requires names { All HasUtf8Names fields.now }
     ensures bytes { IfOk result (λ v. Reads v.items (parts (text_seen name.entry) fields.now)) }
     ensures refusal { IfErr result (IsRefused (IsWritable (text_seen name.entry) fields.now)) }
 {
-    let binary = BinaryModule::of(name, fields)?;
+    let binary = BinaryModule::of(fields, name)?;
     let mut room = Room::reserve(alloc, binary.size() as usize)?;
     binary.encode(&mut room)?;
     let bytes = room.finish();
@@ -42,8 +42,8 @@ fn encode_fields<'e>(
 
 /// Appends the bytes of a module with this name, of these resolved fields, to a sink.
 fn put_fields<'e, S: Sink>(
-    name: Option<&str>,
     fields: &[ModuleField],
+    name: Option<&str>,
     out: &mut S,
 ) -> Result<(), Error<'e>>
     requires { IsTrue (is_encodable fields.now) }
@@ -52,7 +52,7 @@ fn put_fields<'e, S: Sink>(
     match covered::uncovered(fields) {
         Some(form) => Err(Error::refusal(Fault::Uncovered(form))),
         None => {
-            let binary = BinaryModule::of(name, fields)?;
+            let binary = BinaryModule::of(fields, name)?;
             Ok(binary.encode(out)?)
         }
     }
@@ -79,7 +79,7 @@ fn encode_resolved<'a>(alloc: Global, module: &Module<'a>) -> Result<Vec<u8>, Er
     match &module.kind {
         ModuleKind::Text(fields) => match covered::uncovered(fields.as_slice()) {
             Some(form) => Err(Error::refusal(Fault::Uncovered(form))),
-            None => encode_fields(alloc, name, fields.as_slice()),
+            None => encode_fields(alloc, fields.as_slice(), name),
         },
         ModuleKind::Binary(pieces) => join(alloc, pieces.as_slice()),
         ModuleKind::Refused(error) => Err(*error),
@@ -132,7 +132,7 @@ impl EncodeOptions {
     {
         let name = given_name(&module.name, &module.id);
         match &module.kind {
-            ModuleKind::Text(fields) => put_fields(name, fields.as_slice(), out),
+            ModuleKind::Text(fields) => put_fields(fields.as_slice(), name, out),
             ModuleKind::Binary(_) | ModuleKind::Refused(_) => unreachable!(),
         }
     }

@@ -2,6 +2,7 @@
 
 ghost use Rattle.std.specs.Prelude.{◌≡◌, ◌≤◌, All, IsTrue, IfOk, IfErr, length};
 ghost use Rattle.std.specs.List.{flat_map};
+ghost use Rattle.wasm_ops.specs.Sinks.{Writes};
 ghost use Rattle.wasm_ops.specs.declared.sink.Refusal.TheVariants as refusal;
 ghost use Rattle.wasm_out.specs.Parts.{part, InRangePart};
 ghost use Rattle.wast_core.specs.Bounded.{bytes_of, InRangeSlot, InRangeModule};
@@ -15,18 +16,20 @@ ghost use Rattle.wast_core.specs.Slots.{section_kind};
 use crate::counts::{count_size, is_counted, put_count};
 use crate::entries::{Extent, extent_of, put_section, put_starts, start_fields, starts_size};
 use crate::slots::{ORDER, SectionKind, Slot};
-use wasm_ops::{Each, Encode, Raw, Refusal, Sink, Spell, width};
+use wasm_ops::{Encode, Raw, Refusal, Sink, width};
 use wasm_out::HEADER;
 use wast_names::{names_size, put_names};
 use wast_reach::Reaches;
 use wast_tree::ModuleField;
 
 /// A binary module, by the name and the resolved fields of the text module, where those of each kind stand, how long its
-/// sections are, and whether a data count stands in it.
+/// sections are, and whether a data count stands in it. It is handed on by value, and where a list of fields is handed on
+/// it stands first: so a callee has the lifetimes of the fields at the places at which its caller has them, and the prover
+/// does not compare the whole tree.
 #[derive(Clone, Copy)]
-pub(crate) struct BinaryModule<'b, 'a> {
-    name: Option<&'b str>,
+pub(crate) struct BinaryModule<'b, 'a, 'n> {
     fields: &'b [ModuleField<'a>],
+    name: Option<&'n str>,
     reaches: Reaches,
     types: Extent,
     imports: Extent,
@@ -54,21 +57,21 @@ fn section_size(payload: u32) -> u64
     1 + (width(u64::from(payload)) + u64::from(payload))
 }
 
-impl<'b, 'a> BinaryModule<'b, 'a> {
+impl<'b, 'a, 'n> BinaryModule<'b, 'a, 'n> {
     /// The binary module of this name and these resolved fields: its fields of each kind are found, and its sections are
     /// counted and measured, once. It takes no memory, and refuses as too large, where a number, count or length in the module is out of range.
     pub(crate) fn of(
-        name: Option<&'b str>,
         fields: &'b [ModuleField<'a>],
-    ) -> Result<BinaryModule<'b, 'a>, Refusal>
+        name: Option<&'n str>,
+    ) -> Result<BinaryModule<'b, 'a, 'n>, Refusal>
         requires { IsTrue (is_encodable fields.now) }
         ensures ok { IfOk result (λ m. IsTrue (is_measured m) × (m.name ≡ name.entry) × (m.fields.now ≡ fields.now)) }
         ensures err { IfErr result (λ e. (e ≡ refusal.TooLarge) × (InRangeModule (text_seen name.entry) fields.now → ⊥)) }
     {
         let reaches = Reaches::of(fields);
         Ok(BinaryModule {
-            name,
             fields,
+            name,
             reaches,
             types: extent_of(SectionKind::Types, fields, &reaches)?,
             imports: extent_of(SectionKind::Imports, fields, &reaches)?,
@@ -82,14 +85,14 @@ impl<'b, 'a> BinaryModule<'b, 'a> {
             code: extent_of(SectionKind::Code, fields, &reaches)?,
             data: extent_of(SectionKind::Data, fields, &reaches)?,
             is_counted: is_counted(fields, &reaches),
-            names: names_size(name, fields, &reaches)?,
+            names: names_size(fields, name, &reaches)?,
         })
     }
 
     /// The extent of the section of a kind.
-    fn extent(&self, kind: SectionKind) -> Extent
-        requires { IsTrue (is_measured self.now) }
-        ensures { IsExtent (section_kind kind) self.now.fields.now result.count result.size }
+    fn extent(self, kind: SectionKind) -> Extent
+        requires { IsTrue (is_measured self) }
+        ensures { IsExtent (section_kind kind) self.entry.fields.now result.count result.size }
     {
         match kind {
             SectionKind::Types => self.types,
@@ -107,9 +110,9 @@ impl<'b, 'a> BinaryModule<'b, 'a> {
     }
 
     /// How many bytes stand in a place, up to the greatest `u64`.
-    fn size_in(&self, slot: &Slot) -> u64
-        requires { IsTrue (is_measured self.now) }
-        ensures { result ≡ counted (length (flat_map part (in_slot (text_seen self.now.name) self.now.fields.now slot.now))) }
+    fn size_in(self, slot: &Slot) -> u64
+        requires { IsTrue (is_measured self) }
+        ensures { result ≡ counted (length (flat_map part (in_slot (text_seen self.entry.name) self.entry.fields.now slot.now))) }
     {
         match slot {
             Slot::Section(kind) => section_size(self.extent(*kind).size),
@@ -122,10 +125,10 @@ impl<'b, 'a> BinaryModule<'b, 'a> {
     }
 
     /// How many bytes stand in places, one after another, up to the greatest `u64`.
-    fn sum_of(&self, slots: &[Slot]) -> u64
-        requires { IsTrue (is_measured self.now) }
+    fn sum_of(self, slots: &[Slot]) -> u64
+        requires { IsTrue (is_measured self) }
         ensures { result ≡ counted (length
-            (flat_map (λ s. flat_map part (in_slot (text_seen self.now.name) self.now.fields.now s)) slots.now)) }
+            (flat_map (λ s. flat_map part (in_slot (text_seen self.entry.name) self.entry.fields.now s)) slots.now)) }
     {
         let mut sum = 0u64;
         for slot in slots {
@@ -135,47 +138,63 @@ impl<'b, 'a> BinaryModule<'b, 'a> {
     }
 
     /// How many bytes the module has, up to the greatest `u64`.
-    pub(crate) fn size(&self) -> u64
-        requires { IsTrue (is_measured self.now) }
-        ensures { result ≡ counted (length (bytes_of (text_seen self.now.name) self.now.fields.now)) }
+    pub(crate) fn size(self) -> u64
+        requires { IsTrue (is_measured self) }
+        ensures { result ≡ counted (length (bytes_of (text_seen self.entry.name) self.entry.fields.now)) }
     {
         let slots = ORDER;
         (HEADER.len() as u64).saturating_add(self.sum_of(&slots))
     }
-}
 
-/// What stands in a place.
-impl Spell<Slot> for BinaryModule<'_, '_> {
-    ghost spelling = { λ m s. flat_map part (in_slot (text_seen m.name) m.fields.now s) };
-
-    ghost in_range = { λ m s. InRangeSlot (text_seen m.name) m.fields.now s };
-
-    ghost is_ready = { λ m _. is_measured m };
-
-    fn spell<S: Sink>(&self, slot: &Slot, out: &mut S) -> Result<(), Refusal> {
+    /// Appends what stands in a place.
+    fn put_slot<S: Sink>(self, slot: &Slot, out: &mut S) -> Result<(), Refusal>
+        requires { IsTrue (is_measured self) }
+        ensures { Writes S.rules (InRangeSlot (text_seen self.entry.name) self.entry.fields.now slot.now)
+            out.old out.new (flat_map part (in_slot (text_seen self.entry.name) self.entry.fields.now slot.now)) result }
+    {
         match slot {
             Slot::Section(kind) => {
                 put_section(*kind, self.fields, &self.reaches, self.extent(*kind), out)
             }
             Slot::Start => put_starts(start_fields(self.fields, &self.reaches), out),
             Slot::DataCount => put_count(self.is_counted, self.data.count, out),
-            Slot::Names => put_names(self.name, self.fields, &self.reaches, self.names, out),
+            Slot::Names => put_names(self.fields, self.name, &self.reaches, self.names, out),
             Slot::BeforeFirst | Slot::Before(_) | Slot::After(_) | Slot::AfterLast => Ok(()),
             Slot::BeforeStart | Slot::AfterStart | Slot::Hints => Ok(()),
         }
     }
-}
 
-impl Encode for BinaryModule<'_, '_> {
-    ghost spelling = { λ m. bytes_of (text_seen m.name) m.fields.now };
+    /// Appends what stands in places, one after another.
+    fn put_slots<S: Sink>(self, slots: &[Slot], out: &mut S) -> Result<(), Refusal>
+        requires { IsTrue (is_measured self) }
+        ensures { Writes S.rules (All (InRangeSlot (text_seen self.entry.name) self.entry.fields.now) slots.now)
+            out.old out.new (flat_map (λ s. flat_map part (in_slot (text_seen self.entry.name) self.entry.fields.now s)) slots.now) result }
+    {
+        let start = out.size();
+        for slot in slots {
+            let result = self.put_slot(slot, out);
+            if result.is_err() {
+                out.cut(start);
+                return result;
+            }
+        }
+        Ok(())
+    }
 
-    ghost in_range = { λ m. InRangeModule (text_seen m.name) m.fields.now };
-
-    ghost is_ready = { λ m. is_measured m };
-
-    fn encode<S: Sink>(&self, out: &mut S) -> Result<(), Refusal> {
+    /// Appends the bytes of the module: the header, and what stands in each place.
+    pub(crate) fn encode<S: Sink>(self, out: &mut S) -> Result<(), Refusal>
+        requires { IsTrue (is_measured self) }
+        ensures { Writes S.rules (InRangeModule (text_seen self.entry.name) self.entry.fields.now)
+            out.old out.new (bytes_of (text_seen self.entry.name) self.entry.fields.now) result }
+    {
+        let start = out.size();
         let header = HEADER;
+        Raw(&header).encode(out)?;
         let slots = ORDER;
-        (Raw(&header), Each(&slots, *self)).encode(out)
+        let second = self.put_slots(&slots, out);
+        if second.is_err() {
+            out.cut(start);
+        }
+        second
     }
 }

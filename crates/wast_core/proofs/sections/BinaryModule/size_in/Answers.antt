@@ -7,15 +7,15 @@ use Rattle.wast_core.proofs.sections.BinaryModule.size_in.Goals as goal
 
 pub returns-in-Section : goal.returns-in-Section
 returns-in-Section c =
-    rw c.in-Section.is (listed_counted (section_kind c.in-Section.kind) c.args.self.now.fields.now c.extent.result.count c.extent.result.size c.section_size.result c.extent.ensures c.section_size.ensures.size c.section_size.ensures.within)
+    rw c.in-Section.is (listed_counted (section_kind c.in-Section.kind) c.args.self.fields.now c.extent.result.count c.extent.result.size c.section_size.result c.extent.ensures c.section_size.ensures.size c.section_size.ensures.within)
 
 pub returns-in-DataCount : goal.returns-in-DataCount
 returns-in-DataCount c =
-    let m = c.args.self.now in
+    let m = c.args.self in
     let extents = measured_extents m c.requires in
     rw c.in-DataCount.is (counts_counted m.fields.now m.is_counted m.«data».count c.count_size.result extents.counts extents.«data».counted c.count_size.ensures.size c.count_size.ensures.within)
 
 pub returns-in-Names : goal.returns-in-Names
 returns-in-Names c =
-    let m = c.args.self.now in
+    let m = c.args.self in
     rw c.in-Names.is (names_counted (name_subsections (text_seen m.name) m.fields.now) m.names c.section_size-in-Names.result (measured_extents m c.requires).names c.section_size-in-Names.ensures.size c.section_size-in-Names.ensures.within)
