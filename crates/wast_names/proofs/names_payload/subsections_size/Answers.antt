@@ -1,4 +1,4 @@
-use Rattle.std.proofs.Common.{◌∙◌, ◌+◌, arith, ap, length, inl, inr}
+use Rattle.std.proofs.Common.{◌∙◌, arith, ap, length, inl, inr}
 use Rattle.std.proofs.lemmas.Result.{err_from_is_err_and}
 use Rattle.wasm_out.specs.NameSectionBytes.{name_subsection, InRangeNameSubsection}
 use Rattle.wast_names.specs.FoundNames.{text_seen}
