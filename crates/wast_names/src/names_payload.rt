@@ -212,7 +212,12 @@ fn put_lists<'b, T: NamedField, S: Sink>(
     ensures { Writes S.rules (InRangeMap map_entry InRangeMapEntry (named_from 0 (flat_map (λ t. lists_within (map T.field fields.now) within (T.field t)) there.now)))
         out.old out.new (map_bytes (subsection_id (named_within within)) map_entry (named_from 0 (flat_map (λ t. lists_within (map T.field fields.now) within (T.field t)) there.now))) result }
 {
-    put_map(id_within(within), WithinItems { within, fields }, there, out)
+    put_map(
+        id_within(within),
+        WithinItems { within, fields },
+        there,
+        out,
+    )
 }
 
 /// Appends the subsection of a map of the names in these fields, where there are any.

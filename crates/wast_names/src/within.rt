@@ -102,7 +102,8 @@ fn types_within<'b, 'a>(field: &'b ModuleField<'a>) -> &'b [Type<'a>]
     }
 }
 
-/// A list of fields, as types are looked up in it: a type parameter in what looks them up, which so is proved of any list.
+/// A list of fields, as types are looked up in it. It is a type parameter of what looks them up: a proof would else compare
+/// the type of the whole list with itself at each call.
 pub(crate) trait Arities {
     /// These fields.
     ghost fields: { Self → List ModuleField };
@@ -275,7 +276,7 @@ enum Lists<'b, 'a> {
     Types(&'b [Type<'a>]),
 }
 
-/// Finds the lists that stand within a field, which is one of these fields.
+/// Finds the lists that stand within a field of this list of fields.
 fn lists_in<'b, 'a, A: Arities>(
     within: Within,
     arities: &A,
@@ -318,7 +319,8 @@ impl<'a> NameItems<Type<'a>> for Within {
     }
 }
 
-/// A field, as lists of fields are walked for what stands within its items: a type parameter of the walk, as the list is.
+/// A field, as lists of fields are walked for what stands within its items. It is a type parameter of the walk, as
+/// [`Arities`] are of what looks types up.
 pub(crate) trait NamedField {
     /// What it is.
     ghost field: { Self → ModuleField };
@@ -332,7 +334,7 @@ pub(crate) trait NamedField {
         requires { index < length (types_within (field self.now)) }
         ensures { result ≡ arity_of (slice_get (types_within (field self.now)) index) };
 
-    /// How many of its items have a list of names. It is one of these fields.
+    /// How many of its items have a list of names, among these fields.
     fn count_lists<A: Arities>(&self, within: Within, arities: &A) -> u64
         ensures { result ≡ counted (length (named_from 0 (lists_within (A.fields arities.now) within (field self.now)))) };
 
