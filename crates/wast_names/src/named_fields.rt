@@ -40,8 +40,8 @@ fn reach_of(space: Space, reaches: &Reaches) -> Reach
 /// The fields from the first to the last that can have items of a space.
 pub(crate) fn with_items<'b, 'a>(
     space: Space,
-    reaches: &Reaches,
     fields: &'b [ModuleField<'a>],
+    reaches: &Reaches,
 ) -> &'b [ModuleField<'a>]
     requires { IsTrue (are_reaches fields.now reaches.now) }
     ensures { flat_map (names_given space) result.now ≡ flat_map (names_given space) fields.now }
@@ -65,8 +65,8 @@ fn reach_within(within: Within, reaches: &Reaches) -> Reach
 /// The fields from the first to the last within whose items such lists can stand.
 pub(crate) fn with_lists<'b, 'a>(
     within: Within,
-    reaches: &Reaches,
     fields: &'b [ModuleField<'a>],
+    reaches: &Reaches,
 ) -> &'b [ModuleField<'a>]
     requires { IsTrue (are_reaches fields.now reaches.now) }
     ensures { flat_map (lists_within fields.now within) result.now ≡ flat_map (lists_within fields.now within) fields.now }

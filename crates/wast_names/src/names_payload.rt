@@ -207,7 +207,7 @@ fn put_lists<'b, T: NamedField, S: Sink>(
     within: Within,
     fields: &'b [T],
     there: &'b [T],
-    out: &mut S,
+    out: &'b mut S,
 ) -> Result<(), Refusal>
     ensures { Writes S.rules (InRangeMap map_entry InRangeMapEntry (named_from 0 (flat_map (λ t. lists_within (map T.field fields.now) within (T.field t)) there.now)))
         out.old out.new (map_bytes (subsection_id (named_within within)) map_entry (named_from 0 (flat_map (λ t. lists_within (map T.field fields.now) within (T.field t)) there.now))) result }
@@ -222,8 +222,8 @@ fn put_lists<'b, T: NamedField, S: Sink>(
 
 /// Appends the subsection of a map of the names in these fields, where there are any.
 fn put_subsection<S: Sink>(
-    map: &NameMap,
     fields: &[ModuleField],
+    map: &NameMap,
     reaches: &Reaches,
     out: &mut S,
 ) -> Result<(), Refusal>
@@ -233,11 +233,11 @@ fn put_subsection<S: Sink>(
 {
     match map {
         NameMap::Items(space) => {
-            let there = with_items(*space, reaches, fields);
+            let there = with_items(*space, fields, reaches);
             put_map(id_of(*space), *space, there, out)
         }
         NameMap::Within(within) => {
-            let there = with_lists(*within, reaches, fields);
+            let there = with_lists(*within, fields, reaches);
             put_lists(*within, fields, there, out)
         }
     }
@@ -245,8 +245,8 @@ fn put_subsection<S: Sink>(
 
 /// Appends the subsections of maps of the names in these fields, one after another.
 fn put_subsections<S: Sink>(
-    maps: &[NameMap],
     fields: &[ModuleField],
+    maps: &[NameMap],
     reaches: &Reaches,
     out: &mut S,
 ) -> Result<(), Refusal>
@@ -256,7 +256,7 @@ fn put_subsections<S: Sink>(
 {
     let start = out.size();
     for map in maps {
-        let result = put_subsection(map, fields, reaches, out);
+        let result = put_subsection(fields, map, reaches, out);
         if result.is_err() {
             out.cut(start);
             return result;
@@ -303,8 +303,8 @@ impl Encode for ModuleName<'_> {
 
 /// Appends what stands before the maps of names, and then those of these fields.
 fn put_behind<P: Encode, S: Sink>(
-    front: &P,
     fields: &[ModuleField],
+    front: &P,
     reaches: &Reaches,
     out: &mut S,
 ) -> Result<(), Refusal>
@@ -316,7 +316,7 @@ fn put_behind<P: Encode, S: Sink>(
     let start = out.size();
     front.encode(out)?;
     let maps = NAME_MAPS;
-    let second = put_subsections(&maps, fields, reaches, out);
+    let second = put_subsections(fields, &maps, reaches, out);
     if second.is_err() {
         out.cut(start);
     }
@@ -325,8 +325,8 @@ fn put_behind<P: Encode, S: Sink>(
 
 /// How long the subsections are, of a module with this name and these fields.
 fn subsections_size(
-    name: Option<&str>,
     fields: &[ModuleField],
+    name: Option<&str>,
     reaches: &Reaches,
 ) -> Result<u32, Refusal>
     requires { IsTrue (are_reaches fields.now reaches.now) }
@@ -336,7 +336,7 @@ fn subsections_size(
         × (InRangeSized (All InRangeNameSubsection) (flat_map name_subsection) (name_subsections (text_seen name.entry) fields.now) → ⊥)) }
 {
     let mut length = Length::new();
-    put_behind(&ModuleName(name), fields, reaches, &mut length)?;
+    put_behind(fields, &ModuleName(name), reaches, &mut length)?;
     match u32::try_from(length.count()) {
         Ok(count) => Ok(count),
         Err(_) => Err(Refusal::TooLarge),
@@ -348,8 +348,8 @@ fn subsections_size(
 /// stand, as [`Reaches::of`] tells it, and goes through those alone that can have names. It takes no memory, and refuses
 /// only as too large, where a number, count or length in the section is out of range.
 pub fn names_size(
-    name: Option<&str>,
     fields: &[ModuleField],
+    name: Option<&str>,
     reaches: &Reaches,
 ) -> Result<u32, Refusal>
     requires { IsTrue (are_reaches fields.now reaches.now) }
@@ -358,7 +358,7 @@ pub fn names_size(
         × (All InRangePart (names_part (name_subsections (text_seen name.entry) fields.now))
         × InRangeNames (text_seen name.entry) fields.now → ⊥)) }
 {
-    let subsections = subsections_size(name, fields, reaches)?;
+    let subsections = subsections_size(fields, name, reaches)?;
     if subsections == 0 {
         return Ok(0);
     }
@@ -374,8 +374,8 @@ pub fn names_size(
 /// those alone that can have names; and it needs the length of its payload, as [`names_size`] gives it. It refuses as
 /// [`Encode::encode`] does, as too large where a number, count or length is out of range; then nothing was appended.
 pub fn put_names<S: Sink>(
-    name: Option<&str>,
     fields: &[ModuleField],
+    name: Option<&str>,
     reaches: &Reaches,
     size: u32,
     out: &mut S,
@@ -390,5 +390,5 @@ pub fn put_names<S: Sink>(
         return Ok(());
     }
     let front = (0u8, (size, (Name("name"), ModuleName(name))));
-    put_behind(&front, fields, reaches, out)
+    put_behind(fields, &front, reaches, out)
 }
