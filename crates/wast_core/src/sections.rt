@@ -8,7 +8,7 @@ ghost use Rattle.wasm_out.specs.Parts.{part, InRangePart};
 ghost use Rattle.wast_core.specs.Bounded.{bytes_of, InRangeSlot, InRangeModule};
 ghost use Rattle.wast_conv.specs.Encodable.{is_encodable};
 ghost use Rattle.wast_core.specs.Extents.{IsExtent, section_size};
-ghost use Rattle.wast_core.specs.Measured.{is_measured};
+ghost use Rattle.wast_core.specs.Measured.{are_measures, is_measured};
 ghost use Rattle.wast_core.specs.Meaning.{in_slot};
 ghost use Rattle.wast_names.specs.FoundNames.{counted, text_seen};
 ghost use Rattle.wast_core.specs.Slots.{section_kind};
@@ -22,14 +22,10 @@ use wast_names::{names_size, put_names};
 use wast_reach::Reaches;
 use wast_tree::ModuleField;
 
-/// A binary module, by the name and the resolved fields of the text module, where those of each kind stand, how long its
-/// sections are, and whether a data count stands in it. It is handed on by value, and where a list of fields is handed on
-/// it stands first: so a callee has the lifetimes of the fields at the places at which its caller has them, and the prover
-/// does not compare the whole tree.
+/// What is measured of a module before it is written: where the fields of each kind stand, how long its sections are, and
+/// whether a data count stands in it.
 #[derive(Clone, Copy)]
-pub(crate) struct BinaryModule<'b, 'a, 'n> {
-    fields: &'b [ModuleField<'a>],
-    name: Option<&'n str>,
+pub(crate) struct Measures {
     reaches: Reaches,
     types: Extent,
     imports: Extent,
@@ -46,6 +42,16 @@ pub(crate) struct BinaryModule<'b, 'a, 'n> {
     names: u32,
 }
 
+/// A binary module, by the name and the resolved fields of the text module, and what is measured of it. It is handed on by
+/// value, and where a list of fields is handed on it stands first: so a callee has the lifetimes of the fields at the places
+/// at which its caller has them, and the prover does not compare the whole tree.
+#[derive(Clone, Copy)]
+pub(crate) struct BinaryModule<'b, 'a, 'n> {
+    fields: &'b [ModuleField<'a>],
+    name: Option<&'n str>,
+    measures: Measures,
+}
+
 /// How long a section is, of how long its payload is.
 fn section_size(payload: u32) -> u64
     ensures size { result ≡ section_size payload }
@@ -57,9 +63,35 @@ fn section_size(payload: u32) -> u64
     1 + (width(u64::from(payload)) + u64::from(payload))
 }
 
+/// What is measured of a module of this name and these resolved fields: its fields of each kind are found, and its sections
+/// are counted and measured, once.
+fn measure(fields: &[ModuleField], name: Option<&str>) -> Result<Measures, Refusal>
+    requires { IsTrue (is_encodable fields.now) }
+    ensures ok { IfOk result (λ m. IsTrue (are_measures (text_seen name.entry) fields.now m)) }
+    ensures err { IfErr result (λ e. (e ≡ refusal.TooLarge) × (InRangeModule (text_seen name.entry) fields.now → ⊥)) }
+{
+    let reaches = Reaches::of(fields);
+    Ok(Measures {
+        reaches,
+        types: extent_of(SectionKind::Types, fields, &reaches)?,
+        imports: extent_of(SectionKind::Imports, fields, &reaches)?,
+        functions: extent_of(SectionKind::Functions, fields, &reaches)?,
+        tables: extent_of(SectionKind::Tables, fields, &reaches)?,
+        memories: extent_of(SectionKind::Memories, fields, &reaches)?,
+        tags: extent_of(SectionKind::Tags, fields, &reaches)?,
+        globals: extent_of(SectionKind::Globals, fields, &reaches)?,
+        exports: extent_of(SectionKind::Exports, fields, &reaches)?,
+        elements: extent_of(SectionKind::Elements, fields, &reaches)?,
+        code: extent_of(SectionKind::Code, fields, &reaches)?,
+        data: extent_of(SectionKind::Data, fields, &reaches)?,
+        is_counted: is_counted(fields, &reaches),
+        names: names_size(fields, name, &reaches)?,
+    })
+}
+
 impl<'b, 'a, 'n> BinaryModule<'b, 'a, 'n> {
-    /// The binary module of this name and these resolved fields: its fields of each kind are found, and its sections are
-    /// counted and measured, once. It takes no memory, and refuses as too large, where a number, count or length in the module is out of range.
+    /// The binary module of this name and these resolved fields. It takes no memory, and refuses as too large, where a
+    /// number, count or length in the module is out of range.
     pub(crate) fn of(
         fields: &'b [ModuleField<'a>],
         name: Option<&'n str>,
@@ -68,25 +100,14 @@ impl<'b, 'a, 'n> BinaryModule<'b, 'a, 'n> {
         ensures ok { IfOk result (λ m. IsTrue (is_measured m) × (m.name ≡ name.entry) × (m.fields.now ≡ fields.now)) }
         ensures err { IfErr result (λ e. (e ≡ refusal.TooLarge) × (InRangeModule (text_seen name.entry) fields.now → ⊥)) }
     {
-        let reaches = Reaches::of(fields);
-        Ok(BinaryModule {
-            fields,
-            name,
-            reaches,
-            types: extent_of(SectionKind::Types, fields, &reaches)?,
-            imports: extent_of(SectionKind::Imports, fields, &reaches)?,
-            functions: extent_of(SectionKind::Functions, fields, &reaches)?,
-            tables: extent_of(SectionKind::Tables, fields, &reaches)?,
-            memories: extent_of(SectionKind::Memories, fields, &reaches)?,
-            tags: extent_of(SectionKind::Tags, fields, &reaches)?,
-            globals: extent_of(SectionKind::Globals, fields, &reaches)?,
-            exports: extent_of(SectionKind::Exports, fields, &reaches)?,
-            elements: extent_of(SectionKind::Elements, fields, &reaches)?,
-            code: extent_of(SectionKind::Code, fields, &reaches)?,
-            data: extent_of(SectionKind::Data, fields, &reaches)?,
-            is_counted: is_counted(fields, &reaches),
-            names: names_size(fields, name, &reaches)?,
-        })
+        match measure(fields, name) {
+            Ok(measures) => Ok(BinaryModule {
+                fields,
+                name,
+                measures,
+            }),
+            Err(refusal) => Err(refusal),
+        }
     }
 
     /// The extent of the section of a kind.
@@ -95,17 +116,17 @@ impl<'b, 'a, 'n> BinaryModule<'b, 'a, 'n> {
         ensures { IsExtent (section_kind kind) self.entry.fields.now result.count result.size }
     {
         match kind {
-            SectionKind::Types => self.types,
-            SectionKind::Imports => self.imports,
-            SectionKind::Functions => self.functions,
-            SectionKind::Tables => self.tables,
-            SectionKind::Memories => self.memories,
-            SectionKind::Tags => self.tags,
-            SectionKind::Globals => self.globals,
-            SectionKind::Exports => self.exports,
-            SectionKind::Elements => self.elements,
-            SectionKind::Code => self.code,
-            SectionKind::Data => self.data,
+            SectionKind::Types => self.measures.types,
+            SectionKind::Imports => self.measures.imports,
+            SectionKind::Functions => self.measures.functions,
+            SectionKind::Tables => self.measures.tables,
+            SectionKind::Memories => self.measures.memories,
+            SectionKind::Tags => self.measures.tags,
+            SectionKind::Globals => self.measures.globals,
+            SectionKind::Exports => self.measures.exports,
+            SectionKind::Elements => self.measures.elements,
+            SectionKind::Code => self.measures.code,
+            SectionKind::Data => self.measures.data,
         }
     }
 
@@ -116,9 +137,9 @@ impl<'b, 'a, 'n> BinaryModule<'b, 'a, 'n> {
     {
         match slot {
             Slot::Section(kind) => section_size(self.extent(*kind).size),
-            Slot::Start => starts_size(start_fields(self.fields, &self.reaches)),
-            Slot::DataCount => count_size(self.is_counted, self.data.count),
-            Slot::Names => section_size(self.names),
+            Slot::Start => starts_size(start_fields(self.fields, &self.measures.reaches)),
+            Slot::DataCount => count_size(self.measures.is_counted, self.measures.data.count),
+            Slot::Names => section_size(self.measures.names),
             Slot::BeforeFirst | Slot::Before(_) | Slot::After(_) | Slot::AfterLast => 0,
             Slot::BeforeStart | Slot::AfterStart | Slot::Hints => 0,
         }
@@ -154,11 +175,23 @@ impl<'b, 'a, 'n> BinaryModule<'b, 'a, 'n> {
     {
         match slot {
             Slot::Section(kind) => {
-                put_section(*kind, self.fields, &self.reaches, self.extent(*kind), out)
+                put_section(
+                    *kind,
+                    self.fields,
+                    &self.measures.reaches,
+                    self.extent(*kind),
+                    out,
+                )
             }
-            Slot::Start => put_starts(start_fields(self.fields, &self.reaches), out),
-            Slot::DataCount => put_count(self.is_counted, self.data.count, out),
-            Slot::Names => put_names(self.fields, self.name, &self.reaches, self.names, out),
+            Slot::Start => put_starts(start_fields(self.fields, &self.measures.reaches), out),
+            Slot::DataCount => put_count(self.measures.is_counted, self.measures.data.count, out),
+            Slot::Names => put_names(
+                self.fields,
+                self.name,
+                &self.measures.reaches,
+                self.measures.names,
+                out,
+            ),
             Slot::BeforeFirst | Slot::Before(_) | Slot::After(_) | Slot::AfterLast => Ok(()),
             Slot::BeforeStart | Slot::AfterStart | Slot::Hints => Ok(()),
         }

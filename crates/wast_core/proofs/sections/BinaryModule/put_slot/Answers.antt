@@ -9,4 +9,4 @@ pub returns-in-DataCount : goal.returns-in-DataCount
 returns-in-DataCount g c =
     let m = c.args.self in
     let extents = measured_extents m c.requires in
-    rw c.in-DataCount.is (counts_written g.S.Sink.rules m.fields.now m.is_counted m.«data».count c.args.out.now c.put_count.new.out c.put_count.result extents.counts extents.«data».counted c.put_count.ensures)
+    rw c.in-DataCount.is (counts_written g.S.Sink.rules m.fields.now m.measures.is_counted m.measures.«data».count c.args.out.now c.put_count.new.out c.put_count.result extents.counts extents.«data».counted c.put_count.ensures)

@@ -13,9 +13,9 @@ pub returns-in-DataCount : goal.returns-in-DataCount
 returns-in-DataCount c =
     let m = c.args.self in
     let extents = measured_extents m c.requires in
-    rw c.in-DataCount.is (counts_counted m.fields.now m.is_counted m.«data».count c.count_size.result extents.counts extents.«data».counted c.count_size.ensures.size c.count_size.ensures.within)
+    rw c.in-DataCount.is (counts_counted m.fields.now m.measures.is_counted m.measures.«data».count c.count_size.result extents.counts extents.«data».counted c.count_size.ensures.size c.count_size.ensures.within)
 
 pub returns-in-Names : goal.returns-in-Names
 returns-in-Names c =
     let m = c.args.self in
-    rw c.in-Names.is (names_counted (name_subsections (text_seen m.name) m.fields.now) m.names c.section_size-in-Names.result (measured_extents m c.requires).names c.section_size-in-Names.ensures.size c.section_size-in-Names.ensures.within)
+    rw c.in-Names.is (names_counted (name_subsections (text_seen m.name) m.fields.now) m.measures.names c.section_size-in-Names.result (measured_extents m c.requires).names c.section_size-in-Names.ensures.size c.section_size-in-Names.ensures.within)

@@ -1,7 +1,7 @@
 use Rattle.std.proofs.Common.{◌∙◌, arith}
 use Rattle.std.proofs.lemmas.Result.{err_from_is_err_and}
 use Rattle.wast_core.specs.declared.slots.Slot.TheVariants as slot
-use Rattle.wast_core.proofs.sections.BinaryModule.of.Goals as goal
+use Rattle.wast_core.proofs.sections.measure.Goals as goal
 
 pub returns-in_err-extent_of-clause-err : goal.returns-in_err-extent_of-clause-err
 returns-in_err-extent_of-clause-err c =
