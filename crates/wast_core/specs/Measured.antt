@@ -3,9 +3,7 @@ use Rattle.std.specs.Prelude.{ℕ, Bool, ◌&&◌, List, Option}
 use Rattle.wasm_out.specs.Parts.{Types, Imports, Functions, Tables, Memories, Tags, Globals, Exports, Elements, Code, Data}
 use Rattle.wast_conv.specs.Encodable.{is_encodable}
 use Rattle.wast_core.specs.Extents.{is_extent, is_names_size, is_counted}
-use Rattle.wast_names.specs.FoundNames.{text_seen}
 use Rattle.wast_reach.specs.Reaches.{are_reaches}
-use Rattle.wast_core.specs.declared.sections.BinaryModule.{BinaryModule}
 use Rattle.wast_core.specs.declared.sections.Measures.{Measures}
 use Rattle.wast_core.specs.Tree.{ModuleField}
 
@@ -28,7 +26,3 @@ are_measures name fields m =
     && (is_extent Data fields m.«data».count m.«data».size
     && (is_counted fields m.is_counted
     && is_names_size name fields m.names)))))))))))))
-
--- so it is of a module
-abbrev pub is_measured : BinaryModule → Bool
-is_measured m = are_measures (text_seen m.name) m.fields.now m.measures

@@ -15,9 +15,9 @@ ghost use Rattle.wast_core.specs.Writing.{IsEncodable, IsAtRest, EncodesResolved
 
 use crate::covered;
 use crate::module::{Module, ModuleKind};
-use crate::sections::BinaryModule;
+use crate::sections::{measure, put_measured, size};
 use std::alloc::Global;
-use wasm_ops::{Encode, Room, Sink};
+use wasm_ops::{Room, Sink};
 use wast_names::given_name;
 use wast_resolve::{discard_names, resolved_laws};
 use wast_tree::{Error, Fault, Gensym, ModuleField};
@@ -33,9 +33,9 @@ fn encode_fields<'e>(
     ensures bytes { IfOk result (λ v. Reads v.items (parts (text_seen name.entry) fields.now)) }
     ensures refusal { IfErr result (IsRefused (IsWritable (text_seen name.entry) fields.now)) }
 {
-    let binary = BinaryModule::of(fields, name)?;
-    let mut room = Room::reserve(alloc, binary.size() as usize)?;
-    binary.encode(&mut room)?;
+    let measures = measure(fields, name)?;
+    let mut room = Room::reserve(alloc, size(fields, name, &measures) as usize)?;
+    put_measured(fields, name, &measures, &mut room)?;
     let bytes = room.finish();
     Ok(bytes)
 }
@@ -52,8 +52,8 @@ fn put_fields<'e, S: Sink>(
     match covered::uncovered(fields) {
         Some(form) => Err(Error::refusal(Fault::Uncovered(form))),
         None => {
-            let binary = BinaryModule::of(fields, name)?;
-            Ok(binary.encode(out)?)
+            let measures = measure(fields, name)?;
+            Ok(put_measured(fields, name, &measures, out)?)
         }
     }
 }

@@ -1,6 +1,6 @@
-//! The whole of a binary module: the header, and what stands in each place.
+//! The whole of a binary module: the header, and what stands in each place, by what is measured first.
 
-ghost use Rattle.std.specs.Prelude.{◌≡◌, ◌≤◌, All, IsTrue, IfOk, IfErr, length};
+ghost use Rattle.std.specs.Prelude.{◌≡◌, ◌≤◌, ℕ, All, IsTrue, IfOk, IfErr, List, Option, length};
 ghost use Rattle.std.specs.List.{flat_map};
 ghost use Rattle.wasm_ops.specs.Sinks.{Writes};
 ghost use Rattle.wasm_ops.specs.declared.sink.Refusal.TheVariants as refusal;
@@ -8,7 +8,8 @@ ghost use Rattle.wasm_out.specs.Parts.{part, InRangePart};
 ghost use Rattle.wast_core.specs.Bounded.{bytes_of, InRangeSlot, InRangeModule};
 ghost use Rattle.wast_conv.specs.Encodable.{is_encodable};
 ghost use Rattle.wast_core.specs.Extents.{IsExtent, section_size};
-ghost use Rattle.wast_core.specs.Measured.{are_measures, is_measured};
+ghost use Rattle.wast_core.specs.Measured.{are_measures};
+ghost use Rattle.wast_core.specs.Tree.{ModuleField};
 ghost use Rattle.wast_core.specs.Meaning.{in_slot};
 ghost use Rattle.wast_names.specs.FoundNames.{counted, text_seen};
 ghost use Rattle.wast_core.specs.Slots.{section_kind};
@@ -42,16 +43,6 @@ pub(crate) struct Measures {
     names: u32,
 }
 
-/// A binary module, by the name and the resolved fields of the text module, and what is measured of it. It is handed on by
-/// value, and where a list of fields is handed on it stands first: so a callee has the lifetimes of the fields at the places
-/// at which its caller has them, and the prover does not compare the whole tree.
-#[derive(Clone, Copy)]
-pub(crate) struct BinaryModule<'b, 'a, 'n> {
-    fields: &'b [ModuleField<'a>],
-    name: Option<&'n str>,
-    measures: Measures,
-}
-
 /// How long a section is, of how long its payload is.
 fn section_size(payload: u32) -> u64
     ensures size { result ≡ section_size payload }
@@ -64,8 +55,12 @@ fn section_size(payload: u32) -> u64
 }
 
 /// What is measured of a module of this name and these resolved fields: its fields of each kind are found, and its sections
-/// are counted and measured, once.
-fn measure(fields: &[ModuleField], name: Option<&str>) -> Result<Measures, Refusal>
+/// are counted and measured, once. It takes no memory, and refuses as too large, where a number, count or length in the
+/// module is out of range.
+///
+/// The fields stand first, here and in all that they are handed to: so a callee has their lifetimes at the places at which its
+/// caller has them, and the prover does not compare the whole tree.
+pub(crate) fn measure(fields: &[ModuleField], name: Option<&str>) -> Result<Measures, Refusal>
     requires { IsTrue (is_encodable fields.now) }
     ensures ok { IfOk result (λ m. IsTrue (are_measures (text_seen name.entry) fields.now m)) }
     ensures err { IfErr result (λ e. (e ≡ refusal.TooLarge) × (InRangeModule (text_seen name.entry) fields.now → ⊥)) }
@@ -89,145 +84,134 @@ fn measure(fields: &[ModuleField], name: Option<&str>) -> Result<Measures, Refus
     })
 }
 
-impl<'b, 'a, 'n> BinaryModule<'b, 'a, 'n> {
-    /// The binary module of this name and these resolved fields. It takes no memory, and refuses as too large, where a
-    /// number, count or length in the module is out of range.
-    pub(crate) fn of(
-        fields: &'b [ModuleField<'a>],
-        name: Option<&'n str>,
-    ) -> Result<BinaryModule<'b, 'a, 'n>, Refusal>
-        requires { IsTrue (is_encodable fields.now) }
-        ensures ok { IfOk result (λ m. IsTrue (is_measured m) × (m.name ≡ name.entry) × (m.fields.now ≡ fields.now)) }
-        ensures err { IfErr result (λ e. (e ≡ refusal.TooLarge) × (InRangeModule (text_seen name.entry) fields.now → ⊥)) }
-    {
-        match measure(fields, name) {
-            Ok(measures) => Ok(BinaryModule {
+/// The extent of the section of a kind.
+fn extent(measures: &Measures, kind: SectionKind) -> Extent
+    ensures { (name : Option (List ℕ)) (fields : List ModuleField) → IsTrue (are_measures name fields measures.now)
+        → IsExtent (section_kind kind) fields result.count result.size }
+{
+    match kind {
+        SectionKind::Types => measures.types,
+        SectionKind::Imports => measures.imports,
+        SectionKind::Functions => measures.functions,
+        SectionKind::Tables => measures.tables,
+        SectionKind::Memories => measures.memories,
+        SectionKind::Tags => measures.tags,
+        SectionKind::Globals => measures.globals,
+        SectionKind::Exports => measures.exports,
+        SectionKind::Elements => measures.elements,
+        SectionKind::Code => measures.code,
+        SectionKind::Data => measures.data,
+    }
+}
+
+/// How many bytes stand in a place, up to the greatest `u64`.
+fn size_in(fields: &[ModuleField], name: Option<&str>, measures: &Measures, slot: &Slot) -> u64
+    requires { IsTrue (are_measures (text_seen name) fields.now measures.now) }
+    ensures { result ≡ counted (length (flat_map part (in_slot (text_seen name.entry) fields.now slot.now))) }
+{
+    match slot {
+        Slot::Section(kind) => section_size(extent(measures, *kind).size),
+        Slot::Start => starts_size(start_fields(fields, &measures.reaches)),
+        Slot::DataCount => count_size(measures.is_counted, measures.data.count),
+        Slot::Names => section_size(measures.names),
+        Slot::BeforeFirst | Slot::Before(_) | Slot::After(_) | Slot::AfterLast => 0,
+        Slot::BeforeStart | Slot::AfterStart | Slot::Hints => 0,
+    }
+}
+
+/// How many bytes stand in places, one after another, up to the greatest `u64`.
+fn sum_of(fields: &[ModuleField], name: Option<&str>, measures: &Measures, slots: &[Slot]) -> u64
+    requires { IsTrue (are_measures (text_seen name) fields.now measures.now) }
+    ensures { result ≡ counted (length
+        (flat_map (λ s. flat_map part (in_slot (text_seen name.entry) fields.now s)) slots.now)) }
+{
+    let mut sum = 0u64;
+    for slot in slots {
+        sum = sum.saturating_add(size_in(fields, name, measures, slot));
+    }
+    sum
+}
+
+/// How many bytes the module has, up to the greatest `u64`.
+pub(crate) fn size(fields: &[ModuleField], name: Option<&str>, measures: &Measures) -> u64
+    requires { IsTrue (are_measures (text_seen name) fields.now measures.now) }
+    ensures { result ≡ counted (length (bytes_of (text_seen name.entry) fields.now)) }
+{
+    let slots = ORDER;
+    (HEADER.len() as u64).saturating_add(sum_of(fields, name, measures, &slots))
+}
+
+/// Appends what stands in a place.
+fn put_slot<S: Sink>(
+    fields: &[ModuleField],
+    name: Option<&str>,
+    measures: &Measures,
+    slot: &Slot,
+    out: &mut S,
+) -> Result<(), Refusal>
+    requires { IsTrue (are_measures (text_seen name) fields.now measures.now) }
+    ensures { Writes S.rules (InRangeSlot (text_seen name.entry) fields.now slot.now)
+        out.old out.new (flat_map part (in_slot (text_seen name.entry) fields.now slot.now)) result }
+{
+    match slot {
+        Slot::Section(kind) => {
+            put_section(
+                *kind,
                 fields,
-                name,
-                measures,
-            }),
-            Err(refusal) => Err(refusal),
-        }
-    }
-
-    /// The extent of the section of a kind.
-    fn extent(self, kind: SectionKind) -> Extent
-        requires { IsTrue (is_measured self) }
-        ensures { IsExtent (section_kind kind) self.entry.fields.now result.count result.size }
-    {
-        match kind {
-            SectionKind::Types => self.measures.types,
-            SectionKind::Imports => self.measures.imports,
-            SectionKind::Functions => self.measures.functions,
-            SectionKind::Tables => self.measures.tables,
-            SectionKind::Memories => self.measures.memories,
-            SectionKind::Tags => self.measures.tags,
-            SectionKind::Globals => self.measures.globals,
-            SectionKind::Exports => self.measures.exports,
-            SectionKind::Elements => self.measures.elements,
-            SectionKind::Code => self.measures.code,
-            SectionKind::Data => self.measures.data,
-        }
-    }
-
-    /// How many bytes stand in a place, up to the greatest `u64`.
-    fn size_in(self, slot: &Slot) -> u64
-        requires { IsTrue (is_measured self) }
-        ensures { result ≡ counted (length (flat_map part (in_slot (text_seen self.entry.name) self.entry.fields.now slot.now))) }
-    {
-        match slot {
-            Slot::Section(kind) => section_size(self.extent(*kind).size),
-            Slot::Start => starts_size(start_fields(self.fields, &self.measures.reaches)),
-            Slot::DataCount => count_size(self.measures.is_counted, self.measures.data.count),
-            Slot::Names => section_size(self.measures.names),
-            Slot::BeforeFirst | Slot::Before(_) | Slot::After(_) | Slot::AfterLast => 0,
-            Slot::BeforeStart | Slot::AfterStart | Slot::Hints => 0,
-        }
-    }
-
-    /// How many bytes stand in places, one after another, up to the greatest `u64`.
-    fn sum_of(self, slots: &[Slot]) -> u64
-        requires { IsTrue (is_measured self) }
-        ensures { result ≡ counted (length
-            (flat_map (λ s. flat_map part (in_slot (text_seen self.entry.name) self.entry.fields.now s)) slots.now)) }
-    {
-        let mut sum = 0u64;
-        for slot in slots {
-            sum = sum.saturating_add(self.size_in(slot));
-        }
-        sum
-    }
-
-    /// How many bytes the module has, up to the greatest `u64`.
-    pub(crate) fn size(self) -> u64
-        requires { IsTrue (is_measured self) }
-        ensures { result ≡ counted (length (bytes_of (text_seen self.entry.name) self.entry.fields.now)) }
-    {
-        let slots = ORDER;
-        (HEADER.len() as u64).saturating_add(self.sum_of(&slots))
-    }
-
-    /// Appends what stands in a place.
-    fn put_slot<S: Sink>(self, slot: &Slot, out: &mut S) -> Result<(), Refusal>
-        requires { IsTrue (is_measured self) }
-        ensures { Writes S.rules (InRangeSlot (text_seen self.entry.name) self.entry.fields.now slot.now)
-            out.old out.new (flat_map part (in_slot (text_seen self.entry.name) self.entry.fields.now slot.now)) result }
-    {
-        match slot {
-            Slot::Section(kind) => {
-                put_section(
-                    *kind,
-                    self.fields,
-                    &self.measures.reaches,
-                    self.extent(*kind),
-                    out,
-                )
-            }
-            Slot::Start => put_starts(start_fields(self.fields, &self.measures.reaches), out),
-            Slot::DataCount => put_count(self.measures.is_counted, self.measures.data.count, out),
-            Slot::Names => put_names(
-                self.fields,
-                self.name,
-                &self.measures.reaches,
-                self.measures.names,
+                &measures.reaches,
+                extent(measures, *kind),
                 out,
-            ),
-            Slot::BeforeFirst | Slot::Before(_) | Slot::After(_) | Slot::AfterLast => Ok(()),
-            Slot::BeforeStart | Slot::AfterStart | Slot::Hints => Ok(()),
+            )
         }
+        Slot::Start => put_starts(start_fields(fields, &measures.reaches), out),
+        Slot::DataCount => put_count(measures.is_counted, measures.data.count, out),
+        Slot::Names => put_names(fields, name, &measures.reaches, measures.names, out),
+        Slot::BeforeFirst | Slot::Before(_) | Slot::After(_) | Slot::AfterLast => Ok(()),
+        Slot::BeforeStart | Slot::AfterStart | Slot::Hints => Ok(()),
     }
+}
 
-    /// Appends what stands in places, one after another.
-    fn put_slots<S: Sink>(self, slots: &[Slot], out: &mut S) -> Result<(), Refusal>
-        requires { IsTrue (is_measured self) }
-        ensures { Writes S.rules (All (InRangeSlot (text_seen self.entry.name) self.entry.fields.now) slots.now)
-            out.old out.new (flat_map (λ s. flat_map part (in_slot (text_seen self.entry.name) self.entry.fields.now s)) slots.now) result }
-    {
-        let start = out.size();
-        for slot in slots {
-            let result = self.put_slot(slot, out);
-            if result.is_err() {
-                out.cut(start);
-                return result;
-            }
-        }
-        Ok(())
-    }
-
-    /// Appends the bytes of the module: the header, and what stands in each place.
-    pub(crate) fn encode<S: Sink>(self, out: &mut S) -> Result<(), Refusal>
-        requires { IsTrue (is_measured self) }
-        ensures { Writes S.rules (InRangeModule (text_seen self.entry.name) self.entry.fields.now)
-            out.old out.new (bytes_of (text_seen self.entry.name) self.entry.fields.now) result }
-    {
-        let start = out.size();
-        let header = HEADER;
-        Raw(&header).encode(out)?;
-        let slots = ORDER;
-        let second = self.put_slots(&slots, out);
-        if second.is_err() {
+/// Appends what stands in places, one after another.
+fn put_slots<S: Sink>(
+    fields: &[ModuleField],
+    name: Option<&str>,
+    measures: &Measures,
+    slots: &[Slot],
+    out: &mut S,
+) -> Result<(), Refusal>
+    requires { IsTrue (are_measures (text_seen name) fields.now measures.now) }
+    ensures { Writes S.rules (All (InRangeSlot (text_seen name.entry) fields.now) slots.now)
+        out.old out.new (flat_map (λ s. flat_map part (in_slot (text_seen name.entry) fields.now s)) slots.now) result }
+{
+    let start = out.size();
+    for slot in slots {
+        let result = put_slot(fields, name, measures, slot, out);
+        if result.is_err() {
             out.cut(start);
+            return result;
         }
-        second
     }
+    Ok(())
+}
+
+/// Appends the bytes of the module: the header, and what stands in each place.
+pub(crate) fn put_measured<S: Sink>(
+    fields: &[ModuleField],
+    name: Option<&str>,
+    measures: &Measures,
+    out: &mut S,
+) -> Result<(), Refusal>
+    requires { IsTrue (are_measures (text_seen name) fields.now measures.now) }
+    ensures { Writes S.rules (InRangeModule (text_seen name.entry) fields.now)
+        out.old out.new (bytes_of (text_seen name.entry) fields.now) result }
+{
+    let start = out.size();
+    let header = HEADER;
+    Raw(&header).encode(out)?;
+    let slots = ORDER;
+    let second = put_slots(fields, name, measures, &slots, out);
+    if second.is_err() {
+        out.cut(start);
+    }
+    second
 }

@@ -4,11 +4,11 @@ use Rattle.wasm_out.specs.Parts.{part}
 use Rattle.wast_core.specs.Bounded.{InRangeSlot}
 use Rattle.wast_core.specs.Meaning.{in_slot}
 use Rattle.wast_names.specs.FoundNames.{text_seen}
-use Rattle.wast_core.proofs.sections.BinaryModule.put_slots.Given as goal
+use Rattle.wast_core.proofs.sections.put_slots.Given as goal
 
 abbrev pub invariant-loop-slot : goal.invariant-loop-slot
 invariant-loop-slot g l = record {
-  told : g.S.Sink.rules.appended l.fn.out l.out (flat_map (λ s. flat_map part (in_slot (text_seen l.self.name) l.self.fields.now s)) (take l.slot-index l.slots));
-  fitting : All (λ s. InRangeSlot (text_seen l.self.name) l.self.fields.now s) (take l.slot-index l.slots);
+  told : g.S.Sink.rules.appended l.fn.out l.out (flat_map (λ s. flat_map part (in_slot (text_seen l.name) l.fields s)) (take l.slot-index l.slots));
+  fitting : All (λ s. InRangeSlot (text_seen l.name) l.fields s) (take l.slot-index l.slots);
   at : l.start ≡ g.S.Sink.rules.size_of l.fn.out;
 }

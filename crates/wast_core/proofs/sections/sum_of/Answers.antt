@@ -8,12 +8,12 @@ use Rattle.wast_core.specs.declared.slots.Slot.{Slot}
 use Rattle.wast_core.specs.declared.slots.Slot.TheVariants as slot
 use Rattle.wast_names.proofs.Each.{each_more}
 use Rattle.wast_core.proofs.Sizes.{bytes_more, all_summed}
-use Rattle.wast_core.proofs.sections.BinaryModule.sum_of.Goals as goal
+use Rattle.wast_core.proofs.sections.sum_of.Goals as goal
 
 pub loop-slot-preserved : goal.loop-slot-preserved
 loop-slot-preserved c =
-    let m = c.args.self in
-    let f : Slot → List ℕ = λ s. flat_map part (in_slot (text_seen m.name) m.fields.now s) in
+    let m = c.args.measures.now in
+    let f : Slot → List ℕ = λ s. flat_map part (in_slot (text_seen c.args.name) c.args.fields.now s) in
     let xs = c.args.slots.now in
     let k = c.loop-slot.slot-index in
     let x = get_or xs k slot.BeforeFirst in
@@ -21,5 +21,5 @@ loop-slot-preserved c =
 
 pub returns : goal.returns
 returns c =
-    let m = c.args.self in
-    all_summed (λ s. flat_map part (in_slot (text_seen m.name) m.fields.now s)) c.args.slots.now c.loop-slot.slot-index c.loop-slot.sum (omega (arith, c.loop-slot-test.false)) c.loop-slot.invariant
+    let m = c.args.measures.now in
+    all_summed (λ s. flat_map part (in_slot (text_seen c.args.name) c.args.fields.now s)) c.args.slots.now c.loop-slot.slot-index c.loop-slot.sum (omega (arith, c.loop-slot-test.false)) c.loop-slot.invariant
