@@ -15,3 +15,4 @@ pub mod CountsComputed
 pub mod BlocksComputed
 pub mod Sizes
 pub mod Measuring
+pub mod WrittenBehind

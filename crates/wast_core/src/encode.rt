@@ -126,7 +126,7 @@ impl EncodeOptions {
     /// text module that [`Module::resolve`] did not refuse is so, as its clause `at_rest` tells. E11 comes exactly where a
     /// form is not covered. Else the errors are the sink's refusal, where
     /// all the bytes do not fit, and E10, where a count, length or position is 2^32 or more. Then the sink stays as it was.
-    pub fn put_module<'e, S: Sink>(&self, module: &Module, out: &mut S) -> Result<(), Error<'e>>
+    pub fn put_module<'e, S: Sink>(self, module: &Module, out: &mut S) -> Result<(), Error<'e>>
         requires { IsEncodable «module».now.kind }
         ensures { PutsModule S.rules (name_of_module «module».now) «module».now.kind out.old out.new result }
     {
