@@ -189,6 +189,7 @@ fn memories_are_items(rt: HostRuntime) {
 }
 
 /// `(global (mut i64))`, without instructions
+#[tactic(auto, unfolding(wast_base::specs::Blocks::stays_open))]
 fn global<'a>(alloc: Global) -> wast_tree::Global<'a>
     ensures { IsTrue (is_encodable_global result) }
 {

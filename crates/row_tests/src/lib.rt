@@ -3,6 +3,10 @@
 #![tactic(auto)]
 
 #[cfg(test)]
+mod bodies;
+#[cfg(test)]
+mod control;
+#[cfg(test)]
 mod conversions;
 #[cfg(test)]
 mod items;

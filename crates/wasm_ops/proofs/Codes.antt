@@ -1,7 +1,7 @@
 -- How spellings that show their value are put together.
 use Rattle.std.proofs.Common.{◌≡◌, ◌<◌, ℕ, ℤ, Bool, List, [], ◌∷◌, ◌++◌, length, refl, sym, ap, ◌∙◌, append_assoc, arith}
 use Rattle.std.specs.Prelude.{All, IsTrue}
-use Rattle.std.proofs.lemmas.List.{length-append}
+use Rattle.std.proofs.lemmas.List.{length-append, append_cancel_right}
 use Rattle.std.proofs.lemmas.List.Concat.{flat_map-cons}
 use Rattle.std.proofs.lemmas.List.Elements.{All-head, All-tail}
 use Rattle.std.specs.List.{flat_map, list_all}
@@ -110,6 +110,10 @@ filled F f some code (x ∷ xs) (y ∷ ys) p q e =
 
 pub filled_whole : {A : Type 0} {F : A → Type 0} {f : A → List ℕ} → ((x : A) → F x → 0 < length (f x)) → IsCode A F f → IsWhole (List A) (All F) (flat_map f)
 filled_whole {F = F} {f = f} some c = record { same = filled F f some c }
+
+-- before one last byte
+pub ended_whole : {A : Type 0} {F : A → Type 0} {f : A → List ℕ} (b : ℕ) → IsWhole A F f → IsWhole A F (λ x. f x ++ b ∷ [])
+ended_whole {f = f} b c = record { same = λ x y p q e. c.same x y p q (append_cancel_right (f x) (f y) (b ∷ []) e) }
 
 -- lists of one length in front of what follows
 pub same_front : (a b r s : List ℕ) → length a ≡ length b → a ++ r ≡ b ++ s → (a ≡ b) × (r ≡ s)

@@ -8,20 +8,27 @@ use Rattle.std.proofs.lemmas.List.Elements.{All-nil, All-head}
 use Rattle.std.proofs.lemmas.List.Folds.{flat_map-map}
 use Rattle.wast_base.specs.declared.mem_ops.MemOp.{MemOp}
 use Rattle.wast_base.specs.declared.plain.Plain.{Plain}
+use Rattle.wasm_ops.specs.declared.blocks.BlockType.{BlockType}
+use Rattle.wasm_ops.specs.declared.blocks.Catch.{Catch}
+use Rattle.wasm_ops.specs.declared.control.BlockOp.{BlockOp}
+use Rattle.wasm_ops.specs.declared.control.Delimiter.{Delimiter}
 use Rattle.wasm_ops.specs.declared.instrs.IndexOp.{IndexOp}
 use Rattle.wasm_ops.specs.declared.instrs.IndexPairOp.{IndexPairOp}
 use Rattle.wasm_ops.specs.declared.opcodes.Opcode.{Opcode}
 use Rattle.wasm_ops.specs.declared.opcodes.Opcode.TheVariants.{Byte, Prefixed}
 use Rattle.wasm_ops.specs.declared.sink.Refusal.{Refusal}
 use Rattle.wasm_ops.specs.declared.types.ValType.{ValType}
+use Rattle.wasm_ops.specs.Control.{InRangeBlockType, catch_clause, InRangeCatch}
+use Rattle.wasm_ops.specs.ControlInstrs.{block_key, delimiter_key, br_table_instr, br_table_bytes, try_table_instr, try_table_bytes}
 use Rattle.wasm_ops.specs.Covered.{is_covered_val_type}
+use Rattle.wasm_ops.specs.Leb128.{unsigned}
 use Rattle.wasm_ops.specs.IndexInstrs.{index_key, index_pair_key}
 use Rattle.wasm_ops.specs.Keys.{plain_key, mem_key}
 use Rattle.wasm_ops.specs.Opcodes.{opcode_of, opcode_bytes, InRangeOpcode}
 use Rattle.wasm_ops.specs.SelectInstrs.{select_instr, select_bytes}
 use Rattle.wasm_ops.specs.Sinks.{SinkRules, Writes}
 use Rattle.wasm_ops.specs.Spelling.{InRangeU32, vec, InRangeVec, val_type, InRangeValType}
-use Rattle.wasm_ops.specs.Table.{Kind, Index, Signed32, Signed64, Bits32, Bits64, Heap, Memarg, Field, field, InRangeField, kinds_of, table, Instr, InRangeInstr, is_covered_instr, HasRow, instr}
+use Rattle.wasm_ops.specs.Table.{Kind, Index, Signed32, Signed64, Bits32, Bits64, Heap, Memarg, Block, Labels, Catches, Field, field, InRangeField, kinds_of, table, Instr, InRangeInstr, is_covered_instr, HasRow, instr}
 use Rattle.wasm_ops.proofs.Everywhere.{all_map, all_one, all_unmap}
 use Rattle.wasm_ops.proofs.Sinking.{puts_as, written_as}
 
@@ -68,6 +75,22 @@ unfolding kinds_of table
 select_row None = refl
 select_row (Some types) = refl
 
+pub block_row : (op : BlockOp) → kinds_of (opcode_of (block_key op)) table ≡ Some (Block ∷ [])
+unfolding kinds_of table
+block_row op = grind (arith)
+
+pub delimiter_row : (op : Delimiter) → kinds_of (opcode_of (delimiter_key op)) table ≡ Some []
+unfolding kinds_of table
+delimiter_row op = grind (arith)
+
+pub br_table_row : kinds_of (opcode_of 0x0e) table ≡ Some (Labels ∷ Index ∷ [])
+unfolding kinds_of table
+br_table_row = refl
+
+pub try_table_row : kinds_of (opcode_of 0x1f) table ≡ Some (Block ∷ Catches ∷ [])
+unfolding kinds_of table
+try_table_row = refl
+
 -- ---- spellings
 
 opcode_in_range : (key : ℕ) → InRangeOpcode (opcode_of key)
@@ -113,6 +136,24 @@ two_written rules a b key kind other x y InRange r f g p =
     written_as rules InRange (InRangeInstr (two key kind other x y)) a b (opcode_bytes (opcode_of key) ++ (field kind x ++ field other y)) (instr (two key kind other x y)) r
     (λ h. let both = f h in (both.0, (both.1, tt))) (λ i. g (i.0, i.1.0))
     (ap (λ bytes. opcode_bytes (opcode_of key) ++ (field kind x ++ bytes)) (sym (append-nil (field other y)))) p
+
+-- ---- branches by a table, with what spells their labels, and blocks, with what spells their clauses
+
+pub br_table_written : {S A : Type 0} (rules : SinkRules S) (a b : S) (labels : List ℕ) (default : ℕ) (bytes : List ℕ) (InRange : Type 0) (r : Result A Refusal)
+    → bytes ≡ vec unsigned labels → (InRange → InRangeVec InRangeU32 labels) → (InRangeVec InRangeU32 labels → InRange)
+    → Writes rules (InRange × InRangeU32 default) a b (br_table_bytes bytes default) r
+    → Writes rules (InRangeInstr (br_table_instr labels default)) a b (instr (br_table_instr labels default)) r
+br_table_written rules a b labels default bytes InRange r same f g p =
+    two_written rules a b 0x0e Labels Index labels default (InRange × InRangeU32 default) r (λ h. (f h.0, h.1)) (λ h. (g h.0, h.1))
+    (subst (λ l. Writes rules (InRange × InRangeU32 default) a b (br_table_bytes l default) r) same p)
+
+pub try_table_written : {S A : Type 0} (rules : SinkRules S) (a b : S) (ty : BlockType) (clauses : List Catch) (bytes : List ℕ) (InRange : Type 0) (r : Result A Refusal)
+    → bytes ≡ vec catch_clause clauses → (InRange → InRangeVec InRangeCatch clauses) → (InRangeVec InRangeCatch clauses → InRange)
+    → Writes rules (InRangeBlockType ty × InRange) a b (try_table_bytes ty bytes) r
+    → Writes rules (InRangeInstr (try_table_instr ty clauses)) a b (instr (try_table_instr ty clauses)) r
+try_table_written rules a b ty clauses bytes InRange r same f g p =
+    two_written rules a b 0x1f Block Catches ty clauses (InRangeBlockType ty × InRange) r (λ h. (h.0, f h.1)) (λ h. (h.0, g h.1))
+    (subst (λ l. Writes rules (InRangeBlockType ty × InRange) a b (try_table_bytes ty l) r) same p)
 
 -- ---- choices, with what spells their types
 

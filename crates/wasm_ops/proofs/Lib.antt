@@ -1,5 +1,7 @@
 pub mod Chains
+pub mod Balance
 pub mod Codes
+pub mod ControlCodes
 pub mod EntityCodes
 pub mod ExpressionCodes
 pub mod FieldCodes

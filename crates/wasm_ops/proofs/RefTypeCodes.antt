@@ -41,7 +41,7 @@ abstract_code : IsCode AbstractHeapType Any (λ t. abstract_byte t ∷ [])
 abstract_code = code_by abstract_byte abstract_at abstract_shown byte_code
 
 -- an index does not begin with a byte from 64 to 127
-index_apart : (n b : ℕ) (r s : List ℕ) → 64 ≤ b → b < 128 → signed (pos n) ++ r ≡ b ∷ s → ⊥
+pub index_apart : (n b : ℕ) (r s : List ℕ) → 64 ≤ b → b < 128 → signed (pos n) ++ r ≡ b ∷ s → ⊥
 index_apart n b r s low high e =
     let u = signed_spells (pos n) in
     let one = chain_begins (signed (pos n)) (b ∷ []) r s u.chain high e in

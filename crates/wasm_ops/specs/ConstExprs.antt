@@ -1,13 +1,14 @@
--- Constant expressions: instructions, and the byte that ends them (binary format, expressions).
-use Rattle.std.specs.Prelude.{ℕ, Bool, List, [], ◌∷◌, ◌++◌, All}
+-- Constant expressions: instructions in which each block is closed, and the byte that ends them (binary format, expressions).
+use Rattle.std.specs.Prelude.{◌≡◌, ℕ, Bool, List, [], ◌∷◌, ◌++◌, All, IsTrue}
 use Rattle.std.specs.List.{list_all}
 use Rattle.wasm_ops.specs.Table.{Instr, instrs, is_covered_instr, HasRow, InRangeInstr, IsInstr}
+use Rattle.wasm_ops.specs.Turns.{are_balanced}
 
--- the instructions, and 0x0b
+-- the instructions, and 0x0b: the first one before which each block is closed
 abbrev pub expression : List Instr → List ℕ
 expression is = instrs is ++ 0x0b ∷ []
 
--- the numbers of its instructions are in range, the encoder covers them, and their rows stand in the table
+-- the numbers of its instructions are in range, the encoder covers them, their rows stand in the table, and each block is closed
 abbrev pub InRangeExpression : List Instr → Type 0
 InRangeExpression is = All InRangeInstr is
 
@@ -17,6 +18,16 @@ is_covered_expression is = list_all is_covered_instr is
 abbrev pub HasRowsExpression : List Instr → Type 0
 HasRowsExpression is = All HasRow is
 
+abbrev pub IsBalancedExpression : List Instr → Type 0
+IsBalancedExpression is = IsTrue (are_balanced is)
+
 -- it has one spelling
-abbrev pub IsExpression : List Instr → Type 0
-IsExpression is = All IsInstr is
+pub record IsExpression (is : List Instr) : Type 0 where
+  pub instrs : All IsInstr is
+  pub balanced : IsBalancedExpression is
+
+-- the bytes spell the instructions of a constant expression, without the byte that ends it
+pub record SpellsExpression (bytes : List ℕ) : Type 0 where
+  pub list : List Instr
+  pub in_range : IsExpression list
+  pub spelled : bytes ≡ instrs list

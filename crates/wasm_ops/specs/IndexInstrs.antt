@@ -11,10 +11,17 @@ use Rattle.wasm_ops.specs.declared.instrs.IndexPairOp.TheVariants as pairs
 abbrev pub index_key : IndexOp → ℕ
 index_key ops.Catch = 0x07
 index_key ops.Throw = 0x08
+index_key ops.Rethrow = 0x09
+index_key ops.Br = 0x0c
+index_key ops.BrIf = 0x0d
 index_key ops.Call = 0x10
 index_key ops.ReturnCall = 0x12
 index_key ops.CallRef = 0x14
 index_key ops.ReturnCallRef = 0x15
+index_key ops.Delegate = 0x18
+index_key ops.LocalGet = 0x20
+index_key ops.LocalSet = 0x21
+index_key ops.LocalTee = 0x22
 index_key ops.GlobalGet = 0x23
 index_key ops.GlobalSet = 0x24
 index_key ops.TableGet = 0x25
@@ -22,6 +29,8 @@ index_key ops.TableSet = 0x26
 index_key ops.MemorySize = 0x3f
 index_key ops.MemoryGrow = 0x40
 index_key ops.RefFunc = 0xd2
+index_key ops.BrOnNull = 0xd5
+index_key ops.BrOnNonNull = 0xd6
 index_key ops.DataDrop = 0xfc0009
 index_key ops.MemoryFill = 0xfc000b
 index_key ops.ElemDrop = 0xfc000d
@@ -35,6 +44,8 @@ index_instr op index = record { row = record { opcode = opcode_of (index_key op)
 
 -- the key of an instruction with two
 abbrev pub index_pair_key : IndexPairOp → ℕ
+index_pair_key pairs.CallIndirect = 0x11
+index_pair_key pairs.ReturnCallIndirect = 0x13
 index_pair_key pairs.MemoryInit = 0xfc0008
 index_pair_key pairs.MemoryCopy = 0xfc000a
 index_pair_key pairs.TableInit = 0xfc000c

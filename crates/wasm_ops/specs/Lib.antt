@@ -1,6 +1,8 @@
 pub mod Codes
 pub mod ConstExprs
 pub mod ConstantInstrs
+pub mod Control
+pub mod ControlInstrs
 pub mod Covered
 pub mod Entities
 pub mod IndexInstrs
@@ -16,3 +18,4 @@ pub mod SinkLaws
 pub mod Sinks
 pub mod Spelling
 pub mod Table
+pub mod Turns

@@ -2,17 +2,20 @@
 use Rattle.std.specs.Prelude.{◌≡◌, ℕ, zero, suc, ◌+◌, ℤ, Bool, true, false, ◌&&◌, nat_lt, Option, Some, None, List, [], ◌∷◌, ◌++◌, All, IsTrue}
 use Rattle.std.specs.Int.{w32, w64, to_le_bytes}
 use Rattle.std.specs.List.{flat_map, list_all}
+use Rattle.wasm_ops.specs.Control.{block_type, InRangeBlockType, is_covered_block_type, catch_clause, InRangeCatch}
 use Rattle.wasm_ops.specs.Covered.{is_covered_heap_type, is_covered_val_type}
 use Rattle.wasm_ops.specs.Leb128.{unsigned, signed}
 use Rattle.wasm_ops.specs.Memargs.{memarg, InRangeMemArg}
 use Rattle.wasm_ops.specs.Opcodes.{opcode_of, opcode_order, opcode_bytes, same_opcode, is_apart}
 use Rattle.wasm_ops.specs.Spelling.{InRangeU32, InRangeU64, InRangeS32, InRangeS64, vec, InRangeVec, heap_type, InRangeHeapType, val_type, InRangeValType}
+use Rattle.wasm_ops.specs.declared.blocks.BlockType.{BlockType}
+use Rattle.wasm_ops.specs.declared.blocks.Catch.{Catch}
 use Rattle.wasm_ops.specs.declared.memargs.MemArg.{MemArg}
 use Rattle.wasm_ops.specs.declared.opcodes.Opcode.{Opcode}
 use Rattle.wasm_ops.specs.declared.ref_types.HeapType.{HeapType}
 use Rattle.wasm_ops.specs.declared.types.ValType.{ValType}
 
--- the kinds of immediates: an index, an integer of 32 or 64 bits, 32 or 64 bits as they are, a heap type, value types, a memory argument
+-- the kinds of immediates: an index, an integer of 32 or 64 bits, 32 or 64 bits as they are, a heap type, value types, a memory argument, a block type, labels, catch clauses
 pub data Kind : Type 0 where
   Index : Kind
   Signed32 : Kind
@@ -22,6 +25,9 @@ pub data Kind : Type 0 where
   Heap : Kind
   Types : Kind
   Memarg : Kind
+  Block : Kind
+  Labels : Kind
+  Catches : Kind
 
 -- a row: an opcode, and the kinds of immediates behind it
 pub record Row : Type 0 where
@@ -38,6 +44,9 @@ Field Bits64 = ℕ
 Field Heap = HeapType
 Field Types = List ValType
 Field Memarg = MemArg
+Field Block = BlockType
+Field Labels = List ℕ
+Field Catches = List Catch
 
 abbrev pub field : (kind : Kind) → Field kind → List ℕ
 field Index n = unsigned n
@@ -48,6 +57,9 @@ field Bits64 n = to_le_bytes w64 n
 field Heap h = heap_type h
 field Types ts = vec val_type ts
 field Memarg m = memarg m
+field Block b = block_type b
+field Labels ls = vec unsigned ls
+field Catches cs = vec catch_clause cs
 
 abbrev pub InRangeField : (kind : Kind) → Field kind → Type 0
 InRangeField Index n = InRangeU32 n
@@ -58,6 +70,9 @@ InRangeField Bits64 n = InRangeU64 n
 InRangeField Heap h = InRangeHeapType h
 InRangeField Types ts = InRangeVec InRangeValType ts
 InRangeField Memarg m = InRangeMemArg m
+InRangeField Block b = InRangeBlockType b
+InRangeField Labels ls = InRangeVec InRangeU32 ls
+InRangeField Catches cs = InRangeVec InRangeCatch cs
 
 abbrev pub is_covered_field : (kind : Kind) → Field kind → Bool
 is_covered_field Index n = true
@@ -68,6 +83,9 @@ is_covered_field Bits64 n = true
 is_covered_field Heap h = is_covered_heap_type h
 is_covered_field Types ts = list_all is_covered_val_type ts
 is_covered_field Memarg m = true
+is_covered_field Block b = is_covered_block_type b
+is_covered_field Labels ls = true
+is_covered_field Catches cs = true
 
 -- immediates of several kinds
 abbrev pub Fields : List Kind → Type 0
@@ -113,14 +131,24 @@ rows_of (run ∷ runs) = consecutive run.0 run.1 run.2 ++ rows_of runs
 unfoldable pub table : List Row
 table = rows_of (
     (0x00, 2, [])  -- unreachable, nop
-    ∷ (0x07, 2, Index ∷ [])  -- catch, throw
-    ∷ (0x0a, 1, [])  -- throw_ref
+    ∷ (0x02, 3, Block ∷ [])  -- block, loop, if
+    ∷ (0x05, 1, [])  -- else
+    ∷ (0x06, 1, Block ∷ [])  -- try
+    ∷ (0x07, 3, Index ∷ [])  -- catch, throw, rethrow
+    ∷ (0x0a, 2, [])  -- throw_ref, end
+    ∷ (0x0c, 2, Index ∷ [])  -- br, br_if
+    ∷ (0x0e, 1, Labels ∷ Index ∷ [])  -- br_table
     ∷ (0x0f, 1, [])  -- return
     ∷ (0x10, 1, Index ∷ [])  -- call
+    ∷ (0x11, 1, Index ∷ Index ∷ [])  -- call_indirect
     ∷ (0x12, 1, Index ∷ [])  -- return_call
+    ∷ (0x13, 1, Index ∷ Index ∷ [])  -- return_call_indirect
     ∷ (0x14, 2, Index ∷ [])  -- call_ref, return_call_ref
+    ∷ (0x18, 1, Index ∷ [])  -- delegate
     ∷ (0x19, 3, [])  -- catch_all, drop, select
     ∷ (0x1c, 1, Types ∷ [])  -- select with types
+    ∷ (0x1f, 1, Block ∷ Catches ∷ [])  -- try_table
+    ∷ (0x20, 3, Index ∷ [])  -- local.get, local.set, local.tee
     ∷ (0x23, 4, Index ∷ [])  -- global.get, global.set, table.get, table.set
     ∷ (0x28, 23, Memarg ∷ [])  -- loads and stores
     ∷ (0x3f, 2, Index ∷ [])  -- memory.size, memory.grow
@@ -133,6 +161,7 @@ table = rows_of (
     ∷ (0xd1, 1, [])  -- ref.is_null
     ∷ (0xd2, 1, Index ∷ [])  -- ref.func
     ∷ (0xd3, 2, [])  -- ref.eq, ref.as_non_null
+    ∷ (0xd5, 2, Index ∷ [])  -- br_on_null, br_on_non_null
     ∷ (0xfc0000, 8, [])  -- i32.trunc_sat_f32_s to i64.trunc_sat_f64_u
     ∷ (0xfc0008, 1, Index ∷ Index ∷ [])  -- memory.init
     ∷ (0xfc0009, 1, Index ∷ [])  -- data.drop

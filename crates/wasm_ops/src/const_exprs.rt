@@ -1,15 +1,15 @@
 //! Constant expressions.
 
 ghost use Rattle.std.specs.Prelude.{◌≡◌, ◌∷◌, ◌++◌, [], true};
+ghost use Rattle.wasm_ops.specs.ConstExprs.{SpellsExpression};
 ghost use Rattle.wasm_ops.specs.Spelling.{Any};
-ghost use Rattle.wasm_ops.specs.Table.{SpellsInstrs};
 
 use crate::encode::{Encode, Raw};
 use crate::sink::{Refusal, Sink};
 use std::marker::Model;
 
 /// The instructions of a constant expression, without the `0b` that ends it (binary format, expressions). Contracts see
-/// it as the bytes of its instructions, which spell a list of them.
+/// it as the bytes of its instructions, which spell a list in which each block is closed.
 #[derive(Debug, Drop)]
 pub struct ConstExpr {
     bytes: Vec<u8>,
@@ -17,20 +17,20 @@ pub struct ConstExpr {
 
 impl Model for ConstExpr {
     ghost use Rattle.std.specs.Prelude.{ℕ, List};
-    ghost use Rattle.wasm_ops.specs.Table.{SpellsInstrs};
+    ghost use Rattle.wasm_ops.specs.ConstExprs.{SpellsExpression};
 
     ghost Value = { List ℕ };
 
     ghost view = { λ e. e.bytes.items };
 
-    ghost invariant = { λ e. SpellsInstrs e.bytes.items };
+    ghost invariant = { λ e. SpellsExpression e.bytes.items };
 }
 
 impl ConstExpr {
     /// The expression of instructions that are spelled already (binary format, instructions). It needs a spelled list
-    /// of instructions.
+    /// of instructions in which each block is closed, since the first `0b` outside of all blocks ends an expression.
     pub fn raw(bytes: Vec<u8>) -> ConstExpr
-        requires { SpellsInstrs bytes.items }
+        requires { SpellsExpression bytes.items }
         ensures { result ≡ bytes.items }
     {
         ConstExpr { bytes }
@@ -39,7 +39,7 @@ impl ConstExpr {
     /// Whether the encoder covers it. It covers each one, since the bytes spell instructions.
     pub fn is_covered(&self) -> bool
         ensures value { result ≡ true }
-        ensures spelled { SpellsInstrs self.now }
+        ensures spelled { SpellsExpression self.now }
     {
         let _ = &self.bytes;
         true // since each spelled instruction is covered

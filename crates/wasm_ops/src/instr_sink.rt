@@ -2,8 +2,10 @@
 
 ghost use Rattle.std.specs.List.{list_all};
 ghost use Rattle.std.specs.Option.{option_map, option_to_list};
-ghost use Rattle.std.specs.Prelude.{◌≡◌, IsTrue};
+ghost use Rattle.std.specs.Prelude.{◌≡◌, true, IsTrue};
 ghost use Rattle.wasm_ops.specs.ConstantInstrs.{i32_const_instr, i64_const_instr, f32_const_instr, f64_const_instr, ref_null_instr};
+ghost use Rattle.wasm_ops.specs.Control.{is_covered_block_type};
+ghost use Rattle.wasm_ops.specs.ControlInstrs.{block_instr, delimiter_instr, br_table_instr, try_table_instr};
 ghost use Rattle.wasm_ops.specs.Covered.{is_covered_heap_type, is_covered_val_type};
 ghost use Rattle.wasm_ops.specs.IndexInstrs.{index_instr, index_pair_instr};
 ghost use Rattle.wasm_ops.specs.Memargs.{is_aligned};
@@ -13,6 +15,8 @@ ghost use Rattle.wasm_ops.specs.SelectInstrs.{select_instr};
 ghost use Rattle.wasm_ops.specs.Sinks.{Puts};
 ghost use Rattle.wasm_ops.specs.Table.{instr, InRangeInstr, IsInstr};
 
+use crate::blocks::{BlockType, Catch};
+use crate::control::{BlockInstr, BlockOp, BrTable, Delimiter, TryTable};
 use crate::encode::{Counted, Encode, Itself};
 use crate::instrs::{
     F32Const, F64Const, I32Const, I64Const, IndexInstr, IndexOp, IndexPair, IndexPairOp, MemInstr,
@@ -40,6 +44,46 @@ impl<'a> Encode for TypedSelect<'a> {
             None => Select::<u8>(None).encode(out),
             Some(list) => Select(Some(Counted(list, Itself))).encode(out),
         }
+    }
+}
+
+/// A branch by a table, with its labels (binary format, control instructions).
+#[derive(Clone, Copy)]
+struct LabelTable<'a>(&'a [u32], u32);
+
+impl<'a> Encode for LabelTable<'a> {
+    ghost spelling = { λ s. instr (br_table_instr s.0.now s.1) };
+
+    ghost in_range = { λ s. InRangeInstr (br_table_instr s.0.now s.1) };
+
+    ghost is_ready = { λ _. true };
+
+    fn encode<S: Sink>(&self, out: &mut S) -> Result<(), Refusal> {
+        BrTable {
+            labels: Counted(self.0, Itself),
+            default: self.1,
+        }
+        .encode(out)
+    }
+}
+
+/// A block that catches exceptions, with its type and its clauses (binary format, control instructions).
+#[derive(Clone, Copy)]
+struct CatchTable<'a>(BlockType, &'a [Catch]);
+
+impl<'a> Encode for CatchTable<'a> {
+    ghost spelling = { λ s. instr (try_table_instr s.0 s.1.now) };
+
+    ghost in_range = { λ s. InRangeInstr (try_table_instr s.0 s.1.now) };
+
+    ghost is_ready = { λ s. is_covered_block_type s.0 };
+
+    fn encode<S: Sink>(&self, out: &mut S) -> Result<(), Refusal> {
+        TryTable {
+            ty: self.0,
+            catches: Counted(self.1, Itself),
+        }
+        .encode(out)
     }
 }
 
@@ -190,5 +234,58 @@ impl<'s, S: Sink> InstructionSink<'s, S> {
         ensures same { self.new.out.ghost_name ≡ self.old.out.ghost_name }
     {
         Ok(TypedSelect(types).encode(self.out)?)
+    }
+    /// Appends an instruction that opens a block: `block (result i32)` (binary format, control instructions). It needs
+    /// a covered type.
+    ///
+    /// It appends the spelling of that row of the table. The only error is the sink's refusal; then nothing was
+    /// appended.
+    pub fn block<'e>(&mut self, op: BlockOp, ty: BlockType) -> Result<(), Error<'e>>
+        requires { IsTrue (is_covered_block_type ty) }
+        ensures appended { Puts S.rules (IsInstr (block_instr op ty)) self.old.out.now self.new.out.now
+            (instr (block_instr op ty)) result }
+        ensures same { self.new.out.ghost_name ≡ self.old.out.ghost_name }
+    {
+        Ok(BlockInstr { op, ty }.encode(self.out)?)
+    }
+
+    /// Appends what stands between the two parts of an `if`, or at the end of a block: `end` (binary format, control
+    /// instructions).
+    ///
+    /// It appends the spelling of that row of the table. The only error is the sink's refusal; then nothing was
+    /// appended.
+    pub fn delimiter<'e>(&mut self, op: Delimiter) -> Result<(), Error<'e>>
+        ensures appended { Puts S.rules (IsInstr (delimiter_instr op)) self.old.out.now self.new.out.now
+            (instr (delimiter_instr op)) result }
+        ensures same { self.new.out.ghost_name ≡ self.old.out.ghost_name }
+    {
+        Ok(op.encode(self.out)?)
+    }
+
+    /// Appends a branch by a table, with the label where the operand is too large: `br_table 1 2 0` (binary format,
+    /// control instructions).
+    ///
+    /// It appends the spelling of that row of the table. The errors are the sink's refusal, and E10 from 2^32 labels on;
+    /// then nothing was appended.
+    pub fn br_table<'e>(&mut self, labels: &[u32], default: u32) -> Result<(), Error<'e>>
+        ensures appended { Puts S.rules (IsInstr (br_table_instr labels.now default)) self.old.out.now
+            self.new.out.now (instr (br_table_instr labels.now default)) result }
+        ensures same { self.new.out.ghost_name ≡ self.old.out.ghost_name }
+    {
+        Ok(LabelTable(labels, default).encode(self.out)?)
+    }
+
+    /// Appends a block that catches exceptions: `try_table (catch_all 0)` (binary format, control instructions). It
+    /// needs a covered type.
+    ///
+    /// It appends the spelling of that row of the table. The errors are the sink's refusal, and E10 from 2^32 clauses
+    /// on; then nothing was appended.
+    pub fn try_table<'e>(&mut self, ty: BlockType, catches: &[Catch]) -> Result<(), Error<'e>>
+        requires { IsTrue (is_covered_block_type ty) }
+        ensures appended { Puts S.rules (IsInstr (try_table_instr ty catches.now)) self.old.out.now
+            self.new.out.now (instr (try_table_instr ty catches.now)) result }
+        ensures same { self.new.out.ghost_name ≡ self.old.out.ghost_name }
+    {
+        Ok(CatchTable(ty, catches).encode(self.out)?)
     }
 }

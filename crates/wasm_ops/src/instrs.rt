@@ -28,6 +28,12 @@ pub enum IndexOp {
     Catch = 0x07,
     /// `throw`, of a tag
     Throw,
+    /// `rethrow`, of a label
+    Rethrow,
+    /// `br`, to a label
+    Br = 0x0c,
+    /// `br_if`, to a label
+    BrIf,
     /// `call`, of a function
     Call = 0x10,
     /// `return_call`, of a function
@@ -36,6 +42,14 @@ pub enum IndexOp {
     CallRef = 0x14,
     /// `return_call_ref`, of a type
     ReturnCallRef = 0x15,
+    /// `delegate`, to a label
+    Delegate = 0x18,
+    /// `local.get`
+    LocalGet = 0x20,
+    /// `local.set`
+    LocalSet = 0x21,
+    /// `local.tee`
+    LocalTee = 0x22,
     /// `global.get`
     GlobalGet = 0x23,
     /// `global.set`
@@ -50,6 +64,10 @@ pub enum IndexOp {
     MemoryGrow = 0x40,
     /// `ref.func`
     RefFunc = 0xd2,
+    /// `br_on_null`, to a label
+    BrOnNull = 0xd5,
+    /// `br_on_non_null`, to a label
+    BrOnNonNull = 0xd6,
     /// `data.drop`
     DataDrop = 0xfc0009,
     /// `memory.fill`
@@ -97,6 +115,10 @@ impl Encode for IndexInstr {
 /// An instruction whose immediates are two indices (binary format, instructions). The number of a variant is its key.
 #[derive(Clone, Copy, Debug, PartialEq, Eq)]
 pub enum IndexPairOp {
+    /// `call_indirect`, of a type and a table
+    CallIndirect = 0x11,
+    /// `return_call_indirect`, of a type and a table
+    ReturnCallIndirect = 0x13,
     /// `memory.init`, of a data segment and a memory
     MemoryInit = 0xfc0008,
     /// `memory.copy`, of the memory that is written and the one that is read

@@ -1,14 +1,17 @@
 //! The laws of spellings: each value has one, and no spelling begins another.
 
-ghost use Rattle.std.specs.Prelude.{◌≡◌, ℕ, ℤ, true, List, ◌++◌, None};
+ghost use Rattle.std.specs.Prelude.{◌≡◌, ℕ, ℤ, true, List, [], ◌++◌, Some};
 ghost use Rattle.wasm_ops.specs.Codes.{IsCode};
 ghost use Rattle.wasm_ops.specs.ConstExprs.{expression, IsExpression};
+ghost use Rattle.wasm_ops.specs.Control.{block_type, IsSpellableBlockType, catch_clause, InRangeCatch};
 ghost use Rattle.wasm_ops.specs.Covered.{IsSpellableHeapType, IsSpellableRefType, IsSpellableValType, IsSpellableStorageType, IsSpellableFieldType, IsSpellableFuncType, IsSpellableStructType, IsSpellableArrayType, IsSpellableCompositeType, IsSpellableSubType};
 ghost use Rattle.wasm_ops.specs.Entities.{table_type, IsSpellableTableType, memory_type, IsSpellableMemoryType, global_type, IsSpellableGlobalType, tag_type, IsSpellableTagType, entity_type, IsSpellableEntityType};
 ghost use Rattle.wasm_ops.specs.Leb128.{SpellsUnsigned, SpellsSigned, unsigned, signed};
 ghost use Rattle.wasm_ops.specs.Spelling.{Any, name, InRangeName, heap_type, ref_type, val_type, storage_type, field_type, export_kind, func_type, struct_type, array_type, composite_type, sub_type};
 ghost use Rattle.wasm_ops.specs.declared.opcodes.Opcode.TheVariants.{Byte};
 ghost use Rattle.wasm_ops.specs.Table.{Instr, instr, IsInstr, table, kinds_of, ascends, all_apart};
+ghost use Rattle.wasm_ops.specs.declared.blocks.BlockType.{BlockType};
+ghost use Rattle.wasm_ops.specs.declared.blocks.Catch.{Catch};
 ghost use Rattle.wasm_ops.specs.declared.entities.TableType.{TableType};
 ghost use Rattle.wasm_ops.specs.declared.entities.MemoryType.{MemoryType};
 ghost use Rattle.wasm_ops.specs.declared.entities.GlobalType.{GlobalType};
@@ -49,6 +52,8 @@ pub fn type_spelling_law()
     ensures heap_types { IsCode HeapType IsSpellableHeapType heap_type }
     ensures ref_types { IsCode RefType IsSpellableRefType ref_type }
     ensures val_types { IsCode ValType IsSpellableValType val_type }
+    ensures block_types { IsCode BlockType IsSpellableBlockType block_type }
+    ensures catches { IsCode Catch InRangeCatch catch_clause }
     ensures storage_types { IsCode StorageType IsSpellableStorageType storage_type }
     ensures field_types { IsCode FieldType IsSpellableFieldType field_type }
     ensures export_kinds { IsCode ExportKind Any export_kind }
@@ -66,12 +71,12 @@ pub fn type_spelling_law()
 
 /// The law of instructions: no two rows of the table share an opcode, no opcode of one byte is the prefix of another,
 /// and bytes that begin with the spelling of an instruction begin with that of one only (binary format, instructions).
-/// No row is the byte that ends an expression, and bytes that begin with a constant expression begin with one only
-/// (binary format, expressions).
+/// The byte that ends an expression is a row too, and bytes that begin with a constant expression begin with one only,
+/// since each block in one is closed (binary format, expressions).
 pub fn instruction_law()
     ensures distinct { ascends 0 table ≡ true }
     ensures apart { all_apart table ≡ true }
     ensures instructions { IsCode Instr IsInstr instr }
-    ensures no_end { kinds_of (Byte 0x0b) table ≡ None }
+    ensures end { kinds_of (Byte 0x0b) table ≡ Some [] }
     ensures expressions { IsCode (List Instr) IsExpression expression }
 {}

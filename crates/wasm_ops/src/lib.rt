@@ -1,7 +1,9 @@
 //! Numbers, types and instructions of the binary format of WebAssembly, as bytes.
 #![tactic(auto)]
 
+mod blocks;
 mod const_exprs;
+mod control;
 mod encode;
 mod entities;
 mod instr_sink;
@@ -15,7 +17,9 @@ mod room;
 mod sink;
 mod types;
 
+pub use blocks::{BlockType, Catch};
 pub use const_exprs::ConstExpr;
+pub use control::{BlockInstr, BlockOp, BrTable, Delimiter, TryTable};
 pub use encode::{
     By, Counted, Each, Encode, Itself, Name, Raw, Spell, WithLength, length_of, write_name,
 };

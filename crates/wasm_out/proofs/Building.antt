@@ -1,9 +1,12 @@
 -- What is built item by item is the list of the items, and what is put together is a body.
-use Rattle.std.proofs.Common.{◌≡◌, ℕ, List, [], ◌∷◌, ◌++◌, length, sym, ap, ◌∙◌, append_assoc, append-nil, length-append}
+use Rattle.std.proofs.Common.{◌≡◌, ℕ, true, List, [], ◌∷◌, ◌++◌, length, refl, sym, ap, ◌∙◌, subst, append_assoc, append-nil, length-append}
 use Rattle.std.specs.List.{flat_map}
 use Rattle.std.proofs.lemmas.List.{flat_map_more}
 use Rattle.std.proofs.lemmas.List.Elements.{All-nil, All-cons}
+use Rattle.wast_base.specs.Blocks.{Stays, stays_open, is_balanced}
+use Rattle.wasm_ops.specs.ConstExprs.{SpellsExpression}
 use Rattle.wasm_ops.specs.Table.{Instr, instr, instrs, IsInstr, SpellsInstrs}
+use Rattle.wasm_ops.specs.Turns.{turn_of}
 use Rattle.wasm_out.specs.Bodies.{Body, locals, IsSpellableContent, SpellsBody}
 use Rattle.wasm_out.specs.Built.{Built, built_with, built}
 
@@ -17,6 +20,14 @@ built_with-built spell items item =
 -- one instruction
 pub spells_instr : (i : Instr) → IsInstr i → SpellsInstrs (instr i)
 spells_instr i p = record { list = i ∷ []; in_range = All-cons IsInstr i [] p (All-nil IsInstr); spelled = sym (append-nil (instr i)) }
+
+-- an expression of one instruction, which opens and closes no block
+pub spells_expression : (i : Instr) → IsInstr i → turn_of i ≡ Stays → SpellsExpression (instr i)
+unfolding stays_open spells_instr
+spells_expression i p stays =
+    let one = spells_instr i p in
+    let balanced = subst (λ t. is_balanced (t ∷ []) ≡ true) (sym stays) refl in
+    record { list = i ∷ []; in_range = record { instrs = one.in_range; balanced = balanced }; spelled = one.spelled }
 
 -- locals, instructions and an end
 pub spells_body : (b : Body) (bytes : List ℕ) → IsSpellableContent b → bytes ≡ (locals b.locals ++ instrs b.instrs) ++ (0x0b ∷ []) → SpellsBody bytes

@@ -16,7 +16,7 @@ use Rattle.wasm_ops.proofs.EntityCodes.{table_type_code, table_front, memory_typ
 use Rattle.wasm_ops.proofs.Everywhere.{all_both, both_true}
 use Rattle.wasm_ops.proofs.RefTypeCodes.{front}
 use Rattle.wasm_ops.proofs.TypeCodes.{val_type_code, export_kind_code, sub_type_code, sub_front}
-use Rattle.wasm_ops.proofs.ExpressionCodes.{expression_code, is_expression}
+use Rattle.wasm_ops.proofs.ExpressionCodes.{expression_code, content_code, are_instrs, is_expression}
 use Rattle.wasm_out.specs.Bodies.{Body, LocalRun, local_run, local_runs, locals, content, IsSpellableContent}
 use Rattle.wasm_out.specs.Parts.{SectionKind, Types, Imports, Functions, Tables, Memories, Tags, Globals, Exports, Code, TypeEntry, Single, Group, ImportEntry, TableEntry, GlobalEntry, ExportEntry, Entry, type_entry, import_entry, table_bytes, table_entry, global_entry, export_entry, entry, InRangeExport, InRangeEntry, PartKind, Custom, Start, Listed, CustomPart, PartItems, custom, payload, InRangePartItems, section_id, part_id, Part, part, InRangePart, Elements, Data, DataCount}
 use Rattle.wasm_out.specs.Readable.{is_covered_init, IsReadable, AreReadable, IsReadablePart, IsSpellable, AreSpellable, IsSpellablePart}
@@ -33,7 +33,7 @@ locals_code : IsCode (List ValType) (InRangeVec IsSpellableValType) locals
 locals_code = code_within (runs_in_range IsSpellableValType) (code_by local_runs expanded expanded-local_runs (vec_code run_code))
 
 content_whole : IsWhole Body IsSpellableContent content
-content_whole = whole_within (λ b p. (p.locals, p.instrs)) (whole_by (λ (b : Body). (b.locals, b.instrs)) (λ p. record { locals = p.0; instrs = p.1 }) (λ b. refl) (pair_whole locals_code (code_whole expression_code)))
+content_whole = whole_within (λ b p. (p.locals, p.instrs)) (whole_by (λ (b : Body). (b.locals, b.instrs)) (λ p. record { locals = p.0; instrs = p.1 }) (λ b. refl) (pair_whole locals_code content_code))
 
 -- ---- entries
 
@@ -75,7 +75,7 @@ plain_table t p = ((both_true (is_covered_table_type t) (is_covered_init None) p
 filled_table : (t : TableType) (is : List Instr) → IsSpellableTable t (Some is) → IsSpellableTableType t × IsExpression is
 filled_table t is p =
     let both = both_true (is_covered_table_type t) (is_covered_expression is) p.covered in
-    ((both.0, p.in_range.0), is_expression is both.1 p.in_range.1 p.rows)
+    ((both.0, p.in_range.0), is_expression is both.1 p.in_range.1 p.rows p.balanced)
 
 table_begins : (t u : TableType) (i j : Option (List Instr)) (r s : List ℕ) → IsSpellableTable t i → IsSpellableTable u j → table_bytes t i ++ r ≡ table_bytes u j ++ s → (t ≡ u) × (i ≡ j) × (r ≡ s)
 table_begins t u None None r s p q e = let one = table_type_code.begins t u r s (plain_table t p) (plain_table u q) e in (one.0, refl, one.1)
@@ -98,14 +98,14 @@ table_entry_code = record {
 
 global_entry_code : IsCode GlobalEntry (IsSpellable Globals) global_entry
 global_entry_code =
-    code_within (λ g p. let both = both_true (is_covered_global_type g.ty) (is_covered_expression g.init) p.covered in ((both.0, p.in_range.0), is_expression g.init both.1 p.in_range.1 p.rows))
+    code_within (λ g p. let both = both_true (is_covered_global_type g.ty) (is_covered_expression g.init) p.covered in ((both.0, p.in_range.0), is_expression g.init both.1 p.in_range.1 p.rows p.balanced))
     (code_by (λ (g : GlobalEntry). (g.ty, g.init)) (λ p. record { ty = p.0; init = p.1 }) (λ g. refl) (pair_code global_type_code expression_code))
 
 -- a body whose locals and instructions are covered, and whose instructions are rows of the table
 spellable_body : (b : Body) → IsSpellable Code b → InRangeSized IsSpellableContent content b
 spellable_body b p =
     let both = both_true (list_all is_covered_val_type b.locals) (list_all is_covered_instr b.instrs) p.covered in
-    (p.in_range.0, record { locals = spellable_vec is_covered_val_type InRangeValType b.locals both.0 p.in_range.1.locals; instrs = is_expression b.instrs both.1 p.in_range.1.instrs p.rows })
+    (p.in_range.0, record { locals = spellable_vec is_covered_val_type InRangeValType b.locals both.0 p.in_range.1.locals; instrs = are_instrs b.instrs both.1 p.in_range.1.instrs p.rows })
 
 pub entry_code : (kind : SectionKind) → IsCode (Entry kind) (IsSpellable kind) (entry kind)
 entry_code Types = type_entry_code
@@ -116,9 +116,9 @@ entry_code Memories = code_within (λ m p. (p.covered, p.in_range)) memory_type_
 entry_code Tags = code_within (λ t p. (p.covered, p.in_range)) tag_type_code
 entry_code Globals = global_entry_code
 entry_code Exports = code_within (λ e p. p.in_range) export_entry_code
-entry_code Elements = code_within (λ e p. record { in_range = p.in_range; covered = p.covered; rows = p.rows }) element_code
+entry_code Elements = code_within (λ e p. record { in_range = p.in_range; covered = p.covered; rows = p.rows; balanced = p.balanced }) element_code
 entry_code Code = code_within spellable_body (sized_code content_whole)
-entry_code Data = code_within (λ d p. record { in_range = p.in_range; covered = p.covered; rows = p.rows }) data_code
+entry_code Data = code_within (λ d p. record { in_range = p.in_range; covered = p.covered; rows = p.rows; balanced = p.balanced }) data_code
 
 -- ---- parts
 
@@ -191,7 +191,7 @@ spellable_items : (kind : PartKind) (items : PartItems kind) → InRangePartItem
 spellable_items Custom c r p = r
 spellable_items Start n r p = r
 spellable_items DataCount n r p = r
-spellable_items (Listed kind) items r p = (r.0, all_both (InRangeEntry kind) (IsReadable kind) (IsSpellable kind) (λ e q h. record { in_range = q; covered = h.covered; rows = h.rows }) items r.1 p)
+spellable_items (Listed kind) items r p = (r.0, all_both (InRangeEntry kind) (IsReadable kind) (IsSpellable kind) (λ e q h. record { in_range = q; covered = h.covered; rows = h.rows; balanced = h.balanced }) items r.1 p)
 
 are_spellable : {bytes : List ℕ} (p : List Part) → Reads bytes p → All IsSpellablePart p
 are_spellable p h = all_both InRangePart IsReadablePart IsSpellablePart (λ x r q. (r.0, spellable_items x.kind x.items r.1 q)) p h.in_range h.readable

@@ -4,11 +4,12 @@ use Rattle.std.specs.Prelude.{All, IsTrue}
 use Rattle.std.specs.List.{list_all}
 use Rattle.std.proofs.lemmas.Bool.{eqb-true}
 use Rattle.wasm_ops.specs.Codes.{IsCode}
-use Rattle.wasm_ops.specs.ConstExprs.{expression, InRangeExpression, is_covered_expression, HasRowsExpression, IsExpression}
+use Rattle.wasm_ops.specs.ConstExprs.{expression, InRangeExpression, is_covered_expression, HasRowsExpression, IsBalancedExpression, IsExpression}
 use Rattle.wasm_ops.specs.Covered.{Spellable, IsSpellableRefType}
 use Rattle.wasm_ops.specs.Leb128.{unsigned}
 use Rattle.wasm_ops.specs.Spelling.{InRangeU32, vec, InRangeVec, name, InRangeName, abstract_byte, ref_type}
 use Rattle.wasm_ops.specs.Table.{Instr}
+use Rattle.wasm_ops.specs.Turns.{are_balanced}
 use Rattle.wasm_ops.specs.declared.ref_types.AbstractHeapType.{AbstractHeapType}
 use Rattle.wasm_ops.specs.declared.ref_types.HeapType.{HeapType}
 use Rattle.wasm_ops.specs.declared.ref_types.HeapType.TheVariants as heap
@@ -17,8 +18,8 @@ use Rattle.wasm_ops.proofs.Codes.{index_code, name_code, after_byte, pair_code, 
 use Rattle.wasm_ops.proofs.Everywhere.{all_both, all_tested, both_true}
 use Rattle.wasm_ops.proofs.ExpressionCodes.{expression_code, is_expression}
 use Rattle.wasm_ops.proofs.RefTypeCodes.{front, abstract_is, ref_type_code}
-use Rattle.wasm_out.specs.DataSegments.{DataMode, Kept, Placed, DataEntry, data_bytes, data_entry, InRangeDataMode, InRangeDataEntry, is_covered_data_mode, is_covered_data_entry, HasRowsDataMode, HasRowsDataEntry}
-use Rattle.wasm_out.specs.ElementSegments.{ElementItems, Indices, Expressions, ElementMode, Passive, Declared, Active, ElementEntry, kind_of, listed, element_bytes, element_entry, InRangeTable, InRangeElementMode, InRangeElementKind, InRangeListed, HasRowsElementMode, HasRowsListed, is_func, is_funcref, has_form, is_covered_listed, is_covered_element_kind, is_covered_element_mode, is_covered_element_entry, InRangeElementEntry, HasRowsElementEntry}
+use Rattle.wasm_out.specs.DataSegments.{DataMode, Kept, Placed, DataEntry, data_bytes, data_entry, InRangeDataMode, InRangeDataEntry, is_covered_data_mode, is_covered_data_entry, HasRowsDataMode, HasRowsDataEntry, is_balanced_data_mode, is_balanced_data_entry}
+use Rattle.wasm_out.specs.ElementSegments.{ElementItems, Indices, Expressions, ElementMode, Passive, Declared, Active, ElementEntry, kind_of, listed, element_bytes, element_entry, InRangeTable, InRangeElementMode, InRangeElementKind, InRangeListed, HasRowsElementMode, HasRowsListed, is_func, is_funcref, has_form, is_covered_listed, is_covered_element_kind, is_covered_element_mode, is_covered_element_entry, InRangeElementEntry, HasRowsElementEntry, is_balanced_element_mode, is_balanced_listed, is_balanced_element_entry}
 
 -- ---- what is asked of a segment of elements
 
@@ -36,12 +37,14 @@ record IsSegment (m : ElementMode) (x : ElementItems) : Type 0 where
   offset : IsOffset m
   listed : AreListed x
 
--- expressions that are covered, in range, and whose instructions are rows of the table
-are_expressions : (es : List (List Instr)) → IsTrue (list_all is_covered_expression es) → InRangeVec InRangeExpression es → All HasRowsExpression es → InRangeVec IsExpression es
-are_expressions es covered numbers rows =
+-- expressions that are covered, in range, whose instructions are rows of the table, and in which each block is closed
+are_expressions : (es : List (List Instr)) → IsTrue (list_all is_covered_expression es) → InRangeVec InRangeExpression es → All HasRowsExpression es → IsTrue (list_all are_balanced es) → InRangeVec IsExpression es
+are_expressions es covered numbers rows balanced =
     let Both : List Instr → Type 0 = λ e. Spellable is_covered_expression InRangeExpression e in
+    let Closed : List Instr → Type 0 = λ e. HasRowsExpression e × IsBalancedExpression e in
     let both = all_both (λ e. IsTrue (is_covered_expression e)) InRangeExpression Both (λ e p q. (p, q)) es (all_tested is_covered_expression es covered) numbers.1 in
-    (numbers.0, all_both Both HasRowsExpression IsExpression (λ e p q. is_expression e p.0 p.1 q) es both rows)
+    let closed = all_both HasRowsExpression IsBalancedExpression Closed (λ e p q. (p, q)) es rows (all_tested are_balanced es balanced) in
+    (numbers.0, all_both Both Closed IsExpression (λ e p q. is_expression e p.0 p.1 q.0 q.1) es both closed)
 
 -- ---- a type that is not written
 
@@ -142,30 +145,32 @@ element_begins Declared Declared (Expressions t xs) (Expressions u ys) r s p q e
     (ap (expressions Declared) one.0, one.1)
 element_begins m n x y r s p q e = absurd (omega (arith, ap front e, element_front m x r, element_front n y s))
 
-is_segment : (m : ElementMode) (x : ElementItems) → IsTrue (is_covered_element_entry (segment m x)) → InRangeElementEntry (segment m x) → HasRowsElementEntry (segment m x) → IsSegment m x
-is_segment m x c r h =
+is_segment : (m : ElementMode) (x : ElementItems) → IsTrue (is_covered_element_entry (segment m x)) → InRangeElementEntry (segment m x) → HasRowsElementEntry (segment m x) → IsTrue (is_balanced_element_entry (segment m x)) → IsSegment m x
+is_segment m x c r h b =
     let one = both_true (has_form m (kind_of x)) (is_covered_element_mode m && (is_covered_element_kind (kind_of x) && is_covered_listed x)) c in
     let two = both_true (is_covered_element_mode m) (is_covered_element_kind (kind_of x) && is_covered_listed x) one.1 in
     let three = both_true (is_covered_element_kind (kind_of x)) (is_covered_listed x) two.1 in
-    record { form = one.0; offset = offset_of m two.0 r.0 h.0; listed = listed_of x three.0 three.1 r.1 h.1 }
+    let closed = both_true (is_balanced_element_mode m) (is_balanced_listed x) b in
+    record { form = one.0; offset = offset_of m two.0 r.0 h.0 closed.0; listed = listed_of x three.0 three.1 r.1 h.1 closed.1 }
   where
-    offset_of : (m : ElementMode) → IsTrue (is_covered_element_mode m) → InRangeElementMode m → HasRowsElementMode m → IsOffset m
-    offset_of Passive c r h = tt
-    offset_of Declared c r h = tt
-    offset_of (Active table offset) c r h = (r.0, is_expression offset c r.1 h)
+    offset_of : (m : ElementMode) → IsTrue (is_covered_element_mode m) → InRangeElementMode m → HasRowsElementMode m → IsTrue (is_balanced_element_mode m) → IsOffset m
+    offset_of Passive c r h b = tt
+    offset_of Declared c r h b = tt
+    offset_of (Active table offset) c r h b = (r.0, is_expression offset c r.1 h b)
 
-    listed_of : (x : ElementItems) → IsTrue (is_covered_element_kind (kind_of x)) → IsTrue (is_covered_listed x) → InRangeElementKind (kind_of x) × InRangeListed x → HasRowsListed x → AreListed x
-    listed_of (Indices fs) c d r h = r.1
-    listed_of (Expressions t es) c d r h = ((c, r.0), are_expressions es d r.1 h)
+    listed_of : (x : ElementItems) → IsTrue (is_covered_element_kind (kind_of x)) → IsTrue (is_covered_listed x) → InRangeElementKind (kind_of x) × InRangeListed x → HasRowsListed x → IsTrue (is_balanced_listed x) → AreListed x
+    listed_of (Indices fs) c d r h b = r.1
+    listed_of (Expressions t es) c d r h b = ((c, r.0), are_expressions es d r.1 h b)
 
 pub record IsSpellableElements (e : ElementEntry) : Type 0 where
   pub in_range : InRangeElementEntry e
   pub covered : IsTrue (is_covered_element_entry e)
   pub rows : HasRowsElementEntry e
+  pub balanced : IsTrue (is_balanced_element_entry e)
 
 pub element_code : IsCode ElementEntry IsSpellableElements element_entry
 element_code = record {
-  begins = λ x y r s p q e. element_begins x.mode y.mode x.items y.items r s (is_segment x.mode x.items p.covered p.in_range p.rows) (is_segment y.mode y.items q.covered q.in_range q.rows) e;
+  begins = λ x y r s p q e. element_begins x.mode y.mode x.items y.items r s (is_segment x.mode x.items p.covered p.in_range p.rows p.balanced) (is_segment y.mode y.items q.covered q.in_range q.rows q.balanced) e;
 }
 
 -- ---- segments of data
@@ -197,16 +202,17 @@ data_begins Kept (Placed (suc n) b) x y r s p q e = absurd (omega (arith, ap fro
 data_begins (Placed zero a) n x y r s p q e = absurd (omega (arith, ap front e))
 data_begins (Placed (suc m) a) n x y r s p q e = absurd (omega (arith, ap front e))
 
-is_placed : (m : DataMode) → IsTrue (is_covered_data_mode m) → InRangeDataMode m → HasRowsDataMode m → IsPlaced m
-is_placed Kept c r h = tt
-is_placed (Placed memory offset) c r h = (r.0, is_expression offset c r.1 h)
+is_placed : (m : DataMode) → IsTrue (is_covered_data_mode m) → InRangeDataMode m → HasRowsDataMode m → IsTrue (is_balanced_data_mode m) → IsPlaced m
+is_placed Kept c r h b = tt
+is_placed (Placed memory offset) c r h b = (r.0, is_expression offset c r.1 h b)
 
 pub record IsSpellableData (d : DataEntry) : Type 0 where
   pub in_range : InRangeDataEntry d
   pub covered : IsTrue (is_covered_data_entry d)
   pub rows : HasRowsDataEntry d
+  pub balanced : IsTrue (is_balanced_data_entry d)
 
 pub data_code : IsCode DataEntry IsSpellableData data_entry
 data_code = record {
-  begins = λ x y r s p q e. data_begins x.mode y.mode x.bytes y.bytes r s (is_placed x.mode p.covered p.in_range.0 p.rows, p.in_range.1) (is_placed y.mode q.covered q.in_range.0 q.rows, q.in_range.1) e;
+  begins = λ x y r s p q e. data_begins x.mode y.mode x.bytes y.bytes r s (is_placed x.mode p.covered p.in_range.0 p.rows p.balanced, p.in_range.1) (is_placed y.mode q.covered q.in_range.0 q.rows q.balanced, q.in_range.1) e;
 }

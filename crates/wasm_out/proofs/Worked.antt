@@ -1,8 +1,9 @@
 -- The worked examples, computed.
 use Rattle.std.proofs.Common.{refl}
 use Rattle.wasm_ops.specs.Leb128.{unsigned, unsigned_in, signed, signed_in}
+use Rattle.wast_base.specs.Blocks.{stays_open}
 use Rattle.wasm_out.specs.WorkedBytes.{RunsOfLocals, Spelled, ItemsSpelled, SegmentsSpelled}
-use Rattle.wasm_out.specs.WorkedInstrs.{InstrsSpelled}
+use Rattle.wasm_out.specs.WorkedInstrs.{InstrsSpelled, BodySpelled, ExpressionSpelled, AreNoExpressions}
 
 pub runs_of_locals : RunsOfLocals
 unfolding unsigned unsigned_in
@@ -23,3 +24,15 @@ worked_segments = refl
 pub worked_instrs : InstrsSpelled
 unfolding unsigned unsigned_in signed signed_in
 worked_instrs = refl
+
+pub nested_body : BodySpelled
+unfolding unsigned unsigned_in
+nested_body = refl
+
+pub worked_expression : ExpressionSpelled
+unfolding signed signed_in stays_open
+worked_expression = record { balanced = refl; bytes = refl }
+
+pub no_expressions : AreNoExpressions
+unfolding stays_open
+no_expressions = record { unclosed = refl; unopened = refl; delegated = refl }

@@ -4,6 +4,7 @@ use Rattle.wasm_ops.specs.ConstExprs.{expression, InRangeExpression, is_covered_
 use Rattle.wasm_ops.specs.Leb128.{unsigned}
 use Rattle.wasm_ops.specs.Spelling.{InRangeU32}
 use Rattle.wasm_ops.specs.Table.{Instr}
+use Rattle.wasm_ops.specs.Turns.{are_balanced}
 
 -- bytes that are there for instructions that copy them, or that stand in a memory from an offset on
 pub data DataMode : Type 0 where
@@ -63,3 +64,12 @@ HasRowsDataMode (Placed memory offset) = HasRowsExpression offset
 -- the same of a segment
 abbrev pub HasRowsDataEntry : DataEntry → Type 0
 HasRowsDataEntry d = HasRowsDataMode d.mode
+
+-- each block in its offset is closed
+abbrev pub is_balanced_data_mode : DataMode → Bool
+is_balanced_data_mode Kept = true
+is_balanced_data_mode (Placed memory offset) = are_balanced offset
+
+-- the same of a segment
+abbrev pub is_balanced_data_entry : DataEntry → Bool
+is_balanced_data_entry d = is_balanced_data_mode d.mode

@@ -6,6 +6,7 @@ use Rattle.wasm_ops.specs.Covered.{is_covered_ref_type}
 use Rattle.wasm_ops.specs.Leb128.{unsigned}
 use Rattle.wasm_ops.specs.Spelling.{InRangeU32, vec, InRangeVec, abstract_byte, ref_type, InRangeRefType}
 use Rattle.wasm_ops.specs.Table.{Instr}
+use Rattle.wasm_ops.specs.Turns.{are_balanced}
 use Rattle.wasm_ops.specs.declared.ref_types.HeapType.{HeapType}
 use Rattle.wasm_ops.specs.declared.ref_types.HeapType.TheVariants as heap
 use Rattle.wasm_ops.specs.declared.ref_types.AbstractHeapType.TheVariants as heaps
@@ -148,3 +149,18 @@ HasRowsListed (Expressions ty expressions) = All HasRowsExpression expressions
 -- the same of a segment
 abbrev pub HasRowsElementEntry : ElementEntry → Type 0
 HasRowsElementEntry e = HasRowsElementMode e.mode × HasRowsListed e.items
+
+-- each block in its expressions is closed: in the offset
+abbrev pub is_balanced_element_mode : ElementMode → Bool
+is_balanced_element_mode Passive = true
+is_balanced_element_mode Declared = true
+is_balanced_element_mode (Active table offset) = are_balanced offset
+
+-- the same of the elements
+abbrev pub is_balanced_listed : ElementItems → Bool
+is_balanced_listed (Indices functions) = true
+is_balanced_listed (Expressions ty expressions) = list_all are_balanced expressions
+
+-- the same of a segment
+abbrev pub is_balanced_element_entry : ElementEntry → Bool
+is_balanced_element_entry e = is_balanced_element_mode e.mode && is_balanced_listed e.items

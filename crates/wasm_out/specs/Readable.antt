@@ -1,4 +1,4 @@
--- Which parts are read: beside that their numbers are in range, the encoder covers their types and instructions, their instructions are rows of the table, and their names are UTF-8.
+-- Which parts are read: beside that their numbers are in range, the encoder covers their types and instructions, their instructions are rows of the table, each block in their constant expressions is closed, and their names are UTF-8.
 use Rattle.std.specs.Prelude.{Bool, true, ◌&&◌, Option, Some, None, List, All, IsTrue}
 use Rattle.std.specs.List.{list_all}
 use Rattle.std.specs.Str.{is_utf8}
@@ -7,9 +7,10 @@ use Rattle.wasm_ops.specs.Covered.{is_covered_val_type, is_covered_sub_type}
 use Rattle.wasm_ops.specs.Entities.{is_covered_table_type, is_covered_memory_type, is_covered_global_type, is_covered_tag_type, is_covered_entity_type}
 use Rattle.wasm_ops.specs.Spelling.{InRangeU32, InRangeVec, InRangeSized, InRangeName}
 use Rattle.wasm_ops.specs.Table.{Instr, is_covered_instr, HasRow}
+use Rattle.wasm_ops.specs.Turns.{are_balanced}
 use Rattle.wasm_out.specs.Parts.{SectionKind, Types, Imports, Functions, Tables, Memories, Tags, Globals, Exports, Code, TypeEntry, Single, Group, Entry, InRangeEntry, PartKind, Custom, Start, Listed, PartItems, payload, Part, Elements, Data, DataCount}
-use Rattle.wasm_out.specs.DataSegments.{is_covered_data_entry, HasRowsDataEntry}
-use Rattle.wasm_out.specs.ElementSegments.{is_covered_element_entry, HasRowsElementEntry}
+use Rattle.wasm_out.specs.DataSegments.{is_covered_data_entry, HasRowsDataEntry, is_balanced_data_entry}
+use Rattle.wasm_out.specs.ElementSegments.{is_covered_element_entry, HasRowsElementEntry, is_balanced_element_entry}
 
 -- the encoder covers a type, or each type of a group
 abbrev pub is_covered_type_entry : TypeEntry → Bool
@@ -25,6 +26,11 @@ is_covered_init (Some init) = is_covered_expression init
 abbrev pub HasRowsInit : Option (List Instr) → Type 0
 HasRowsInit None = Unit {0}
 HasRowsInit (Some init) = HasRowsExpression init
+
+-- each block in that is closed
+abbrev pub is_balanced_init : Option (List Instr) → Bool
+is_balanced_init None = true
+is_balanced_init (Some init) = are_balanced init
 
 -- the encoder covers an item
 abbrev pub is_covered_entry : (kind : SectionKind) → Entry kind → Bool
@@ -54,6 +60,20 @@ HasRows Elements e = HasRowsElementEntry e
 HasRows Code b = All HasRow b.instrs
 HasRows Data d = HasRowsDataEntry d
 
+-- each block in the constant expressions of an item is closed; a body is read up to its length
+abbrev pub is_balanced_entry : (kind : SectionKind) → Entry kind → Bool
+is_balanced_entry Types t = true
+is_balanced_entry Imports i = true
+is_balanced_entry Functions n = true
+is_balanced_entry Tables t = is_balanced_init t.init
+is_balanced_entry Memories m = true
+is_balanced_entry Tags t = true
+is_balanced_entry Globals g = are_balanced g.init
+is_balanced_entry Exports e = true
+is_balanced_entry Elements e = is_balanced_element_entry e
+is_balanced_entry Code b = true
+is_balanced_entry Data d = is_balanced_data_entry d
+
 -- the names of an item, where it has some, are UTF-8 (binary format, names)
 abbrev pub HasUtf8Name : (kind : SectionKind) → Entry kind → Type 0
 HasUtf8Name Types t = Unit {0}
@@ -72,6 +92,7 @@ HasUtf8Name Data d = Unit {0}
 pub record IsReadable (kind : SectionKind) (e : Entry kind) : Type 0 where
   pub covered : IsTrue (is_covered_entry kind e)
   pub rows : HasRows kind e
+  pub balanced : IsTrue (is_balanced_entry kind e)
   pub name : HasUtf8Name kind e
 
 -- what is asked of what a part holds
@@ -85,11 +106,12 @@ AreReadable (Listed kind) items = All (IsReadable kind) items
 abbrev pub IsReadablePart : Part → Type 0
 IsReadablePart p = AreReadable p.kind p.items
 
--- an item has one spelling: its numbers are in range, the encoder covers it, and its instructions are rows of the table
+-- an item has one spelling: its numbers are in range, the encoder covers it, its instructions are rows of the table, and each block in its constant expressions is closed
 pub record IsSpellable (kind : SectionKind) (e : Entry kind) : Type 0 where
   pub in_range : InRangeEntry kind e
   pub covered : IsTrue (is_covered_entry kind e)
   pub rows : HasRows kind e
+  pub balanced : IsTrue (is_balanced_entry kind e)
 
 -- what a part holds has one spelling
 abbrev pub AreSpellable : (kind : PartKind) → PartItems kind → Type 0

@@ -45,7 +45,7 @@ impl Function {
     }
 
     /// Appends instructions that are spelled already (binary format, instructions). It needs a spelled list of
-    /// instructions.
+    /// instructions, in which blocks may be left open or closed without being opened: a body is read up to its length.
     ///
     /// E12 comes where memory is refused; then the body stays as it was.
     pub fn raw<'e>(&mut self, bytes: &[u8]) -> Result<(), Error<'e>>

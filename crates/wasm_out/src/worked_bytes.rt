@@ -1,7 +1,7 @@
 //! Worked examples with their bytes, which the definitions compute.
 
 ghost use Rattle.wasm_out.specs.WorkedBytes.{RunsOfLocals, Spelled, ItemsSpelled, SegmentsSpelled, IsNoModule};
-ghost use Rattle.wasm_out.specs.WorkedInstrs.{InstrsSpelled};
+ghost use Rattle.wasm_out.specs.WorkedInstrs.{InstrsSpelled, BodySpelled, ExpressionSpelled, AreNoExpressions};
 
 /// Locals are spelled by runs of one type.
 pub(crate) fn runs_of_locals()
@@ -26,6 +26,21 @@ pub(crate) fn worked_segments()
 /// Instructions of each kind of immediates have the bytes of the worked ones.
 pub(crate) fn worked_instrs()
     ensures { InstrsSpelled }
+{}
+
+/// A body with a block in a block has the bytes of the worked one.
+pub(crate) fn nested_body()
+    ensures { BodySpelled }
+{}
+
+/// An empty block in front of a constant stands in a constant expression, which its end does not end.
+pub(crate) fn worked_expression()
+    ensures { ExpressionSpelled }
+{}
+
+/// No constant expression has an open block, or an end without one.
+pub(crate) fn no_expressions()
+    ensures { AreNoExpressions }
 {}
 
 /// A memory whose minimum is 2^64, in ten bytes, is read as no module.

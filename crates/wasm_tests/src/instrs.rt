@@ -2,7 +2,10 @@
 
 use std::alloc::Global;
 use std::process::Abort;
-use wasm_ops::{IndexOp, IndexPairOp, InstructionSink, MemArg, MemArgTarget, Room, Sink, ValType};
+use wasm_ops::{
+    BlockOp, BlockType, Catch, Delimiter, IndexOp, IndexPairOp, InstructionSink, MemArg,
+    MemArgTarget, Room, Sink, ValType,
+};
 use wast_base::{BareOp, Error, F32Op, F64Op, I32Op, I64Op, MemOp, Plain, RefOp};
 
 /// Each instruction without immediates has its bytes.
@@ -54,6 +57,8 @@ fn access(align: u32, memory: u32, offset: u64) -> MemArg {
 /// Instructions with two indices, constants and choices, one after another.
 fn write_others<'e>(out: &mut Vec<u8>) -> Result<(), Error<'e>> {
     let mut sink = InstructionSink::new(out);
+    sink.index_pair(IndexPairOp::CallIndirect, 128, 1)?;
+    sink.index_pair(IndexPairOp::ReturnCallIndirect, 2, 3)?;
     sink.index_pair(IndexPairOp::MemoryInit, 128, 2)?;
     sink.index_pair(IndexPairOp::MemoryCopy, 3, 4)?;
     sink.index_pair(IndexPairOp::TableInit, 5, 6)?;
@@ -62,6 +67,27 @@ fn write_others<'e>(out: &mut Vec<u8>) -> Result<(), Error<'e>> {
     sink.f64_const(4607182418800017408)?;
     sink.select(None)?;
     sink.select(Some(&[ValType::I32, ValType::F64]))
+}
+
+/// Blocks of each kind, what ends them, and a branch by a table, one after another.
+fn write_control<'e>(out: &mut Vec<u8>) -> Result<(), Error<'e>> {
+    let mut sink = InstructionSink::new(out);
+    sink.block(BlockOp::Block, BlockType::Result(ValType::I32))?;
+    sink.block(BlockOp::Loop, BlockType::Empty)?;
+    sink.block(BlockOp::If, BlockType::FunctionType(128))?;
+    sink.delimiter(Delimiter::Else)?;
+    sink.block(BlockOp::Try, BlockType::FunctionType(64))?;
+    sink.br_table(&[1, 2], 0)?;
+    sink.try_table(
+        BlockType::Empty,
+        &[
+            Catch::One { tag: 1, label: 2 },
+            Catch::OneRef { tag: 3, label: 4 },
+            Catch::All { label: 5 },
+            Catch::AllRef { label: 6 },
+        ],
+    )?;
+    sink.delimiter(Delimiter::End)
 }
 
 #[test]
@@ -129,11 +155,19 @@ fn instructions_with_immediates_have_their_bytes(rt: HostRuntime) {
         &rt,
         rt.alloc(),
         &[
+            (IndexOp::Catch, 0, &[0x07, 0]),
             (IndexOp::Throw, 1, &[0x08, 1]),
+            (IndexOp::Rethrow, 2, &[0x09, 2]),
+            (IndexOp::Br, 3, &[0x0c, 3]),
+            (IndexOp::BrIf, 4, &[0x0d, 4]),
             (IndexOp::Call, 300, &[0x10, 0xac, 0x02]),
             (IndexOp::ReturnCall, 2, &[0x12, 2]),
             (IndexOp::CallRef, 3, &[0x14, 3]),
             (IndexOp::ReturnCallRef, 4, &[0x15, 4]),
+            (IndexOp::Delegate, 5, &[0x18, 5]),
+            (IndexOp::LocalGet, 128, &[0x20, 0x80, 0x01]),
+            (IndexOp::LocalSet, 6, &[0x21, 6]),
+            (IndexOp::LocalTee, 7, &[0x22, 7]),
             (IndexOp::GlobalGet, 5, &[0x23, 5]),
             (IndexOp::GlobalSet, 6, &[0x24, 6]),
             (IndexOp::TableGet, 7, &[0x25, 7]),
@@ -141,6 +175,8 @@ fn instructions_with_immediates_have_their_bytes(rt: HostRuntime) {
             (IndexOp::MemorySize, 0, &[0x3f, 0]),
             (IndexOp::MemoryGrow, 9, &[0x40, 9]),
             (IndexOp::RefFunc, 10, &[0xd2, 10]),
+            (IndexOp::BrOnNull, 8, &[0xd5, 8]),
+            (IndexOp::BrOnNonNull, 9, &[0xd6, 9]),
             (IndexOp::DataDrop, 11, &[0xfc, 9, 11]),
             (IndexOp::MemoryFill, 0, &[0xfc, 11, 0]),
             (IndexOp::ElemDrop, 12, &[0xfc, 13, 12]),
@@ -184,10 +220,18 @@ fn instructions_with_immediates_have_their_bytes(rt: HostRuntime) {
     let mut out = Vec::new(rt.alloc());
     assert!(rt; write_others(&mut out).is_ok());
     let expected = [
-        0xfc, 8, 0x80, 0x01, 2, 0xfc, 10, 3, 4, 0xfc, 12, 5, 6, 0xfc, 14, 7, 8, 0x43, 0, 0, 0x80,
-        0x3f, 0x44, 0, 0, 0, 0, 0, 0, 0xf0, 0x3f, 0x1b, 0x1c, 2, 0x7f, 0x7c,
+        0x11, 0x80, 0x01, 1, 0x13, 2, 3, 0xfc, 8, 0x80, 0x01, 2, 0xfc, 10, 3, 4, 0xfc, 12, 5, 6,
+        0xfc, 14, 7, 8, 0x43, 0, 0, 0x80, 0x3f, 0x44, 0, 0, 0, 0, 0, 0, 0xf0, 0x3f, 0x1b, 0x1c, 2,
+        0x7f, 0x7c,
     ];
     assert!(rt; out.as_slice() == expected.as_slice());
+    let mut control = Vec::new(rt.alloc());
+    assert!(rt; write_control(&mut control).is_ok());
+    let expected = [
+        0x02, 0x7f, 0x03, 0x40, 0x04, 0x80, 0x01, 0x05, 0x06, 0xc0, 0x00, 0x0e, 2, 1, 2, 0, 0x1f,
+        0x40, 4, 0, 1, 2, 1, 3, 4, 2, 5, 3, 6, 0x0b,
+    ];
+    assert!(rt; control.as_slice() == expected.as_slice());
     let mut room = Room::reserve(rt.alloc(), 3).expect(&rt, "memory");
     assert!(rt;
         InstructionSink::new(&mut room)

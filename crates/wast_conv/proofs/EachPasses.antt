@@ -31,6 +31,11 @@ pub each_of_one : {A B : Type 0} (p : B → Bool) (f : A → B) (xs : List A) �
 each_of_one p f [] = refl
 each_of_one p f (x ∷ xs) = ap (λ b. p (f x) && b) (each_of_one p f xs)
 
+-- two tests that tell the same of each item
+pub each_same : {A : Type 0} (p q : A → Bool) → ((x : A) → p x ≡ q x) → (xs : List A) → list_all p xs ≡ list_all q xs
+each_same p q h [] = refl
+each_same p q h (x ∷ xs) = ap (λ b. b && list_all p xs) (h x) ∙ ap (λ b. q x && b) (each_same p q h xs)
+
 -- the first of a list pass where all do
 pub first_pass : {A : Type 0} (p : A → Bool) (xs : List A) (i : ℕ) → list_all p xs ≡ true → list_all p (take i xs) ≡ true
 first_pass p xs i h = (both_pass _ _ (sym (list_all-append p (take i xs) (drop i xs)) ∙ ap (list_all p) (take-append-drop i xs) ∙ h)).0

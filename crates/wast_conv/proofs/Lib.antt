@@ -3,6 +3,7 @@ pub mod Standing
 pub mod Ready
 pub mod TypesReady
 pub mod EntitiesReady
+pub mod Balanced
 pub mod Expressions
 pub mod MemArgs
 pub mod Spelled

@@ -1,16 +1,17 @@
 -- Fields that are well formed, resolved and written out may be handed to the encoder; what may be is resolved; and where a
 -- field may be, so may what it puts into the sections.
-use Rattle.std.proofs.Common.{◌≡◌, Bool, true, ◌&&◌, List, refl, sym, ◌∙◌}
+use Rattle.std.proofs.Common.{◌≡◌, Bool, true, ◌&&◌, ◌||◌, List, refl, sym, ◌∙◌}
 use Rattle.std.specs.Prelude.{is_some, Option, Some, None}
 use Rattle.std.specs.List.{flat_map, list_all}
-use Rattle.wast_base.specs.Ids.{Mark, is_number}
+use Rattle.wast_base.specs.Ids.{is_number}
 use Rattle.wast_tree.specs.Clauses.{suits}
-use Rattle.wast_tree.specs.Sites.{Ask, Wants, Unasked, Clause, Supported, Site, Asked, Used, Declared, asking, if_there, at_index, in_type, in_rec, in_ref, in_type_use, in_use, in_local, in_func, in_func_kind, param_marks, in_table_type, in_global_type, in_tag_type, in_import, in_constant, in_payload, in_table_kind, in_memory_kind, in_global_kind, in_global, in_elem_kind, in_elem, in_data_kind, in_field, in_module, asked_in, asked}
+use Rattle.wast_tree.specs.Types.{says_enough}
+use Rattle.wast_tree.specs.Sites.{Ask, Wants, Within, Unasked, Clause, Supported, OfItem, OfCall, Site, Asked, Used, Declared, LocalAt, LabelAt, start, asking, if_there, at_index, in_type, in_rec, in_ref, in_type_use, in_use, in_indirect, in_local, in_func, in_func_kind, in_expression, in_table_type, in_global_type, in_tag_type, in_import, in_constant, in_payload, in_table_kind, in_memory_kind, in_global_kind, in_global, in_elem_kind, in_elem, in_data_kind, in_field, in_module, asked_in, asked}
 use Rattle.wast_tree.specs.Known.{Known}
 use Rattle.wast_tree.specs.WellFormed.{is_kept, are_kept}
 use Rattle.wast_tree.specs.Resolved.{is_numbered, are_numbered, is_resolved_site, is_resolved}
 use Rattle.wast_tree.specs.WrittenOut.{exports_nothing, is_written_func, is_written_table, is_written_memory, is_written_global, is_written_field, is_written_out}
-use Rattle.wast_conv.specs.Tree.{Index, Space, TypeUse, FunctionType, Expression, Rec, Imports, FuncKind, Func, TableKind, Table, Memory, GlobalKind, Global, Export, ElemKind, ElemPayload, Elem, DataKind, Data, Tag, ModuleField}
+use Rattle.wast_conv.specs.Tree.{Index, Space, CallIndirect, TypeUse, FunctionType, Expression, Rec, Imports, FuncKind, Func, TableKind, Table, Memory, GlobalKind, Global, Export, ElemKind, ElemPayload, Elem, DataKind, Data, Tag, ModuleField}
 use Rattle.wast_conv.specs.Tree.space
 use Rattle.wast_conv.specs.Tree.ty
 use Rattle.wast_conv.specs.Tree.func
@@ -20,25 +21,29 @@ use Rattle.wast_conv.specs.Tree.elem
 use Rattle.wast_conv.specs.Tree.payload
 use Rattle.wast_conv.specs.Tree.data_kind
 use Rattle.wast_conv.specs.Tree.field
-use Rattle.wast_conv.specs.Encodable.{is_encodable_ask, are_encodable, is_encodable_site, encodable, is_entered_site, are_entered, is_number_if, is_encodable_expression, is_encodable_type, is_encodable_type_use, is_encodable_kind, is_encodable_import, is_encodable_init, is_encodable_table_kind, is_encodable_table, is_encodable_memory, is_encodable_global_kind, is_encodable_global, is_encodable_tag, is_encodable_elem_kind, is_encodable_payload, is_encodable_elem, is_encodable_data_kind, is_encodable_data, is_encodable_field, is_encodable, are_resolved}
+use Rattle.wast_conv.specs.Encodable.{is_encodable_ask, are_encodable, is_encodable_site, encodable, is_entered_site, are_entered, is_number_if, is_encodable_code, is_encodable_expression, is_encodable_type, is_encodable_type_use, is_encodable_kind, is_encodable_import, is_encodable_init, is_encodable_table_kind, is_encodable_table, is_encodable_memory, is_encodable_global_kind, is_encodable_global, is_encodable_tag, is_encodable_elem_kind, is_encodable_payload, is_encodable_elem, is_encodable_data_kind, is_encodable_data, is_encodable_field, is_encodable, are_resolved}
 use Rattle.wast_conv.proofs.EachPasses.{both_pass, both_true, both_lists, each_passes, each_by, each_then}
-use Rattle.wast_conv.proofs.Standing.{asking_passes, asked_then, encodable_at, constant_ready, body_tells}
+use Rattle.wast_conv.proofs.Standing.{asking_passes, asked_then, encodable_at, code_ready, constant_ready, body_tells}
 
 -- ---- well formed and resolved
 
 ask_ready : (k : Known) (a : Ask) → is_kept k a ≡ true → is_numbered a ≡ true → is_encodable_ask a ≡ true
 ask_ready k (Wants s i) kept numbered = numbered
+ask_ready k (Within i) kept numbered = numbered
 ask_ready k (Unasked m) kept numbered = refl
 ask_ready k (Clause n holds) kept numbered = kept
 ask_ready k (Supported holds) kept numbered = kept
 
 site_ready : (k : Known) (s : Site) → are_kept k (asked_in s) ≡ true → is_resolved_site s ≡ true → is_encodable_site s ≡ true
 site_ready k (Asked a) kept resolved = ask_ready k a (both_pass (is_kept k a) true kept).0 resolved
-site_ready k (Used u) kept resolved =
-    let both = both_pass (is_some u.index) (are_numbered (in_type_use u)) resolved in
-    both_true (is_some u.index) (are_encodable (in_type_use u)) both.0
+site_ready k (Used w u) kept resolved =
+    let said = is_some u.index || says_enough w u.inline in
+    let both = both_pass said (are_numbered (in_type_use u)) resolved in
+    both_true said (are_encodable (in_type_use u)) both.0
     (each_by (is_kept k) is_numbered is_encodable_ask (ask_ready k) (in_type_use u) kept both.1)
-site_ready k (Declared before m) kept resolved = refl
+site_ready k (LocalAt locals i) kept resolved = resolved
+site_ready k (LabelAt blocks i) kept resolved = resolved
+site_ready k s kept resolved = refl
 
 pub sites_ready : (k : Known) (sites : List Site) → are_kept k (asked sites) ≡ true → are_resolved sites ≡ true → encodable sites ≡ true
 sites_ready k sites kept resolved =
@@ -55,6 +60,7 @@ fields_ready k fields kept resolved written =
 
 ask_numbered : (a : Ask) → is_encodable_ask a ≡ true → is_numbered a ≡ true
 ask_numbered (Wants s i) h = h
+ask_numbered (Within i) h = h
 ask_numbered (Unasked m) h = refl
 ask_numbered (Clause n holds) h = refl
 ask_numbered (Supported holds) h = refl
@@ -64,17 +70,32 @@ asks_numbered asks h = each_then is_encodable_ask is_numbered ask_numbered asks 
 
 site_resolved : (s : Site) → is_encodable_site s ≡ true → is_resolved_site s ≡ true
 site_resolved (Asked a) h = ask_numbered a h
-site_resolved (Used u) h =
-    let both = both_pass (is_some u.index) (are_encodable (in_type_use u)) h in
-    both_true (is_some u.index) (are_numbered (in_type_use u)) both.0 (asks_numbered (in_type_use u) both.1)
-site_resolved (Declared before m) h = refl
+site_resolved (Used w u) h =
+    let said = is_some u.index || says_enough w u.inline in
+    let both = both_pass said (are_encodable (in_type_use u)) h in
+    both_true said (are_numbered (in_type_use u)) both.0 (asks_numbered (in_type_use u) both.1)
+site_resolved (LocalAt locals i) h = h
+site_resolved (LabelAt blocks i) h = h
+site_resolved s h = refl
+
+pub sites_resolved : (sites : List Site) → encodable sites ≡ true → are_resolved sites ≡ true
+sites_resolved sites h = each_then is_encodable_site is_resolved_site site_resolved sites h
+
+-- the table and the type use of an indirect call
+pub indirect_ready : (c : CallIndirect) → encodable (in_indirect c) ≡ true → (is_number c.table ≡ true) × (are_resolved (in_use OfItem c.ty) ≡ true)
+indirect_ready c h =
+    let parts = both_pass (is_number c.table) (encodable (in_use OfCall c.ty)) h in
+    let used = (both_pass (is_encodable_site (Used OfCall c.ty)) true parts.1).0 in
+    (parts.0, both_true (is_resolved_site (Used OfItem c.ty)) true (site_resolved (Used OfCall c.ty) used) refl)
 
 -- ---- what a field that the encoder takes puts into the sections
 
 site_entered : (s : Site) → is_encodable_site s ≡ true → is_entered_site s ≡ true
 site_entered (Asked a) h = h
-site_entered (Used u) h = site_resolved (Used u) h
-site_entered (Declared before m) h = refl
+site_entered (Used w u) h = site_resolved (Used w u) h
+site_entered (LocalAt locals i) h = h
+site_entered (LabelAt blocks i) h = h
+site_entered s h = refl
 
 sites_entered : (sites : List Site) → encodable sites ≡ true → are_entered sites ≡ true
 sites_entered sites h = each_then is_encodable_site is_entered_site site_entered sites h
@@ -82,8 +103,10 @@ sites_entered sites h = each_then is_encodable_site is_entered_site site_entered
 -- what goes into an entry is resolved
 entry_resolved : (s : Site) → is_entered_site s ≡ true → is_resolved_site s ≡ true
 entry_resolved (Asked a) h = ask_numbered a h
-entry_resolved (Used u) h = h
-entry_resolved (Declared before m) h = refl
+entry_resolved (Used w u) h = h
+entry_resolved (LocalAt locals i) h = h
+entry_resolved (LabelAt blocks i) h = h
+entry_resolved s h = refl
 
 pub entered_resolved : (sites : List Site) → are_entered sites ≡ true → are_resolved sites ≡ true
 entered_resolved sites h = each_then is_entered_site is_resolved_site entry_resolved sites h
@@ -97,15 +120,15 @@ group_ready r e = sym (asking_passes (in_rec r)) ∙ (both_pass (encodable (aski
 pub import_ready : (i : Imports) → is_encodable_field (field.Import i) ≡ true → is_encodable_import i ≡ true
 import_ready i e = sites_entered (in_import i.items) (both_pass (encodable (in_import i.items)) true e).0
 
-use_ready : (u : TypeUse FunctionType) → encodable (in_use u) ≡ true → is_encodable_type_use u ≡ true
-use_ready u e = (both_pass (is_encodable_type_use u) true (sites_entered (in_use u) e)).0
+use_ready : (u : TypeUse FunctionType) → encodable (in_use OfItem u) ≡ true → is_encodable_type_use u ≡ true
+use_ready u e = (both_pass (is_encodable_type_use u) true (sites_entered (in_use OfItem u) e)).0
 
-body_ready : (params : List (Option Mark)) (k : FuncKind) → encodable (in_func_kind params k) ≡ true → is_written_func k ≡ true → is_encodable_kind k ≡ true
-body_ready params (func.Import import exact) e written = written
-body_ready params (func.Inline locals x) e written =
+body_ready : (u : TypeUse FunctionType) (k : FuncKind) → encodable (in_func_kind u k) ≡ true → is_written_func k ≡ true → is_encodable_kind k ≡ true
+body_ready u (func.Import import exact) e written = written
+body_ready u (func.Inline locals x) e written =
     let asks = are_encodable (flat_map in_local locals) in
-    let both = both_pass asks (encodable (in_constant x)) (sym (body_tells params locals x) ∙ e) in
-    both_true asks (is_encodable_expression x) both.0 (constant_ready x both.1)
+    let both = both_pass asks (encodable (in_expression start x)) (sym (body_tells u locals x) ∙ e) in
+    both_true asks (is_encodable_code x) both.0 (code_ready x both.1)
 
 -- whether anything is exported in place is nothing to its section
 first_and_last : (a b c : Bool) → (a && (b && c)) ≡ true → (a ≡ true) × (c ≡ true)
@@ -113,10 +136,9 @@ first_and_last a b c e = let outer = both_pass a (b && c) e in (outer.0, (both_p
 
 pub func_ready : (f : Func) → is_encodable_field (field.Func f) ≡ true → (is_encodable_type_use f.ty ≡ true) × (is_encodable_kind f.kind ≡ true)
 func_ready f e =
-    let params = param_marks f.ty.inline in
     let whole = first_and_last (encodable (in_func f)) (exports_nothing f.exports) (is_written_func f.kind) e in
-    let parts = both_lists is_encodable_site (in_use f.ty) (in_func_kind params f.kind) whole.0 in
-    (use_ready f.ty parts.0, body_ready params f.kind parts.1 whole.1)
+    let parts = both_lists is_encodable_site (in_use OfItem f.ty) (in_func_kind f.ty f.kind) whole.0 in
+    (use_ready f.ty parts.0, body_ready f.ty f.kind parts.1 whole.1)
 
 init_ready : (init : Option Expression) → encodable (if_there in_constant init) ≡ true → is_encodable_init init ≡ true
 init_ready None e = refl

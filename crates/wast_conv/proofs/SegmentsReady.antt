@@ -1,4 +1,4 @@
--- Segments that the encoder takes are covered, and their instructions are rows of the table.
+-- Segments that the encoder takes are covered, their instructions are rows of the table, and each block in their expressions is closed.
 use Rattle.std.proofs.Common.{◌≡◌, true, ◌&&◌, List, refl}
 use Rattle.std.specs.List.{list_all}
 use Rattle.std.proofs.lemmas.List.Elements.{All-map}
@@ -6,9 +6,10 @@ use Rattle.wast_base.specs.Ids.{is_number}
 use Rattle.wast_tree.specs.Sites.{in_ref}
 use Rattle.wast_tree.specs.Clauses.{suits}
 use Rattle.wasm_ops.specs.ConstExprs.{is_covered_expression, HasRowsExpression}
+use Rattle.wasm_ops.specs.Turns.{are_balanced}
 use Rattle.wasm_ops.proofs.Everywhere.{all_each}
-use Rattle.wasm_out.specs.DataSegments.{is_covered_data_mode, HasRowsDataMode}
-use Rattle.wasm_out.specs.ElementSegments.{kind_of, is_covered_element_mode, is_covered_element_kind, is_covered_listed, is_covered_element_entry, HasRowsElementMode, HasRowsListed}
+use Rattle.wasm_out.specs.DataSegments.{is_covered_data_mode, HasRowsDataMode, is_balanced_data_mode}
+use Rattle.wasm_out.specs.ElementSegments.{kind_of, is_covered_element_mode, is_covered_element_kind, is_covered_listed, is_covered_element_entry, HasRowsElementMode, HasRowsListed, is_balanced_element_mode, is_balanced_listed, is_balanced_element_entry}
 use Rattle.wast_conv.specs.Tree.{RefType, Expression, ElemKind, ElemPayload, Elem, DataKind}
 use Rattle.wast_conv.specs.Tree.elem
 use Rattle.wast_conv.specs.Tree.payload
@@ -17,7 +18,7 @@ use Rattle.wast_conv.specs.Encodable.{is_number_if, are_encodable, is_encodable_
 use Rattle.wast_conv.specs.FieldEntries.{as_element_mode, as_element_items, as_data_mode}
 use Rattle.wast_conv.specs.Meaning as meaning
 use Rattle.wast_conv.proofs.EachPasses.{both_pass, both_true, each_becomes}
-use Rattle.wast_conv.proofs.Expressions.{instrs_rows, expression_covered}
+use Rattle.wast_conv.proofs.Expressions.{instrs_rows, expression_covered, expression_balanced}
 use Rattle.wast_conv.proofs.Segmented.{suits_form}
 use Rattle.wast_conv.proofs.TypesReady.{heap_covered}
 
@@ -66,6 +67,21 @@ pub items_rows : (q : ElemPayload) → HasRowsListed (as_element_items q)
 items_rows (payload.Indices is) = tt
 items_rows (payload.Exprs ty es) = All-map HasRowsExpression meaning.as_expression es (all_each (λ x. HasRowsExpression (meaning.as_expression x)) (λ x. instrs_rows x.instrs) es)
 
+mode_balanced : (k : ElemKind) → is_encodable_elem_kind k ≡ true → is_balanced_element_mode (as_element_mode k) ≡ true
+mode_balanced elem.Passive e = refl
+mode_balanced elem.Declared e = refl
+mode_balanced (elem.Active table offset) e = expression_balanced offset (both_pass (is_number_if table) (is_encodable_expression offset) e).1
+
+items_balanced : (q : ElemPayload) → is_encodable_payload q ≡ true → is_balanced_listed (as_element_items q) ≡ true
+items_balanced (payload.Indices is) e = refl
+items_balanced (payload.Exprs ty es) e =
+    each_becomes is_encodable_expression meaning.as_expression are_balanced expression_balanced es (exprs_parts ty es e).1
+
+pub elem_balanced : (x : Elem) → is_encodable_elem x ≡ true → is_balanced_element_entry (meaning.as_element x) ≡ true
+elem_balanced x e =
+    let parts = elem_parts x e in
+    both_true _ _ (mode_balanced x.kind parts.stands) (items_balanced x.payload parts.holds)
+
 -- the same of segments of data
 pub place_covered : (k : DataKind) → is_encodable_data_kind k ≡ true → is_covered_data_mode (as_data_mode k) ≡ true
 place_covered data_kind.Passive e = refl
@@ -74,3 +90,7 @@ place_covered (data_kind.Active memory offset) e = expression_covered offset (bo
 pub place_rows : (k : DataKind) → HasRowsDataMode (as_data_mode k)
 place_rows data_kind.Passive = tt
 place_rows (data_kind.Active memory offset) = instrs_rows offset.instrs
+
+pub place_balanced : (k : DataKind) → is_encodable_data_kind k ≡ true → is_balanced_data_mode (as_data_mode k) ≡ true
+place_balanced data_kind.Passive e = refl
+place_balanced (data_kind.Active memory offset) e = expression_balanced offset (both_pass (is_number memory) (is_encodable_expression offset) e).1

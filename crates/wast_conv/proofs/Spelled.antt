@@ -10,12 +10,16 @@ use Rattle.wasm_ops.specs.Leb128.{unsigned}
 use Rattle.wasm_ops.specs.Sinks.{SinkRules, Writes}
 use Rattle.wasm_ops.specs.declared.types.ValType as ops
 use Rattle.wasm_ops.specs.Spelling.{InRangeU32, vec, InRangeVec, val_type, InRangeValType, func_type, InRangeFuncType, composite_inner_type, InRangeCompositeInnerType, sub_bytes, sub_type, InRangeSubType}
+use Rattle.wasm_ops.specs.Control.{InRangeBlockType, catch_clause, InRangeCatch}
+use Rattle.wasm_ops.specs.ControlInstrs.{br_table_instr, br_table_bytes, try_table_instr, try_table_bytes}
 use Rattle.wasm_ops.specs.SelectInstrs.{select_instr}
 use Rattle.wasm_ops.specs.Table.{instr, InRangeInstr}
+use Rattle.wasm_ops.specs.declared.blocks.BlockType.{BlockType}
 use Rattle.wasm_ops.proofs.Everywhere.{all_unmap}
+use Rattle.wasm_ops.proofs.Instructing.{br_table_written, try_table_written}
 use Rattle.wasm_ops.proofs.Sinking.{written_as}
 use Rattle.wasm_out.specs.Bodies.{locals, content, InRangeContent}
-use Rattle.wast_conv.specs.Tree.{Id, Index, NameAnnotation, ValType, FunctionType, TypeDef, Local, Instruction}
+use Rattle.wast_conv.specs.Tree.{Id, Index, NameAnnotation, ValType, FunctionType, TypeDef, TryTableCatch, Local, Instruction}
 use Rattle.wast_conv.specs.Values.{is_final}
 use Rattle.wast_conv.specs.Meaning as meaning
 
@@ -54,6 +58,26 @@ pub select_written : {S A : Type 0} (rules : SinkRules S) (a b : S) (ts : List o
 select_written rules a b ts r p =
     written_as rules (InRangeVec InRangeValType ts) (InRangeInstr (select_instr (Some ts))) a b (0x1c ∷ vec val_type ts) (instr (select_instr (Some ts))) r
     (λ h. (h, tt)) (λ i. i.0) (ap (λ (bytes : List ℕ). 0x1c ∷ bytes) (sym (append-nil (vec val_type ts)))) p
+
+-- a branch by a table, of a list of its labels
+pub branches_written : {S R : Type 0} (rules : SinkRules S) (a b : S) (xs ls : List Index) (default : ℕ) (r : Result R Refusal) → xs ≡ ls
+    → Writes rules (InRangeVec (λ i. InRangeU32 (meaning.number i)) xs × InRangeU32 default) a b (br_table_bytes (vec (λ i. unsigned (meaning.number i)) xs) default) r
+    → Writes rules (InRangeInstr (br_table_instr (map meaning.number ls) default)) a b (instr (br_table_instr (map meaning.number ls) default)) r
+branches_written rules a b xs ls default r e p =
+    br_table_written rules a b (map meaning.number ls) default (vec (λ i. unsigned (meaning.number i)) xs) (InRangeVec (λ i. InRangeU32 (meaning.number i)) xs) r
+    (ap (vec (λ i. unsigned (meaning.number i))) e ∙ vec_mapped unsigned meaning.number ls)
+    (λ h. in_range_mapped InRangeU32 meaning.number ls (subst (InRangeVec (λ i. InRangeU32 (meaning.number i))) e h))
+    (λ h. subst (InRangeVec (λ i. InRangeU32 (meaning.number i))) (sym e) (in_range_unmapped InRangeU32 meaning.number ls h)) p
+
+-- a block that catches, of a list of its clauses
+pub catches_written : {S R : Type 0} (rules : SinkRules S) (a b : S) (ty : BlockType) (xs cs : List TryTableCatch) (r : Result R Refusal) → xs ≡ cs
+    → Writes rules (InRangeBlockType ty × InRangeVec (λ c. InRangeCatch (meaning.as_catch c)) xs) a b (try_table_bytes ty (vec (λ c. catch_clause (meaning.as_catch c)) xs)) r
+    → Writes rules (InRangeInstr (try_table_instr ty (map meaning.as_catch cs))) a b (instr (try_table_instr ty (map meaning.as_catch cs))) r
+catches_written rules a b ty xs cs r e p =
+    try_table_written rules a b ty (map meaning.as_catch cs) (vec (λ c. catch_clause (meaning.as_catch c)) xs) (InRangeVec (λ c. InRangeCatch (meaning.as_catch c)) xs) r
+    (ap (vec (λ c. catch_clause (meaning.as_catch c))) e ∙ vec_mapped catch_clause meaning.as_catch cs)
+    (λ h. in_range_mapped InRangeCatch meaning.as_catch cs (subst (InRangeVec (λ c. InRangeCatch (meaning.as_catch c))) e h))
+    (λ h. subst (InRangeVec (λ c. InRangeCatch (meaning.as_catch c))) (sym e) (in_range_unmapped InRangeCatch meaning.as_catch cs h)) p
 
 -- a function type, of lists of its parameters and results
 pub function_written : {S A : Type 0} (rules : SinkRules S) (a b : S) (t : FunctionType) (ps : List (Option Id × Option NameAnnotation × ValType)) (rs : List ValType) (r : Result A Refusal) → ps ≡ t.params → rs ≡ t.results

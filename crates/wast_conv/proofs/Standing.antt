@@ -3,15 +3,17 @@ use Rattle.std.proofs.Common.{◌≡◌, true, ◌&&◌, ◌==◌, length, List,
 use Rattle.std.specs.Prelude.{Option, Some, None}
 use Rattle.std.specs.List.{flat_map, list_all}
 use Rattle.std.proofs.lemmas.List.Folds.{list_all-append}
-use Rattle.wast_base.specs.Ids.{Name, Mark, is_number}
+use Rattle.wast_base.specs.Blocks.{Blocks, is_balanced}
+use Rattle.wast_base.specs.Ids.{Name, Mark, marked, is_number}
 use Rattle.wast_base.specs.Spaces.{name_if}
-use Rattle.wast_tree.specs.Sites.{Ask, Wants, Supported, Site, Asked, Here, start, behind, body_here, local_marks, declaring, asking, if_there, in_id, in_index, at_index, in_local, in_instr, in_instrs, in_expression, in_constant, in_func_kind}
+use Rattle.wast_tree.specs.Instrs.{turns}
+use Rattle.wast_tree.specs.Sites.{Ask, Wants, Supported, OfBlock, Site, Asked, Used, LabelAt, Begins, Here, start, behind, body_here, param_marks, local_marks, declaring, asking, if_there, in_id, in_index, at_index, in_local, at_label, in_use, in_caught, in_catch, in_try_table, in_br_table, in_instr, in_instrs, in_expression, in_constant, in_func_kind}
 use Rattle.wast_tree.specs.Resolved.{is_numbered, are_numbered}
-use Rattle.wast_conv.specs.Tree.{Id, Index, Space, Instruction, Expression, Local}
+use Rattle.wast_conv.specs.Tree.{Id, Index, Space, TypeUse, FunctionType, BrTableIndices, TryTable, TryTableCatch, Instruction, Expression, Local}
 use Rattle.wast_conv.specs.Tree.instr as instruction
 use Rattle.wast_conv.specs.Tree.func
-use Rattle.wast_conv.specs.Encodable.{is_encodable_ask, are_encodable, is_encodable_site, encodable, are_entered, is_encodable_instr, is_encodable_expression, is_encodable_kind}
-use Rattle.wast_conv.proofs.EachPasses.{both_pass, both_lists, each_passes, each_of_one}
+use Rattle.wast_conv.specs.Encodable.{is_encodable_ask, are_encodable, is_encodable_site, encodable, are_entered, is_encodable_catch, is_encodable_instr, is_encodable_code, is_encodable_expression, is_encodable_kind}
+use Rattle.wast_conv.proofs.EachPasses.{both_pass, both_true, both_lists, each_passes, each_of_one, each_same}
 
 pub asking_passes : (asks : List Ask) → encodable (asking asks) ≡ are_encodable asks
 asking_passes [] = refl
@@ -42,9 +44,46 @@ pub behind_id : (id : Option Id) (asks : List Ask) → are_encodable (if_there i
 behind_id None asks = refl
 behind_id (Some id) asks = refl
 
+-- a branch by a table: its labels, whichever blocks are open
+pub br_table_tells : (blocks : Blocks) (t : BrTableIndices) → encodable (in_br_table blocks t) ≡ (list_all is_number t.labels && (is_number t.default && true))
+br_table_tells blocks t =
+    list_all-append is_encodable_site (flat_map (at_label blocks) t.labels) (at_label blocks t.default)
+    ∙ ap (λ b. b && (is_number t.default && true)) (each_of_one is_encodable_site (LabelAt blocks) t.labels)
+
+pub br_table_parts : (t : BrTableIndices) → encodable (in_br_table start.blocks t) ≡ true → (list_all is_number t.labels ≡ true) × (is_number t.default ≡ true)
+br_table_parts t e =
+    let both = both_pass (list_all is_number t.labels) _ (sym (br_table_tells start.blocks t) ∙ e) in
+    (both.0, (both_pass (is_number t.default) true both.1).0)
+
+-- a clause of `try_table`: its tag and its label
+pub catch_tells : (blocks : Blocks) (c : TryTableCatch) → encodable (in_catch blocks c) ≡ (are_encodable (in_caught c.kind) && (is_number c.label && true))
+catch_tells blocks c =
+    list_all-append is_encodable_site (asking (in_caught c.kind)) (at_label blocks c.label)
+    ∙ ap (λ b. b && (is_number c.label && true)) (asking_passes (in_caught c.kind))
+
+catches_tell : (blocks : Blocks) (cs : List TryTableCatch) → encodable (flat_map (in_catch blocks) cs) ≡ list_all is_encodable_catch cs
+catches_tell blocks cs =
+    each_passes is_encodable_site (in_catch blocks) cs
+    ∙ each_same (λ c. encodable (in_catch blocks c)) is_encodable_catch (λ c. catch_tells blocks c ∙ sym (catch_tells start.blocks c)) cs
+
+-- a block that catches: its type and its clauses
+pub try_table_tells : (blocks : Blocks) (t : TryTable)
+    → encodable (in_try_table blocks t) ≡ (is_encodable_site (Used OfBlock t.block.ty) && (list_all is_encodable_catch t.catches && true))
+try_table_tells blocks t =
+    let begins = Begins blocks (marked t.block.label) ∷ [] in
+    ap (λ b. is_encodable_site (Used OfBlock t.block.ty) && b)
+    (list_all-append is_encodable_site (flat_map (in_catch blocks) t.catches) begins ∙ ap (λ b. b && true) (catches_tell blocks t.catches))
+
+pub try_table_parts : (t : TryTable) → encodable (in_try_table start.blocks t) ≡ true → (encodable (in_use OfBlock t.block.ty) ≡ true) × (list_all is_encodable_catch t.catches ≡ true)
+try_table_parts t e =
+    let both = both_pass (is_encodable_site (Used OfBlock t.block.ty)) _ (sym (try_table_tells start.blocks t) ∙ e) in
+    (both_true _ true both.0 refl, (both_pass (list_all is_encodable_catch t.catches) true both.1).0)
+
 -- An instruction, wherever it stands.
 pub anywhere : (h g : Here) (i : Instruction) → encodable (in_instr h i) ≡ encodable (in_instr g i)
 anywhere h g (instruction.Plain op) = refl
+anywhere h g (instruction.br_table t) = br_table_tells h.blocks t ∙ sym (br_table_tells g.blocks t)
+anywhere h g (instruction.try_table t) = try_table_tells h.blocks t ∙ sym (try_table_tells g.blocks t)
 anywhere h g i = refl
 
 pub instrs_pass : (h : Here) (is : List Instruction) → encodable (in_instrs h is) ≡ list_all is_encodable_instr is
@@ -61,34 +100,42 @@ expression_tells h e =
     let hints = Asked (Supported (length e.branch_hints == 0)) ∷ [] in
     list_all-append is_encodable_site (in_instrs h e.instrs) hints ∙ ap (λ b. b && encodable hints) (instrs_pass h e.instrs)
 
--- A constant expression as the encoder takes it: its instructions alone.
+-- An expression as the encoder takes it: its instructions alone; of a constant expression, they are balanced.
+pub code_ready : (e : Expression) → encodable (in_expression start e) ≡ true → is_encodable_code e ≡ true
+code_ready e p = (both_lists is_encodable_site (in_instrs start e.instrs) _ p).0
+
 pub constant_ready : (e : Expression) → encodable (in_constant e) ≡ true → is_encodable_expression e ≡ true
-constant_ready e p = (both_lists is_encodable_site (in_instrs start e.instrs) _ p).0
+constant_ready e p =
+    let both = both_lists is_encodable_site (in_expression start e) _ p in
+    both_true (is_encodable_code e) (is_balanced (turns e.instrs)) (code_ready e both.0) (both_pass (is_balanced (turns e.instrs)) true both.1).0
 
 pub ready_instrs : (e : Expression) → is_encodable_expression e ≡ true → list_all is_encodable_instr e.instrs ≡ true
-ready_instrs e p = sym (instrs_pass start e.instrs) ∙ p
+ready_instrs e p = sym (instrs_pass start e.instrs) ∙ (both_pass (is_encodable_code e) (is_balanced (turns e.instrs)) p).0
+
+pub ready_balanced : (e : Expression) → is_encodable_expression e ≡ true → is_balanced (turns e.instrs) ≡ true
+ready_balanced e p = (both_pass (is_encodable_code e) (is_balanced (turns e.instrs)) p).1
 
 -- Nothing is asked where a parameter or a local is declared.
 declared_passes : (before : List (Option Name)) (marks : List (Option Mark)) → encodable (declaring before marks) ≡ true
 declared_passes before [] = refl
 declared_passes before (m ∷ ms) = declared_passes (before ++ name_if m ∷ []) ms
 
--- A body: its locals and its instructions, whichever parameters stand before it.
-pub body_tells : (params : List (Option Mark)) (locals : List Local) (e : Expression)
-    → encodable (in_func_kind params (func.Inline locals e)) ≡ (are_encodable (flat_map in_local locals) && encodable (in_constant e))
-body_tells params locals e =
-    let marks = params ++ local_marks locals in
-    let body = in_expression (body_here marks) e in
+-- A body: its locals and its instructions, in whichever function it stands.
+pub body_tells : (u : TypeUse FunctionType) (locals : List Local) (e : Expression)
+    → encodable (in_func_kind u (func.Inline locals e)) ≡ (are_encodable (flat_map in_local locals) && encodable (in_expression start e))
+body_tells u locals e =
+    let marks = param_marks u.inline ++ local_marks locals in
+    let body = in_expression (body_here u marks) e in
     let rest = declaring [] marks ++ body in
     list_all-append is_encodable_site (asking (flat_map in_local locals)) rest
     ∙ (ap (λ b. b && encodable rest) (asking_passes (flat_map in_local locals))
     ∙ ap (λ b. are_encodable (flat_map in_local locals) && b)
     (list_all-append is_encodable_site (declaring [] marks) body
-    ∙ (ap (λ b. b && encodable body) (declared_passes [] marks) ∙ (expression_tells (body_here marks) e ∙ sym (expression_tells start e)))))
+    ∙ (ap (λ b. b && encodable body) (declared_passes [] marks) ∙ (expression_tells (body_here u marks) e ∙ sym (expression_tells start e)))))
 
 pub body_parts : (locals : List Local) (e : Expression)
     → is_encodable_kind (func.Inline locals e) ≡ true
     → (list_all (λ l. are_encodable (in_local l)) locals ≡ true) × (list_all is_encodable_instr e.instrs ≡ true)
 body_parts locals e h =
-    let both = both_pass (are_encodable (flat_map in_local locals)) (is_encodable_expression e) h in
-    (sym (each_passes is_encodable_ask in_local locals) ∙ both.0, ready_instrs e both.1)
+    let both = both_pass (are_encodable (flat_map in_local locals)) (is_encodable_code e) h in
+    (sym (each_passes is_encodable_ask in_local locals) ∙ both.0, sym (instrs_pass start e.instrs) ∙ both.1)

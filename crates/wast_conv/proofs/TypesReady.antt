@@ -5,16 +5,18 @@ use Rattle.std.specs.Prelude.{not, is_none, Option, Some, None, option_map}
 use Rattle.std.specs.List.{flat_map, list_all}
 use Rattle.std.proofs.lemmas.Grind.{common_steps}
 use Rattle.wast_base.specs.Ids.{is_number}
-use Rattle.wast_tree.specs.Sites.{Ask, Supported, if_there, in_index, in_heap, in_val, in_select, in_storage, in_param, in_signature, in_struct_field, in_descriptor, in_inner, in_def, in_type, in_rec, in_local}
+use Rattle.wast_tree.specs.Sites.{Ask, Supported, if_there, in_index, in_heap, in_val, in_select, in_storage, in_param, in_signature, OfBlock, Used, in_type_use, in_use, in_struct_field, in_descriptor, in_inner, in_def, in_type, in_rec, in_local}
 use Rattle.wast_tree.specs.Resolved.{are_numbered}
+use Rattle.wasm_ops.specs.Control.{is_covered_block_type}
 use Rattle.wasm_ops.specs.SelectInstrs.{select_instr}
 use Rattle.wasm_ops.specs.Table.{is_covered_instr}
 use Rattle.wasm_ops.specs.Covered.{is_covered_heap_type, is_covered_val_type, is_covered_storage_type, is_covered_field_type, is_covered_composite_inner_type, is_covered_sub_type}
-use Rattle.wast_conv.specs.Tree.{Id, Index, NameAnnotation, HeapType, ValType, StorageType, StructField, FunctionType, InnerTypeKind, TypeDef, Rec, SelectTypes, Local}
+use Rattle.wast_conv.specs.Tree.{Id, Index, NameAnnotation, HeapType, ValType, StorageType, StructField, FunctionType, BlockType, InnerTypeKind, TypeDef, Rec, SelectTypes, Local}
 use Rattle.wast_conv.specs.Tree.heap
 use Rattle.wast_conv.specs.Tree.inner
 use Rattle.wast_conv.specs.Tree.space
-use Rattle.wast_conv.specs.Encodable.{is_number_if, is_encodable_ask, are_encodable, is_encodable_type}
+use Rattle.wast_conv.specs.Encodable.{is_number_if, is_encodable_ask, are_encodable, is_encodable_site, encodable, is_encodable_type}
+use Rattle.wast_conv.specs.Values.{given, short_type, use_as_block}
 use Rattle.wast_conv.specs.Meaning as meaning
 use Rattle.wast_conv.proofs.EachPasses.{both_pass, both_true, both_lists, each_passes, each_becomes}
 use Rattle.wast_conv.proofs.Standing.{behind_id}
@@ -66,6 +68,24 @@ select_covered t e = of_types t.tys e
     of_types : (o : Option (List ValType)) → are_encodable (if_there (flat_map in_val) o) ≡ true → is_covered_instr (select_instr (option_map (map meaning.as_val_type) o)) ≡ true
     of_types None e = refl
     of_types (Some ts) e = both_true _ true (select_all ts e) refl
+
+-- the type of a block: the index of a type, or at most one result
+given_covered : (ts : List ValType) → list_all (λ v. are_encodable (in_val v)) ts ≡ true → is_covered_block_type (given ts) ≡ true
+given_covered [] e = refl
+given_covered (t ∷ ts) e = val_covered t (both_pass (are_encodable (in_val t)) _ e).0
+
+short_covered : (o : Option FunctionType) → are_encodable (if_there in_signature o) ≡ true → is_covered_block_type (short_type o) ≡ true
+short_covered None e = refl
+short_covered (Some t) e = given_covered t.results (signature_parts is_encodable_ask t e).1
+
+use_covered : (index : Option Index) (inline : Option FunctionType) → are_encodable (if_there in_signature inline) ≡ true → is_covered_block_type (use_as_block index inline) ≡ true
+use_covered (Some i) inline e = refl
+use_covered None inline e = short_covered inline e
+
+pub block_covered : (b : BlockType) → encodable (in_use OfBlock b.ty) ≡ true → is_covered_block_type (meaning.as_block_type b) ≡ true
+block_covered b e =
+    let asks = (both_pass _ (are_encodable (in_type_use b.ty)) (both_pass (is_encodable_site (Used OfBlock b.ty)) true e).0).1 in
+    use_covered b.ty.index b.ty.inline (both_lists is_encodable_ask (if_there (in_index space.Ty) b.ty.index) _ asks).1
 
 pub storage_covered : (t : StorageType) → are_encodable (in_storage t) ≡ true → is_covered_storage_type (meaning.as_storage_type t) ≡ true
 storage_covered t e = grind (arith, common_steps, val_covered)

@@ -1,13 +1,16 @@
 -- What the encoder may be handed: parts of the tree where each index is a number, each clause holds, each form is supported,
--- and each type use has an index. Branch hints and inline types are not written, so fields alone ask them to be supported.
-use Rattle.std.specs.Prelude.{Bool, true, false, ◌&&◌, is_some, List, Option, Some, None}
+-- and each type use has an index, or is short in a block. Branch hints and inline types are not written, so fields alone ask them to be supported.
+use Rattle.std.specs.Prelude.{Bool, true, false, ◌&&◌, ◌||◌, is_some, List, Option, Some, None}
 use Rattle.std.specs.List.{list_all, flat_map}
+use Rattle.wast_base.specs.Blocks.{is_balanced}
 use Rattle.wast_base.specs.Ids.{is_number}
 use Rattle.wast_tree.specs.Clauses.{suits}
-use Rattle.wast_tree.specs.Sites.{Ask, Wants, Unasked, Clause, Supported, Site, Asked, Used, Declared, start, in_type, in_ref, in_type_use, in_instr, in_instrs, in_local, in_table_type, in_global_type, in_import, in_tag_type, in_field}
+use Rattle.wast_tree.specs.Instrs.{turns}
+use Rattle.wast_tree.specs.Types.{says_enough}
+use Rattle.wast_tree.specs.Sites.{Ask, Wants, Within, Unasked, Clause, Supported, OfItem, Site, Asked, Used, Declared, LocalAt, LabelAt, Repeated, Begins, Ends, start, in_type, in_ref, in_type_use, in_catch, in_instr, in_instrs, in_local, in_table_type, in_global_type, in_import, in_tag_type, in_field}
 use Rattle.wast_tree.specs.Resolved.{is_resolved_site}
 use Rattle.wast_tree.specs.WrittenOut.{is_written_memory, is_written_field}
-use Rattle.wast_conv.specs.Tree.{Index, TypeUse, FunctionType, Instruction, Expression, FuncKind, Imports, TableKind, Table, Memory, GlobalKind, Global, Tag, ElemKind, ElemPayload, Elem, DataKind, Data, ModuleField}
+use Rattle.wast_conv.specs.Tree.{Index, TypeUse, FunctionType, TryTableCatch, Instruction, Expression, FuncKind, Imports, TableKind, Table, Memory, GlobalKind, Global, Tag, ElemKind, ElemPayload, Elem, DataKind, Data, ModuleField}
 use Rattle.wast_conv.specs.Tree.ty
 use Rattle.wast_conv.specs.Tree.func
 use Rattle.wast_conv.specs.Tree.table
@@ -19,6 +22,7 @@ use Rattle.wast_conv.specs.Tree.data_kind
 -- what is asked in them: an index is a number, a clause holds, and a form is supported
 abbrev pub is_encodable_ask : Ask → Bool
 is_encodable_ask (Wants s i) = is_number i
+is_encodable_ask (Within i) = is_number i
 is_encodable_ask (Unasked m) = true
 is_encodable_ask (Clause n holds) = holds
 is_encodable_ask (Supported holds) = holds
@@ -27,11 +31,16 @@ is_encodable_ask (Supported holds) = holds
 abbrev pub are_encodable : List Ask → Bool
 are_encodable asks = list_all is_encodable_ask asks
 
--- a type use has an index, too
+-- a type use has an index, too, unless its inline type is that of a block and short
 abbrev pub is_encodable_site : Site → Bool
 is_encodable_site (Asked a) = is_encodable_ask a
-is_encodable_site (Used u) = is_some u.index && are_encodable (in_type_use u)
+is_encodable_site (Used w u) = (is_some u.index || says_enough w u.inline) && are_encodable (in_type_use u)
 is_encodable_site (Declared before m) = true
+is_encodable_site (LocalAt locals i) = is_number i
+is_encodable_site (LabelAt blocks i) = is_number i
+is_encodable_site (Repeated blocks m) = true
+is_encodable_site (Begins blocks m) = true
+is_encodable_site Ends = true
 
 -- all sites of a part
 abbrev pub encodable : List Site → Bool
@@ -40,8 +49,13 @@ encodable sites = list_all is_encodable_site sites
 -- What goes into an entry of a section: of a type use the index alone, so that what stands beside it has numbers, and no more.
 abbrev pub is_entered_site : Site → Bool
 is_entered_site (Asked a) = is_encodable_ask a
-is_entered_site (Used u) = is_resolved_site (Used u)
+is_entered_site (Used w u) = is_resolved_site (Used w u)
 is_entered_site (Declared before m) = true
+is_entered_site (LocalAt locals i) = is_number i
+is_entered_site (LabelAt blocks i) = is_number i
+is_entered_site (Repeated blocks m) = true
+is_entered_site (Begins blocks m) = true
+is_entered_site Ends = true
 
 -- all sites of a part
 abbrev pub are_entered : List Site → Bool
@@ -56,9 +70,17 @@ is_number_if (Some i) = is_number i
 abbrev pub is_encodable_instr : Instruction → Bool
 is_encodable_instr i = encodable (in_instr start i)
 
--- its instructions, whether it has branch hints or not
+-- a clause of `try_table`, the same whichever blocks are open
+abbrev pub is_encodable_catch : TryTableCatch → Bool
+is_encodable_catch c = encodable (in_catch start.blocks c)
+
+-- the instructions of a body, whether it has branch hints or not
+abbrev pub is_encodable_code : Expression → Bool
+is_encodable_code e = encodable (in_instrs start e.instrs)
+
+-- a constant expression: its instructions, which close as many blocks as they open, none before it is open
 abbrev pub is_encodable_expression : Expression → Bool
-is_encodable_expression e = encodable (in_instrs start e.instrs)
+is_encodable_expression e = is_encodable_code e && is_balanced (turns e.instrs)
 
 -- a type, as a field or in a group
 abbrev pub is_encodable_type : ty.«Type» → Bool
@@ -66,12 +88,12 @@ is_encodable_type t = are_encodable (in_type t)
 
 -- its index alone is written
 abbrev pub is_encodable_type_use : TypeUse FunctionType → Bool
-is_encodable_type_use u = is_resolved_site (Used u)
+is_encodable_type_use u = is_resolved_site (Used OfItem u)
 
 -- the locals and the instructions of a body; what stands in place is not written, here and of tables, memories and globals
 abbrev pub is_encodable_kind : FuncKind → Bool
 is_encodable_kind (func.Import import exact) = false
-is_encodable_kind (func.Inline locals e) = are_encodable (flat_map in_local locals) && is_encodable_expression e
+is_encodable_kind (func.Inline locals e) = are_encodable (flat_map in_local locals) && is_encodable_code e
 
 -- an import
 abbrev pub is_encodable_import : Imports → Bool

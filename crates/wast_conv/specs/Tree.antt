@@ -24,12 +24,19 @@ pub use Rattle.wast_tree.specs.declared.types.InnerTypeKind.TheVariants as inner
 pub use Rattle.wast_tree.specs.declared.types.TypeDef.{TypeDef}
 pub use Rattle.wast_tree.specs.declared.types.Type as ty
 pub use Rattle.wast_tree.specs.declared.types.Rec.{Rec}
+pub use Rattle.wast_tree.specs.declared.immediates.BlockType.{BlockType}
+pub use Rattle.wast_tree.specs.declared.immediates.BrTableIndices.{BrTableIndices}
+pub use Rattle.wast_tree.specs.declared.immediates.TryTable.{TryTable}
+pub use Rattle.wast_tree.specs.declared.immediates.TryTableCatch.{TryTableCatch}
+pub use Rattle.wast_tree.specs.declared.immediates.TryTableCatchKind.{TryTableCatchKind}
+pub use Rattle.wast_tree.specs.declared.immediates.TryTableCatchKind.TheVariants as caught
 pub use Rattle.wast_tree.specs.declared.immediates.TableArg.{TableArg}
 pub use Rattle.wast_tree.specs.declared.immediates.MemoryArg.{MemoryArg}
 pub use Rattle.wast_tree.specs.declared.immediates.MemoryInit.{MemoryInit}
 pub use Rattle.wast_tree.specs.declared.immediates.MemoryCopy.{MemoryCopy}
 pub use Rattle.wast_tree.specs.declared.immediates.TableInit.{TableInit}
 pub use Rattle.wast_tree.specs.declared.immediates.TableCopy.{TableCopy}
+pub use Rattle.wast_tree.specs.declared.immediates.CallIndirect.{CallIndirect}
 pub use Rattle.wast_tree.specs.declared.immediates.SelectTypes.{SelectTypes}
 pub use Rattle.wast_tree.specs.declared.immediates.MemArg.{MemArg}
 pub use Rattle.wast_tree.specs.declared.immediates.MemArgTarget.{MemArgTarget}

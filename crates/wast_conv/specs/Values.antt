@@ -1,8 +1,8 @@
 -- Parts of the tree as values of the binary format, with their numbers (binary format: types, instructions).
 use Rattle.std.specs.Int.{w64, trailing_zeros}
-use Rattle.std.specs.Prelude.{ℕ, Bool, true, List, [], map, Option, Some, None, unwrap_or, option_map}
+use Rattle.std.specs.Prelude.{ℕ, Bool, true, List, [], ◌∷◌, map, Option, Some, None, unwrap_or, option_map}
 use Rattle.wast_conv.specs.Tree as tree
-use Rattle.wast_conv.specs.Tree.{Index, StructField, FunctionType, TypeUse, InnerTypeKind, TypeDef, ItemKind, Instruction, Expression, Local, FuncKind}
+use Rattle.wast_conv.specs.Tree.{Index, StructField, FunctionType, TypeUse, InnerTypeKind, TypeDef, ItemKind, TryTableCatch, TryTableCatchKind, Instruction, Expression, Local, FuncKind}
 use Rattle.wast_conv.specs.Tree.index
 use Rattle.wast_conv.specs.Tree.heap
 use Rattle.wast_conv.specs.Tree.abstract
@@ -12,6 +12,7 @@ use Rattle.wast_conv.specs.Tree.inner
 use Rattle.wast_conv.specs.Tree.tag
 use Rattle.wast_conv.specs.Tree.kind as item
 use Rattle.wast_conv.specs.Tree.target
+use Rattle.wast_conv.specs.Tree.caught
 use Rattle.wast_conv.specs.Tree.instr as instruction
 use Rattle.wast_conv.specs.Tree.func
 use Rattle.wast_conv.specs.Tree.export
@@ -42,9 +43,16 @@ use Rattle.wasm_ops.specs.declared.entities.EntityType.TheVariants as entity
 use Rattle.wasm_ops.specs.declared.memargs.MemArg.{MemArg}
 use Rattle.wasm_ops.specs.declared.memargs.MemArgTarget.{MemArgTarget}
 use Rattle.wasm_ops.specs.declared.memargs.MemArgTarget.TheVariants as out_target
+use Rattle.wasm_ops.specs.declared.blocks.BlockType.{BlockType}
+use Rattle.wasm_ops.specs.declared.blocks.BlockType.TheVariants as out_block
+use Rattle.wasm_ops.specs.declared.blocks.Catch.{Catch}
+use Rattle.wasm_ops.specs.declared.blocks.Catch.TheVariants as out_catch
+use Rattle.wasm_ops.specs.declared.control.BlockOp.TheVariants as opener
+use Rattle.wasm_ops.specs.declared.control.Delimiter.TheVariants as delimiter
 use Rattle.wasm_ops.specs.declared.instrs.IndexOp.TheVariants as op
 use Rattle.wasm_ops.specs.declared.instrs.IndexPairOp.TheVariants as pair
 use Rattle.wasm_ops.specs.ConstantInstrs.{i32_const_instr, i64_const_instr, f32_const_instr, f64_const_instr, ref_null_instr}
+use Rattle.wasm_ops.specs.ControlInstrs.{block_instr, delimiter_instr, br_table_instr, try_table_instr}
 use Rattle.wasm_ops.specs.IndexInstrs.{index_instr, index_pair_instr}
 use Rattle.wasm_ops.specs.MemoryInstrs.{mem_instr}
 use Rattle.wasm_ops.specs.PlainInstrs.{plain_instr}
@@ -167,17 +175,66 @@ as_mem_arg_target (target.Memory i) = out_target.Memory (number i)
 abbrev pub as_mem_arg : tree.MemArg → MemArg
 as_mem_arg m = record { align = trailing_zeros w64 m.align; target = as_mem_arg_target m.target; offset = m.offset }
 
+-- what a short inline type gives: nothing, or one value
+abbrev pub given : List tree.ValType → BlockType
+given [] = out_block.Empty
+given (t ∷ ts) = out_block.Result (as_val_type t)
+
+-- the type of a block with a short inline type, which has no parameters and at most one result
+abbrev pub short_type : Option FunctionType → BlockType
+short_type None = out_block.Empty
+short_type (Some t) = given t.results
+
+-- what a type use in a block says: an index says all, and without one the inline type is short
+abbrev pub use_as_block : Option Index → Option FunctionType → BlockType
+use_as_block (Some i) inline = out_block.FunctionType (number i)
+use_as_block None inline = short_type inline
+
+-- the type of a block
+abbrev pub as_block_type : tree.BlockType → BlockType
+as_block_type b = use_as_block b.ty.index b.ty.inline
+
+-- what a clause of `try_table` catches, and the label of the block that is left
+abbrev pub as_caught : TryTableCatchKind → ℕ → Catch
+as_caught (caught.Catch e) label = out_catch.One (number e) label
+as_caught (caught.CatchRef e) label = out_catch.OneRef (number e) label
+as_caught caught.CatchAll label = out_catch.All label
+as_caught caught.CatchAllRef label = out_catch.AllRef label
+
+-- a clause of `try_table`
+abbrev pub as_catch : TryTableCatch → Catch
+as_catch c = as_caught c.kind (number c.label)
+
 -- an instruction, as a row of the table with its numbers
 abbrev pub as_instr : Instruction → Instr
 as_instr (instruction.Plain o) = plain_instr o
 as_instr (instruction.Mem o m) = mem_instr o (as_mem_arg m)
+as_instr (instruction.block b) = block_instr opener.Block (as_block_type b)
+as_instr (instruction.loop_ b) = block_instr opener.Loop (as_block_type b)
+as_instr (instruction.if_ b) = block_instr opener.If (as_block_type b)
+as_instr (instruction.else_ label) = delimiter_instr delimiter.Else
+as_instr (instruction.try_ b) = block_instr opener.Try (as_block_type b)
+as_instr (instruction.try_table t) = try_table_instr (as_block_type t.block) (map as_catch t.catches)
+as_instr (instruction.end_ label) = delimiter_instr delimiter.End
+as_instr (instruction.delegate l) = index_instr op.Delegate (number l)
+as_instr (instruction.br l) = index_instr op.Br (number l)
+as_instr (instruction.br_if l) = index_instr op.BrIf (number l)
+as_instr (instruction.br_table t) = br_table_instr (map number t.labels) (number t.default)
+as_instr (instruction.br_on_null l) = index_instr op.BrOnNull (number l)
+as_instr (instruction.br_on_non_null l) = index_instr op.BrOnNonNull (number l)
+as_instr (instruction.rethrow l) = index_instr op.Rethrow (number l)
 as_instr (instruction.catch i) = index_instr op.Catch (number i)
 as_instr (instruction.throw i) = index_instr op.Throw (number i)
 as_instr (instruction.call i) = index_instr op.Call (number i)
 as_instr (instruction.return_call i) = index_instr op.ReturnCall (number i)
+as_instr (instruction.call_indirect c) = index_pair_instr pair.CallIndirect (type_index c.ty) (number c.table)
+as_instr (instruction.return_call_indirect c) = index_pair_instr pair.ReturnCallIndirect (type_index c.ty) (number c.table)
 as_instr (instruction.call_ref i) = index_instr op.CallRef (number i)
 as_instr (instruction.return_call_ref i) = index_instr op.ReturnCallRef (number i)
 as_instr (instruction.select t) = select_instr (option_map (map as_val_type) t.tys)
+as_instr (instruction.local_get x) = index_instr op.LocalGet (number x)
+as_instr (instruction.local_set x) = index_instr op.LocalSet (number x)
+as_instr (instruction.local_tee x) = index_instr op.LocalTee (number x)
 as_instr (instruction.global_get i) = index_instr op.GlobalGet (number i)
 as_instr (instruction.global_set i) = index_instr op.GlobalSet (number i)
 as_instr (instruction.table_get a) = index_instr op.TableGet (number a.dst)

@@ -1,11 +1,10 @@
 //! Parts of a resolved tree as values of the binary format.
 
-ghost use Rattle.std.specs.Int.{w64, is_power_of_two, trailing_zeros};
-ghost use Rattle.std.specs.Prelude.{◌≡◌, ◌<◌, Bool, true, map, option_map, IfOk, IfErr, IsTrue};
+ghost use Rattle.std.specs.Prelude.{◌≡◌, Bool, true, map, option_map, IfOk, IfErr, IsTrue};
 ghost use Rattle.std.specs.List.{All, flat_map, list_all};
 ghost use Rattle.wast_base.specs.Ids.{is_number};
 ghost use Rattle.wast_base.specs.Faults.{out_of_memory};
-ghost use Rattle.wast_tree.specs.Sites.{in_heap, in_ref, in_val, in_param, in_storage, in_struct_field, in_array, in_struct, in_signature, in_inner, in_def, in_type, in_target};
+ghost use Rattle.wast_tree.specs.Sites.{in_heap, in_ref, in_val, in_param, in_storage, in_struct_field, in_array, in_struct, in_signature, in_inner, in_def, in_type};
 ghost use Rattle.wast_tree.specs.Resolved.{are_numbered};
 ghost use Rattle.wasm_ops.specs.ConstExprs.{InRangeExpression};
 ghost use Rattle.wasm_ops.specs.Table.{instr, instrs, InRangeInstr};
@@ -14,6 +13,7 @@ ghost use Rattle.wast_conv.specs.Encodable.{is_number_if, is_encodable_instr, is
 ghost use Rattle.wast_conv.specs.Meaning as meaning;
 
 pub use crate::conv_entities::{entity_type, global_type, memory_type, table_type, tag_type};
+pub use crate::conv_immediates::{block_type, catch, mem_arg, memory_arg, table_arg};
 use crate::values::Resolved;
 use std::alloc::Global;
 use wasm_ops::{
@@ -134,38 +134,6 @@ pub fn val_type(ty: &wast_tree::ValType) -> wasm_ops::ValType
         wast_tree::ValType::F64 => wasm_ops::ValType::F64,
         wast_tree::ValType::V128 => wasm_ops::ValType::V128,
         wast_tree::ValType::Ref(ty) => wasm_ops::ValType::Ref(ref_type(ty)),
-    }
-}
-
-/// The memory that a memory argument reads or writes (binary format, memory instructions). It needs a resolved index.
-fn mem_arg_target(target: &wast_tree::MemArgTarget) -> wasm_ops::MemArgTarget
-    requires { IsTrue (are_numbered (in_target target.now)) }
-    ensures { result ≡ meaning.as_mem_arg_target target.now }
-{
-    match target {
-        wast_tree::MemArgTarget::Memory(memory) => wasm_ops::MemArgTarget::Memory(index(memory)),
-    }
-}
-
-/// The number of trailing zero bits of an alignment, which is its logarithm where it is a power of two.
-fn logarithm(align: u64) -> u32
-    ensures zeros { result ≡ trailing_zeros w64 align }
-    ensures below { IsTrue (is_power_of_two align) → result < 64 }
-{
-    align.trailing_zeros()
-}
-
-/// A memory argument (binary format, memory instructions). It needs a resolved index. The alignment is written as the
-/// number of its trailing zero bits, which is its logarithm where it is a power of two, and then below 64.
-pub fn mem_arg(arg: &wast_tree::MemArg) -> wasm_ops::MemArg
-    requires { IsTrue (are_numbered (in_target arg.now.target)) }
-    ensures value { result ≡ meaning.as_mem_arg arg.now }
-    ensures aligned { IsTrue (is_power_of_two arg.now.align) → result.align < 64 }
-{
-    wasm_ops::MemArg {
-        align: logarithm(arg.align),
-        target: mem_arg_target(&arg.target),
-        offset: arg.offset,
     }
 }
 

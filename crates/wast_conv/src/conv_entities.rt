@@ -1,7 +1,7 @@
 //! Types of tables, memories, globals, tags and imported items as values of the binary format.
 
 ghost use Rattle.std.specs.Prelude.{◌≡◌, IsTrue};
-ghost use Rattle.wast_tree.specs.Sites.{in_table_type, in_global_type, in_use, in_tag_type, in_item_kind};
+ghost use Rattle.wast_tree.specs.Sites.{OfItem, in_table_type, in_global_type, in_use, in_tag_type, in_item_kind};
 ghost use Rattle.wast_tree.specs.Resolved.{are_numbered};
 ghost use Rattle.wast_conv.specs.Encodable.{are_resolved};
 ghost use Rattle.wast_conv.specs.Meaning as meaning;
@@ -51,7 +51,7 @@ pub fn global_type(ty: &wast_tree::GlobalType) -> wasm_ops::GlobalType
 
 /// The index of a type use.
 pub(crate) fn type_index(type_use: &TypeUse<FunctionType>) -> u32
-    requires { IsTrue (are_resolved (in_use type_use.now)) }
+    requires { IsTrue (are_resolved (in_use OfItem type_use.now)) }
     ensures { result ≡ meaning.type_index type_use.now }
 {
     match &type_use.index {

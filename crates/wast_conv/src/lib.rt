@@ -3,9 +3,11 @@
 
 pub mod conv;
 mod conv_entities;
+mod conv_immediates;
 mod conv_segments;
 mod field_items;
 mod field_values;
+mod instr_values;
 mod section_items;
 mod segment_items;
 mod segment_values;

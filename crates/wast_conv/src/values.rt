@@ -1,19 +1,14 @@
 //! Parts of a resolved tree, as they are spelled.
 
-ghost use Rattle.std.specs.Prelude.{◌≡◌, true, map, option_map, IsTrue};
+ghost use Rattle.std.specs.Prelude.{◌≡◌, IsTrue};
 ghost use Rattle.std.specs.List.{list_all};
 ghost use Rattle.wast_base.specs.Ids.{is_number};
-ghost use Rattle.wast_tree.specs.Sites.{in_heap, in_val, in_param, in_signature, in_struct_field, in_struct, in_array, in_inner, in_def, in_mem_arg, in_select, in_local};
+ghost use Rattle.wast_tree.specs.Sites.{in_val, in_param, in_signature, in_struct_field, in_struct, in_array, in_inner, in_def, in_local};
 ghost use Rattle.wasm_ops.specs.declared.types.CompositeInnerType.TheVariants as composite;
-ghost use Rattle.wasm_ops.specs.ConstantInstrs.{ref_null_instr};
-ghost use Rattle.wasm_ops.specs.IndexInstrs.{index_instr, index_pair_instr};
 ghost use Rattle.wasm_ops.specs.Leb128.{unsigned};
-ghost use Rattle.wasm_ops.specs.MemoryInstrs.{mem_instr};
-ghost use Rattle.wasm_ops.specs.SelectInstrs.{select_instr};
 ghost use Rattle.wasm_ops.specs.Sinks.{Writes};
 ghost use Rattle.wasm_ops.specs.Spelling as spelling;
 ghost use Rattle.wasm_ops.specs.Spelling.{InRangeU32, InRangeValType, InRangeFieldType, InRangeFuncType, InRangeStructType, InRangeArrayType, InRangeCompositeInnerType, InRangeSubType};
-ghost use Rattle.wasm_ops.specs.Table.{instr, InRangeInstr};
 ghost use Rattle.wasm_out.specs.Bodies.{content, InRangeContent};
 ghost use Rattle.wasm_out.specs.Parts.{export_entry, InRangeExport};
 ghost use Rattle.wast_conv.specs.Encodable.{are_encodable, is_encodable_type, is_encodable_type_use, is_encodable_instr, is_encodable_kind};
@@ -21,15 +16,11 @@ ghost use Rattle.wast_conv.specs.Meaning as meaning;
 
 use crate::conv;
 use crate::conv_entities::type_index;
-use wasm_ops::{
-    By, Counted, Each, Encode, F32Const, F64Const, I32Const, I64Const, IndexInstr, IndexOp,
-    IndexPair, IndexPairOp, MemInstr, Name, RefNull, Refusal, Sink, Spell,
-};
+use wasm_ops::{By, Counted, Each, Encode, Name, Refusal, Sink, Spell};
 use wasm_out::{LocalType, Locals};
 use wast_tree::{
-    ArrayType, Export, FuncKind, FunctionType, HeapType, Id, Index, InnerTypeKind, Instruction,
-    Local, MemArg, MemOp, NameAnnotation, SelectTypes, StructField, StructType, Type, TypeDef,
-    TypeUse, ValType,
+    ArrayType, Export, FuncKind, FunctionType, Id, Index, InnerTypeKind, Instruction, Local,
+    NameAnnotation, StructField, StructType, Type, TypeDef, TypeUse, ValType,
 };
 
 /// The way to spell parts of a resolved tree: by the numbers of their indices (binary format). It needs supported
@@ -196,126 +187,6 @@ impl Spell<TypeUse<'_, FunctionType<'_>>> for Resolved {
 
     fn spell<S: Sink>(&self, type_use: &TypeUse<FunctionType>, out: &mut S) -> Result<(), Refusal> {
         type_index(type_use).encode(out)
-    }
-}
-
-/// An instruction whose one immediate is an index.
-fn put_index<S: Sink>(op: IndexOp, index: &Index, out: &mut S) -> Result<(), Refusal>
-    requires { IsTrue (is_number index.now) }
-    ensures { Writes S.rules (InRangeInstr (index_instr op (meaning.number index.now)))
-        out.old out.new (instr (index_instr op (meaning.number index.now))) result }
-{
-    IndexInstr {
-        op,
-        index: conv::index(index),
-    }
-    .encode(out)
-}
-
-/// An instruction whose immediates are two indices.
-fn put_pair<S: Sink>(
-    op: IndexPairOp,
-    first: &Index,
-    second: &Index,
-    out: &mut S,
-) -> Result<(), Refusal>
-    requires first { IsTrue (is_number first.now) }
-    requires second { IsTrue (is_number second.now) }
-    ensures { Writes S.rules (InRangeInstr (index_pair_instr op (meaning.number first.now) (meaning.number second.now)))
-        out.old out.new (instr (index_pair_instr op (meaning.number first.now) (meaning.number second.now))) result }
-{
-    IndexPair {
-        op,
-        first: conv::index(first),
-        second: conv::index(second),
-    }
-    .encode(out)
-}
-
-/// A load or a store.
-fn put_mem<S: Sink>(op: MemOp, arg: &MemArg, out: &mut S) -> Result<(), Refusal>
-    requires { IsTrue (are_encodable (in_mem_arg arg.now)) }
-    ensures { Writes S.rules (InRangeInstr (mem_instr op (meaning.as_mem_arg arg.now)))
-        out.old out.new (instr (mem_instr op (meaning.as_mem_arg arg.now))) result }
-{
-    MemInstr {
-        op,
-        memarg: conv::mem_arg(arg),
-    }
-    .encode(out)
-}
-
-/// The choice between two operands, with its types if they are written.
-fn put_select<S: Sink>(types: &SelectTypes, out: &mut S) -> Result<(), Refusal>
-    requires { IsTrue (are_encodable (in_select types.now)) }
-    ensures { Writes S.rules (InRangeInstr (select_instr (option_map (map meaning.as_val_type) types.now.tys)))
-        out.old out.new (instr (select_instr (option_map (map meaning.as_val_type) types.now.tys))) result }
-{
-    match &types.tys {
-        None => 0x1bu8.encode(out),
-        Some(written) => (0x1cu8, Counted(written.as_slice(), Resolved)).encode(out),
-    }
-}
-
-/// A null reference of a heap type.
-fn put_null<S: Sink>(ty: &HeapType, out: &mut S) -> Result<(), Refusal>
-    requires { IsTrue (are_encodable (in_heap ty.now)) }
-    ensures { Writes S.rules (InRangeInstr (ref_null_instr (meaning.as_heap_type ty.now)))
-        out.old out.new (instr (ref_null_instr (meaning.as_heap_type ty.now))) result }
-{
-    RefNull(conv::heap_type(ty)).encode(out)
-}
-
-/// An instruction (binary format, instructions).
-impl Spell<Instruction<'_>> for Resolved {
-    ghost spelling = { λ _ i. instr (meaning.as_instr i) };
-
-    ghost in_range = { λ _ i. InRangeInstr (meaning.as_instr i) };
-
-    ghost is_ready = { λ _ i. is_encodable_instr i };
-
-    fn spell<S: Sink>(&self, instruction: &Instruction, out: &mut S) -> Result<(), Refusal> {
-        match instruction {
-            Instruction::Plain(op) => op.encode(out),
-            Instruction::Mem(op, arg) => put_mem(*op, arg, out),
-            Instruction::catch(tag) => put_index(IndexOp::Catch, tag, out),
-            Instruction::throw(tag) => put_index(IndexOp::Throw, tag, out),
-            Instruction::call(func) => put_index(IndexOp::Call, func, out),
-            Instruction::return_call(func) => put_index(IndexOp::ReturnCall, func, out),
-            Instruction::call_ref(ty) => put_index(IndexOp::CallRef, ty, out),
-            Instruction::return_call_ref(ty) => put_index(IndexOp::ReturnCallRef, ty, out),
-            Instruction::select(types) => put_select(types, out),
-            Instruction::global_get(global) => put_index(IndexOp::GlobalGet, global, out),
-            Instruction::global_set(global) => put_index(IndexOp::GlobalSet, global, out),
-            Instruction::table_get(arg) => put_index(IndexOp::TableGet, &arg.dst, out),
-            Instruction::table_set(arg) => put_index(IndexOp::TableSet, &arg.dst, out),
-            Instruction::table_init(arg) => {
-                put_pair(IndexPairOp::TableInit, &arg.elem, &arg.table, out)
-            }
-            Instruction::elem_drop(elem) => put_index(IndexOp::ElemDrop, elem, out),
-            Instruction::table_copy(arg) => {
-                put_pair(IndexPairOp::TableCopy, &arg.dst, &arg.src, out)
-            }
-            Instruction::table_grow(arg) => put_index(IndexOp::TableGrow, &arg.dst, out),
-            Instruction::table_size(arg) => put_index(IndexOp::TableSize, &arg.dst, out),
-            Instruction::table_fill(arg) => put_index(IndexOp::TableFill, &arg.dst, out),
-            Instruction::memory_size(arg) => put_index(IndexOp::MemorySize, &arg.mem, out),
-            Instruction::memory_grow(arg) => put_index(IndexOp::MemoryGrow, &arg.mem, out),
-            Instruction::memory_init(arg) => {
-                put_pair(IndexPairOp::MemoryInit, &arg.segment, &arg.mem, out)
-            }
-            Instruction::data_drop(data) => put_index(IndexOp::DataDrop, data, out),
-            Instruction::memory_copy(arg) => {
-                put_pair(IndexPairOp::MemoryCopy, &arg.dst, &arg.src, out)
-            }
-            Instruction::memory_fill(arg) => put_index(IndexOp::MemoryFill, &arg.mem, out),
-            Instruction::i32_const(value) => I32Const(*value).encode(out),
-            Instruction::i64_const(value) => I64Const(*value).encode(out),
-            Instruction::f32_const(value) => F32Const(value.bits).encode(out),
-            Instruction::f64_const(value) => F64Const(value.bits).encode(out),
-            Instruction::ref_null(ty) => put_null(ty, out),
-            Instruction::ref_func(func) => put_index(IndexOp::RefFunc, func, out),
-        }
     }
 }
 

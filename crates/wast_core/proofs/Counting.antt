@@ -1,5 +1,5 @@
 -- Which fields need a data count, and that no change of indices, type uses and ids changes it.
-use Rattle.std.proofs.Common.{◌≡◌, ℕ, Bool, true, false, not, ◌||◌, List, [], ◌∷◌, ◌++◌, length, Option, Result, refl, sym, ap, ◌∙◌, subst, arith}
+use Rattle.std.proofs.Common.{◌≡◌, ℕ, Bool, true, false, not, ◌||◌, List, [], ◌∷◌, ◌++◌, length, Result, refl, sym, ap, ◌∙◌, subst, arith}
 use Rattle.std.specs.Prelude.{All}
 use Rattle.std.specs.List.{flat_map, list_any}
 use Rattle.std.proofs.lemmas.Bool.{not-true}
@@ -9,7 +9,6 @@ use Rattle.wasm_ops.specs.declared.sink.Refusal.{Refusal}
 use Rattle.wasm_ops.specs.Sinks.{SinkRules, Writes}
 use Rattle.wasm_ops.proofs.Sinking.{puts_as}
 use Rattle.wasm_out.specs.Parts.{Data, Part, part, InRangePart}
-use Rattle.wast_base.specs.Ids.{Mark}
 use Rattle.wast_tree.specs.Sites.{Here, behind, param_marks, local_marks, body_here}
 use Rattle.wast_map.specs.Mapped.{Change, mapped_instr, mapped_instrs, mapped_func_kind, mapped}
 use Rattle.wast_map.specs.Laws.{all_mapped}
@@ -18,7 +17,7 @@ use Rattle.wast_reach.specs.declared.kinds.FieldKind.TheVariants as kind
 use Rattle.wast_reach.specs.declared.stretches.Reach.{Reach}
 use Rattle.wast_reach.specs.Reaches.{is_reach, there}
 use Rattle.wast_reach.proofs.Reaching.{all_there}
-use Rattle.wast_core.specs.Tree.{Instruction, FuncKind, ModuleField}
+use Rattle.wast_core.specs.Tree.{FunctionType, TypeUse, Instruction, FuncKind, ModuleField}
 use Rattle.wast_core.specs.Tree.func
 use Rattle.wast_core.specs.Tree.field
 use Rattle.wast_tree.specs.Instrs.{needs_data_count}
@@ -40,12 +39,12 @@ needs_stay f h [] = refl
 needs_stay f h (i ∷ is) = λ t. need_stays f h i t || needs_stay f (behind h i) is t
 
 -- and so does a body,
-body_need : (f : Change) (params : List (Option Mark)) (k : FuncKind) → list_any needs_data_count (instrs_of (mapped_func_kind f params k)) ≡ list_any needs_data_count (instrs_of k)
-body_need f params (func.Import import exact) = refl
-body_need f params (func.Inline locals e) = needs_stay f (body_here (params ++ local_marks locals)) e.instrs
+body_need : (f : Change) (u : TypeUse FunctionType) (k : FuncKind) → list_any needs_data_count (instrs_of (mapped_func_kind f u k)) ≡ list_any needs_data_count (instrs_of k)
+body_need f u (func.Import import exact) = refl
+body_need f u (func.Inline locals e) = needs_stay f (body_here u (param_marks u.inline ++ local_marks locals)) e.instrs
 
 field_need : (f : Change) (x : ModuleField) → body_needs_count (mapped f x) ≡ body_needs_count x
-field_need f (field.Func x) = body_need f (param_marks x.ty.inline) x.kind
+field_need f (field.Func x) = body_need f x.ty x.kind
 field_need f x = refl
 
 -- and so do fields.

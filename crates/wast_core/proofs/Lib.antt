@@ -12,5 +12,7 @@ pub mod Worked
 pub mod EntriesComputed
 pub mod AbbreviationsComputed
 pub mod CountsComputed
+pub mod BlocksComputed
 pub mod Sizes
 pub mod Measuring
+pub mod WrittenBehind

@@ -1,17 +1,16 @@
 -- The sections of a module that is measured, each by its extent.
-use Rattle.std.proofs.Common.{◌≡◌, ◌==◌, ℕ, true, List, length}
+use Rattle.std.proofs.Common.{◌≡◌, ◌==◌, ℕ, true, List, Option, length}
 use Rattle.std.proofs.lemmas.Bool.{eqb-true}
 use Rattle.wasm_out.specs.Parts.{SectionKind, Types, Imports, Functions, Tables, Memories, Tags, Globals, Exports, Elements, Code, Data}
 use Rattle.wast_core.specs.Tree.{ModuleField}
 use Rattle.wast_conv.specs.Encodable.{is_encodable}
 use Rattle.wast_core.specs.DataCounts.{needs_count}
 use Rattle.wast_core.specs.Extents.{payload_of, IsExtent, is_extent, is_counted}
-use Rattle.wast_core.specs.Measured.{is_measured}
+use Rattle.wast_core.specs.Measured.{are_measures}
 use Rattle.wast_core.specs.Meaning.{entries}
-use Rattle.wast_names.specs.FoundNames.{text_seen}
 use Rattle.wast_names.specs.ModuleNames.{name_subsections}
 use Rattle.wast_names.specs.NamesPart.{names_payload_of}
-use Rattle.wast_core.specs.declared.sections.BinaryModule.{BinaryModule}
+use Rattle.wast_core.specs.declared.sections.Measures.{Measures}
 use Rattle.wast_conv.proofs.EachPasses.{both_pass}
 use Rattle.wast_core.proofs.Counting.{as_told}
 use Rattle.wast_reach.specs.Reaches.{are_reaches}
@@ -21,25 +20,24 @@ extent_is k fields count size h =
     let both = both_pass (count == length (entries k fields)) (size == length (payload_of k (entries k fields))) h in
     record { counted = eqb-true count (length (entries k fields)) both.0; sized = eqb-true size (length (payload_of k (entries k fields))) both.1 }
 
-pub record Extents (m : BinaryModule) : Type 0 where
-  pub reaches : are_reaches m.fields.now m.reaches ≡ true
-  pub types : IsExtent Types m.fields.now m.types.count m.types.size
-  pub imports : IsExtent Imports m.fields.now m.imports.count m.imports.size
-  pub functions : IsExtent Functions m.fields.now m.functions.count m.functions.size
-  pub tables : IsExtent Tables m.fields.now m.tables.count m.tables.size
-  pub memories : IsExtent Memories m.fields.now m.memories.count m.memories.size
-  pub tags : IsExtent Tags m.fields.now m.tags.count m.tags.size
-  pub globals : IsExtent Globals m.fields.now m.globals.count m.globals.size
-  pub exports : IsExtent Exports m.fields.now m.exports.count m.exports.size
-  pub elements : IsExtent Elements m.fields.now m.elements.count m.elements.size
-  pub code : IsExtent Code m.fields.now m.code.count m.code.size
-  pub «data» : IsExtent Data m.fields.now m.«data».count m.«data».size
-  pub counts : m.is_counted ≡ needs_count m.fields.now
-  pub names : m.names ≡ length (names_payload_of (name_subsections (text_seen m.name) m.fields.now))
+pub record Extents (name : Option (List ℕ)) (fields : List ModuleField) (m : Measures) : Type 0 where
+  pub reaches : are_reaches fields m.reaches ≡ true
+  pub types : IsExtent Types fields m.types.count m.types.size
+  pub imports : IsExtent Imports fields m.imports.count m.imports.size
+  pub functions : IsExtent Functions fields m.functions.count m.functions.size
+  pub tables : IsExtent Tables fields m.tables.count m.tables.size
+  pub memories : IsExtent Memories fields m.memories.count m.memories.size
+  pub tags : IsExtent Tags fields m.tags.count m.tags.size
+  pub globals : IsExtent Globals fields m.globals.count m.globals.size
+  pub exports : IsExtent Exports fields m.exports.count m.exports.size
+  pub elements : IsExtent Elements fields m.elements.count m.elements.size
+  pub code : IsExtent Code fields m.code.count m.code.size
+  pub «data» : IsExtent Data fields m.«data».count m.«data».size
+  pub counts : m.is_counted ≡ needs_count fields
+  pub names : m.names ≡ length (names_payload_of (name_subsections name fields))
 
-pub measured_extents : (m : BinaryModule) → is_measured m ≡ true → Extents m
-measured_extents m h =
-    let fields = m.fields.now in
+pub measured_extents : (name : Option (List ℕ)) (fields : List ModuleField) (m : Measures) → are_measures name fields m ≡ true → Extents name fields m
+measured_extents name fields m h =
     let of_reaches = both_pass (are_reaches fields m.reaches) _ (both_pass (is_encodable fields) _ h).1 in
     let of_types = both_pass (is_extent Types fields m.types.count m.types.size) _ of_reaches.1 in
     let of_imports = both_pass (is_extent Imports fields m.imports.count m.imports.size) _ of_types.1 in
@@ -67,5 +65,5 @@ measured_extents m h =
       code = extent_is Code fields m.code.count m.code.size of_code.0;
       «data» = extent_is Data fields m.«data».count m.«data».size of_data.0;
       counts = as_told fields m.is_counted of_counts.0;
-      names = eqb-true m.names (length (names_payload_of (name_subsections (text_seen m.name) fields))) of_counts.1;
+      names = eqb-true m.names (length (names_payload_of (name_subsections name fields))) of_counts.1;
     }

@@ -8,8 +8,7 @@ use Rattle.std.proofs.lemmas.Bool.{lt-ltb}
 use Rattle.std.proofs.lemmas.List.Elements.{All-nil, All-head}
 use Rattle.std.proofs.lemmas.List.Folds.{list_any-append}
 use Rattle.wast_tree.specs.DataBytes.{all_bytes}
-use Rattle.wast_tree.specs.Items.{Item, items_in, items}
-use Rattle.wast_tree.specs.Known.{known}
+use Rattle.wast_tree.specs.Items.{Item, items_in}
 use Rattle.wasm_ops.proofs.Everywhere.{all_left, all_right}
 use Rattle.wasm_out.specs.DataSegments.{DataEntry, InRangeDataEntry}
 use Rattle.wasm_out.specs.Parts.{Data, InRangePart}
@@ -24,6 +23,7 @@ use Rattle.wast_types.specs.Completed.{completed}
 use Rattle.wast_types.specs.Positioned.{position_for}
 use Rattle.wast_resolve.specs.Explicit.{by_positions}
 use Rattle.wast_resolve.specs.Resolved.{numbering, resolved}
+use Rattle.wast_resolve.specs.Scopes.{scope}
 use Rattle.wast_core.specs.Tree.{Index, Memory, MemoryKind, ModuleField}
 use Rattle.wast_core.specs.Tree.space
 use Rattle.wast_core.specs.Tree.export
@@ -87,7 +87,7 @@ stays_long fields h =
     let xs = written_out fields in
     let types = map unnamed_type (implied xs) in
     let all = by_positions fields in
-    let numbers = numbering (known (items all)) in
+    let numbers = numbering (scope all) in
     let bind = binding (position_for xs) in
     each_long (mapped numbers) (mapped_long numbers) all
     ∙ (each_long (mapped bind) (mapped_long bind) (completed xs)

@@ -10,7 +10,7 @@ use Rattle.wasm_ops.proofs.Everywhere.{all_each, all_one, all_both, all_tested, 
 use Rattle.wast_tree.specs.Sites.{in_rec, in_import, in_table_type, in_global_type}
 use Rattle.wasm_out.specs.NameSectionBytes.{NameSubsection}
 use Rattle.wasm_out.specs.Parts.{SectionKind, Types, Imports, Functions, Tables, Memories, Tags, Globals, Exports, Elements, Code, Data, Single, Entry, Listed, DataCount, InRangePart}
-use Rattle.wasm_out.specs.Readable.{is_covered_init, HasRowsInit, is_covered_entry, HasRows, HasUtf8Name, IsReadable, IsReadablePart}
+use Rattle.wasm_out.specs.Readable.{is_covered_init, HasRowsInit, is_balanced_init, is_covered_entry, HasRows, is_balanced_entry, HasUtf8Name, IsReadable, IsReadablePart}
 use Rattle.wasm_out.specs.Reads.{Reads}
 use Rattle.wast_core.specs.Tree.{Index, Expression, FuncKind, Func, GlobalType, ImportItems, TableKind, Table, Memory, GlobalKind, Global, Tag, Rec, Export, Elem, ModuleField}
 use Rattle.wast_core.specs.Tree as tree
@@ -34,22 +34,22 @@ use Rattle.wast_names.specs.NamesPart.{names_part}
 use Rattle.wast_core.specs.Slots.{section_kind, order}
 use Rattle.wast_conv.proofs.EachPasses.{both_pass, both_true}
 use Rattle.wast_conv.proofs.EntitiesReady.{table_covered, global_covered, kind_covered}
-use Rattle.wast_conv.proofs.Expressions.{instrs_rows, instrs_covered, expression_covered}
+use Rattle.wast_conv.proofs.Expressions.{instrs_rows, instrs_covered, expression_covered, expression_balanced}
 use Rattle.wast_conv.proofs.Ready.{type_ready, group_ready, import_ready, func_ready, table_ready, global_ready, elem_ready, data_ready}
-use Rattle.wast_conv.proofs.SegmentsReady.{elem_covered, mode_rows, items_rows, place_covered, place_rows}
+use Rattle.wast_conv.proofs.SegmentsReady.{elem_covered, mode_rows, items_rows, elem_balanced, place_covered, place_rows, place_balanced}
 use Rattle.wast_conv.proofs.Standing.{body_parts}
 use Rattle.wast_conv.proofs.TypesReady.{def_covered, locals_covered, types_covered}
 
 -- ---- what an entry is read as
 
-plain : (k : SectionKind) (e : Entry k) → IsTrue (is_covered_entry k e) → HasRows k e → HasUtf8Name k e → All (IsReadable k) (e ∷ [])
-plain k e covered rows name = all_one (IsReadable k) e record { covered = covered; rows = rows; name = name }
+plain : (k : SectionKind) (e : Entry k) → IsTrue (is_covered_entry k e) → HasRows k e → IsTrue (is_balanced_entry k e) → HasUtf8Name k e → All (IsReadable k) (e ∷ [])
+plain k e covered rows balanced name = all_one (IsReadable k) e record { covered = covered; rows = rows; balanced = balanced; name = name }
 
 nothing_more : (k : SectionKind) → All (IsReadable k) []
 nothing_more k = All-nil (IsReadable k)
 
 import_read : (i : ImportItems) → are_entered (in_import i) ≡ true → HasUtf8Items i → All (IsReadable Imports) (imported i ∷ [])
-import_read (import_items.Single source name sig) e h = plain Imports (imported (import_items.Single source name sig)) (kind_covered sig.kind e) tt h
+import_read (import_items.Single source name sig) e h = plain Imports (imported (import_items.Single source name sig)) (kind_covered sig.kind e) tt refl h
 
 init_covered : (o : Option Expression) → is_encodable_init o ≡ true → is_covered_init (option_map meaning.as_expression o) ≡ true
 init_covered None e = refl
@@ -59,30 +59,34 @@ init_rows : (o : Option Expression) → HasRowsInit (option_map meaning.as_expre
 init_rows None = tt
 init_rows (Some x) = instrs_rows x.instrs
 
+init_balanced : (o : Option Expression) → is_encodable_init o ≡ true → is_balanced_init (option_map meaning.as_expression o) ≡ true
+init_balanced None e = refl
+init_balanced (Some x) e = expression_balanced x e
+
 table_read : (k : TableKind) → is_encodable_table_kind k ≡ true → All (IsReadable Tables) (table_of k ∷ [])
 table_read (table.Import import ty) e = absurd cc
 table_read (table.Inline ty is64 shared elements) e = absurd cc
 table_read (table.Normal ty init) e =
     let both = both_pass (are_encodable (in_table_type ty)) (is_encodable_init init) e in
-    plain Tables (table_of (table.Normal ty init)) (both_true _ _ (table_covered ty both.0) (init_covered init both.1)) (init_rows init) tt
+    plain Tables (table_of (table.Normal ty init)) (both_true _ _ (table_covered ty both.0) (init_covered init both.1)) (init_rows init) (init_balanced init both.1) tt
 
 global_read : (t : GlobalType) (k : GlobalKind) → are_encodable (in_global_type t) ≡ true → is_encodable_global_kind k ≡ true
     → All (IsReadable Globals) (record { ty = meaning.as_global_type t; init = value_of k } ∷ [])
 global_read t (global.Import import) e f = absurd cc
 global_read t (global.Inline x) e f =
-    plain Globals (record { ty = meaning.as_global_type t; init = meaning.as_expression x }) (both_true _ _ (global_covered t e) (expression_covered x f)) (instrs_rows x.instrs) tt
+    plain Globals (record { ty = meaning.as_global_type t; init = meaning.as_expression x }) (both_true _ _ (global_covered t e) (expression_covered x f)) (instrs_rows x.instrs) (expression_balanced x f) tt
 
 code_read : (k : FuncKind) → is_encodable_kind k ≡ true → All (IsReadable Code) (meaning.as_body k ∷ [])
 code_read (func.Import import exact) e = absurd cc
 code_read (func.Inline locals x) e =
     let both = body_parts locals x e in
-    plain Code (meaning.body_of locals x.instrs) (both_true _ _ (locals_covered locals both.0) (instrs_covered x.instrs both.1)) (instrs_rows x.instrs) tt
+    plain Code (meaning.body_of locals x.instrs) (both_true _ _ (locals_covered locals both.0) (instrs_covered x.instrs both.1)) (instrs_rows x.instrs) refl tt
 
 elem_read : (x : Elem) → is_encodable_elem x ≡ true → All (IsReadable Elements) (meaning.as_element x ∷ [])
-elem_read x e = plain Elements (meaning.as_element x) (elem_covered x e) (mode_rows x.kind, items_rows x.payload) tt
+elem_read x e = plain Elements (meaning.as_element x) (elem_covered x e) (mode_rows x.kind, items_rows x.payload) (elem_balanced x e) tt
 
 data_read : (x : tree.Data) → is_encodable_data x ≡ true → All (IsReadable Data) (meaning.as_data x ∷ [])
-data_read x e = plain Data (meaning.as_data x) (place_covered x.kind e) (place_rows x.kind) tt
+data_read x e = plain Data (meaning.as_data x) (place_covered x.kind e) (place_rows x.kind) (place_balanced x.kind e) tt
 
 -- ---- what a field puts into the sections is readable
 
@@ -90,11 +94,11 @@ abbrev AreReadable : Contribution → Type 0
 AreReadable c = (k : SectionKind) → All (IsReadable k) (of_kind k c)
 
 type_readable : (t : ty.«Type») → is_encodable_type t ≡ true → AreReadable (of_type t)
-type_readable t e Types = plain Types (Single (meaning.as_sub_type t.def)) (def_covered t.def e) tt tt
+type_readable t e Types = plain Types (Single (meaning.as_sub_type t.def)) (def_covered t.def e) tt refl tt
 type_readable t e k = nothing_more k
 
 rec_readable : (r : Rec) → are_encodable (in_rec r) ≡ true → AreReadable (of_rec r)
-rec_readable r e Types = plain Types (meaning.as_group r) (types_covered r e) tt tt
+rec_readable r e Types = plain Types (meaning.as_group r) (types_covered r e) tt refl tt
 rec_readable r e k = nothing_more k
 
 import_readable : (i : tree.Imports) → is_encodable_import i ≡ true → HasUtf8Items i.items → AreReadable (of_import i)
@@ -102,7 +106,7 @@ import_readable i e h Imports = import_read i.items e h
 import_readable i e h k = nothing_more k
 
 func_readable : (f : Func) → is_encodable_kind f.kind ≡ true → AreReadable (of_func f)
-func_readable f e Functions = plain Functions (meaning.type_index f.ty) refl tt tt
+func_readable f e Functions = plain Functions (meaning.type_index f.ty) refl tt refl tt
 func_readable f e Code = code_read f.kind e
 func_readable f e k = nothing_more k
 
@@ -111,7 +115,7 @@ table_readable t e Tables = table_read t.kind e
 table_readable t e k = nothing_more k
 
 memory_readable : (m : Memory) → AreReadable (of_memory m)
-memory_readable m Memories = plain Memories (meaning.as_memory m) refl tt tt
+memory_readable m Memories = plain Memories (meaning.as_memory m) refl tt refl tt
 memory_readable m k = nothing_more k
 
 global_readable : (g : Global) → is_encodable_global g ≡ true → AreReadable (of_global g)
@@ -121,7 +125,7 @@ global_readable g e Globals =
 global_readable g e k = nothing_more k
 
 export_readable : (x : Export) → IsTrue (is_utf8 x.name.now) → AreReadable (of_export x)
-export_readable x h Exports = plain Exports (meaning.as_export x) refl tt h
+export_readable x h Exports = plain Exports (meaning.as_export x) refl tt refl h
 export_readable x h k = nothing_more k
 
 start_readable : (i : Index) → AreReadable (of_start i)
@@ -137,7 +141,7 @@ data_readable x e Data = data_read x e
 data_readable x e k = nothing_more k
 
 tag_readable : (t : Tag) → AreReadable (of_tag t)
-tag_readable t Tags = plain Tags (meaning.as_tag t) refl tt tt
+tag_readable t Tags = plain Tags (meaning.as_tag t) refl tt refl tt
 tag_readable t k = nothing_more k
 
 field_readable : (f : ModuleField) → IsTrue (is_encodable_field f) → HasUtf8Names f → AreReadable (contributed f)

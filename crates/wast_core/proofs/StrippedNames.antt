@@ -1,14 +1,15 @@
 -- The name section tells nothing of generated ids, and of the places of type uses.
-use Rattle.std.proofs.Common.{◌≡◌, List, [], ◌∷◌, map, Option, Some, None, option_map, refl, ap, arith}
+use Rattle.std.proofs.Common.{◌≡◌, List, [], ◌∷◌, ◌++◌, map, Option, Some, None, option_map, refl, ap, arith}
 use Rattle.std.specs.Prelude.{cond}
+use Rattle.std.specs.List.{flat_map}
 use Rattle.std.proofs.lemmas.Grind.{common_steps}
-use Rattle.wast_base.specs.Ids.{Name, Written, Generated, name_of, is_generated, Mark}
+use Rattle.wast_base.specs.Ids.{Name, Written, Generated, name_of, is_generated}
 use Rattle.wast_tree.specs.Items.{space_of_kind}
-use Rattle.wast_tree.specs.Sites.{param_marks}
-use Rattle.wast_map.specs.Mapped.{mapped_type, mapped_tag_type, mapped_item_kind, mapped_import_items, mapped_local, mapped_func_kind, mapped_func, mapped}
+use Rattle.wast_tree.specs.Sites.{Here, behind, param_marks, local_marks, body_here}
+use Rattle.wast_map.specs.Mapped.{mapped_type, mapped_tag_type, mapped_item_kind, mapped_import_items, mapped_instr, mapped_instrs, mapped_local, mapped_func_kind, mapped_func, mapped}
 use Rattle.wast_map.specs.Laws.{all_mapped}
 use Rattle.wast_resolve.specs.Stripped.{written_id, at_start, stripped_use, stripping}
-use Rattle.wast_core.specs.Tree.{Id, Index, NameAnnotation, TagType, ItemKind, ImportItems, FuncKind, Func, ModuleField}
+use Rattle.wast_core.specs.Tree.{Id, Index, NameAnnotation, FunctionType, TypeUse, TagType, ItemKind, ImportItems, Instruction, FuncKind, Func, ModuleField}
 use Rattle.wast_core.specs.Tree.index
 use Rattle.wast_core.specs.Tree.space
 use Rattle.wast_core.specs.Tree.ty
@@ -18,7 +19,8 @@ use Rattle.wast_core.specs.Tree.import_items
 use Rattle.wast_core.specs.Tree.func
 use Rattle.wast_core.specs.Tree.field
 use Rattle.wast_names.specs.GivenNames.{written_text, id_text, given_name}
-use Rattle.wast_names.specs.WithinItems.{arity, types_within, arity_at, params_or, local_name, locals_in, behind, locals_of, tag_params, lists_in_type}
+use Rattle.wast_names.specs.WithinItems as within
+use Rattle.wast_names.specs.WithinItems.{arity, types_within, arity_at, params_or, local_name, locals_in, label_in, labels_in, locals_of, tag_params, lists_in_type}
 use Rattle.wast_names.specs.ModuleNames.{type_name, import_names, item_names_in}
 use Rattle.wast_names.proofs.Each.{each_like}
 use Rattle.wast_names.proofs.SameNameSection.{SameLists, SameInKind, SameInImport, KeepsNames, arity_in, same_arity, in_type, in_func, in_tag, in_imported_func}
@@ -61,12 +63,23 @@ arity_stays xs (Some (index.Num n span)) = same_arity (mapped stripping) arities
 arity_stays xs (Some (index.Id id)) = refl
 
 -- The names of what stands within items.
-names_inside : (params : List (Option Mark)) (k : FuncKind) → locals_in (mapped_func_kind stripping params k) ≡ locals_in k
-names_inside params (func.Import import exact) = refl
-names_inside params (func.Inline locals e) = each_alike (mapped_local stripping) local_name (λ l. refl) locals
+names_inside : (u : TypeUse FunctionType) (k : FuncKind) → locals_in (mapped_func_kind stripping u k) ≡ locals_in k
+names_inside u (func.Import import exact) = refl
+names_inside u (func.Inline locals e) = each_alike (mapped_local stripping) local_name (λ l. refl) locals
 
 same_locals : (xs : List ModuleField) (f : Func) → locals_of (all_mapped stripping xs) (mapped_func stripping f) ≡ locals_of xs f
-same_locals xs f = λ i. behind (params_or (arity_stays xs f.ty.index i) f.ty.inline) (names_inside (param_marks f.ty.inline) f.kind i)
+same_locals xs f = λ i. within.behind (params_or (arity_stays xs f.ty.index i) f.ty.inline) (names_inside f.ty f.kind i)
+
+same_label : (h : Here) (i : Instruction) → label_in (mapped_instr stripping h i) ≡ label_in i
+same_label h i = grind (arith, common_steps)
+
+labels_inside : (h : Here) (is : List Instruction) → flat_map label_in (mapped_instrs stripping h is) ≡ flat_map label_in is
+labels_inside h [] = refl
+labels_inside h (i ∷ is) = λ t. same_label h i t ++ labels_inside (behind h i) is t
+
+same_labels : (u : TypeUse FunctionType) (k : FuncKind) → labels_in (mapped_func_kind stripping u k) ≡ labels_in k
+same_labels u (func.Import import exact) = refl
+same_labels u (func.Inline locals e) = labels_inside (body_here u (param_marks u.inline ++ local_marks locals)) e.instrs
 
 same_params : (t : TagType) → tag_params (mapped_tag_type stripping t) ≡ tag_params t
 same_params (tag.Exception u) = refl
@@ -82,7 +95,7 @@ same_lists : (xs : List ModuleField) (x : ModuleField) → SameLists (all_mapped
 same_lists xs (field.Ty t) = λ w. in_type w (mapped_type stripping t) t (def_stays t)
 same_lists xs (field.Rec r) = λ w. each_like (mapped_type stripping) (lists_in_type w) (lists_in_type w) (λ t. in_type w (mapped_type stripping t) t (def_stays t)) r.types
 same_lists xs (field.Import i) = same_import i.items
-same_lists xs (field.Func f) = λ w. in_func w (all_mapped stripping xs) xs (mapped_func stripping f) f (same_locals xs f)
+same_lists xs (field.Func f) = λ w. in_func w (all_mapped stripping xs) xs (mapped_func stripping f) f (same_locals xs f) (same_labels f.ty f.kind)
 same_lists xs (field.Tag t) = λ w. in_tag w (mapped_tag_type stripping t.ty) t.ty (same_params t.ty)
 same_lists xs x = λ w. refl
 

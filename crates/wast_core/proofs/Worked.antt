@@ -1,5 +1,5 @@
 -- The worked modules, computed.
-use Rattle.std.proofs.Common.{◌≡◌, ℕ, ◌<◌, ◌^◌, true, List, [], ◌∷◌, Option, None, codes, refl, arith}
+use Rattle.std.proofs.Common.{◌≡◌, ℕ, ◌<◌, ◌^◌, true, List, [], ◌∷◌, Option, None, inl, inr, codes, refl, arith}
 use Rattle.std.specs.Prelude.{All, nat_lt}
 use Rattle.std.specs.List.{list_all}
 use Rattle.std.specs.Str.{is_utf8}
@@ -15,10 +15,11 @@ use Rattle.wasm_out.specs.NameSectionBytes.{InRangeNameEntry, InRangeNameSubsect
 use Rattle.wasm_out.specs.Parts.{Types, Functions, Exports, Code, InRangeEntry, InRangePart}
 use Rattle.wasm_out.specs.Reads.{Reads}
 use Rattle.wasm_out.specs.WorkedBytes as out
+use Rattle.wast_tree.specs.Items.{items}
 use Rattle.wast_tree.specs.WorkedModules as worked
 use Rattle.wast_tree.specs.WorkedModules.{Address}
 use Rattle.wast_resolve.specs.Explicit.{explicit, by_positions}
-use Rattle.wast_resolve.specs.Demands.{counts, IsCrowded}
+use Rattle.wast_resolve.specs.Demands.{item_counts, body_counts, HasMany, IsCrowded}
 use Rattle.wast_resolve.specs.Resolved.{resolved}
 use Rattle.wast_core.specs.Tree.{ModuleField}
 use Rattle.wast_core.specs.declared.slots.Slot.{Slot}
@@ -35,8 +36,11 @@ use Rattle.wast_core.proofs.Readings.{reads_module}
 below : (bound : ℕ) (xs : List ℕ) → list_all (λ x. nat_lt x bound) xs ≡ true → All (λ x. x < bound) xs
 below bound xs e = λ k d lt. ltb-true _ _ (all_tested (λ x. nat_lt x bound) xs e k d lt)
 
-not_crowded : (fields : List ModuleField) → list_all (λ n. nat_lt n (2 ^ 32)) (counts fields) ≡ true → IsCrowded fields → ⊥
-not_crowded fields e c = let at = c.1.0 in let few = below (2 ^ 32) (counts fields) e at.0 c.0 at.1 in let many = c.1.1 in let same = at.2 in absurd (omega arith)
+not_many : (ns : List ℕ) → list_all (λ n. nat_lt n (2 ^ 32)) ns ≡ true → HasMany ns → ⊥
+not_many ns e c = let at = c.1.0 in let few = below (2 ^ 32) ns e at.0 c.0 at.1 in let many = c.1.1 in let same = at.2 in absurd (omega arith)
+
+not_crowded : (fields : List ModuleField) → list_all (λ n. nat_lt n (2 ^ 32)) (item_counts (items fields)) ≡ true → list_all (λ n. nat_lt n (2 ^ 32)) (body_counts fields) ≡ true → IsCrowded fields → ⊥
+not_crowded fields e f c = elim c [ inl many ↦ not_many (item_counts (items fields)) e many | inr many ↦ not_many (body_counts fields) f many.1 ]
 
 -- a list of none, and of one
 none : {A : Type 0} (P : A → Type 0) → InRangeVec P []
@@ -63,7 +67,7 @@ each_place name fields h names = all_both (λ s. All InRangePart (in_slot name f
     held slot.Names = names
 
 pub row1 : Row1
-row1 = (record { spaces = not_crowded [] refl; counter = omega arith; writable = record { in_range = each_place None [] (All-nil InRangePart) (All-nil InRangeNameSubsection); length = omega arith } }, refl)
+row1 = (record { spaces = not_crowded [] refl refl; counter = omega arith; writable = record { in_range = each_place None [] (All-nil InRangePart) (All-nil InRangeNameSubsection); length = omega arith } }, refl)
 
 parts27 : All InRangePart out.worked_parts
 unfolding unsigned unsigned_in
@@ -99,7 +103,7 @@ bounded27 : (a b c d e f : Address) → IsBounded 1 None (worked.row27 a b c d e
 unfolding unsigned unsigned_in
 bounded27 a b c d e f =
     let fields = worked.row27 a b c d e f in
-    record { spaces = not_crowded (explicit fields) refl; counter = omega arith; writable = record { in_range = each_place None (resolved (by_positions fields)) parts27 (names27 a b c d e f); length = omega arith } }
+    record { spaces = not_crowded (explicit fields) refl refl; counter = omega arith; writable = record { in_range = each_place None (resolved (by_positions fields)) parts27 (names27 a b c d e f); length = omega arith } }
 
 reads27 : (a b c d e f : Address) → Reads out.worked_bytes (meaning None (worked.row27 a b c d e f))
 unfolding unsigned unsigned_in

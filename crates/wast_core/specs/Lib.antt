@@ -11,6 +11,7 @@ pub mod WorkedMeanings
 pub mod WorkedEntries
 pub mod WorkedAbbreviations
 pub mod WorkedCounts
+pub mod WorkedBlocks
 pub mod Tree
 pub mod Wats
 pub mod Writing

@@ -19,6 +19,8 @@ pub use Rattle.wast_tree.specs.declared.types.InnerTypeKind.{InnerTypeKind}
 pub use Rattle.wast_tree.specs.declared.types.InnerTypeKind.TheVariants as inner
 pub use Rattle.wast_tree.specs.declared.types.Type as ty
 pub use Rattle.wast_tree.specs.declared.types.Rec.{Rec}
+pub use Rattle.wast_tree.specs.declared.immediates.BlockType.{BlockType}
+pub use Rattle.wast_tree.specs.declared.immediates.TryTableCatch.{TryTableCatch}
 pub use Rattle.wast_tree.specs.declared.instrs.Instruction.{Instruction}
 pub use Rattle.wast_tree.specs.declared.instrs.Instruction.TheVariants as instr
 pub use Rattle.wast_tree.specs.declared.instrs.Expression.{Expression}

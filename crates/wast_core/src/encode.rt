@@ -15,9 +15,9 @@ ghost use Rattle.wast_core.specs.Writing.{IsEncodable, IsAtRest, EncodesResolved
 
 use crate::covered;
 use crate::module::{Module, ModuleKind};
-use crate::sections::BinaryModule;
+use crate::sections::{measure, put_measured, size};
 use std::alloc::Global;
-use wasm_ops::{Encode, Room, Sink};
+use wasm_ops::{Room, Sink};
 use wast_names::given_name;
 use wast_resolve::{discard_names, resolved_laws};
 use wast_tree::{Error, Fault, Gensym, ModuleField};
@@ -25,25 +25,25 @@ use wast_tree::{Error, Fault, Gensym, ModuleField};
 /// The bytes of a module with this name, of these resolved fields. It needs names that are UTF-8.
 fn encode_fields<'e>(
     alloc: Global,
-    name: Option<&str>,
     fields: &[ModuleField],
+    name: Option<&str>,
 ) -> Result<Vec<u8>, Error<'e>>
     requires encodable { IsTrue (is_encodable fields.now) }
     requires names { All HasUtf8Names fields.now }
     ensures bytes { IfOk result (λ v. Reads v.items (parts (text_seen name.entry) fields.now)) }
     ensures refusal { IfErr result (IsRefused (IsWritable (text_seen name.entry) fields.now)) }
 {
-    let binary = BinaryModule::of(name, fields)?;
-    let mut room = Room::reserve(alloc, binary.size() as usize)?;
-    binary.encode(&mut room)?;
+    let measures = measure(fields, name)?;
+    let mut room = Room::reserve(alloc, size(fields, name, &measures) as usize)?;
+    put_measured(fields, name, &measures, &mut room)?;
     let bytes = room.finish();
     Ok(bytes)
 }
 
 /// Appends the bytes of a module with this name, of these resolved fields, to a sink.
 fn put_fields<'e, S: Sink>(
-    name: Option<&str>,
     fields: &[ModuleField],
+    name: Option<&str>,
     out: &mut S,
 ) -> Result<(), Error<'e>>
     requires { IsTrue (is_encodable fields.now) }
@@ -52,8 +52,8 @@ fn put_fields<'e, S: Sink>(
     match covered::uncovered(fields) {
         Some(form) => Err(Error::refusal(Fault::Uncovered(form))),
         None => {
-            let binary = BinaryModule::of(name, fields)?;
-            Ok(binary.encode(out)?)
+            let measures = measure(fields, name)?;
+            Ok(put_measured(fields, name, &measures, out)?)
         }
     }
 }
@@ -79,7 +79,7 @@ fn encode_resolved<'a>(alloc: Global, module: &Module<'a>) -> Result<Vec<u8>, Er
     match &module.kind {
         ModuleKind::Text(fields) => match covered::uncovered(fields.as_slice()) {
             Some(form) => Err(Error::refusal(Fault::Uncovered(form))),
-            None => encode_fields(alloc, name, fields.as_slice()),
+            None => encode_fields(alloc, fields.as_slice(), name),
         },
         ModuleKind::Binary(pieces) => join(alloc, pieces.as_slice()),
         ModuleKind::Refused(error) => Err(*error),
@@ -126,13 +126,13 @@ impl EncodeOptions {
     /// text module that [`Module::resolve`] did not refuse is so, as its clause `at_rest` tells. E11 comes exactly where a
     /// form is not covered. Else the errors are the sink's refusal, where
     /// all the bytes do not fit, and E10, where a count, length or position is 2^32 or more. Then the sink stays as it was.
-    pub fn put_module<'e, S: Sink>(&self, module: &Module, out: &mut S) -> Result<(), Error<'e>>
+    pub fn put_module<'e, S: Sink>(self, module: &Module, out: &mut S) -> Result<(), Error<'e>>
         requires { IsEncodable «module».now.kind }
         ensures { PutsModule S.rules (name_of_module «module».now) «module».now.kind out.old out.new result }
     {
         let name = given_name(&module.name, &module.id);
         match &module.kind {
-            ModuleKind::Text(fields) => put_fields(name, fields.as_slice(), out),
+            ModuleKind::Text(fields) => put_fields(fields.as_slice(), name, out),
             ModuleKind::Binary(_) | ModuleKind::Refused(_) => unreachable!(),
         }
     }

@@ -286,7 +286,8 @@ pub(crate) fn put_starts<S: Sink>(fields: &[ModuleField], out: &mut S) -> Result
     ensures { Writes S.rules (All InRangePart (flat_map starts_in fields.now))
         out.old out.new (flat_map part (flat_map starts_in fields.now)) result }
 {
-    Each(fields, StartOf).encode(out)
+    // As an option: to lend the list itself, antt would compare all types of the tree at two lifetimes, beyond its limit.
+    Some(Each(fields, StartOf)).encode(out)
 }
 
 /// How many bytes the start section of a field has, and 0 where it is no start field.

@@ -4,6 +4,7 @@ ghost use Rattle.wast_core.specs.WorkedMeanings.{Row1, Row2, Row8, Row24, Row27,
 ghost use Rattle.wast_core.specs.WorkedAbbreviations.{Row4, Row5, Row6, Row44};
 ghost use Rattle.wast_core.specs.WorkedEntries.{ImportedEntities, MemoryAndData, TableAndElements, TwoStarts};
 ghost use Rattle.wast_core.specs.WorkedCounts.{CountedData, CountedNone, UncountedData};
+ghost use Rattle.wast_core.specs.WorkedBlocks.{Row28, Row55, Row56};
 
 /// The modules of the rows 1 and 27 are bounded and read from their bytes; an implied type is written without a
 /// name, also beside a group; a written number stays; a name annotation stands before an id; an item without a name
@@ -43,4 +44,12 @@ pub(crate) fn worked_counts()
     ensures counted { CountedData }
     ensures none { CountedNone }
     ensures uncounted { UncountedData }
+{}
+
+/// A label is told by how many blocks stand open within its own, and each block that has a label gives it a name, in the
+/// order in which they begin; an `end` that closes no block is written as it stands.
+pub(crate) fn worked_blocks()
+    ensures row28 { Row28 }
+    ensures row55 { Row55 }
+    ensures row56 { Row56 }
 {}

@@ -14,9 +14,9 @@ pub fn meaning_law()
 }
 
 /// Fields that are too large to be resolved are too large to be encoded: where a space has 2^32 items or more, a struct as
-/// many fields, a function as many parameters and locals, or a memory as many bytes in place, or where the counter would
-/// run out, a number, count or length of the bytes would be out of range. So resolving and encoding answer E10 only where
-/// the module is not bounded. It does nothing.
+/// many fields, a function as many parameters and locals, an expression as many open blocks, or a memory as many bytes in
+/// place, or where the counter would run out, the module is not bounded. So resolving and encoding answer E10 only where it
+/// is not bounded. It does nothing.
 pub fn bounded_law()
     ensures { TooLargeIsUnbounded }
 {}

@@ -1,13 +1,15 @@
-//! The whole of a binary module: the header, and what stands in each place.
+//! The whole of a binary module: the header, and what stands in each place, by what is measured first.
 
-ghost use Rattle.std.specs.Prelude.{◌≡◌, ◌≤◌, All, IsTrue, IfOk, IfErr, length};
+ghost use Rattle.std.specs.Prelude.{◌≡◌, ◌≤◌, ℕ, All, IsTrue, IfOk, IfErr, List, Option, length};
 ghost use Rattle.std.specs.List.{flat_map};
+ghost use Rattle.wasm_ops.specs.Sinks.{Writes};
 ghost use Rattle.wasm_ops.specs.declared.sink.Refusal.TheVariants as refusal;
 ghost use Rattle.wasm_out.specs.Parts.{part, InRangePart};
 ghost use Rattle.wast_core.specs.Bounded.{bytes_of, InRangeSlot, InRangeModule};
 ghost use Rattle.wast_conv.specs.Encodable.{is_encodable};
 ghost use Rattle.wast_core.specs.Extents.{IsExtent, section_size};
-ghost use Rattle.wast_core.specs.Measured.{is_measured};
+ghost use Rattle.wast_core.specs.Measured.{are_measures};
+ghost use Rattle.wast_core.specs.Tree.{ModuleField};
 ghost use Rattle.wast_core.specs.Meaning.{in_slot};
 ghost use Rattle.wast_names.specs.FoundNames.{counted, text_seen};
 ghost use Rattle.wast_core.specs.Slots.{section_kind};
@@ -15,18 +17,16 @@ ghost use Rattle.wast_core.specs.Slots.{section_kind};
 use crate::counts::{count_size, is_counted, put_count};
 use crate::entries::{Extent, extent_of, put_section, put_starts, start_fields, starts_size};
 use crate::slots::{ORDER, SectionKind, Slot};
-use wasm_ops::{Each, Encode, Raw, Refusal, Sink, Spell, width};
+use wasm_ops::{Encode, Raw, Refusal, Sink, width};
 use wasm_out::HEADER;
 use wast_names::{names_size, put_names};
 use wast_reach::Reaches;
 use wast_tree::ModuleField;
 
-/// A binary module, by the name and the resolved fields of the text module, where those of each kind stand, how long its
-/// sections are, and whether a data count stands in it.
+/// What is measured of a module before it is written: where the fields of each kind stand, how long its sections are, and
+/// whether a data count stands in it.
 #[derive(Clone, Copy)]
-pub(crate) struct BinaryModule<'b, 'a> {
-    name: Option<&'b str>,
-    fields: &'b [ModuleField<'a>],
+pub(crate) struct Measures {
     reaches: Reaches,
     types: Extent,
     imports: Extent,
@@ -54,128 +54,164 @@ fn section_size(payload: u32) -> u64
     1 + (width(u64::from(payload)) + u64::from(payload))
 }
 
-impl<'b, 'a> BinaryModule<'b, 'a> {
-    /// The binary module of this name and these resolved fields: its fields of each kind are found, and its sections are
-    /// counted and measured, once. It takes no memory, and refuses as too large, where a number, count or length in the module is out of range.
-    pub(crate) fn of(
-        name: Option<&'b str>,
-        fields: &'b [ModuleField<'a>],
-    ) -> Result<BinaryModule<'b, 'a>, Refusal>
-        requires { IsTrue (is_encodable fields.now) }
-        ensures ok { IfOk result (λ m. IsTrue (is_measured m) × (m.name ≡ name.entry) × (m.fields.now ≡ fields.now)) }
-        ensures err { IfErr result (λ e. (e ≡ refusal.TooLarge) × (InRangeModule (text_seen name.entry) fields.now → ⊥)) }
-    {
-        let reaches = Reaches::of(fields);
-        Ok(BinaryModule {
-            name,
-            fields,
-            reaches,
-            types: extent_of(SectionKind::Types, fields, &reaches)?,
-            imports: extent_of(SectionKind::Imports, fields, &reaches)?,
-            functions: extent_of(SectionKind::Functions, fields, &reaches)?,
-            tables: extent_of(SectionKind::Tables, fields, &reaches)?,
-            memories: extent_of(SectionKind::Memories, fields, &reaches)?,
-            tags: extent_of(SectionKind::Tags, fields, &reaches)?,
-            globals: extent_of(SectionKind::Globals, fields, &reaches)?,
-            exports: extent_of(SectionKind::Exports, fields, &reaches)?,
-            elements: extent_of(SectionKind::Elements, fields, &reaches)?,
-            code: extent_of(SectionKind::Code, fields, &reaches)?,
-            data: extent_of(SectionKind::Data, fields, &reaches)?,
-            is_counted: is_counted(fields, &reaches),
-            names: names_size(name, fields, &reaches)?,
-        })
-    }
+/// What is measured of a module of this name and these resolved fields: its fields of each kind are found, and its sections
+/// are counted and measured, once. It takes no memory, and refuses as too large, where a number, count or length in the
+/// module is out of range.
+///
+/// The fields stand first, here and in all that they are handed to: so a callee has their lifetimes at the places at which its
+/// caller has them, and the prover does not compare the whole tree.
+pub(crate) fn measure(fields: &[ModuleField], name: Option<&str>) -> Result<Measures, Refusal>
+    requires { IsTrue (is_encodable fields.now) }
+    ensures ok { IfOk result (λ m. IsTrue (are_measures (text_seen name.entry) fields.now m)) }
+    ensures err { IfErr result (λ e. (e ≡ refusal.TooLarge) × (InRangeModule (text_seen name.entry) fields.now → ⊥)) }
+{
+    let reaches = Reaches::of(fields);
+    Ok(Measures {
+        reaches,
+        types: extent_of(SectionKind::Types, fields, &reaches)?,
+        imports: extent_of(SectionKind::Imports, fields, &reaches)?,
+        functions: extent_of(SectionKind::Functions, fields, &reaches)?,
+        tables: extent_of(SectionKind::Tables, fields, &reaches)?,
+        memories: extent_of(SectionKind::Memories, fields, &reaches)?,
+        tags: extent_of(SectionKind::Tags, fields, &reaches)?,
+        globals: extent_of(SectionKind::Globals, fields, &reaches)?,
+        exports: extent_of(SectionKind::Exports, fields, &reaches)?,
+        elements: extent_of(SectionKind::Elements, fields, &reaches)?,
+        code: extent_of(SectionKind::Code, fields, &reaches)?,
+        data: extent_of(SectionKind::Data, fields, &reaches)?,
+        is_counted: is_counted(fields, &reaches),
+        names: names_size(fields, name, &reaches)?,
+    })
+}
 
-    /// The extent of the section of a kind.
-    fn extent(&self, kind: SectionKind) -> Extent
-        requires { IsTrue (is_measured self.now) }
-        ensures { IsExtent (section_kind kind) self.now.fields.now result.count result.size }
-    {
-        match kind {
-            SectionKind::Types => self.types,
-            SectionKind::Imports => self.imports,
-            SectionKind::Functions => self.functions,
-            SectionKind::Tables => self.tables,
-            SectionKind::Memories => self.memories,
-            SectionKind::Tags => self.tags,
-            SectionKind::Globals => self.globals,
-            SectionKind::Exports => self.exports,
-            SectionKind::Elements => self.elements,
-            SectionKind::Code => self.code,
-            SectionKind::Data => self.data,
-        }
-    }
-
-    /// How many bytes stand in a place, up to the greatest `u64`.
-    fn size_in(&self, slot: &Slot) -> u64
-        requires { IsTrue (is_measured self.now) }
-        ensures { result ≡ counted (length (flat_map part (in_slot (text_seen self.now.name) self.now.fields.now slot.now))) }
-    {
-        match slot {
-            Slot::Section(kind) => section_size(self.extent(*kind).size),
-            Slot::Start => starts_size(start_fields(self.fields, &self.reaches)),
-            Slot::DataCount => count_size(self.is_counted, self.data.count),
-            Slot::Names => section_size(self.names),
-            Slot::BeforeFirst | Slot::Before(_) | Slot::After(_) | Slot::AfterLast => 0,
-            Slot::BeforeStart | Slot::AfterStart | Slot::Hints => 0,
-        }
-    }
-
-    /// How many bytes stand in places, one after another, up to the greatest `u64`.
-    fn sum_of(&self, slots: &[Slot]) -> u64
-        requires { IsTrue (is_measured self.now) }
-        ensures { result ≡ counted (length
-            (flat_map (λ s. flat_map part (in_slot (text_seen self.now.name) self.now.fields.now s)) slots.now)) }
-    {
-        let mut sum = 0u64;
-        for slot in slots {
-            sum = sum.saturating_add(self.size_in(slot));
-        }
-        sum
-    }
-
-    /// How many bytes the module has, up to the greatest `u64`.
-    pub(crate) fn size(&self) -> u64
-        requires { IsTrue (is_measured self.now) }
-        ensures { result ≡ counted (length (bytes_of (text_seen self.now.name) self.now.fields.now)) }
-    {
-        let slots = ORDER;
-        (HEADER.len() as u64).saturating_add(self.sum_of(&slots))
+/// The extent of the section of a kind.
+fn extent(measures: &Measures, kind: SectionKind) -> Extent
+    ensures { (name : Option (List ℕ)) (fields : List ModuleField) → IsTrue (are_measures name fields measures.now)
+        → IsExtent (section_kind kind) fields result.count result.size }
+{
+    match kind {
+        SectionKind::Types => measures.types,
+        SectionKind::Imports => measures.imports,
+        SectionKind::Functions => measures.functions,
+        SectionKind::Tables => measures.tables,
+        SectionKind::Memories => measures.memories,
+        SectionKind::Tags => measures.tags,
+        SectionKind::Globals => measures.globals,
+        SectionKind::Exports => measures.exports,
+        SectionKind::Elements => measures.elements,
+        SectionKind::Code => measures.code,
+        SectionKind::Data => measures.data,
     }
 }
 
-/// What stands in a place.
-impl Spell<Slot> for BinaryModule<'_, '_> {
-    ghost spelling = { λ m s. flat_map part (in_slot (text_seen m.name) m.fields.now s) };
-
-    ghost in_range = { λ m s. InRangeSlot (text_seen m.name) m.fields.now s };
-
-    ghost is_ready = { λ m _. is_measured m };
-
-    fn spell<S: Sink>(&self, slot: &Slot, out: &mut S) -> Result<(), Refusal> {
-        match slot {
-            Slot::Section(kind) => {
-                put_section(*kind, self.fields, &self.reaches, self.extent(*kind), out)
-            }
-            Slot::Start => put_starts(start_fields(self.fields, &self.reaches), out),
-            Slot::DataCount => put_count(self.is_counted, self.data.count, out),
-            Slot::Names => put_names(self.name, self.fields, &self.reaches, self.names, out),
-            Slot::BeforeFirst | Slot::Before(_) | Slot::After(_) | Slot::AfterLast => Ok(()),
-            Slot::BeforeStart | Slot::AfterStart | Slot::Hints => Ok(()),
-        }
+/// How many bytes stand in a place, up to the greatest `u64`.
+fn size_in(fields: &[ModuleField], name: Option<&str>, measures: &Measures, slot: &Slot) -> u64
+    requires { IsTrue (are_measures (text_seen name) fields.now measures.now) }
+    ensures { result ≡ counted (length (flat_map part (in_slot (text_seen name.entry) fields.now slot.now))) }
+{
+    match slot {
+        Slot::Section(kind) => section_size(extent(measures, *kind).size),
+        Slot::Start => starts_size(start_fields(fields, &measures.reaches)),
+        Slot::DataCount => count_size(measures.is_counted, measures.data.count),
+        Slot::Names => section_size(measures.names),
+        Slot::BeforeFirst | Slot::Before(_) | Slot::After(_) | Slot::AfterLast => 0,
+        Slot::BeforeStart | Slot::AfterStart | Slot::Hints => 0,
     }
 }
 
-impl Encode for BinaryModule<'_, '_> {
-    ghost spelling = { λ m. bytes_of (text_seen m.name) m.fields.now };
-
-    ghost in_range = { λ m. InRangeModule (text_seen m.name) m.fields.now };
-
-    ghost is_ready = { λ m. is_measured m };
-
-    fn encode<S: Sink>(&self, out: &mut S) -> Result<(), Refusal> {
-        let header = HEADER;
-        let slots = ORDER;
-        (Raw(&header), Each(&slots, *self)).encode(out)
+/// How many bytes stand in places, one after another, up to the greatest `u64`.
+fn sum_of(fields: &[ModuleField], name: Option<&str>, measures: &Measures, slots: &[Slot]) -> u64
+    requires { IsTrue (are_measures (text_seen name) fields.now measures.now) }
+    ensures { result ≡ counted (length
+        (flat_map (λ s. flat_map part (in_slot (text_seen name.entry) fields.now s)) slots.now)) }
+{
+    let mut sum = 0u64;
+    for slot in slots {
+        sum = sum.saturating_add(size_in(fields, name, measures, slot));
     }
+    sum
+}
+
+/// How many bytes the module has, up to the greatest `u64`.
+pub(crate) fn size(fields: &[ModuleField], name: Option<&str>, measures: &Measures) -> u64
+    requires { IsTrue (are_measures (text_seen name) fields.now measures.now) }
+    ensures { result ≡ counted (length (bytes_of (text_seen name.entry) fields.now)) }
+{
+    let slots = ORDER;
+    (HEADER.len() as u64).saturating_add(sum_of(fields, name, measures, &slots))
+}
+
+/// Appends what stands in a place.
+fn put_slot<'b, S: Sink>(
+    fields: &[ModuleField],
+    name: Option<&str>,
+    measures: &Measures,
+    slot: &'b Slot,
+    out: &'b mut S,
+) -> Result<(), Refusal>
+    requires { IsTrue (are_measures (text_seen name) fields.now measures.now) }
+    ensures { Writes S.rules (InRangeSlot (text_seen name.entry) fields.now slot.now)
+        out.old out.new (flat_map part (in_slot (text_seen name.entry) fields.now slot.now)) result }
+{
+    match slot {
+        Slot::Section(kind) => {
+            put_section(
+                *kind,
+                fields,
+                &measures.reaches,
+                extent(measures, *kind),
+                out,
+            )
+        }
+        Slot::Start => put_starts(start_fields(fields, &measures.reaches), out),
+        Slot::DataCount => put_count(measures.is_counted, measures.data.count, out),
+        Slot::Names => put_names(fields, name, &measures.reaches, measures.names, out),
+        Slot::BeforeFirst | Slot::Before(_) | Slot::After(_) | Slot::AfterLast => Ok(()),
+        Slot::BeforeStart | Slot::AfterStart | Slot::Hints => Ok(()),
+    }
+}
+
+/// Appends what stands in places, one after another.
+fn put_slots<'b, S: Sink>(
+    fields: &[ModuleField],
+    name: Option<&str>,
+    measures: &Measures,
+    slots: &'b [Slot],
+    out: &'b mut S,
+) -> Result<(), Refusal>
+    requires { IsTrue (are_measures (text_seen name) fields.now measures.now) }
+    ensures { Writes S.rules (All (InRangeSlot (text_seen name.entry) fields.now) slots.now)
+        out.old out.new (flat_map (λ s. flat_map part (in_slot (text_seen name.entry) fields.now s)) slots.now) result }
+{
+    let start = out.size();
+    for slot in slots {
+        let result = put_slot(fields, name, measures, slot, out);
+        if result.is_err() {
+            out.cut(start);
+            return result;
+        }
+    }
+    Ok(())
+}
+
+/// Appends the bytes of the module: the header, and what stands in each place.
+pub(crate) fn put_measured<S: Sink>(
+    fields: &[ModuleField],
+    name: Option<&str>,
+    measures: &Measures,
+    out: &mut S,
+) -> Result<(), Refusal>
+    requires { IsTrue (are_measures (text_seen name) fields.now measures.now) }
+    ensures { Writes S.rules (InRangeModule (text_seen name.entry) fields.now)
+        out.old out.new (bytes_of (text_seen name.entry) fields.now) result }
+{
+    let start = out.size();
+    let header = HEADER;
+    Raw(&header).encode(out)?;
+    let slots = ORDER;
+    let second = put_slots(fields, name, measures, &slots, out);
+    if second.is_err() {
+        out.cut(start);
+    }
+    second
 }

@@ -5,8 +5,9 @@ use Rattle.std.specs.Cmp.Derive.{both_true}
 use Rattle.std.proofs.lemmas.Bool.{and_parts}
 use Rattle.std.proofs.lemmas.List.{map-append}
 use Rattle.std.proofs.lemmas.List.Folds.{list_all-append}
+use Rattle.wast_base.specs.Blocks.{stays_open}
 use Rattle.wast_tree.specs.Items.{Item, item, items_in, items}
-use Rattle.wast_tree.specs.Sites.{Ask, Wants, Clause, Supported, Site, Asked, asking, in_ref, in_use, in_func, in_global_type, in_constant, in_payload, in_table_kind, in_global_kind, in_tag_type, in_field, in_module, asked}
+use Rattle.wast_tree.specs.Sites.{Ask, Wants, Clause, Supported, OfItem, Site, Asked, asking, in_ref, in_use, in_func, in_global_type, in_constant, in_payload, in_table_kind, in_global_kind, in_tag_type, in_field, in_module, asked}
 use Rattle.wast_tree.specs.Known.{names_in}
 use Rattle.wast_base.specs.Filling.{one_if, given_if}
 use Rattle.wast_tree.proofs.Visiting.{asked_both}
@@ -45,8 +46,8 @@ all_true : {A : Type 0} (xs : List A) → list_all (λ (x : A). true) xs ≡ tru
 all_true [] = refl
 all_true (x ∷ xs) = all_true xs
 
--- Where all that is asked in some fields passes a test, which a clause that holds and a form that is supported pass.
-module _ (ok : Ask → Bool) (clause : ok (Clause 4 true) ≡ true) (form : ok (Supported true) ≡ true) where
+-- Where all that is asked in some fields passes a test, which clauses that hold and a form that is supported pass.
+module _ (ok : Ask → Bool) (clause : (n : ℕ) → ok (Clause n true) ≡ true) (form : ok (Supported true) ≡ true) where
   abbrev pass : List Site → Bool
   pass os = list_all ok (asked os)
 
@@ -66,13 +67,14 @@ module _ (ok : Ask → Bool) (clause : ok (Clause 4 true) ≡ true) (form : ok (
   all_fields [] = refl
   all_fields (x ∷ xs) = both_parts (in_field x) (in_module xs) ∙ ap (λ b. passes x && b) (all_fields xs)
 
-  -- a segment begins at a number, without branch hints
+  -- a segment begins at a number, without branch hints and blocks
   offset_passes : (is64 : Bool) → pass (in_constant (at_zero is64)) ≡ true
-  offset_passes false = both_true form refl
-  offset_passes true = both_true form refl
+  unfolding stays_open
+  offset_passes false = both_true form (both_true (clause 5) refl)
+  offset_passes true = both_true form (both_true (clause 5) refl)
 
   func_passes : (f : Func) (k : FuncKind) → pass (in_func (record f { kind = k })) ≡ true → list_all passes (func_alone f k ∷ []) ≡ true
-  func_passes f (func.Import source exact) h = both_true (parted (in_use f.ty) (Asked (Supported (not exact)) ∷ []) h).0 refl
+  func_passes f (func.Import source exact) h = both_true (parted (in_use OfItem f.ty) (Asked (Supported (not exact)) ∷ []) h).0 refl
   func_passes f (func.Inline locals e) h = both_true h refl
 
   table_passes : (t : Table) (k : TableKind) (i : Index) → ok (Wants space.Table i) ≡ true → pass (in_table_kind k) ≡ true → list_all passes (elem_in k t.span i ++ table_alone t k ∷ []) ≡ true
@@ -83,7 +85,7 @@ module _ (ok : Ask → Bool) (clause : ok (Clause 4 true) ≡ true) (form : ok (
       let unshared : List Ask = Supported (not shared) ∷ [] in
       let parts = parted (asking (in_ref ty)) (in_payload p ++ asking unshared) h in
       let rest = parted (in_payload p) (asking unshared) parts.1 in
-      both_true (both_true mine (joined (in_constant (at_zero is64)) (in_payload p ++ asking suited) (offset_passes is64) (joined (in_payload p) (asking suited) rest.0 (both_true clause refl))))
+      both_true (both_true mine (joined (in_constant (at_zero is64)) (in_payload p ++ asking suited) (offset_passes is64) (joined (in_payload p) (asking suited) rest.0 (both_true (clause 4) refl))))
       (both_true (ap pass (append-nil (asking (in_ref ty ++ unshared)) ∙ map-append Asked (in_ref ty) unshared) ∙ joined (asking (in_ref ty)) (asking unshared) parts.0 rest.1) refl)
 
   memory_passes : (m : Memory) (k : MemoryKind) (i : Index) → ok (Wants space.Memory i) ≡ true → list_all passes (data_in k m.span i ++ memory_alone m k ∷ []) ≡ true
@@ -143,4 +145,4 @@ module _ (ok : Ask → Bool) (clause : ok (Clause 4 true) ≡ true) (form : ok (
     written_out_pass fields h = all_fields (written_out fields) ∙ after_pass [] fields (sym (all_fields fields) ∙ h)
 
 pub stays_supported_by_position : StaysSupportedByPosition
-stays_supported_by_position = written_out_pass is_supported refl refl (λ s m span. refl)
+stays_supported_by_position = written_out_pass is_supported (λ c. refl) refl (λ s m span. refl)

@@ -2,7 +2,7 @@
 use Rattle.std.specs.Prelude.{◌≡◌, ℕ, ◌+◌, ◌<◌, Bool, true, false, List, IsTrue}
 use Rattle.std.specs.List.{list_all}
 use Rattle.wast_tree.specs.Generations.{greatest_generation}
-use Rattle.wast_tree.specs.Sites.{Ask, Wants, Unasked, Clause, Supported, asked, in_module}
+use Rattle.wast_tree.specs.Sites.{Ask, Wants, Within, Unasked, Clause, Supported, asked, in_module}
 use Rattle.wast_tree.specs.WellFormed.{is_well_formed}
 use Rattle.wast_tree.specs.WrittenOut.{is_written_out}
 use Rattle.wast_deinline.specs.Tree.{ModuleField}
@@ -32,6 +32,7 @@ WantsNoReference = (fields : List ModuleField) → IsTrue (is_written_out fields
 -- What is asked of single parts, whatever the module names: a clause holds, and a form is supported.
 abbrev pub is_supported : Ask → Bool
 is_supported (Wants s i) = true
+is_supported (Within i) = true
 is_supported (Unasked m) = true
 is_supported (Clause n holds) = holds
 is_supported (Supported holds) = holds

@@ -50,15 +50,18 @@ pub fn run<'a>(
     ensures at_rest { IsTrue (is_written_out fields.entry) → IsOk result }
     ensures rising { gensym.old ≤ gensym.new }
 {
-    if is_at_rest(&fields) {
+    let mut fields = fields;
+    if is_at_rest(&mut fields) {
         return Ok(fields);
     }
     replaced(alloc, fields, gensym)
 }
 
-/// Whether nothing stands in place.
-fn is_at_rest(fields: &Seq<ModuleField<'_>>) -> bool
-    ensures { result ≡ is_written_out fields.now }
+/// Whether nothing stands in place. It is lent the fields to change, and leaves them: where they were lent to be read, the
+/// prover would compare the type of the whole tree with itself.
+fn is_at_rest<'a>(fields: &mut Seq<ModuleField<'a>>) -> bool
+    ensures rest { result ≡ is_written_out fields.old }
+    ensures stays { fields.new ≡ fields.old }
 {
     is_written_out(fields.as_slice())
 }

@@ -2,7 +2,7 @@
 use Rattle.std.specs.Prelude.{◌&&◌, Option, Some, None}
 use Rattle.std.proofs.Common.{◌≡◌, List, [], ◌∷◌, ◌++◌, refl, ap, ◌∙◌, map}
 use Rattle.std.specs.List.{flat_map, list_all}
-use Rattle.wast_map.specs.Tree.{Id, FuncKind, TableKind, GlobalKind, ItemKind, ImportItems, InnerTypeKind, Space, StructField, ModuleField}
+use Rattle.wast_map.specs.Tree.{Id, TypeUse, FunctionType, FuncKind, TableKind, GlobalKind, ItemKind, ImportItems, InnerTypeKind, Space, StructField, ModuleField}
 use Rattle.wast_map.specs.Tree.space
 use Rattle.wast_map.specs.Tree.inner
 use Rattle.wast_map.specs.Tree.ty
@@ -20,9 +20,9 @@ use Rattle.wast_map.specs.Mapped.{Change, mapped_struct_field, mapped_inner, map
 use Rattle.wast_map.specs.Laws.{KeepsItems, all_mapped}
 
 module _ (f : Change) where
-  func_alone : (params : List (Option Mark)) (k : FuncKind) → is_written_func (mapped_func_kind f params k) ≡ is_written_func k
-  func_alone params (func.Import import exact) = refl
-  func_alone params (func.Inline locals e) = refl
+  func_alone : (u : TypeUse FunctionType) (k : FuncKind) → is_written_func (mapped_func_kind f u k) ≡ is_written_func k
+  func_alone u (func.Import import exact) = refl
+  func_alone u (func.Inline locals e) = refl
 
   table_alone : (k : TableKind) → is_written_table (mapped_table_kind f k) ≡ is_written_table k
   table_alone (table.Import import ty) = refl

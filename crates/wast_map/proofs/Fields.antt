@@ -5,12 +5,14 @@ use Rattle.std.proofs.Common.{◌≡◌, List, [], ◌∷◌, ◌++◌, refl, sy
 use Rattle.std.specs.List.{flat_map}
 use Rattle.std.proofs.lemmas.Grind.{common_steps}
 use Rattle.std.proofs.lemmas.List.{map-append}
+use Rattle.wast_base.specs.Blocks.{Blocks, closed, is_balanced}
 use Rattle.wast_base.specs.Ids.{Name, Mark, marked}
 use Rattle.wast_base.specs.Spaces.{name_if}
-use Rattle.wast_map.specs.Tree.{Id, Index, RefType, HeapType, TableType, GlobalType, TypeUse, FunctionType, MemArg, MemArgTarget, SelectTypes, Instruction, Expression, Local, FuncKind, Func, ItemKind, ImportItems, TableKind, MemoryKind, GlobalKind, ElemKind, ElemPayload, Elem, DataKind, TagType, ModuleField, ValType}
+use Rattle.wast_map.specs.Tree.{Id, Index, RefType, HeapType, TableType, GlobalType, TypeUse, FunctionType, BlockType, BrTableIndices, TryTable, TryTableCatch, TryTableCatchKind, MemArg, MemArgTarget, CallIndirect, SelectTypes, Instruction, Expression, Local, FuncKind, Func, ItemKind, ImportItems, TableKind, MemoryKind, GlobalKind, ElemKind, ElemPayload, Elem, DataKind, TagType, ModuleField, ValType}
 use Rattle.wast_map.specs.Tree.space
 use Rattle.wast_map.specs.Tree.heap
 use Rattle.wast_map.specs.Tree.target
+use Rattle.wast_map.specs.Tree.caught
 use Rattle.wast_map.specs.Tree.instr
 use Rattle.wast_map.specs.Tree.func
 use Rattle.wast_map.specs.Tree.kind
@@ -23,9 +25,10 @@ use Rattle.wast_map.specs.Tree.payload
 use Rattle.wast_map.specs.Tree.data_kind
 use Rattle.wast_map.specs.Tree.field
 use Rattle.wast_tree.specs.Clauses.{is_func_heap, suits}
-use Rattle.wast_tree.specs.Sites.{Here, start, Site, Asked, Declared, Clause, Supported, after, after_all, asking, at_index, if_there, in_heap, in_target, in_mem_arg, in_select, in_instr, behind, in_instrs, in_expression, in_constant, in_local, local_marks, param_marks, declaring, body_here, in_func_kind, in_use, in_func, in_item_kind, in_import, exported_space, in_payload, in_table_kind, in_memory_kind, in_global_kind, in_elem_kind, in_elem, in_data_kind, in_field}
-use Rattle.wast_map.specs.Mapped.{Change, same, mapped_site, KeepsMarks, Joins, AreJoint, Each, mapped_heap, mapped_target, mapped_mem_arg, mapped_select, mapped_instr, mapped_instrs, mapped_expression, mapped_constant, mapped_local, mapped_func_kind, mapped_func, mapped_item_kind, mapped_import_items, mapped_payload, mapped_table_kind, mapped_global_kind, mapped_elem_kind, mapped_elem, mapped_data_kind, mapped}
-use Rattle.wast_map.proofs.Ways.{In, At, each_first, each_rest, index_in, index_at, mark_in, asked_at, item_id_at, use_at, fixed_at, both_at, made_at, tested_at, behind_at, option_at, list_at}
+use Rattle.wast_tree.specs.Instrs.{turn_of, turns}
+use Rattle.wast_tree.specs.Sites.{Locals, Here, start, OfItem, OfCall, OfBlock, Site, Asked, Used, Declared, LocalAt, LabelAt, Repeated, Begins, Ends, Clause, Supported, after, after_all, asking, at_index, if_there, in_heap, at_label, in_block, in_caught, in_catch, in_try_table, in_br_table, in_target, in_mem_arg, in_select, in_indirect, in_instr, behind, in_instrs, in_expression, in_constant, in_local, local_marks, param_marks, declaring, body_here, in_func_kind, in_use, in_func, in_item_kind, in_import, exported_space, in_payload, in_table_kind, in_memory_kind, in_global_kind, in_elem_kind, in_elem, in_data_kind, in_field}
+use Rattle.wast_map.specs.Mapped.{Change, same, mapped_locals, mapped_here, mapped_site, KeepsMarks, Joins, AreJoint, Each, mapped_heap, mapped_block, mapped_caught, mapped_catch, mapped_try_table, mapped_br_table, mapped_target, mapped_mem_arg, mapped_select, mapped_indirect, mapped_instr, mapped_instrs, mapped_expression, mapped_constant, mapped_local, mapped_func_kind, mapped_func, mapped_item_kind, mapped_import_items, mapped_payload, mapped_table_kind, mapped_global_kind, mapped_elem_kind, mapped_elem, mapped_data_kind, mapped}
+use Rattle.wast_map.proofs.Ways.{In, At, each_first, each_rest, index_in, index_at, mark_in, label_at, asked_at, item_id_at, use_at, fixed_at, both_at, made_at, tested_at, behind_at, option_at, list_at}
 use Rattle.wast_map.proofs.Types.{heap_at, ref_at, val_at, type_at, rec_at, table_type_at, global_type_at, tag_type_at}
 
 -- what a memory argument reads or writes, and the argument
@@ -40,24 +43,70 @@ mem_arg_at m =
 pub select_at : (t : SelectTypes) → In in_select (λ f. mapped_select f.index) t
 select_at t = made_at (λ (o : Option (List ValType)). record { tys = o }) (λ y. refl) (λ f y. refl) t.tys (option_at (list_at val_at) t.tys)
 
--- An instruction: a tactic goes through the variants, with one line for each kind of immediates that has parts of its own.
+pub indirect_at : (c : CallIndirect) → At in_indirect mapped_indirect c
+indirect_at c =
+    made_at (λ (q : Index × TypeUse FunctionType). record { table = q.0; ty = q.1 }) (λ y. refl) (λ f y. refl) (c.table, c.ty)
+    (both_at c.table c.ty (index_at space.Table c.table) (use_at OfCall c.ty))
+
+-- a block, and a block that catches
+block_at : (blocks : Blocks) (b : BlockType) → At (in_block blocks) mapped_block b
+block_at blocks b =
+    made_at (λ (u : TypeUse FunctionType). record b { ty = u }) (λ y. refl) (λ f y. refl) b.ty
+    (tested_at b.ty (Begins blocks (marked b.label) ∷ []) (λ f. refl) (use_at OfBlock b.ty))
+
+pub caught_at : (c : TryTableCatchKind) → In in_caught (λ f. mapped_caught f.index) c
+caught_at (caught.Catch e) = made_at caught.Catch (λ y. refl) (λ f y. refl) e (index_in space.Tag e)
+caught_at (caught.CatchRef e) = made_at caught.CatchRef (λ y. refl) (λ f y. refl) e (index_in space.Tag e)
+caught_at c = fixed_at c (λ f. refl) (λ f. refl)
+
+catch_at : (blocks : Blocks) (c : TryTableCatch) → At (in_catch blocks) (λ f. mapped_catch f blocks) c
+catch_at blocks c =
+    made_at {t = in_catch blocks} {n = λ f. mapped_catch f blocks} (λ (q : TryTableCatchKind × Index). record { kind = q.0; label = q.1 }) (λ y. refl) (λ f y. refl) (c.kind, c.label)
+    (both_at c.kind c.label (asked_at c.kind (caught_at c.kind)) (label_at blocks c.label))
+
+try_table_at : (blocks : Blocks) (t : TryTable) → At (in_try_table blocks) (λ f. mapped_try_table f blocks) t
+try_table_at blocks t =
+    made_at {t = in_try_table blocks} {n = λ f. mapped_try_table f blocks} (λ (q : TypeUse FunctionType × List TryTableCatch). record { block = record t.block { ty = q.0 }; catches = q.1 }) (λ y. refl) (λ f y. refl) (t.block.ty, t.catches)
+    (both_at t.block.ty t.catches (use_at OfBlock t.block.ty) (tested_at t.catches (Begins blocks (marked t.block.label) ∷ []) (λ f. refl) (list_at (catch_at blocks) t.catches)))
+
+br_table_at : (blocks : Blocks) (t : BrTableIndices) → At (in_br_table blocks) (λ f. mapped_br_table f blocks) t
+br_table_at blocks t =
+    made_at {t = in_br_table blocks} {n = λ f. mapped_br_table f blocks} (λ (q : List Index × Index). record { labels = q.0; default = q.1 }) (λ y. refl) (λ f y. refl) (t.labels, t.default)
+    (both_at t.labels t.default (list_at (label_at blocks) t.labels) (label_at blocks t.default))
+
+-- An instruction: a tactic goes through the variants, with one line for each kind of immediates that has parts of its own. The
+-- changed one stands where the function of its body is changed, too.
 module _ (f : Change) (k : KeepsMarks f) where
   heap_stands : (t : HeapType) → asking (in_heap (mapped_heap f.index t)) ≡ map (mapped_site f) (asking (in_heap t))
   heap_stands t = (asked_at t (heap_at t)).stands f k
 
-  instr_stands : (h : Here) (i : Instruction) → in_instr h (mapped_instr f h i) ≡ map (mapped_site f) (in_instr h i)
+  block_stands : (blocks : Blocks) (b : BlockType) → in_block blocks (mapped_block f b) ≡ map (mapped_site f) (in_block blocks b)
+  block_stands blocks b = (block_at blocks b).stands f k
+
+  pub instr_stands : (h : Here) (i : Instruction) → in_instr (mapped_here f h) (mapped_instr f h i) ≡ map (mapped_site f) (in_instr h i)
   instr_stands h (instr.Mem op m) = (asked_at m (mem_arg_at m)).stands f k
   instr_stands h (instr.select t) = (asked_at t (select_at t)).stands f k
-  instr_stands h i = grind (arith, common_steps, heap_stands)
+  instr_stands h (instr.call_indirect c) = (indirect_at c).stands f k
+  instr_stands h (instr.return_call_indirect c) = (indirect_at c).stands f k
+  instr_stands h (instr.try_table t) = (try_table_at h.blocks t).stands f k
+  instr_stands h (instr.br_table t) = (br_table_at h.blocks t).stands f k
+  instr_stands h i = grind (arith, common_steps, heap_stands, block_stands)
 
 module _ (x g f : Change) (j : AreJoint x g f) where
   heap_joins : (t : HeapType) → Each (Joins x g f) (asking (in_heap t)) → mapped_heap g.index (mapped_heap x.index t) ≡ mapped_heap f.index t
   heap_joins t e = (asked_at t (heap_at t)).joins x g f j e
 
-  instr_joins : (h : Here) (i : Instruction) → Each (Joins x g f) (in_instr h i) → mapped_instr g h (mapped_instr x h i) ≡ mapped_instr f h i
+  block_joins : (blocks : Blocks) (b : BlockType) → Each (Joins x g f) (in_block blocks b) → mapped_block g (mapped_block x b) ≡ mapped_block f b
+  block_joins blocks b e = (block_at blocks b).joins x g f j e
+
+  instr_joins : (h : Here) (i : Instruction) → Each (Joins x g f) (in_instr h i) → mapped_instr g (mapped_here x h) (mapped_instr x h i) ≡ mapped_instr f h i
   instr_joins h (instr.Mem op m) e = ap (instr.Mem op) ((asked_at m (mem_arg_at m)).joins x g f j e)
   instr_joins h (instr.select t) e = ap instr.select ((asked_at t (select_at t)).joins x g f j e)
-  instr_joins h i e = grind (arith, common_steps, heap_joins)
+  instr_joins h (instr.call_indirect c) e = ap instr.call_indirect ((indirect_at c).joins x g f j e)
+  instr_joins h (instr.return_call_indirect c) e = ap instr.return_call_indirect ((indirect_at c).joins x g f j e)
+  instr_joins h (instr.try_table t) e = ap instr.try_table ((try_table_at h.blocks t).joins x g f j e)
+  instr_joins h (instr.br_table t) e = ap instr.br_table ((br_table_at h.blocks t).joins x g f j e)
+  instr_joins h i e = grind (arith, common_steps, heap_joins, block_joins)
 
 heap_still : (t : HeapType) → mapped_heap same.index t ≡ t
 heap_still t = (heap_at t).still
@@ -65,45 +114,82 @@ heap_still t = (heap_at t).still
 instr_still : (h : Here) (i : Instruction) → mapped_instr same h i ≡ i
 instr_still h (instr.Mem op m) = ap (instr.Mem op) (mem_arg_at m).still
 instr_still h (instr.select t) = ap instr.select (select_at t).still
+instr_still h (instr.call_indirect c) = ap instr.call_indirect (indirect_at c).still
+instr_still h (instr.return_call_indirect c) = ap instr.return_call_indirect (indirect_at c).still
+instr_still h (instr.try_table t) = ap instr.try_table (try_table_at h.blocks t).still
+instr_still h (instr.br_table t) = ap instr.br_table (br_table_at h.blocks t).still
 instr_still h i = grind (arith, common_steps, heap_still)
 
-instr_at : (h : Here) (i : Instruction) → At (in_instr h) (λ f. mapped_instr f h) i
-instr_at h i = record { stands = λ f k. instr_stands f k h i; joins = λ x g f j e. instr_joins x g f j h i e; still = instr_still h i }
-
--- where the next one stands, stays
-after_site : (f : Change) (h : Here) (s : Site) → after h (mapped_site f s) ≡ after h s
+-- where the next one stands: in the changed body as behind the changed place
+after_site : (f : Change) (h : Here) (s : Site) → after (mapped_here f h) (mapped_site f s) ≡ mapped_here f (after h s)
+after_site f h (Asked a) = refl
+after_site f h (Used w u) = refl
 after_site f h (Declared before m) = refl
-after_site f h s = refl
+after_site f h (LocalAt locals i) = refl
+after_site f h (LabelAt blocks i) = refl
+after_site f h (Repeated blocks m) = refl
+after_site f h (Begins blocks m) = refl
+after_site f h Ends = refl
 
-after_still : (f : Change) (h : Here) (ss : List Site) → after_all h (map (mapped_site f) ss) ≡ after_all h ss
-after_still f h [] = refl
-after_still f h (s ∷ ss) = ap (λ n. after_all n (map (mapped_site f) ss)) (after_site f h s) ∙ after_still f (after h s) ss
+after_mapped : (f : Change) (h : Here) (ss : List Site) → after_all (mapped_here f h) (map (mapped_site f) ss) ≡ mapped_here f (after_all h ss)
+after_mapped f h [] = refl
+after_mapped f h (s ∷ ss) = ap (λ n. after_all n (map (mapped_site f) ss)) (after_site f h s) ∙ after_mapped f (after h s) ss
 
-pub behind_still : (f : Change) → KeepsMarks f → (h : Here) (i : Instruction) → behind h (mapped_instr f h i) ≡ behind h i
-behind_still f k h i = ap (after_all h) ((instr_at h i).stands f k) ∙ after_still f h (in_instr h i)
+pub behind_mapped : (f : Change) → KeepsMarks f → (h : Here) (i : Instruction) → behind (mapped_here f h) (mapped_instr f h i) ≡ mapped_here f (behind h i)
+behind_mapped f k h i = ap (after_all (mapped_here f h)) (instr_stands f k h i) ∙ after_mapped f h (in_instr h i)
 
-instrs_at : (h : Here) (is : List Instruction) → At (in_instrs h) (λ f. mapped_instrs f h) is
-instrs_at h [] = fixed_at [] (λ f. refl) (λ f. refl)
-instrs_at h (i ∷ is) =
-    let a = instr_at h i in
-    let b = instrs_at (behind h i) is in
+-- instructions, one after the other
+pub instrs_stand : (f : Change) → KeepsMarks f → (h : Here) (is : List Instruction) → in_instrs (mapped_here f h) (mapped_instrs f h is) ≡ map (mapped_site f) (in_instrs h is)
+instrs_stand f k h [] = refl
+instrs_stand f k h (i ∷ is) =
+    ap (λ n. in_instr (mapped_here f h) (mapped_instr f h i) ++ in_instrs n (mapped_instrs f (behind h i) is)) (behind_mapped f k h i)
+    ∙ (ap (λ z. z ++ in_instrs (mapped_here f (behind h i)) (mapped_instrs f (behind h i) is)) (instr_stands f k h i)
+    ∙ (ap (λ z. map (mapped_site f) (in_instr h i) ++ z) (instrs_stand f k (behind h i) is) ∙ sym (map-append (mapped_site f) (in_instr h i) (in_instrs (behind h i) is))))
+
+instrs_join : (x g f : Change) → AreJoint x g f → (h : Here) (is : List Instruction) → Each (Joins x g f) (in_instrs h is) → mapped_instrs g (mapped_here x h) (mapped_instrs x h is) ≡ mapped_instrs f h is
+instrs_join x g f j h [] e = refl
+instrs_join x g f j h (i ∷ is) e =
+    ap (λ n. mapped_instr g (mapped_here x h) (mapped_instr x h i) ∷ mapped_instrs g n (mapped_instrs x (behind h i) is)) (behind_mapped x j.keeps h i)
+    ∙ (λ t. instr_joins x g f j h i (each_first (Joins x g f) (in_instr h i) (in_instrs (behind h i) is) e) t
+    ∷ instrs_join x g f j (behind h i) is (each_rest (Joins x g f) (in_instr h i) (in_instrs (behind h i) is) e) t)
+
+instrs_still : (h : Here) (is : List Instruction) → mapped_instrs same h is ≡ is
+instrs_still h [] = refl
+instrs_still h (i ∷ is) = λ t. instr_still h i t ∷ instrs_still (behind h i) is t
+
+-- what opens and closes blocks stays
+turn_still : (f : Change) (h : Here) (i : Instruction) → turn_of (mapped_instr f h i) ≡ turn_of i
+turn_still f h i = grind (arith, common_steps)
+
+pub turns_still : (f : Change) (h : Here) (is : List Instruction) → turns (mapped_instrs f h is) ≡ turns is
+turns_still f h [] = refl
+turns_still f h (i ∷ is) = λ t. turn_still f h i t ∷ turns_still f (behind h i) is t
+
+-- an expression, in the changed body
+pub expression_stands : (f : Change) → KeepsMarks f → (h : Here) (e : Expression) → in_expression (mapped_here f h) (mapped_expression f h e) ≡ map (mapped_site f) (in_expression h e)
+expression_stands f k h e =
+    let hints = Asked (Supported (length e.branch_hints == 0)) ∷ [] in
+    ap (λ z. z ++ hints) (instrs_stand f k h e.instrs) ∙ sym (map-append (mapped_site f) (in_instrs h e.instrs) hints)
+
+expression_joins : (x g f : Change) → AreJoint x g f → (h : Here) (e : Expression) → Each (Joins x g f) (in_expression h e) → mapped_expression g (mapped_here x h) (mapped_expression x h e) ≡ mapped_expression f h e
+expression_joins x g f j h e q =
+    let hints = Asked (Supported (length e.branch_hints == 0)) ∷ [] in
+    ap (λ (is : List Instruction). record e { instrs = is }) (instrs_join x g f j h e.instrs (each_first (Joins x g f) (in_instrs h e.instrs) hints q))
+
+expression_still : (h : Here) (e : Expression) → mapped_expression same h e ≡ e
+expression_still h e = ap (λ (is : List Instruction). record e { instrs = is }) (instrs_still h e.instrs)
+
+-- A constant expression stands in no function, and stays balanced or not.
+constant_at : (e : Expression) → At in_constant mapped_constant e
+constant_at e =
+    let own = Asked (Clause 5 (is_balanced (turns e.instrs))) ∷ [] in
     record {
       stands = λ f k.
-          ap (λ n. in_instr h (mapped_instr f h i) ++ in_instrs n (mapped_instrs f (behind h i) is)) (behind_still f k h i)
-          ∙ (ap (λ z. z ++ in_instrs (behind h i) (mapped_instrs f (behind h i) is)) (a.stands f k)
-          ∙ (ap (λ z. map (mapped_site f) (in_instr h i) ++ z) (b.stands f k) ∙ sym (map-append (mapped_site f) (in_instr h i) (in_instrs (behind h i) is))));
-      joins = λ x g f j e.
-          ap (λ n. mapped_instr g h (mapped_instr x h i) ∷ mapped_instrs g n (mapped_instrs x (behind h i) is)) (behind_still x j.keeps h i)
-          ∙ (λ t. a.joins x g f j (each_first (Joins x g f) (in_instr h i) (in_instrs (behind h i) is) e) t ∷ b.joins x g f j (each_rest (Joins x g f) (in_instr h i) (in_instrs (behind h i) is) e) t);
-      still = λ t. a.still t ∷ b.still t;
+          ap (λ ts. in_expression start (mapped_expression f start e) ++ Asked (Clause 5 (is_balanced ts)) ∷ []) (turns_still f start e.instrs)
+          ∙ (ap (λ z. z ++ own) (expression_stands f k start e) ∙ sym (map-append (mapped_site f) (in_expression start e) own));
+      joins = λ x g f j q. expression_joins x g f j start e (each_first (Joins x g f) (in_expression start e) own q);
+      still = expression_still start e;
     }
-
-expression_at : (h : Here) (e : Expression) → At (in_expression h) (λ f. mapped_expression f h) e
-expression_at h e =
-    made_at (λ (is : List Instruction). record e { instrs = is }) (λ y. refl) (λ f y. refl) e.instrs (tested_at e.instrs (Asked (Supported (length e.branch_hints == 0)) ∷ []) (λ f. refl) (instrs_at h e.instrs))
-
-constant_at : (e : Expression) → At in_constant mapped_constant e
-constant_at e = expression_at start e
 
 local_at : (l : Local) → In in_local mapped_local l
 local_at l = made_at (λ (q : ValType × Option Id). record l { ty = q.0; id = q.1 }) (λ y. refl) (λ f y. refl) (l.ty, l.id) (both_at l.ty l.id (val_at l.ty) (mark_in l.id))
@@ -117,44 +203,55 @@ declaring_still : (f : Change) (before : List (Option Name)) (ms : List (Option 
 declaring_still f before [] = refl
 declaring_still f before (m ∷ ms) = ap (λ ds. Declared before m ∷ ds) (declaring_still f (before ++ name_if m ∷ []) ms)
 
--- the locals, and then the body behind these marks
-inside_at : (marks : List (Option Mark)) (locals : List Local) (e : Expression)
-    → At {T = List Local × Expression} (λ p. asking (flat_map in_local p.0) ++ (declaring [] marks ++ in_expression (body_here marks) p.1)) (λ f p. (map (mapped_local f) p.0, mapped_expression f (body_here marks) p.1)) (locals, e)
-inside_at marks locals e =
-    both_at {t = λ e. declaring [] marks ++ in_expression (body_here marks) e} {n = λ f. mapped_expression f (body_here marks)} locals e (asked_at locals (list_at local_at locals))
-    (behind_at e (declaring [] marks) (λ f. declaring_still f [] marks) (expression_at (body_here marks) e))
+-- The types of the locals, what is declared, and the body, in a function whose type use is changed.
+locals_at : (locals : List Local) → At (λ ls. asking (flat_map in_local ls)) (λ f. map (mapped_local f)) locals
+locals_at locals = asked_at locals (list_at local_at locals)
 
-func_kind_at : (params : List (Option Mark)) (k : FuncKind) → At (in_func_kind params) (λ f. mapped_func_kind f params) k
-func_kind_at params (func.Import import exact) = fixed_at (func.Import import exact) (λ f. refl) (λ f. refl)
-func_kind_at params (func.Inline locals e) =
+pub kind_stands : (f : Change) → KeepsMarks f → (u : TypeUse FunctionType) (k : FuncKind) → in_func_kind (f.used OfItem u) (mapped_func_kind f u k) ≡ map (mapped_site f) (in_func_kind u k)
+kind_stands f k u (func.Import import exact) = refl
+kind_stands f k u (func.Inline locals e) =
+    let params = param_marks u.inline in
     let marks = params ++ local_marks locals in
-    let a = inside_at marks locals e in
-    record {
-      stands = λ f k.
-          ap (λ ms. asking (flat_map in_local (map (mapped_local f) locals)) ++ (declaring [] (params ++ ms) ++ in_expression (body_here (params ++ ms)) (mapped_expression f (body_here marks) e))) (marks_still f locals)
-          ∙ a.stands f k;
-      joins = λ h g f j q.
-          ap (λ ms. func.Inline (map (mapped_local g) (map (mapped_local h) locals)) (mapped_expression g (body_here (params ++ ms)) (mapped_expression h (body_here marks) e))) (marks_still h locals)
-          ∙ ap (λ (p : List Local × Expression). func.Inline p.0 p.1) (a.joins h g f j q);
-      still = ap (λ (p : List Local × Expression). func.Inline p.0 p.1) a.still;
-    }
+    let here = body_here u marks in
+    let types = asking (flat_map in_local locals) in
+    let names = declaring [] marks in
+    let body = in_expression here e in
+    ap (λ ps. asking (flat_map in_local (map (mapped_local f) locals)) ++ (declaring [] (ps ++ local_marks (map (mapped_local f) locals))
+    ++ in_expression (body_here (f.used OfItem u) (ps ++ local_marks (map (mapped_local f) locals))) (mapped_expression f here e))) (k u)
+    ∙ (ap (λ ms. asking (flat_map in_local (map (mapped_local f) locals)) ++ (declaring [] (params ++ ms) ++ in_expression (body_here (f.used OfItem u) (params ++ ms)) (mapped_expression f here e))) (marks_still f locals)
+    ∙ (ap (λ z. z ++ (names ++ in_expression (mapped_here f here) (mapped_expression f here e))) ((locals_at locals).stands f k)
+    ∙ (ap (λ z. map (mapped_site f) types ++ (names ++ z)) (expression_stands f k here e)
+    ∙ (ap (λ z. map (mapped_site f) types ++ (z ++ map (mapped_site f) body)) (sym (declaring_still f [] marks))
+    ∙ (ap (λ z. map (mapped_site f) types ++ z) (sym (map-append (mapped_site f) names body)) ∙ sym (map-append (mapped_site f) types (names ++ body)))))))
+
+kind_joins : (x g f : Change) → AreJoint x g f → (u : TypeUse FunctionType) (k : FuncKind) → Each (Joins x g f) (in_func_kind u k) → mapped_func_kind g (x.used OfItem u) (mapped_func_kind x u k) ≡ mapped_func_kind f u k
+kind_joins x g f j u (func.Import import exact) q = refl
+kind_joins x g f j u (func.Inline locals e) q =
+    let params = param_marks u.inline in
+    let marks = params ++ local_marks locals in
+    let here = body_here u marks in
+    let types = asking (flat_map in_local locals) in
+    let names = declaring [] marks in
+    let body = in_expression here e in
+    let rest = each_rest (Joins x g f) types (names ++ body) q in
+    ap (λ ps. func.Inline (map (mapped_local g) (map (mapped_local x) locals)) (mapped_expression g (body_here (x.used OfItem u) (ps ++ local_marks (map (mapped_local x) locals))) (mapped_expression x here e))) (j.keeps u)
+    ∙ (ap (λ ms. func.Inline (map (mapped_local g) (map (mapped_local x) locals)) (mapped_expression g (body_here (x.used OfItem u) (params ++ ms)) (mapped_expression x here e))) (marks_still x locals)
+    ∙ (λ t. func.Inline ((locals_at locals).joins x g f j (each_first (Joins x g f) types (names ++ body) q) t) (expression_joins x g f j here e (each_rest (Joins x g f) names body rest) t)))
+
+kind_still : (u : TypeUse FunctionType) (k : FuncKind) → mapped_func_kind same u k ≡ k
+kind_still u (func.Import import exact) = refl
+kind_still u (func.Inline locals e) = λ t. func.Inline ((locals_at locals).still t) (expression_still (body_here u (param_marks u.inline ++ local_marks locals)) e t)
 
 func_at : (x : Func) → At in_func mapped_func x
 func_at x =
-    let params = param_marks x.ty.inline in
-    let a = func_kind_at params x.kind in
     record {
-      stands = λ f k. ap (λ ps. in_use (f.used x.ty) ++ in_func_kind ps (mapped_func_kind f params x.kind)) (k x.ty) ∙ ap (λ z. in_use (f.used x.ty) ++ z) (a.stands f k);
-      joins = λ h g f j e t. record x {
-        id = j.ids x.id t;
-        ty = e.0 t;
-        kind = (ap (λ ps. mapped_func_kind g ps (mapped_func_kind h params x.kind)) (j.keeps x.ty) ∙ a.joins h g f j e.1) t;
-      };
-      still = λ t. record x { kind = a.still t };
+      stands = λ f k. ap (λ z. in_use OfItem (f.used OfItem x.ty) ++ z) (kind_stands f k x.ty x.kind);
+      joins = λ h g f j e t. record x { id = j.ids x.id t; ty = e.0 t; kind = kind_joins h g f j x.ty x.kind e.1 t };
+      still = λ t. record x { kind = kind_still x.ty x.kind t };
     }
 
 item_kind_at : (k : ItemKind) → At in_item_kind mapped_item_kind k
-item_kind_at (kind.Func u) = made_at kind.Func (λ y. refl) (λ f y. refl) u (use_at u)
+item_kind_at (kind.Func u) = made_at kind.Func (λ y. refl) (λ f y. refl) u (use_at OfItem u)
 item_kind_at (kind.Table t) = made_at kind.Table (λ y. refl) (λ f y. refl) t (asked_at t (table_type_at t))
 item_kind_at (kind.Memory t) = fixed_at (kind.Memory t) (λ f. refl) (λ f. refl)
 item_kind_at (kind.Global t) = made_at kind.Global (λ y. refl) (λ f y. refl) t (asked_at t (global_type_at t))

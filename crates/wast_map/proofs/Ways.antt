@@ -3,8 +3,9 @@ use Rattle.std.specs.Prelude.{⊤, Option, Some, None, option_map}
 use Rattle.std.proofs.Common.{◌≡◌, List, [], ◌∷◌, ◌++◌, refl, sym, ap, ◌∙◌, subst, map}
 use Rattle.std.specs.List.{flat_map}
 use Rattle.std.proofs.lemmas.List.{map-append}
+use Rattle.wast_base.specs.Blocks.{Blocks}
 use Rattle.wast_map.specs.Tree.{Id, Index, Space, TypeUse, FunctionType}
-use Rattle.wast_tree.specs.Sites.{Ask, Wants, Site, Asked, Used, asking, in_index, at_index, if_there, in_id, in_use}
+use Rattle.wast_tree.specs.Sites.{Ask, Wants, Where, Site, Asked, Used, asking, in_index, at_index, at_label, if_there, in_id, in_use}
 use Rattle.wast_map.specs.Mapped.{Change, same, mapped_ask, mapped_site, KeepsMarks, JoinsAsk, Joins, AreJoint, Each}
 
 pub each_first : {S : Type 0} (p : S → Type 0) (xs ys : List S) → Each p (xs ++ ys) → Each p xs
@@ -39,8 +40,12 @@ pub mark_in : (o : Option Id) → In (if_there in_id) (λ f o. o) o
 mark_in None = record { stands = λ f k. refl; joins = λ h g f j e. refl; still = refl }
 mark_in (Some id) = record { stands = λ f k. refl; joins = λ h g f j e. refl; still = refl }
 
-pub use_at : (u : TypeUse FunctionType) → At in_use (λ f u. f.used u) u
-use_at u = record { stands = λ f k. refl; joins = λ h g f j e. e.0; still = refl }
+pub use_at : (w : Where) (u : TypeUse FunctionType) → At (in_use w) (λ f u. f.used w u) u
+use_at w u = record { stands = λ f k. refl; joins = λ h g f j e. e.0; still = refl }
+
+-- an index of a label
+pub label_at : (blocks : Blocks) (l : Index) → At (at_label blocks) (λ f. f.label blocks) l
+label_at blocks l = record { stands = λ f k. refl; joins = λ h g f j e. e.0; still = refl }
 
 -- a part that stands in a type stands in a field
 asked_stands : (f : Change) (xs : List Ask) → asking (map (mapped_ask f.index) xs) ≡ map (mapped_site f) (asking xs)

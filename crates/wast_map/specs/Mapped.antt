@@ -1,8 +1,9 @@
 -- The one map over the tree: what each index, each type use and each id of an item becomes (text format: indices, type
 -- uses, identifiers).
 use Rattle.std.specs.Prelude.{⊤, ◌≡◌, List, [], ◌∷◌, ◌++◌, map, Option, option_map}
+use Rattle.wast_base.specs.Blocks.{Blocks, closed}
 use Rattle.wast_base.specs.Ids.{Mark}
-use Rattle.wast_map.specs.Tree.{Id, Index, NameAnnotation, Space, RefType, HeapType, ValType, StorageType, StructField, StructType, ArrayType, FunctionType, TypeUse, InnerTypeKind, TypeDef, Rec, TableArg, MemoryArg, MemoryInit, MemoryCopy, TableInit, TableCopy, SelectTypes, MemArg, MemArgTarget, Instruction, Expression, TableType, GlobalType, TagType, Imports, ImportItems, ItemSig, ItemKind, Local, FuncKind, Func, Table, TableKind, Memory, Global, GlobalKind, Tag, Elem, ElemKind, ElemPayload, Data, DataKind, Export, ModuleField}
+use Rattle.wast_map.specs.Tree.{Id, Index, NameAnnotation, Space, RefType, HeapType, ValType, StorageType, StructField, StructType, ArrayType, FunctionType, TypeUse, InnerTypeKind, TypeDef, Rec, BlockType, BrTableIndices, TryTable, TryTableCatch, TryTableCatchKind, TableArg, MemoryArg, MemoryInit, MemoryCopy, TableInit, TableCopy, CallIndirect, SelectTypes, MemArg, MemArgTarget, Instruction, Expression, TableType, GlobalType, TagType, Imports, ImportItems, ItemSig, ItemKind, Local, FuncKind, Func, Table, TableKind, Memory, Global, GlobalKind, Tag, Elem, ElemKind, ElemPayload, Data, DataKind, Export, ModuleField}
 use Rattle.wast_map.specs.Tree.space
 use Rattle.wast_map.specs.Tree.heap
 use Rattle.wast_map.specs.Tree.value
@@ -10,6 +11,7 @@ use Rattle.wast_map.specs.Tree.storage
 use Rattle.wast_map.specs.Tree.inner
 use Rattle.wast_map.specs.Tree.ty
 use Rattle.wast_map.specs.Tree.target
+use Rattle.wast_map.specs.Tree.caught
 use Rattle.wast_map.specs.Tree.instr
 use Rattle.wast_map.specs.Tree.func
 use Rattle.wast_map.specs.Tree.tag
@@ -21,7 +23,7 @@ use Rattle.wast_map.specs.Tree.elem
 use Rattle.wast_map.specs.Tree.payload
 use Rattle.wast_map.specs.Tree.data_kind
 use Rattle.wast_map.specs.Tree.field
-use Rattle.wast_tree.specs.Sites.{Here, start, behind, param_marks, local_marks, body_here, exported_space, Ask, Wants, Unasked, Clause, Supported, Site, Asked, Used, Declared}
+use Rattle.wast_tree.specs.Sites.{Locals, Here, start, behind, param_marks, local_marks, body_here, exported_space, Ask, Wants, Within, Unasked, Clause, Supported, Where, OfItem, OfCall, OfBlock, Site, Asked, Used, Declared, LocalAt, LabelAt, Repeated, Begins, Ends}
 
 -- what an index becomes where one of a space is wanted
 abbrev pub Indices : Type 0
@@ -30,18 +32,36 @@ Indices = Space → Index → Index
 -- what an index, a type use and the id of an item become
 pub record Change : Type 0 where
   pub index : Indices
-  -- a type use, with what stands in it
-  pub used : TypeUse FunctionType → TypeUse FunctionType
+  -- a type use, with what stands in it, by where it stands
+  pub used : Where → TypeUse FunctionType → TypeUse FunctionType
+  -- an index of a local, among these
+  pub local : Locals → Index → Index
+  -- an index of a label, where these blocks are open
+  pub label : Blocks → Index → Index
   -- the id of an item
   pub id : Option Id → Option Id
 
+-- the locals of a body whose function is changed
+abbrev pub mapped_locals : Change → Locals → Locals
+mapped_locals f l = record l { owner = option_map (f.used OfItem) l.owner }
+
+-- where an instruction stands, in such a body
+abbrev pub mapped_here : Change → Here → Here
+mapped_here f h = record h { locals = mapped_locals f h.locals }
+
 -- nothing changes
 abbrev pub same : Change
-same = record { index = λ s i. i; used = λ u. u; id = λ o. o }
+same = record { index = λ s i. i; used = λ w u. u; local = λ l i. i; label = λ b i. i; id = λ o. o }
 
 -- one after the other
 abbrev pub then : Change → Change → Change
-then h g = record { index = λ s i. g.index s (h.index s i); used = λ u. g.used (h.used u); id = λ o. g.id (h.id o) }
+then h g = record {
+  index = λ s i. g.index s (h.index s i);
+  used = λ w u. g.used w (h.used w u);
+  local = λ l i. g.local (mapped_locals h l) (h.local l i);
+  label = λ b i. g.label b (h.label b i);
+  id = λ o. g.id (h.id o);
+}
 
 -- Types.
 abbrev pub mapped_heap : Indices → HeapType → HeapType
@@ -120,7 +140,7 @@ mapped_global_type f t = record t { ty = mapped_val f t.ty }
 
 -- a tag type
 abbrev pub mapped_tag_type : Change → TagType → TagType
-mapped_tag_type f (tag.Exception u) = tag.Exception (f.used u)
+mapped_tag_type f (tag.Exception u) = tag.Exception (f.used OfItem u)
 
 -- the table or the memory of an instruction
 abbrev pub mapped_table_arg : Indices → TableArg → TableArg
@@ -153,17 +173,62 @@ mapped_mem_arg f m = record m { target = mapped_target f m.target }
 abbrev pub mapped_select : Indices → SelectTypes → SelectTypes
 mapped_select f t = record { tys = option_map (map (mapped_val f)) t.tys }
 
+-- the table and the type of an indirect call
+abbrev pub mapped_indirect : Change → CallIndirect → CallIndirect
+mapped_indirect f c = record { table = f.index space.Table c.table; ty = f.used OfCall c.ty }
+
+-- the type of a block
+abbrev pub mapped_block : Change → BlockType → BlockType
+mapped_block f b = record b { ty = f.used OfBlock b.ty }
+
+-- what a clause of `try_table` catches, and where it goes
+abbrev pub mapped_caught : Indices → TryTableCatchKind → TryTableCatchKind
+mapped_caught f (caught.Catch e) = caught.Catch (f space.Tag e)
+mapped_caught f (caught.CatchRef e) = caught.CatchRef (f space.Tag e)
+mapped_caught f caught.CatchAll = caught.CatchAll
+mapped_caught f caught.CatchAllRef = caught.CatchAllRef
+
+abbrev pub mapped_catch : Change → Blocks → TryTableCatch → TryTableCatch
+mapped_catch f blocks c = record { kind = mapped_caught f.index c.kind; label = f.label blocks c.label }
+
+-- a block that catches
+abbrev pub mapped_try_table : Change → Blocks → TryTable → TryTable
+mapped_try_table f blocks t = record { block = mapped_block f t.block; catches = map (mapped_catch f blocks) t.catches }
+
+-- the labels of `br_table`
+abbrev pub mapped_br_table : Change → Blocks → BrTableIndices → BrTableIndices
+mapped_br_table f blocks t = record { labels = map (f.label blocks) t.labels; default = f.label blocks t.default }
+
 -- Bodies: each instruction from where it stands.
 abbrev pub mapped_instr : Change → Here → Instruction → Instruction
 mapped_instr f h (instr.Plain op) = instr.Plain op
 mapped_instr f h (instr.Mem op m) = instr.Mem op (mapped_mem_arg f.index m)
+mapped_instr f h (instr.block b) = instr.block (mapped_block f b)
+mapped_instr f h (instr.loop_ b) = instr.loop_ (mapped_block f b)
+mapped_instr f h (instr.if_ b) = instr.if_ (mapped_block f b)
+mapped_instr f h (instr.else_ label) = instr.else_ label
+mapped_instr f h (instr.try_ b) = instr.try_ (mapped_block f b)
+mapped_instr f h (instr.try_table t) = instr.try_table (mapped_try_table f h.blocks t)
+mapped_instr f h (instr.end_ label) = instr.end_ label
+mapped_instr f h (instr.delegate l) = instr.delegate (f.label (closed h.blocks) l)
+mapped_instr f h (instr.br l) = instr.br (f.label h.blocks l)
+mapped_instr f h (instr.br_if l) = instr.br_if (f.label h.blocks l)
+mapped_instr f h (instr.br_table t) = instr.br_table (mapped_br_table f h.blocks t)
+mapped_instr f h (instr.br_on_null l) = instr.br_on_null (f.label h.blocks l)
+mapped_instr f h (instr.br_on_non_null l) = instr.br_on_non_null (f.label h.blocks l)
+mapped_instr f h (instr.rethrow l) = instr.rethrow (f.label h.blocks l)
 mapped_instr f h (instr.catch i) = instr.catch (f.index space.Tag i)
 mapped_instr f h (instr.throw i) = instr.throw (f.index space.Tag i)
 mapped_instr f h (instr.call i) = instr.call (f.index space.Func i)
 mapped_instr f h (instr.return_call i) = instr.return_call (f.index space.Func i)
+mapped_instr f h (instr.call_indirect c) = instr.call_indirect (mapped_indirect f c)
+mapped_instr f h (instr.return_call_indirect c) = instr.return_call_indirect (mapped_indirect f c)
 mapped_instr f h (instr.call_ref i) = instr.call_ref (f.index space.Ty i)
 mapped_instr f h (instr.return_call_ref i) = instr.return_call_ref (f.index space.Ty i)
 mapped_instr f h (instr.select a) = instr.select (mapped_select f.index a)
+mapped_instr f h (instr.local_get i) = instr.local_get (f.local h.locals i)
+mapped_instr f h (instr.local_set i) = instr.local_set (f.local h.locals i)
+mapped_instr f h (instr.local_tee i) = instr.local_tee (f.local h.locals i)
 mapped_instr f h (instr.global_get i) = instr.global_get (f.index space.Global i)
 mapped_instr f h (instr.global_set i) = instr.global_set (f.index space.Global i)
 mapped_instr f h (instr.table_get a) = instr.table_get (mapped_table_arg f.index a)
@@ -204,18 +269,18 @@ mapped_constant f e = mapped_expression f start e
 abbrev pub mapped_local : Change → Local → Local
 mapped_local f l = record l { ty = mapped_val f.index l.ty }
 
--- behind these parameters
-abbrev pub mapped_func_kind : Change → List (Option Mark) → FuncKind → FuncKind
-mapped_func_kind f params (func.Import import exact) = func.Import import exact
-mapped_func_kind f params (func.Inline locals e) = func.Inline (map (mapped_local f) locals) (mapped_expression f (body_here (params ++ local_marks locals)) e)
+-- behind a type use
+abbrev pub mapped_func_kind : Change → TypeUse FunctionType → FuncKind → FuncKind
+mapped_func_kind f u (func.Import import exact) = func.Import import exact
+mapped_func_kind f u (func.Inline locals e) = func.Inline (map (mapped_local f) locals) (mapped_expression f (body_here u (param_marks u.inline ++ local_marks locals)) e)
 
 -- a function
 abbrev pub mapped_func : Change → Func → Func
-mapped_func f x = record x { id = f.id x.id; kind = mapped_func_kind f (param_marks x.ty.inline) x.kind; ty = f.used x.ty }
+mapped_func f x = record x { id = f.id x.id; kind = mapped_func_kind f x.ty x.kind; ty = f.used OfItem x.ty }
 
 -- what is imported: its type
 abbrev pub mapped_item_kind : Change → ItemKind → ItemKind
-mapped_item_kind f (kind.Func u) = kind.Func (f.used u)
+mapped_item_kind f (kind.Func u) = kind.Func (f.used OfItem u)
 mapped_item_kind f (kind.Table t) = kind.Table (mapped_table_type f.index t)
 mapped_item_kind f (kind.Memory t) = kind.Memory t
 mapped_item_kind f (kind.Global t) = kind.Global (mapped_global_type f.index t)
@@ -306,6 +371,7 @@ mapped f (field.Tag t) = field.Tag (mapped_tag f t)
 -- What stands in a mapped part.
 abbrev pub mapped_ask : Indices → Ask → Ask
 mapped_ask f (Wants s i) = Wants s (f s i)
+mapped_ask f (Within i) = Within i
 mapped_ask f (Unasked m) = Unasked m
 mapped_ask f (Clause n holds) = Clause n holds
 mapped_ask f (Supported holds) = Supported holds
@@ -313,16 +379,22 @@ mapped_ask f (Supported holds) = Supported holds
 -- a site
 abbrev pub mapped_site : Change → Site → Site
 mapped_site f (Asked a) = Asked (mapped_ask f.index a)
-mapped_site f (Used u) = Used (f.used u)
+mapped_site f (Used w u) = Used w (f.used w u)
 mapped_site f (Declared before m) = Declared before m
+mapped_site f (LocalAt locals i) = LocalAt (mapped_locals f locals) (f.local locals i)
+mapped_site f (LabelAt blocks i) = LabelAt blocks (f.label blocks i)
+mapped_site f (Repeated blocks m) = Repeated blocks m
+mapped_site f (Begins blocks m) = Begins blocks m
+mapped_site f Ends = Ends
 
--- A change keeps the ids of the parameters in a type use.
+-- A change keeps the ids of the parameters in the type use of an item: a body stands behind these.
 abbrev pub KeepsMarks : Change → Type 0
-KeepsMarks f = (u : TypeUse FunctionType) → param_marks (f.used u).inline ≡ param_marks u.inline
+KeepsMarks f = (u : TypeUse FunctionType) → param_marks (f.used OfItem u).inline ≡ param_marks u.inline
 
 -- At a site, two changes after one another are a third.
 abbrev pub JoinsAsk : Indices → Indices → Indices → Ask → Type 0
 JoinsAsk h g f (Wants s i) = g s (h s i) ≡ f s i
+JoinsAsk h g f (Within i) = ⊤
 JoinsAsk h g f (Unasked m) = ⊤
 JoinsAsk h g f (Clause n holds) = ⊤
 JoinsAsk h g f (Supported holds) = ⊤
@@ -330,8 +402,13 @@ JoinsAsk h g f (Supported holds) = ⊤
 -- The same at a site.
 abbrev pub Joins : Change → Change → Change → Site → Type 0
 Joins h g f (Asked a) = JoinsAsk h.index g.index f.index a
-Joins h g f (Used u) = g.used (h.used u) ≡ f.used u
+Joins h g f (Used w u) = g.used w (h.used w u) ≡ f.used w u
 Joins h g f (Declared before m) = ⊤
+Joins h g f (LocalAt locals i) = g.local (mapped_locals h locals) (h.local locals i) ≡ f.local locals i
+Joins h g f (LabelAt blocks i) = g.label blocks (h.label blocks i) ≡ f.label blocks i
+Joins h g f (Repeated blocks m) = ⊤
+Joins h g f (Begins blocks m) = ⊤
+Joins h g f Ends = ⊤
 
 -- They are so at the ids of items, and the first keeps the ids of parameters.
 pub record AreJoint (h g f : Change) : Type 0 where

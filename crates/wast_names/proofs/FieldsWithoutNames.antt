@@ -71,10 +71,14 @@ no_items_elsewhere space.Ty (field.Ty t) h = cc
 no_items_elsewhere space.Ty (field.Rec r) h = cc
 no_items_elsewhere space.Ty f h = refl
 
--- types have no locals, and no parameters of tags
+-- types have no locals, no labels, and no parameters of tags
 no_locals_in : (types : List ty.«Type») → flat_map (lists_in_type within.Locals) types ≡ []
 no_locals_in [] = refl
 no_locals_in (t ∷ types) = no_locals_in types
+
+no_labels_in : (types : List ty.«Type») → flat_map (lists_in_type within.Labels) types ≡ []
+no_labels_in [] = refl
+no_labels_in (t ∷ types) = no_labels_in types
 
 no_tag_params_in : (types : List ty.«Type») → flat_map (lists_in_type within.TagParameters) types ≡ []
 no_tag_params_in [] = refl
@@ -100,6 +104,10 @@ no_lists_elsewhere fields within.Locals (field.Import i) h = cc
 no_lists_elsewhere fields within.Locals (field.Func x) h = cc
 no_lists_elsewhere fields within.Locals (field.Rec r) h = no_locals_in r.types
 no_lists_elsewhere fields within.Locals f h = refl
+no_lists_elsewhere fields within.Labels (field.Import i) h = cc
+no_lists_elsewhere fields within.Labels (field.Func x) h = cc
+no_lists_elsewhere fields within.Labels (field.Rec r) h = no_labels_in r.types
+no_lists_elsewhere fields within.Labels f h = refl
 no_lists_elsewhere fields within.Fields (field.Ty t) h = cc
 no_lists_elsewhere fields within.Fields (field.Rec r) h = cc
 no_lists_elsewhere fields within.Fields (field.Import i) h = no_fields_imported i.items

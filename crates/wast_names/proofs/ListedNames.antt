@@ -1,13 +1,13 @@
 -- Lists of names within items, as they are found, counted and written.
-use Rattle.std.proofs.Common.{◌≡◌, ◌<◌, ◌+◌, ℕ, zero, suc, List, [], ◌∷◌, ◌++◌, length, Option, Some, None, Result, refl, sym, ap, ◌∙◌, subst, arith, length-append, map, take, get_or}
+use Rattle.std.proofs.Common.{◌≡◌, ◌<◌, ◌≤◌, ◌+◌, ℕ, zero, suc, List, [], ◌∷◌, ◌++◌, length, Option, Some, None, Result, refl, sym, ap, ◌∙◌, subst, arith, length-append, map, take, get_or}
 use Rattle.std.specs.Prelude.{All, slice_get, option_map}
-use Rattle.std.proofs.lemmas.List.{length-map}
+use Rattle.std.proofs.lemmas.List.{length-map, take_all}
 use Rattle.std.specs.List.{flat_map}
 use Rattle.std.proofs.lemmas.Grind.{flat_map-append}
 use Rattle.std.proofs.lemmas.List.Concat.{flat_map_single, get_or-flat_map}
 use Rattle.std.proofs.lemmas.List.Folds.{length-flat_map-take}
 use Rattle.std.proofs.lemmas.List.Elements.{All-append}
-use Rattle.std.proofs.lemmas.Option.{slice_get-get_or}
+use Rattle.std.proofs.lemmas.Option.{slice_get-get_or, slice_get_past}
 use Rattle.wasm_ops.specs.declared.sink.Refusal.{Refusal}
 use Rattle.wasm_ops.specs.Sinks.{SinkRules, Writes}
 use Rattle.wasm_ops.proofs.Everywhere.{all_left, all_right}
@@ -75,3 +75,16 @@ found_in f xs i j x part d lt item is within =
     let inside : j < length (f (get_or xs i x)) = subst (λ p. j < length p) (sym here) within in
     slice_get-get_or (flat_map f xs) (length (flat_map f (take i xs)) + j) d (omega (arith, length-flat_map-take f xs i x lt))
     ∙ ap Some (get_or-flat_map f xs i j x d lt inside ∙ ap (λ p. get_or p j d) here)
+
+-- the same of what stands there, whatever element is read
+pub found_at : {A B : Type 0} (f : A → List B) (xs : List A) (i j : ℕ) (x : A) → i < length xs → x ≡ get_or xs i x → j < length (f x)
+    → slice_get (flat_map f xs) (length (flat_map f (take i xs)) + j) ≡ slice_get (f x) j
+found_at {B = B} f xs i j x lt item within = by_first (f x) refl within
+  where
+    by_first : (part : List B) → part ≡ f x → j < length part → slice_get (flat_map f xs) (length (flat_map f (take i xs)) + j) ≡ slice_get part j
+    by_first [] is inside = absurd (omega arith)
+    by_first (d ∷ ds) is inside = found_in f xs i j x (d ∷ ds) d lt item is inside ∙ sym (slice_get-get_or (d ∷ ds) j d inside)
+
+-- nothing stands behind the last part
+pub found_past : {A B : Type 0} (f : A → List B) (xs : List A) (i j k : ℕ) → length xs ≤ i → length (flat_map f (take i xs)) + j ≡ k → slice_get (flat_map f xs) k ≡ None
+found_past f xs i j k past is = slice_get_past (flat_map f xs) k (omega (arith, is, ap (λ ys. length (flat_map f ys)) (take_all i xs past)))

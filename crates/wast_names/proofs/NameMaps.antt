@@ -1,14 +1,15 @@
 -- Subsections of names, and the name section, as they are written.
-use Rattle.std.proofs.Common.{◌≡◌, ◌<◌, ◌+◌, ℕ, false, List, [], ◌∷◌, ◌++◌, length, Option, Result, Ok, refl, sym, ap, ◌∙◌, subst, arith, length-append, map}
+use Rattle.std.proofs.Common.{◌≡◌, ◌<◌, ◌≤◌, ◌+◌, ℕ, false, List, [], ◌∷◌, ◌++◌, length, Option, Result, Ok, Err, inl, inr, refl, sym, ap, ◌∙◌, subst, arith, length-append, map}
 use Rattle.std.specs.Prelude.{All, codes}
 use Rattle.std.specs.List.{flat_map}
 use Rattle.std.proofs.lemmas.Grind.{flat_map-append}
+use Rattle.std.proofs.lemmas.List.{append_assoc}
 use Rattle.std.proofs.lemmas.List.Elements.{All-nil, All-head, All-append}
 use Rattle.std.proofs.lemmas.List.Concat.{flat_map-cons}
 use Rattle.std.proofs.lemmas.List.Folds.{flat_map-map}
 use Rattle.wasm_ops.specs.declared.sink.Refusal.{Refusal}
 use Rattle.wasm_ops.specs.Leb128.{unsigned, unsigned_in}
-use Rattle.wasm_ops.specs.Spelling.{InRangeSized, InRangeU32, sized, InRangeName}
+use Rattle.wasm_ops.specs.Spelling.{InRangeSized, InRangeU32, sized, name, InRangeName}
 use Rattle.wasm_ops.specs.Sinks.{SinkRules, Writes, AppendLaws}
 use Rattle.wasm_ops.proofs.Everywhere.{all_left, all_right, all_one, flat_one, all_in_flat, all_of_flat, flat_in_flat}
 use Rattle.wasm_ops.proofs.Sinking.{written_as, one_written}
@@ -69,12 +70,44 @@ indirect_written rules a b of [] id r id_is p = written_as rules (Unit {0}) (All
 indirect_written rules a b of (e ∷ es) id r id_is p = subsection_written rules a b (record { of = of; content = Indirect (e ∷ es) }) id r id_is p
 
 -- some items, and those of each of a list
-pub all_written : {S A X Y : Type 0} (rules : SinkRules S) (spell : Y → List ℕ) (InRange : Y → Type 0) (f : X → List Y) (ys : List Y) (xs : List X) (a b : S) (r : Result A Refusal)
-    → Writes rules (All InRange ys × All (λ x. All InRange (f x)) xs) a b (flat_map spell ys ++ flat_map (λ x. flat_map spell (f x)) xs) r → Writes rules (All InRange (ys ++ flat_map f xs)) a b (flat_map spell (ys ++ flat_map f xs)) r
-all_written rules spell InRange f ys xs a b r p =
-    written_as rules (All InRange ys × All (λ x. All InRange (f x)) xs) (All InRange (ys ++ flat_map f xs)) a b (flat_map spell ys ++ flat_map (λ x. flat_map spell (f x)) xs) (flat_map spell (ys ++ flat_map f xs)) r
-    (λ h. All-append InRange ys (flat_map f xs) h.0 (all_in_flat InRange f xs h.1)) (λ h. (all_left InRange ys (flat_map f xs) h, all_of_flat InRange f xs (all_right InRange ys (flat_map f xs) h)))
-    (ap (λ z. flat_map spell ys ++ z) (flat_in_flat spell f xs) ∙ sym (flat_map-append spell ys (flat_map f xs))) p
+pub together : {X Y : Type 0} (spell : Y → List ℕ) (f : X → List Y) (ys : List Y) (xs : List X) → flat_map spell ys ++ flat_map (λ x. flat_map spell (f x)) xs ≡ flat_map spell (ys ++ flat_map f xs)
+together spell f ys xs = ap (λ z. flat_map spell ys ++ z) (flat_in_flat spell f xs) ∙ sym (flat_map-append spell ys (flat_map f xs))
+
+pub all_together : {X Y : Type 0} (InRange : Y → Type 0) (f : X → List Y) (ys : List Y) (xs : List X) → All InRange ys → All (λ x. All InRange (f x)) xs → All InRange (ys ++ flat_map f xs)
+all_together InRange f ys xs h k = All-append InRange ys (flat_map f xs) h (all_in_flat InRange f xs k)
+
+pub all_apart : {X Y : Type 0} (InRange : Y → Type 0) (f : X → List Y) (ys : List Y) (xs : List X) → All InRange (ys ++ flat_map f xs) → All InRange ys × All (λ x. All InRange (f x)) xs
+all_apart InRange f ys xs h = (all_left InRange ys (flat_map f xs) h, all_of_flat InRange f xs (all_right InRange ys (flat_map f xs) h))
+
+-- what was refused where more was to come
+pub front_refused : {S : Type 0} (rules : SinkRules S) (all part : Type 0) (a b : S) (x whole : List ℕ) (e : Refusal)
+    → AppendLaws rules → length x ≤ length whole → (all → part) → Writes {A = Unit {0}} rules part a b x (Err e) → Writes {A = Unit {0}} rules all a b whole (Err e)
+front_refused rules all part a b x whole e laws le has p = (
+  p.0,
+  elim p.1 [
+    | inl q ↦ inl (q.0, λ f. q.1 (laws.fits_less a (length x) (length whole) le f))
+    | inr q ↦ inr (q.0, λ h. q.1 (has h))
+  ],
+)
+
+-- the subsections behind the name of the section
+pub front_written : {S A X : Type 0} (rules : SinkRules S) (f : X → List NameSubsection) (ys : List NameSubsection) (xs : List X) (a b : S) (size : ℕ) (r : Result A Refusal)
+    → Writes rules ((Unit {0} × (InRangeU32 size × (InRangeName (codes "name") × All InRangeNameSubsection ys))) × All (λ x. All InRangeNameSubsection (f x)) xs) a b
+    ((0 ∷ (unsigned size ++ (name (codes "name") ++ flat_map name_subsection ys))) ++ flat_map (λ x. flat_map name_subsection (f x)) xs) r
+    → Writes rules (Unit {0} × (InRangeU32 size × (InRangeName (codes "name") × All InRangeNameSubsection (ys ++ flat_map f xs)))) a b
+    (0 ∷ (unsigned size ++ name_payload (flat_map name_subsection (ys ++ flat_map f xs)))) r
+front_written rules f ys xs a b size r p =
+    let all : Type 0 = All InRangeNameSubsection (ys ++ flat_map f xs) in
+    let first = flat_map name_subsection ys in
+    let rest = flat_map (λ x. flat_map name_subsection (f x)) xs in
+    let text = name (codes "name") in
+    written_as rules ((Unit {0} × (InRangeU32 size × (InRangeName (codes "name") × All InRangeNameSubsection ys))) × All (λ x. All InRangeNameSubsection (f x)) xs)
+    (Unit {0} × (InRangeU32 size × (InRangeName (codes "name") × all))) a b
+    ((0 ∷ (unsigned size ++ (text ++ first))) ++ rest) (0 ∷ (unsigned size ++ name_payload (flat_map name_subsection (ys ++ flat_map f xs)))) r
+    (λ h. (tt, (h.0.1.0, (h.0.1.1.0, all_together InRangeNameSubsection f ys xs h.0.1.1.1 h.1))))
+    (λ h. let apart = all_apart InRangeNameSubsection f ys xs h.1.1.1 in ((tt, (h.1.0, (h.1.1.0, apart.0))), apart.1))
+    (ap (λ z. 0 ∷ z) (append_assoc (unsigned size) (text ++ first) rest ∙ ap (λ z. unsigned size ++ z) (append_assoc text first rest ∙ ap (λ z. text ++ z) (together name_subsection f ys xs))))
+    p
 
 pub names_absent : {S : Type 0} (rules : SinkRules S) (a : S) (subsections : List NameSubsection) (size : ℕ) → AppendLaws rules → size ≡ length (names_payload_of subsections) → size ≡ 0
     → Writes {A = Unit {0}} rules (All InRangePart (names_part subsections) × All InRangeNameSubsection subsections) a a (flat_map part (names_part subsections)) (Ok tt)

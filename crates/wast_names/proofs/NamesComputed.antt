@@ -1,7 +1,7 @@
 -- The worked name sections, computed.
 use Rattle.std.proofs.Common.{refl}
 use Rattle.wasm_ops.specs.Leb128.{unsigned, unsigned_in}
-use Rattle.wast_names.specs.WorkedNames.{Row34, Row35, InlineParameter, SecondOfGroup, NoFunctionType, GeneratedField, NamedGlobal, ImportedFunction, EachSpace, ImportedParameter, TagParameter}
+use Rattle.wast_names.specs.WorkedNames.{Row34, Row35, InlineParameter, SecondOfGroup, NoFunctionType, GeneratedField, NamedGlobal, ImportedFunction, EachSpace, ImportedParameter, TagParameter, NamedLabels}
 
 pub row34 : Row34
 unfolding unsigned unsigned_in
@@ -46,3 +46,7 @@ imported_parameter a b c d e = refl
 pub tag_parameter : TagParameter
 unfolding unsigned unsigned_in
 tag_parameter a b c d = refl
+
+pub named_labels : NamedLabels
+unfolding unsigned unsigned_in
+named_labels a b c d e f = refl

@@ -26,6 +26,7 @@ has_items space.Ty f = is_either kind.Ty kind.Rec f
 -- whether a field can have lists of names within its items
 abbrev pub has_lists : Within → ModuleField → Bool
 has_lists within.Locals f = is_either kind.Import kind.Func f
+has_lists within.Labels f = is_either kind.Import kind.Func f
 has_lists within.Fields f = is_either kind.Ty kind.Rec f
 has_lists within.Parameters f = is_either kind.Ty kind.Rec f
 has_lists within.TagParameters f = is_either kind.Import kind.Tag f

@@ -15,7 +15,7 @@ use Rattle.wast_names.specs.declared.within.Lists.TheVariants as lists
 use Rattle.wast_names.specs.declared.within.Within.{Within}
 use Rattle.wast_names.specs.GivenNames.{named_from}
 use Rattle.wast_names.specs.ModuleNames.{type_name}
-use Rattle.wast_names.specs.WithinItems.{param_name, field_name, local_name, where_named, lists_in_type}
+use Rattle.wast_names.specs.WithinItems.{param_name, field_name, local_name, label_in, where_named, lists_in_type}
 use Rattle.wast_names.specs.Tree.{Space}
 
 -- a text that may be missing
@@ -61,6 +61,7 @@ abbrev pub names_listed : Listed → List (ℕ × List ℕ)
 names_listed (listed.Fields fields) = named_from 0 (flat_map (λ f. field_name f ∷ []) fields.now)
 names_listed (listed.Locals params first locals) =
     named_from 0 (flat_map (λ p. param_name p ∷ []) params.now) ++ named_from first (flat_map (λ l. local_name l ∷ []) locals.now)
+names_listed (listed.Labels instrs) = named_from 0 (flat_map label_in instrs.now)
 
 -- the item with this list, where one is found
 abbrev pub lists_found : Option Listed → List (Option (List (ℕ × List ℕ)))

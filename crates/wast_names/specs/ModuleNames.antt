@@ -76,6 +76,7 @@ indirect of (e ∷ es) = record { of = of; content = Indirect (e ∷ es) } ∷ [
 -- the subsection of the names of what stands within items
 abbrev pub named_within : Within → Named
 named_within within.Locals = named.Locals
+named_within within.Labels = named.Labels
 named_within within.Fields = named.Fields
 named_within within.Parameters = named.Parameters
 named_within within.TagParameters = named.TagParameters
@@ -99,6 +100,7 @@ abbrev pub name_maps : List NameMap
 name_maps =
     map_of.Items space.Func
     ∷ map_of.Within within.Locals
+    ∷ map_of.Within within.Labels
     ∷ map_of.Items space.Ty
     ∷ map_of.Items space.Table
     ∷ map_of.Items space.Memory

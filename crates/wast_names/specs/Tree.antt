@@ -16,6 +16,8 @@ pub use Rattle.wast_tree.specs.declared.types.TypeUse.{TypeUse}
 pub use Rattle.wast_tree.specs.declared.types.InnerTypeKind.{InnerTypeKind}
 pub use Rattle.wast_tree.specs.declared.types.InnerTypeKind.TheVariants as inner
 pub use Rattle.wast_tree.specs.declared.types.Type as ty
+pub use Rattle.wast_tree.specs.declared.immediates.BlockType.{BlockType}
+pub use Rattle.wast_tree.specs.declared.instrs.Instruction.{Instruction}
 pub use Rattle.wast_tree.specs.declared.instrs.Instruction.TheVariants as instr
 pub use Rattle.wast_tree.specs.declared.entities.TagType.{TagType}
 pub use Rattle.wast_tree.specs.declared.entities.TagType.TheVariants as tag

@@ -1,7 +1,7 @@
--- What stands within items and has names of its own: locals of functions, fields of structs, parameters of function types and of tags (custom sections, name section: indirect name maps).
+-- What stands within items and has names of its own: locals and labels of functions, fields of structs, parameters of function types and of tags (custom sections, name section: indirect name maps).
 use Rattle.std.specs.Prelude.{ℕ, List, [], ◌∷◌, ◌++◌, length, map, replicate, Option, Some, None, option_map, slice_get}
 use Rattle.std.specs.List.{flat_map}
-use Rattle.wast_names.specs.Tree.{Id, Index, NameAnnotation, ValType, StructField, FunctionType, TypeUse, InnerTypeKind, Local, FuncKind, Func, TagType, ItemKind, ImportItems, ModuleField}
+use Rattle.wast_names.specs.Tree.{Id, Index, NameAnnotation, ValType, StructField, FunctionType, TypeUse, InnerTypeKind, BlockType, Instruction, Local, FuncKind, Func, TagType, ItemKind, ImportItems, ModuleField}
 use Rattle.wast_names.specs.Tree.index
 use Rattle.wast_names.specs.Tree.inner
 use Rattle.wast_names.specs.Tree.ty
@@ -12,6 +12,7 @@ use Rattle.wast_names.specs.Tree.kind
 use Rattle.wast_names.specs.Tree.field
 use Rattle.wast_names.specs.declared.within.Within.{Within}
 use Rattle.wast_names.specs.declared.within.Within.TheVariants as within
+use Rattle.wast_tree.specs.Instrs.{block_of}
 use Rattle.wast_names.specs.GivenNames.{given_name, named_from}
 
 -- the name of a parameter
@@ -25,6 +26,19 @@ field_name f = given_name f.name f.id
 -- the name of a local
 abbrev pub local_name : Local → Option (List ℕ)
 local_name l = given_name l.name l.id
+
+-- the name of the label of a block
+abbrev pub label_name : BlockType → Option (List ℕ)
+label_name b = given_name b.label_name b.label
+
+-- the label of the block that an instruction opens, where it opens one
+abbrev pub label_if : Option BlockType → List (Option (List ℕ))
+label_if None = []
+label_if (Some b) = label_name b ∷ []
+
+-- the same of the instruction
+abbrev pub label_in : Instruction → List (Option (List ℕ))
+label_in i = label_if (block_of i)
 
 -- the names of the fields of a struct type
 abbrev pub field_names_of : InnerTypeKind → List (Option (List ℕ))
@@ -97,6 +111,11 @@ behind (Some params) locals = params ++ locals
 abbrev pub locals_of : List ModuleField → Func → List (Option (List ℕ))
 locals_of fields f = behind (params_used fields f.ty) (locals_in f.kind)
 
+-- the labels of a function: those of all that opens a block, in the order of the body
+abbrev pub labels_in : FuncKind → List (Option (List ℕ))
+labels_in (func.Import import exact) = []
+labels_in (func.Inline locals e) = flat_map label_in e.instrs
+
 -- the parameters of the inline type of a type use, where it has one
 abbrev pub params_if : Option FunctionType → List (Option (List ℕ))
 params_if None = []
@@ -122,6 +141,7 @@ list_of names = where_named (named_from 0 names)
 -- the list of names within a type
 abbrev pub lists_in_type : Within → ty.«Type» → List (Option (List (ℕ × List ℕ)))
 lists_in_type within.Locals t = []
+lists_in_type within.Labels t = []
 lists_in_type within.Fields t = list_of (field_names_of t.def.kind) ∷ []
 lists_in_type within.Parameters t = list_of (param_names_of t.def.kind) ∷ []
 lists_in_type within.TagParameters t = []
@@ -129,6 +149,7 @@ lists_in_type within.TagParameters t = []
 -- within a function
 abbrev pub lists_in_func : List ModuleField → Within → Func → List (Option (List (ℕ × List ℕ)))
 lists_in_func fields within.Locals f = list_of (locals_of fields f) ∷ []
+lists_in_func fields within.Labels f = list_of (labels_in f.kind) ∷ []
 lists_in_func fields within.Fields f = []
 lists_in_func fields within.Parameters f = []
 lists_in_func fields within.TagParameters f = []
@@ -136,13 +157,15 @@ lists_in_func fields within.TagParameters f = []
 -- within a tag
 abbrev pub lists_in_tag : Within → TagType → List (Option (List (ℕ × List ℕ)))
 lists_in_tag within.Locals t = []
+lists_in_tag within.Labels t = []
 lists_in_tag within.Fields t = []
 lists_in_tag within.Parameters t = []
 lists_in_tag within.TagParameters t = list_of (tag_params t) ∷ []
 
--- within an imported function: those of its inline type
+-- within an imported function: the parameters of its inline type; it has a position among functions, and no labels
 abbrev pub lists_in_imported_func : Within → TypeUse FunctionType → List (Option (List (ℕ × List ℕ)))
 lists_in_imported_func within.Locals u = list_of (inline_params u) ∷ []
+lists_in_imported_func within.Labels u = None ∷ []
 lists_in_imported_func within.Fields u = []
 lists_in_imported_func within.Parameters u = []
 lists_in_imported_func within.TagParameters u = []
@@ -150,6 +173,7 @@ lists_in_imported_func within.TagParameters u = []
 -- within an imported tag, which has a position, and no list
 abbrev pub lists_in_imported_tag : Within → List (Option (List (ℕ × List ℕ)))
 lists_in_imported_tag within.Locals = []
+lists_in_imported_tag within.Labels = []
 lists_in_imported_tag within.Fields = []
 lists_in_imported_tag within.Parameters = []
 lists_in_imported_tag within.TagParameters = None ∷ []

@@ -1,4 +1,4 @@
--- Name sections of small modules, computed: names of items of each space, of locals, of fields and of parameters. A text may lie anywhere in memory.
+-- Name sections of small modules, computed: names of items of each space, of locals, of labels, of fields and of parameters. A text may lie anywhere in memory.
 use Rattle.std.specs.Prelude.{◌≡◌, ℕ, ◌+◌, negsuc, true, false, List, [], ◌∷◌, Option, Some, None, length, codes}
 use Rattle.std.specs.List.{flat_map}
 use Rattle.wasm_out.specs.Parts.{part}
@@ -6,7 +6,7 @@ use Rattle.wast_base.specs.Ids.{generated}
 use Rattle.wast_tree.specs.WorkedModules.{Address, text, place, id_at, by_number, plain_def, plain_type, plain_func, plain_memory}
 use Rattle.wast_names.specs.NamesPart.{names_part}
 use Rattle.wast_names.specs.ModuleNames.{name_subsections}
-use Rattle.wast_names.specs.Tree.{Id, NameAnnotation, ValType, FunctionType, TypeUse, InnerTypeKind, Local, ItemKind, ModuleField}
+use Rattle.wast_names.specs.Tree.{Id, NameAnnotation, ValType, FunctionType, TypeUse, InnerTypeKind, BlockType, Instruction, Local, ItemKind, ModuleField}
 use Rattle.wast_names.specs.Tree.ty
 use Rattle.wast_names.specs.Tree.value as val
 use Rattle.wast_names.specs.Tree.storage
@@ -167,3 +167,21 @@ abbrev pub TagParameter : Type 0
 TagParameter = (a b c d : Address) →
     HasNames (takes_i32 ∷ import_of None (kind.Tag (tag.Exception (typed (Some (takes (i32_param (id_of c (codes "p") 73) None ∷ [])))))) a b ∷ tag_with None (Some (takes (i32_param (id_of d (codes "q") 107) None ∷ []))) ∷ [])
     (0x0d ∷ 0x06 ∷ 0x01 ∷ 0x01 ∷ 0x01 ∷ 0x00 ∷ 0x01 ∷ 0x71 ∷ [])
+
+-- what `block ..` opens
+abbrev pub labelled : Option Id → Option NameAnnotation → BlockType
+labelled id name = record { label = id; label_name = name; ty = record { index = None; inline = None } }
+
+-- `(func (type 0) ..)` of these instructions
+abbrev pub func_of : List Instruction → ModuleField
+func_of is = field.Func (plain_func None 40 (by_number 0 51) is)
+
+-- `(module (type (func)) (import "m" "n" (func (type 0))) (func (type 0) block $a block loop $b (@name "c") end end try_table $d end end))`: an opener without a label has a position, as an imported function has one, and a generated id is no name
+abbrev pub NamedLabels : Type 0
+NamedLabels = (a b c d e f : Address) →
+    HasNames (field.Ty (type_of None (inner.Func (takes []))) ∷ import_of None (kind.Func (typed None)) a b
+    ∷ func_of (instr.block (labelled (id_of c (codes "a") 70) None) ∷ instr.block (labelled (Some (generated 7 (place 75))) None)
+    ∷ instr.loop_ (labelled (id_of d (codes "b") 80) (Some (record { name = text e (codes "c") }))) ∷ instr.end_ None ∷ instr.end_ None
+    ∷ instr.try_table (record { block = labelled (id_of f (codes "d") 99) None; catches = [] }) ∷ instr.end_ None ∷ instr.end_ None ∷ [])
+    ∷ [])
+    (0x03 ∷ 0x0c ∷ 0x01 ∷ 0x01 ∷ 0x03 ∷ 0x00 ∷ 0x01 ∷ 0x61 ∷ 0x02 ∷ 0x01 ∷ 0x63 ∷ 0x03 ∷ 0x01 ∷ 0x64 ∷ [])

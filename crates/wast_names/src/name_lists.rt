@@ -1,17 +1,17 @@
-//! Lists of what has names: fields of structs, and parameters and locals.
+//! Lists of what has names: fields of structs, parameters and locals, and labels.
 
-ghost use Rattle.std.specs.Prelude.{◌≡◌, ◌+◌, ℕ, [], length, true, All, IfOk};
+ghost use Rattle.std.specs.Prelude.{◌≡◌, ◌+◌, ℕ, List, [], length, true, All, IfOk};
 ghost use Rattle.std.specs.List.{flat_map};
 ghost use Rattle.wasm_out.specs.NameSectionBytes.{map_entry, name_entry, InRangeMapEntry, InRangeNameEntry};
 ghost use Rattle.wasm_ops.specs.Spelling.{vec, InRangeVec};
 ghost use Rattle.wast_names.specs.GivenNames.{named_from};
 ghost use Rattle.wast_names.specs.FoundNames.{counted, names_listed, lists_found, WritesItems};
-ghost use Rattle.wast_names.specs.WithinItems.{param_name, field_name, local_name};
+ghost use Rattle.wast_names.specs.WithinItems.{param_name, field_name, local_name, label_in};
 
-use crate::name_maps::{Entries, HasName, Own, count_each, put_entry};
+use crate::name_maps::{Entries, HasName, NameItems, Own, count_each, put_entry, put_name};
 use crate::names_payload::given_name;
 use wasm_ops::{Encode, Refusal, Sink};
-use wast_tree::{Id, Local, NameAnnotation, StructField, ValType};
+use wast_tree::{Id, Instruction, Local, NameAnnotation, StructField, ValType};
 
 type Param<'a> = (Option<Id<'a>>, Option<NameAnnotation<'a>>, ValType<'a>);
 
@@ -39,6 +39,39 @@ impl HasName for Local<'_> {
     }
 }
 
+/// The way to see an instruction that opens a block as an item with the name of its label.
+#[derive(Clone, Copy)]
+struct Openers;
+
+impl<'a> NameItems<Instruction<'a>> for Openers {
+    ghost Entry = { List ℕ };
+
+    ghost items = { λ _ i. label_in i };
+
+    ghost entry = { name_entry };
+
+    ghost in_range = { InRangeNameEntry };
+
+    fn count(&self, part: &Instruction<'a>) -> u64 {
+        match part.block_type() {
+            Some(block) => u64::from(given_name(&block.label_name, &block.label).is_some()),
+            None => 0,
+        }
+    }
+
+    fn put<S: Sink>(
+        &self,
+        part: &Instruction<'a>,
+        position: u64,
+        out: &mut S,
+    ) -> Result<u64, Refusal> {
+        match part.block_type() {
+            Some(block) => put_name(position, given_name(&block.label_name, &block.label), out),
+            None => Ok(position),
+        }
+    }
+}
+
 /// A list of what has names.
 #[derive(Clone, Copy)]
 pub(crate) enum Listed<'b, 'a> {
@@ -46,6 +79,8 @@ pub(crate) enum Listed<'b, 'a> {
     Fields(&'b [StructField<'a>]),
     /// Parameters from 0 on, and locals from a position on.
     Locals(&'b [Param<'a>], u64, &'b [Local<'a>]),
+    /// Labels of the blocks that instructions open.
+    Labels(&'b [Instruction<'a>]),
 }
 
 /// How many in a list have a name.
@@ -57,6 +92,7 @@ fn count_listed(listed: Listed) -> u64
         Listed::Locals(params, _, locals) => {
             count_each(&Own, params).saturating_add(count_each(&Own, locals))
         }
+        Listed::Labels(instrs) => count_each(&Openers, instrs),
     }
 }
 
@@ -92,6 +128,12 @@ impl Encode for ListedNames<'_, '_> {
                 };
                 (params, locals).encode(out)
             }
+            Listed::Labels(parts) => Entries {
+                way: Openers,
+                first: 0,
+                parts,
+            }
+            .encode(out),
         }
     }
 }

@@ -116,11 +116,11 @@ impl<T, W: NameItems<T>> Encode for Entries<'_, T, W> {
 }
 
 /// A map as a subsection of this id, where it has entries.
-pub(crate) fn put_map<T, W: NameItems<T> + Copy, S: Sink>(
+pub(crate) fn put_map<'b, T, W: NameItems<T> + Copy, S: Sink>(
     id: u8,
     way: W,
-    parts: &[T],
-    out: &mut S,
+    parts: &'b [T],
+    out: &'b mut S,
 ) -> Result<(), Refusal>
     ensures { Writes S.rules (InRangeMap W.entry W.in_range (named_from 0 (flat_map (W.items way) parts.now)))
         out.old out.new (map_bytes id W.entry (named_from 0 (flat_map (W.items way) parts.now))) result }

@@ -46,7 +46,8 @@ pub(crate) fn with_items<'b, 'a>(
     requires { IsTrue (are_reaches fields.now reaches.now) }
     ensures { flat_map (names_given space) result.now ≡ flat_map (names_given space) fields.now }
 {
-    reach_of(space, reaches).of(fields)
+    let reach = reach_of(space, reaches);
+    &fields[reach.first..reach.end]
 }
 
 /// Where the fields stand within whose items such lists can stand.
@@ -55,7 +56,7 @@ fn reach_within(within: Within, reaches: &Reaches) -> Reach
         → IsTrue (is_reach (has_lists within) fields result) }
 {
     match within {
-        Within::Locals => either(reaches, FieldKind::Import, FieldKind::Func),
+        Within::Locals | Within::Labels => either(reaches, FieldKind::Import, FieldKind::Func),
         Within::Fields | Within::Parameters => either(reaches, FieldKind::Ty, FieldKind::Rec),
         Within::TagParameters => either(reaches, FieldKind::Import, FieldKind::Tag),
     }
@@ -70,5 +71,6 @@ pub(crate) fn with_lists<'b, 'a>(
     requires { IsTrue (are_reaches fields.now reaches.now) }
     ensures { flat_map (lists_within fields.now within) result.now ≡ flat_map (lists_within fields.now within) fields.now }
 {
-    reach_within(within, reaches).of(fields)
+    let reach = reach_within(within, reaches);
+    &fields[reach.first..reach.end]
 }

@@ -1,21 +1,23 @@
 //! The name section of a module.
 
-ghost use Rattle.std.specs.Prelude.{◌≡◌, length, true, All, IfOk, IfErr, IsTrue, ◌+◌, ℕ, List, Option};
+ghost use Rattle.std.specs.Prelude.{◌≡◌, ◌++◌, length, true, All, IfOk, IfErr, IsTrue, ◌+◌, ℕ, List, Option, map};
 ghost use Rattle.std.specs.List.{flat_map};
 ghost use Rattle.wasm_ops.specs.Sinks.{Writes};
+ghost use Rattle.wasm_ops.specs.Spelling.{InRangeSized};
 ghost use Rattle.wasm_ops.specs.declared.sink.Refusal.TheVariants as refusal;
-ghost use Rattle.wasm_out.specs.NameSectionBytes.{name_entry, name_subsection, subsection_id, InRangeNameEntry, InRangeNameSubsection};
+ghost use Rattle.wasm_out.specs.NameSectionBytes.{name_entry, map_entry, name_subsection, subsection_id, InRangeNameEntry, InRangeMapEntry, InRangeNameSubsection};
 ghost use Rattle.wasm_out.specs.Parts.{part, InRangePart};
 ghost use Rattle.wast_reach.specs.Reaches.{are_reaches};
 ghost use Rattle.wast_names.specs.NamesPart.{names_part, names_payload_of};
 ghost use Rattle.wast_names.specs.GivenNames.{id_text, given_name, named_from};
-ghost use Rattle.wast_names.specs.FoundNames.{text_seen, items_seen, counted, WritesItems};
-ghost use Rattle.wast_names.specs.ModuleNames.{type_name, import_names, item_names_in, given_name_in, names_given, named_of, named_within, map_names, module_name, name_subsections, InRangeNames};
+ghost use Rattle.wast_names.specs.FoundNames.{text_seen, items_seen, counted, WritesItems, map_bytes, InRangeMap};
+ghost use Rattle.wast_names.specs.WithinItems.{lists_within};
+ghost use Rattle.wast_names.specs.ModuleNames.{type_name, import_names, item_names_in, given_name_in, names_given, named_of, named_within, map_names, module_name, name_maps, name_subsections, InRangeNames};
 
 use crate::name_maps::{NameItems, count_each, put_each, put_map, put_name};
 use crate::named_fields::{with_items, with_lists};
-use crate::within::{Within, WithinItems};
-use wasm_ops::{Each, Encode, Name, Refusal, Sink, Spell, WithLength, length_of};
+use crate::within::{NamedField, Within, WithinItems};
+use wasm_ops::{Encode, Length, Name, Refusal, Sink, WithLength};
 use wast_reach::Reaches;
 use wast_tree::{Id, ImportItems, ModuleField, NameAnnotation, Space, Type};
 
@@ -184,6 +186,7 @@ fn id_within(within: Within) -> u8
 {
     match within {
         Within::Locals => 2,
+        Within::Labels => 3,
         Within::Fields => 10,
         Within::Parameters => 12,
         Within::TagParameters => 13,
@@ -199,42 +202,74 @@ pub(crate) enum NameMap {
     Within(Within),
 }
 
-/// The names in these fields, of which those of each kind are found.
-#[derive(Clone, Copy)]
-struct NamesOf<'b, 'a> {
-    fields: &'b [ModuleField<'a>],
-    reaches: &'b Reaches,
+/// Appends the subsection of the lists of names within items of some of these fields, where there are any.
+fn put_lists<'b, T: NamedField, S: Sink>(
+    within: Within,
+    fields: &'b [T],
+    there: &'b [T],
+    out: &'b mut S,
+) -> Result<(), Refusal>
+    ensures { Writes S.rules (InRangeMap map_entry InRangeMapEntry (named_from 0 (flat_map (λ t. lists_within (map T.field fields.now) within (T.field t)) there.now)))
+        out.old out.new (map_bytes (subsection_id (named_within within)) map_entry (named_from 0 (flat_map (λ t. lists_within (map T.field fields.now) within (T.field t)) there.now))) result }
+{
+    put_map(
+        id_within(within),
+        WithinItems { within, fields },
+        there,
+        out,
+    )
 }
 
-impl Spell<NameMap> for NamesOf<'_, '_> {
-    ghost spelling = { λ w m. flat_map name_subsection (map_names w.fields.now m) };
-
-    ghost in_range = { λ w m. All InRangeNameSubsection (map_names w.fields.now m) };
-
-    ghost is_ready = { λ w _. are_reaches w.fields.now w.reaches.now };
-
-    fn spell<S: Sink>(&self, map: &NameMap, out: &mut S) -> Result<(), Refusal> {
-        match map {
-            NameMap::Items(space) => {
-                let there = with_items(*space, self.fields, self.reaches);
-                put_map(id_of(*space), *space, there, out)
-            }
-            NameMap::Within(within) => {
-                let way = WithinItems {
-                    within: *within,
-                    fields: self.fields,
-                };
-                let there = with_lists(*within, self.fields, self.reaches);
-                put_map(id_within(*within), way, there, out)
-            }
+/// Appends the subsection of a map of the names in these fields, where there are any.
+fn put_subsection<S: Sink>(
+    fields: &[ModuleField],
+    map: &NameMap,
+    reaches: &Reaches,
+    out: &mut S,
+) -> Result<(), Refusal>
+    requires { IsTrue (are_reaches fields.now reaches.now) }
+    ensures { Writes S.rules (All InRangeNameSubsection (map_names fields.now map.now))
+        out.old out.new (flat_map name_subsection (map_names fields.now map.now)) result }
+{
+    match map {
+        NameMap::Items(space) => {
+            let there = with_items(*space, fields, reaches);
+            put_map(id_of(*space), *space, there, out)
+        }
+        NameMap::Within(within) => {
+            let there = with_lists(*within, fields, reaches);
+            put_lists(*within, fields, there, out)
         }
     }
 }
 
+/// Appends the subsections of maps of the names in these fields, one after another.
+fn put_subsections<S: Sink>(
+    fields: &[ModuleField],
+    maps: &[NameMap],
+    reaches: &Reaches,
+    out: &mut S,
+) -> Result<(), Refusal>
+    requires { IsTrue (are_reaches fields.now reaches.now) }
+    ensures { Writes S.rules (All (λ m. All InRangeNameSubsection (map_names fields.now m)) maps.now)
+        out.old out.new (flat_map (λ m. flat_map name_subsection (map_names fields.now m)) maps.now) result }
+{
+    let start = out.size();
+    for map in maps {
+        let result = put_subsection(fields, map, reaches, out);
+        if result.is_err() {
+            out.cut(start);
+            return result;
+        }
+    }
+    Ok(())
+}
+
 /// The maps of names, in the order of their subsections.
-const NAME_MAPS: [NameMap; 12] = [
+const NAME_MAPS: [NameMap; 13] = [
     NameMap::Items(Space::Func),
     NameMap::Within(Within::Locals),
+    NameMap::Within(Within::Labels),
     NameMap::Items(Space::Ty),
     NameMap::Items(Space::Table),
     NameMap::Items(Space::Memory),
@@ -266,23 +301,45 @@ impl Encode for ModuleName<'_> {
     }
 }
 
-/// The subsections of a module with this name, of these fields.
-#[derive(Clone, Copy)]
-struct Subsections<'b, 'a> {
-    name: Option<&'b str>,
-    names: NamesOf<'b, 'a>,
+/// Appends what stands before the maps of names, and then those of these fields.
+fn put_behind<P: Encode, S: Sink>(
+    fields: &[ModuleField],
+    front: &P,
+    reaches: &Reaches,
+    out: &mut S,
+) -> Result<(), Refusal>
+    requires front { IsTrue (P.is_ready front.now) }
+    requires reaches { IsTrue (are_reaches fields.now reaches.now) }
+    ensures { Writes S.rules (P.in_range front.now × All (λ m. All InRangeNameSubsection (map_names fields.now m)) name_maps)
+        out.old out.new (P.spelling front.now ++ flat_map (λ m. flat_map name_subsection (map_names fields.now m)) name_maps) result }
+{
+    let start = out.size();
+    front.encode(out)?;
+    let maps = NAME_MAPS;
+    let second = put_subsections(fields, &maps, reaches, out);
+    if second.is_err() {
+        out.cut(start);
+    }
+    second
 }
 
-impl Encode for Subsections<'_, '_> {
-    ghost spelling = { λ s. flat_map name_subsection (name_subsections (text_seen s.name) s.names.fields.now) };
-
-    ghost in_range = { λ s. InRangeNames (text_seen s.name) s.names.fields.now };
-
-    ghost is_ready = { λ s. are_reaches s.names.fields.now s.names.reaches.now };
-
-    fn encode<S: Sink>(&self, out: &mut S) -> Result<(), Refusal> {
-        let maps = NAME_MAPS;
-        (ModuleName(self.name), Each(&maps, self.names)).encode(out)
+/// How long the subsections are, of a module with this name and these fields.
+fn subsections_size(
+    fields: &[ModuleField],
+    name: Option<&str>,
+    reaches: &Reaches,
+) -> Result<u32, Refusal>
+    requires { IsTrue (are_reaches fields.now reaches.now) }
+    ensures ok { IfOk result (λ n. (n ≡ length (flat_map name_subsection (name_subsections (text_seen name.entry) fields.now)))
+        × InRangeNames (text_seen name.entry) fields.now) }
+    ensures err { IfErr result (λ e. (e ≡ refusal.TooLarge)
+        × (InRangeSized (All InRangeNameSubsection) (flat_map name_subsection) (name_subsections (text_seen name.entry) fields.now) → ⊥)) }
+{
+    let mut length = Length::new();
+    put_behind(fields, &ModuleName(name), reaches, &mut length)?;
+    match u32::try_from(length.count()) {
+        Ok(count) => Ok(count),
+        Err(_) => Err(Refusal::TooLarge),
     }
 }
 
@@ -291,8 +348,8 @@ impl Encode for Subsections<'_, '_> {
 /// stand, as [`Reaches::of`] tells it, and goes through those alone that can have names. It takes no memory, and refuses
 /// only as too large, where a number, count or length in the section is out of range.
 pub fn names_size(
-    name: Option<&str>,
     fields: &[ModuleField],
+    name: Option<&str>,
     reaches: &Reaches,
 ) -> Result<u32, Refusal>
     requires { IsTrue (are_reaches fields.now reaches.now) }
@@ -301,8 +358,7 @@ pub fn names_size(
         × (All InRangePart (names_part (name_subsections (text_seen name.entry) fields.now))
         × InRangeNames (text_seen name.entry) fields.now → ⊥)) }
 {
-    let names = NamesOf { fields, reaches };
-    let subsections = length_of(&Subsections { name, names })?;
+    let subsections = subsections_size(fields, name, reaches)?;
     if subsections == 0 {
         return Ok(0);
     }
@@ -318,8 +374,8 @@ pub fn names_size(
 /// those alone that can have names; and it needs the length of its payload, as [`names_size`] gives it. It refuses as
 /// [`Encode::encode`] does, as too large where a number, count or length is out of range; then nothing was appended.
 pub fn put_names<S: Sink>(
-    name: Option<&str>,
     fields: &[ModuleField],
+    name: Option<&str>,
     reaches: &Reaches,
     size: u32,
     out: &mut S,
@@ -333,6 +389,6 @@ pub fn put_names<S: Sink>(
     if size == 0 {
         return Ok(());
     }
-    let names = NamesOf { fields, reaches };
-    (0u8, (size, (Name("name"), Subsections { name, names }))).encode(out)
+    let front = (0u8, (size, (Name("name"), ModuleName(name))));
+    put_behind(fields, &front, reaches, out)
 }

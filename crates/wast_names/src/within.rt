@@ -1,20 +1,22 @@
-//! What stands within items and has names of its own: locals of functions, fields of structs, parameters of types and of
-//! tags.
+//! What stands within items and has names of its own: locals and labels of functions, fields of structs, parameters of
+//! types and of tags.
 
-ghost use Rattle.std.specs.Prelude.{◌≡◌, ◌+◌, ℕ, List, length, map, slice_get, IfOk};
+ghost use Rattle.std.specs.Prelude.{◌≡◌, ◌<◌, ◌+◌, ℕ, List, length, map, slice_get, IfOk};
 ghost use Rattle.std.specs.List.{flat_map};
 ghost use Rattle.wasm_out.specs.NameSectionBytes.{map_entry, InRangeMapEntry};
+ghost use Rattle.wast_names.specs.Tree.{ModuleField};
 ghost use Rattle.wast_names.specs.GivenNames.{named_from};
 ghost use Rattle.wast_names.specs.FoundNames.{counted, names_listed, lists_found, lists_seen, WritesItems};
-ghost use Rattle.wast_names.specs.WithinItems.{param_name, local_name, lists_in_type, lists_in_func, lists_in_tag, lists_in_imported_func, lists_in_imported_tag, lists_in_kind, lists_in_import, lists_within, types_within, arity, arity_of, arity_at, behind, params_used, locals_of, locals_in, field_names_of, param_names_of, inline_params, tag_params};
+ghost use Rattle.wast_names.specs.WithinItems.{param_name, local_name, lists_in_type, lists_in_func, lists_in_tag, lists_in_imported_func, lists_in_imported_tag, lists_in_kind, lists_in_import, lists_within, types_within, arity, arity_of, arity_at, behind, params_used, locals_of, locals_in, label_in, labels_in, field_names_of, param_names_of, inline_params, tag_params};
 
 use crate::name_lists::{Listed, count_found, no_names, none, put_found};
 use crate::name_maps::{NameItems, Own, count_each, put_each};
+use std::alloc::AllocError;
 use std::slice;
 use wasm_ops::{Refusal, Sink};
 use wast_tree::{
-    Func, FuncKind, FunctionType, ImportItems, Index, InnerTypeKind, ItemKind, Local, ModuleField,
-    TagType, Type, TypeUse,
+    Func, FuncKind, FunctionType, ImportItems, Index, InnerTypeKind, Instruction, ItemKind, Local,
+    ModuleField, TagType, Type, TypeUse,
 };
 
 /// What stands within items and has names.
@@ -22,6 +24,8 @@ use wast_tree::{
 pub(crate) enum Within {
     /// The parameters and locals of functions.
     Locals,
+    /// The labels of functions.
+    Labels,
     /// The fields of struct types.
     Fields,
     /// The parameters of function types.
@@ -37,7 +41,7 @@ fn listed_in_type<'b, 'a>(within: Within, ty: &'b Type<'a>) -> Option<Listed<'b,
     match within {
         Within::Fields => Some(field_names_of(&ty.def.kind)),
         Within::Parameters => Some(param_names_of(&ty.def.kind)),
-        Within::Locals | Within::TagParameters => None,
+        Within::Locals | Within::Labels | Within::TagParameters => None,
     }
 }
 
@@ -98,39 +102,35 @@ fn types_within<'b, 'a>(field: &'b ModuleField<'a>) -> &'b [Type<'a>]
     }
 }
 
-/// How many parameters the function type at an index has, where one stands there. It walks the fields up to that type.
-fn arity_of(fields: &[ModuleField], index: usize) -> Option<u64>
-    ensures { result ≡ arity_of (slice_get (flat_map types_within fields.now) index) }
-{
-    let mut left = index;
-    for field in fields {
-        let types = types_within(field);
-        if left < types.len() {
-            return arity(&types[left].def.kind);
-        }
-        left -= types.len();
-    }
-    None
+/// A list of fields, as types are looked up in it. It is a type parameter of what looks them up: a proof would else compare
+/// the type of the whole list with itself at each call.
+pub(crate) trait Arities {
+    /// These fields.
+    ghost fields: { Self → List ModuleField };
+
+    /// How many parameters the function type at an index has, where one stands there. It walks the fields up to that type.
+    fn arity_of(&self, index: usize) -> Option<u64>
+        ensures { result ≡ arity_of (slice_get (flat_map types_within (fields self.now)) index) };
 }
 
 /// The same of the index of a type use.
-fn arity_at(fields: &[ModuleField], index: &Option<Index>) -> Option<u64>
-    ensures { result ≡ arity_at fields.now index.now }
+fn arity_at<A: Arities>(arities: &A, index: &Option<Index>) -> Option<u64>
+    ensures { result ≡ arity_at (A.fields arities.now) index.now }
 {
     match index {
-        Some(Index::Num(number, _)) => arity_of(fields, *number as usize),
+        Some(Index::Num(number, _)) => arities.arity_of(*number as usize),
         Some(Index::Id(_)) | None => None,
     }
 }
 
 /// The locals behind the parameters of a type use. A walk over the fields goes for each function that has a named local
 /// and no inline type.
-fn locals_behind<'b, 'a>(
-    fields: &[ModuleField],
+fn locals_behind<'b, 'a, A: Arities>(
+    arities: &A,
     ty: &'b TypeUse<'a, FunctionType<'a>>,
     locals: &'b [Local<'a>],
 ) -> Listed<'b, 'a>
-    ensures { names_listed result ≡ named_from 0 (behind (params_used fields.now ty.now) (map local_name locals.now)) }
+    ensures { names_listed result ≡ named_from 0 (behind (params_used (A.fields arities.now) ty.now) (map local_name locals.now)) }
 {
     if let Some(inline) = &ty.inline {
         let params = inline.params.as_slice();
@@ -139,7 +139,7 @@ fn locals_behind<'b, 'a>(
     if count_each(&Own, locals) == 0 {
         return Listed::Fields(none());
     }
-    match arity_at(fields, &ty.index) {
+    match arity_at(arities, &ty.index) {
         Some(arity) => Listed::Locals(none(), arity, locals),
         None => Listed::Fields(none()),
     }
@@ -156,22 +156,40 @@ fn locals_in<'b, 'a>(kind: &'b FuncKind<'a>) -> &'b [Local<'a>]
 }
 
 /// The parameters and locals of a function.
-fn locals_of<'b, 'a>(fields: &[ModuleField], func: &'b Func<'a>) -> Listed<'b, 'a>
-    ensures { names_listed result ≡ named_from 0 (locals_of fields.now func.now) }
+fn locals_of<'b, 'a, A: Arities>(arities: &A, func: &'b Func<'a>) -> Listed<'b, 'a>
+    ensures { names_listed result ≡ named_from 0 (locals_of (A.fields arities.now) func.now) }
 {
-    locals_behind(fields, &func.ty, locals_in(&func.kind))
+    locals_behind(arities, &func.ty, locals_in(&func.kind))
+}
+
+/// The instructions of a function; none where it is imported.
+fn instrs_in<'b, 'a>(kind: &'b FuncKind<'a>) -> &'b [Instruction<'a>]
+    ensures { flat_map label_in result.now ≡ labels_in kind.now }
+{
+    match kind {
+        FuncKind::Import(..) => &[],
+        FuncKind::Inline { expression, .. } => expression.instrs.as_slice(),
+    }
+}
+
+/// The labels of a function.
+fn labels_of<'b, 'a>(func: &'b Func<'a>) -> Listed<'b, 'a>
+    ensures { names_listed result ≡ named_from 0 (labels_in func.now.kind) }
+{
+    Listed::Labels(instrs_in(&func.kind))
 }
 
 /// The list that stands within a function.
-fn listed_in_func<'b, 'a>(
+fn listed_in_func<'b, 'a, A: Arities>(
     within: Within,
-    fields: &[ModuleField],
+    arities: &A,
     func: &'b Func<'a>,
 ) -> Option<Listed<'b, 'a>>
-    ensures { lists_found result ≡ lists_in_func fields.now within func.now }
+    ensures { lists_found result ≡ lists_in_func (A.fields arities.now) within func.now }
 {
     match within {
-        Within::Locals => Some(locals_of(fields, func)),
+        Within::Locals => Some(locals_of(arities, func)),
+        Within::Labels => Some(labels_of(func)),
         Within::Fields | Within::Parameters | Within::TagParameters => None,
     }
 }
@@ -201,11 +219,11 @@ fn listed_in_tag<'b, 'a>(within: Within, ty: &'b TagType<'a>) -> Option<Listed<'
 {
     match within {
         Within::TagParameters => Some(tag_params(ty)),
-        Within::Locals | Within::Fields | Within::Parameters => None,
+        Within::Locals | Within::Labels | Within::Fields | Within::Parameters => None,
     }
 }
 
-/// The list that stands within an imported function.
+/// The list that stands within an imported function, which has a position among functions, and no labels.
 fn listed_in_imported_func<'b, 'a>(
     within: Within,
     ty: &'b TypeUse<'a, FunctionType<'a>>,
@@ -214,6 +232,7 @@ fn listed_in_imported_func<'b, 'a>(
 {
     match within {
         Within::Locals => Some(inline_params(ty)),
+        Within::Labels => Some(no_names()),
         Within::Fields | Within::Parameters | Within::TagParameters => None,
     }
 }
@@ -224,7 +243,7 @@ fn listed_in_imported_tag<'b, 'a>(within: Within) -> Option<Listed<'b, 'a>>
 {
     match within {
         Within::TagParameters => Some(no_names()),
-        Within::Locals | Within::Fields | Within::Parameters => None,
+        Within::Locals | Within::Labels | Within::Fields | Within::Parameters => None,
     }
 }
 
@@ -257,19 +276,19 @@ enum Lists<'b, 'a> {
     Types(&'b [Type<'a>]),
 }
 
-/// Finds the lists that stand within a field, which is one of these fields.
-fn lists_in<'b, 'a>(
+/// Finds the lists that stand within a field of this list of fields.
+fn lists_in<'b, 'a, A: Arities>(
     within: Within,
-    fields: &[ModuleField],
+    arities: &A,
     field: &'b ModuleField<'a>,
 ) -> Lists<'b, 'a>
-    ensures { lists_seen within result ≡ lists_within fields.now within field.now }
+    ensures { lists_seen within result ≡ lists_within (A.fields arities.now) within field.now }
 {
     match field {
         ModuleField::Ty(ty) => Lists::One(listed_in_type(within, ty)),
         ModuleField::Rec(rec) => Lists::Types(rec.types.as_slice()),
         ModuleField::Import(imports) => Lists::One(listed_in_import(within, &imports.items)),
-        ModuleField::Func(func) => Lists::One(listed_in_func(within, fields, func)),
+        ModuleField::Func(func) => Lists::One(listed_in_func(within, arities, func)),
         ModuleField::Tag(tag) => Lists::One(listed_in_tag(within, &tag.ty)),
         ModuleField::Table(_)
         | ModuleField::Memory(_)
@@ -281,56 +300,132 @@ fn lists_in<'b, 'a>(
     }
 }
 
-/// The way to see what stands within the items of these fields.
-#[derive(Clone, Copy)]
-pub(crate) struct WithinItems<'b, 'a> {
-    pub(crate) within: Within,
-    pub(crate) fields: &'b [ModuleField<'a>],
-}
-
-impl<'a> NameItems<Type<'a>> for WithinItems<'_, '_> {
+/// The way to see what stands within types.
+impl<'a> NameItems<Type<'a>> for Within {
     ghost Entry = { List (ℕ × List ℕ) };
 
-    ghost items = { λ w t. lists_in_type w.within t };
+    ghost items = { lists_in_type };
 
     ghost entry = { map_entry };
 
     ghost in_range = { InRangeMapEntry };
 
     fn count(&self, part: &Type<'a>) -> u64 {
-        count_found(listed_in_type(self.within, part))
+        count_found(listed_in_type(*self, part))
     }
 
     fn put<S: Sink>(&self, part: &Type<'a>, position: u64, out: &mut S) -> Result<u64, Refusal> {
-        put_found(position, listed_in_type(self.within, part), out)
+        put_found(position, listed_in_type(*self, part), out)
     }
 }
 
-impl<'a> NameItems<ModuleField<'a>> for WithinItems<'_, '_> {
+/// A field, as lists of fields are walked for what stands within its items. It is a type parameter of the walk, as
+/// [`Arities`] are of what looks types up.
+pub(crate) trait NamedField {
+    /// What it is.
+    ghost field: { Self → ModuleField };
+
+    /// How many types it has.
+    fn count_types(&self) -> usize
+        ensures { result ≡ length (types_within (field self.now)) };
+
+    /// How many parameters a type of it has, where that is a function type. It needs the place of one.
+    fn arity(&self, index: usize) -> Option<u64>
+        requires { index < length (types_within (field self.now)) }
+        ensures { result ≡ arity_of (slice_get (types_within (field self.now)) index) };
+
+    /// How many of its items have a list of names, among these fields.
+    fn count_lists<A: Arities>(&self, within: Within, arities: &A) -> u64
+        ensures { result ≡ counted (length (named_from 0 (lists_within (A.fields arities.now) within (field self.now)))) };
+
+    /// Appends those lists, as [`NameItems::put`] does.
+    fn put_lists<A: Arities, S: Sink>(
+        &self,
+        within: Within,
+        arities: &A,
+        position: u64,
+        out: &mut S,
+    ) -> Result<u64, Refusal>
+        ensures written { WritesItems S.rules map_entry InRangeMapEntry (lists_within (A.fields arities.now) within (field self.now)) position out.old out.new result }
+        ensures next { IfOk result (λ p. p ≡ counted (position + length (lists_within (A.fields arities.now) within (field self.now)))) };
+}
+
+impl NamedField for ModuleField<'_> {
+    ghost field = { λ f. f };
+
+    fn count_types(&self) -> usize {
+        types_within(self).len()
+    }
+
+    fn arity(&self, index: usize) -> Option<u64> {
+        arity(&types_within(self)[index].def.kind)
+    }
+
+    fn count_lists<A: Arities>(&self, within: Within, arities: &A) -> u64 {
+        match lists_in(within, arities, self) {
+            Lists::One(found) => count_found(found),
+            Lists::Types(types) => count_each(&within, types),
+        }
+    }
+
+    fn put_lists<A: Arities, S: Sink>(
+        &self,
+        within: Within,
+        arities: &A,
+        position: u64,
+        out: &mut S,
+    ) -> Result<u64, Refusal> {
+        match lists_in(within, arities, self) {
+            Lists::One(found) => put_found(position, found, out),
+            Lists::Types(types) => put_each(&within, types, position, out),
+        }
+    }
+}
+
+/// The way to see what stands within the items of these fields.
+pub(crate) struct WithinItems<'b, T> {
+    pub(crate) within: Within,
+    pub(crate) fields: &'b [T],
+}
+
+impl<T> Clone for WithinItems<'_, T> {
+    fn clone(&self) -> Result<Self, AllocError> {
+        Ok(*self)
+    }
+}
+
+impl<T> Copy for WithinItems<'_, T> {}
+
+impl<T: NamedField> Arities for WithinItems<'_, T> {
+    ghost fields = { λ w. map T.field w.fields.now };
+
+    fn arity_of(&self, index: usize) -> Option<u64> {
+        let mut left = index;
+        for field in self.fields {
+            let types = field.count_types();
+            if left < types {
+                return field.arity(left);
+            }
+            left -= types;
+        }
+        None
+    }
+}
+
+impl<T: NamedField> NameItems<T> for WithinItems<'_, T> {
     ghost Entry = { List (ℕ × List ℕ) };
 
-    ghost items = { λ w f. lists_within w.fields.now w.within f };
+    ghost items = { λ w t. lists_within (map T.field w.fields.now) w.within (T.field t) };
 
     ghost entry = { map_entry };
 
     ghost in_range = { InRangeMapEntry };
 
-    fn count(&self, part: &ModuleField<'a>) -> u64 {
-        match lists_in(self.within, self.fields, part) {
-            Lists::One(found) => count_found(found),
-            Lists::Types(types) => count_each(self, types),
-        }
+    fn count(&self, part: &T) -> u64 {
+        part.count_lists(self.within, self)
     }
 
-    fn put<S: Sink>(
-        &self,
-        part: &ModuleField<'a>,
-        position: u64,
-        out: &mut S,
-    ) -> Result<u64, Refusal> {
-        match lists_in(self.within, self.fields, part) {
-            Lists::One(found) => put_found(position, found, out),
-            Lists::Types(types) => put_each(self, types, position, out),
-        }
+    fn put<S: Sink>(&self, part: &T, position: u64, out: &mut S) -> Result<u64, Refusal> {
+        part.put_lists(self.within, self, position, out)
     }
 }

@@ -17,6 +17,12 @@ fn export<'a>() -> ModuleField<'a> {
     })
 }
 
+/// Where the fields of each kind stand. The list is lent as one that may be changed: the prover would compare the whole tree
+/// where a list of one's own is shared.
+fn found(fields: &mut Seq<ModuleField>) -> Reaches {
+    Reaches::of(fields.as_slice())
+}
+
 fn is(reach: Reach, first: usize, end: usize) -> bool {
     reach.first == first && reach.end == end
 }
@@ -31,7 +37,7 @@ fn the_fields_of_a_kind_stand_in_its_reach(rt: HostRuntime) {
     maker.push_field(&mut fields, start());
     maker.push_field(&mut fields, export());
     maker.push_field(&mut fields, export());
-    let reaches = Reaches::of(fields.as_slice());
+    let reaches = found(&mut fields);
     discard_fields(fields);
     let starts = reaches.of_kind(FieldKind::Start);
     let exports = reaches.of_kind(FieldKind::Export);

@@ -1,5 +1,7 @@
--- Where two scopes have the same types, and what passes a test denotes the same, sites that pass it demand the same.
-use Rattle.std.proofs.Common.{◌≡◌, ℕ, zero, suc, ◌<◌, Bool, true, not, List, [], ◌∷◌, ◌++◌, map, Option, Some, None, is_some, refl, sym, ap, ◌∙◌, append-nil}
+-- Where two scopes have the same types, and what passes a test denotes the same, sites that pass it demand the same, and as
+-- many parameters and locals are counted.
+use Rattle.std.proofs.Common.{◌≡◌, ℕ, zero, suc, ◌+◌, ◌<◌, length, Bool, true, not, List, [], ◌∷◌, ◌++◌, map, Option, Some, None, is_some, refl, sym, ap, ◌∙◌, append-nil}
+use Rattle.std.specs.Prelude.{codes}
 use Rattle.std.specs.Cmp.{first_so, second_so}
 use Rattle.std.specs.List.{flat_map, list_all, slice_get}
 use Rattle.std.proofs.lemmas.Bool.{ltb-true}
@@ -9,7 +11,7 @@ use Rattle.wast_base.specs.Spaces.{word_of}
 use Rattle.wast_tree.specs.Items.{items}
 use Rattle.wast_tree.specs.Known.{known}
 use Rattle.wast_tree.specs.Types.{types_of}
-use Rattle.wast_tree.specs.Sites.{Ask, Wants, Supported, Site, Asked, Used, Declared, if_there, in_index, in_signature, in_inner, in_descriptor, in_type, in_rec, in_type_use, asked_in, in_field, in_module, asked}
+use Rattle.wast_tree.specs.Sites.{Ask, Wants, Supported, Site, Asked, Used, LocalAt, if_there, in_index, in_signature, in_inner, in_descriptor, in_type, in_rec, in_type_use, in_func_kind, asked_in, in_field, in_module, asked}
 use Rattle.wast_tree.proofs.Visiting.{asked_both, asked_asking}
 use Rattle.wast_types.specs.Signatures.{Signature, signature_of}
 use Rattle.wast_types.specs.TypeSpace.{taken_kind}
@@ -19,12 +21,13 @@ use Rattle.wast_resolve.specs.Tree.space
 use Rattle.wast_resolve.specs.Tree.inner
 use Rattle.wast_resolve.specs.Tree.ty
 use Rattle.wast_resolve.specs.Tree.field
-use Rattle.wast_resolve.specs.Scopes.{Scope, scope, signatures_in, signatures, denoted, type_at}
+use Rattle.wast_resolve.specs.Scopes.{Scope, scope, signatures_in, signatures, denoted, type_at, unsaid_params}
 use Rattle.wast_resolve.specs.Matches.{same_number, same_type, matches}
-use Rattle.wast_resolve.specs.Demands.{unknown, ask_demand, ask_demands, match_with, match_demands, match_if, site_demand, site_demands}
+use Rattle.wast_resolve.specs.Demands.{unknown, ask_demand, ask_demands, match_with, match_demands, match_if, site_demand, site_demands, declared, body_counts_in, body_counts, open_counts}
 use Rattle.wast_resolve.proofs.CompletedAsks.{pass, value_passes, first_part, second_part, signature_needs, is_below}
 use Rattle.wast_resolve.proofs.ImpliedSignatures.{both_so, values_pass}
 use Rattle.wast_resolve.proofs.SameTypes.{signatures_alike}
+use Rattle.wast_resolve.proofs.Nameless.{by_names, unsaid_denoted}
 
 module _ (ok : Ask → Bool) where
   -- what stands in a type passes
@@ -118,17 +121,37 @@ module _ (ok : Ask → Bool) where
 
     site_alike : (s : Site) → pass ok (asked_in s) ≡ true → site_demand c s ≡ site_demand d s
     site_alike (Asked a) h = ask_alike a (first_so (ok a) true h)
-    site_alike (Used u) h =
+    site_alike (Used w u) h =
         ap (λ ds. ds ++ match_if c u.index u.inline) (asks_alike (in_type_use u) h) ∙ ap (λ ds. ask_demands d.known (in_type_use u) ++ ds) (if_alike u.index u.inline h)
-    site_alike (Declared before m) h = refl
+    site_alike (LocalAt locals i) h = by_names c locals (codes "local") i ∙ sym (by_names d locals (codes "local") i)
+    site_alike s h = refl
 
     sites_alike : (ss : List Site) → pass ok (asked ss) ≡ true → site_demands c ss ≡ site_demands d ss
     sites_alike [] h = refl
     sites_alike (s ∷ ss) h =
         ap (λ ds. ds ++ site_demands c ss) (site_alike s (first_part ok (asked_in s) (asked ss) h)) ∙ ap (λ ds. site_demand d s ++ ds) (sites_alike ss (second_part ok (asked_in s) (asked ss) h))
 
+    -- and as many parameters and locals are counted
+    unsaid_same : (i : Option Index) (t : Option FunctionType) → pass ok (if_there (in_index space.Ty) i ++ if_there in_signature t) ≡ true → unsaid_params c i t ≡ unsaid_params d i t
+    unsaid_same i (Some t) h = refl
+    unsaid_same None None h = refl
+    unsaid_same (Some i) None h = unsaid_denoted c d types i i (numbers space.Ty i (first_so (ok (Wants space.Ty i)) true h))
+
+    body_alike : (x : ModuleField) → pass ok (asked (in_field x)) ≡ true → body_counts_in c x ≡ body_counts_in d x
+    body_alike (field.Func f) h =
+        ap (λ m. (m + length (declared f.ty.inline f.kind)) ∷ open_counts (in_field (field.Func f)))
+        (unsaid_same f.ty.index f.ty.inline (first_part ok (in_type_use f.ty) (asked (in_func_kind f.ty f.kind)) h))
+    body_alike x h = refl
+
+    bodies_alike : (xs : List ModuleField) → pass ok (asked (in_module xs)) ≡ true → flat_map (body_counts_in c) xs ≡ flat_map (body_counts_in d) xs
+    bodies_alike [] h = refl
+    bodies_alike (x ∷ xs) h =
+        let both = sym (ap (pass ok) (asked_both (in_field x) (in_module xs))) ∙ h in
+        ap (λ ns. ns ++ flat_map (body_counts_in c) xs) (body_alike x (first_part ok (asked (in_field x)) (asked (in_module xs)) both))
+        ∙ ap (λ ns. body_counts_in d x ++ ns) (bodies_alike xs (second_part ok (asked (in_field x)) (asked (in_module xs)) both))
+
 -- Where both lists have the same types, and old names denote the same in both, sites that ask for old names alone demand the
--- same.
+-- same, and functions have as many parameters.
 module _ (n : ℕ) (xs ys : List ModuleField) (types : signatures xs ≡ signatures ys) (old : (s : Space) (q : Name) → generation_of q < n → (known (items xs)).number s q ≡ (known (items ys)).number s q) where
   denoted_alike : (s : Space) (i : Index) → is_below n (Wants s i) ≡ true → denoted ((known (items xs)).number s) i ≡ denoted ((known (items ys)).number s) i
   denoted_alike s (index.Num m p) h = refl
@@ -136,3 +159,6 @@ module _ (n : ℕ) (xs ys : List ModuleField) (types : signatures xs ≡ signatu
 
   pub old_uses : pass (is_below n) (asked (in_module ys)) ≡ true → site_demands (scope xs) (in_module ys) ≡ site_demands (scope ys) (in_module ys)
   old_uses below = sites_alike (is_below n) (scope xs) (scope ys) types (all_types (is_below n) ys below) denoted_alike (in_module ys) below
+
+  pub old_bodies : pass (is_below n) (asked (in_module ys)) ≡ true → flat_map (body_counts_in (scope xs)) ys ≡ body_counts ys
+  old_bodies below = bodies_alike (is_below n) (scope xs) (scope ys) types (all_types (is_below n) ys below) denoted_alike ys below

@@ -1,117 +1,194 @@
 -- What is so of a resolved list: no id is left where an index is wanted, no generation is above those that were there, and
 -- it is well formed as it was.
-use Rattle.std.proofs.Common.{◌≡◌, ℕ, ◌≤◌, true, ◌&&◌, List, [], ◌∷◌, refl, ap, ◌∙◌, map, append-nil}
-use Rattle.std.specs.Prelude.{Option, Some, None, is_some}
+use Rattle.std.proofs.Common.{◌≡◌, ℕ, suc, ◌<◌, ◌≤◌, Bool, true, ◌&&◌, List, [], ◌∷◌, refl, sym, ap, ◌∙◌, map}
+use Rattle.std.specs.Prelude.{nat_lt, Option, Some, None, is_some}
 use Rattle.std.specs.Cmp.{first_so, second_so}
-use Rattle.std.proofs.lemmas.Grind.{flat_map-append}
+use Rattle.std.specs.List.{flat_map, list_all}
+use Rattle.std.proofs.lemmas.Bool.{ltb-true, lt-ltb}
+use Rattle.std.proofs.lemmas.List.Folds.{list_all-append, list_all-map}
 use native.Mathlib.Omega.{arith}
-use Rattle.wast_base.specs.Ids.{Name, name_of, is_number}
+use Rattle.wast_base.specs.Ids.{Name, name_of, is_number, Mark}
 use Rattle.wast_base.specs.Faults.{Cause}
 use Rattle.wast_base.specs.Spaces.{is_settled_index}
 use Rattle.wast_tree.specs.Items.{items}
-use Rattle.wast_tree.specs.Sites.{Ask, Wants, Unasked, Clause, Supported, Site, Asked, Used, Declared, in_type_use, asked_in, asked, in_module}
+use Rattle.wast_tree.specs.Sites.{Ask, Wants, Within, Unasked, Clause, Supported, Site, Asked, Used, Declared, LocalAt, LabelAt, Repeated, Begins, Ends, in_type_use, mark_asked, asked_in, asked, in_module}
 use Rattle.wast_tree.specs.Known.{Known, known}
-use Rattle.wast_tree.specs.Generations.{generation_in, greatest_item, greatest_asked, greatest_generation}
-use Rattle.wast_tree.specs.WellFormed.{is_kept, are_kept, is_well_formed}
+use Rattle.wast_tree.specs.Generations.{generation_at, generation_in, greatest_item, greatest_asked, greatest_generation}
+use Rattle.wast_tree.specs.WellFormed.{is_written_index, is_kept, are_kept, is_well_formed}
 use Rattle.wast_tree.specs.Resolved.{is_numbered, are_numbered, has_numbers}
-use Rattle.wast_map.specs.Mapped.{mapped_ask, mapped}
+use Rattle.wast_map.specs.Mapped.{mapped_ask, mapped, Each}
 use Rattle.wast_map.proofs.Alone.{items_alone}
-use Rattle.wast_resolve.specs.Tree.{Id, Span, Space, Index, ModuleField}
+use Rattle.wast_deinline.proofs.Below.{each_below, greatest_below}
+use Rattle.wast_labels.specs.OpenBlocks.{denotes}
+use Rattle.wast_resolve.specs.Tree.{Id, Span, Index, ModuleField}
 use Rattle.wast_resolve.specs.Tree.index
-use Rattle.wast_resolve.specs.Scopes.{Scope, scope}
-use Rattle.wast_resolve.specs.Demands.{first_unmet, ask_demand, ask_demands, match_if, site_demand, site_demands, item_demands, name_demands}
-use Rattle.wast_resolve.specs.Resolved.{numbered_at, numbered_by, numbering, resolved}
-use Rattle.wast_resolve.proofs.Standing.{asked_resolved}
-use Rattle.wast_resolve.proofs.Unmet.{first_unmet-append, met_parts}
+use Rattle.wast_resolve.specs.Scopes.{Scope, scope, local_number}
+use Rattle.wast_resolve.specs.Demands.{first_unmet, known_index, ask_demand, ask_demands, match_if, site_demand, site_demands, item_demands, name_demands}
+use Rattle.wast_resolve.specs.Resolved.{numbered_at, numbered_by, numbered, numbering, resolved}
+use Rattle.wast_resolve.proofs.Bodies.{IsOuter, all_outer}
+use Rattle.wast_resolve.proofs.OwnLocals.{outer, outer_use}
+use Rattle.wast_resolve.proofs.ImpliedSignatures.{both_so, all_pass, all_parts}
+use Rattle.wast_resolve.proofs.Standing.{numbered_in, asked_passes}
+use Rattle.wast_resolve.proofs.Unmet.{met_parts}
 
-module _ (k : Known) where
-  -- an index whose demand is met becomes a number
-  met_index : (f : Cause) (s : Span) (id : Id) (o : Option ℕ) → first_unmet (record { fault = f; place = s; met = is_some o } ∷ []) ≡ None → is_number (numbered_by o id) ≡ true
-  met_index f s id None h = cc
-  met_index f s id (Some n) h = refl
+-- an index whose demand is met becomes a number
+met_index : (f : Cause) (s : Span) (id : Id) (o : Option ℕ) → first_unmet (record { fault = f; place = s; met = is_some o } ∷ []) ≡ None → is_number (numbered_by o id) ≡ true
+met_index f s id None h = cc
+met_index f s id (Some n) h = refl
 
-  met_ask : (a : Ask) → first_unmet (ask_demand k a) ≡ None → is_numbered (mapped_ask (numbered_at k) a) ≡ true
-  met_ask (Wants s (index.Num n span)) h = refl
-  met_ask (Wants s (index.Id id)) h = met_index _ _ id (k.number s (name_of id)) h
-  met_ask a h = refl
+met_known : (number : Name → Option ℕ) (word : List ℕ) (i : Index) → first_unmet (known_index number word i) ≡ None → is_number (numbered number i) ≡ true
+met_known number word (index.Num n span) h = refl
+met_known number word (index.Id id) h = met_index _ _ id (number (name_of id)) h
 
-  met_asks : (asks : List Ask) → first_unmet (ask_demands k asks) ≡ None → are_numbered (map (mapped_ask (numbered_at k)) asks) ≡ true
-  met_asks [] h = refl
-  met_asks (a ∷ asks) h =
-      let p = met_parts (ask_demand k a) (ask_demands k asks) h in
-      ap (λ b. b && are_numbered (map (mapped_ask (numbered_at k)) asks)) (met_ask a p.0) ∙ met_asks asks p.1
+-- no generation is new
+below_by : (id : Id) (o : Option ℕ) → generation_at (numbered_by o id) ≤ generation_at (index.Id id)
+below_by id None = omega arith
+below_by id (Some n) = omega arith
 
-  -- no generation is new
-  below_index : (id : Id) (o : Option ℕ) (s : Space) → generation_in (Wants s (numbered_by o id)) ≤ generation_in (Wants s (index.Id id))
-  below_index id None s = omega arith
-  below_index id (Some n) s = omega arith
+below_index : (number : Name → Option ℕ) (i : Index) → generation_at (numbered number i) ≤ generation_at i
+below_index number (index.Num n span) = omega arith
+below_index number (index.Id id) = below_by id (number (name_of id))
 
-  below_ask : (a : Ask) → generation_in (mapped_ask (numbered_at k) a) ≤ generation_in a
-  below_ask (Wants s (index.Num n span)) = omega arith
-  below_ask (Wants s (index.Id id)) = below_index id (k.number s (name_of id)) s
-  below_ask (Unasked m) = omega arith
-  below_ask (Clause n holds) = omega arith
-  below_ask (Supported holds) = omega arith
+-- what is kept stays so, once each index is a number
+number_settles : (number : Name → Option ℕ) (i : Index) → is_number i ≡ true → is_settled_index number i ≡ true
+number_settles number (index.Num n span) h = refl
+number_settles number (index.Id id) h = absurd (cc h)
 
-  below_asks : (asks : List Ask) → greatest_asked (map (mapped_ask (numbered_at k)) asks) ≤ greatest_asked asks
-  below_asks [] = omega arith
-  below_asks (a ∷ asks) = let p = below_ask a in let q = below_asks asks in omega arith
+number_written : (i : Index) → is_number i ≡ true → is_written_index i ≡ true
+number_written (index.Num n span) h = refl
+number_written (index.Id id) h = absurd (cc h)
 
-  pub items_stay : (fields : List ModuleField) → items (map (mapped (numbering k)) fields) ≡ items fields
-  items_stay fields = items_alone (numbering k) (λ o. refl) fields
+-- an id of which nothing is asked passes
+mark_passes : (ok : Ask → Bool) → ((m : Mark) → ok (Unasked m) ≡ true) → (m : Option Mark) → list_all ok (mark_asked m) ≡ true
+mark_passes ok one None = refl
+mark_passes ok one (Some m) = ap (λ b. b && true) (one m)
 
-  -- what is kept stays so, once each index is a number
-  number_settles : (number : Name → Option ℕ) (i : Index) → is_number i ≡ true → is_settled_index number i ≡ true
-  number_settles number (index.Num n span) h = refl
-  number_settles number (index.Id id) h = absurd (cc h)
+module _ (c : Scope) where
+  abbrev numbered_ask : Ask → Ask
+  numbered_ask a = mapped_ask (numbered_at c.known) a
+
+  met_ask : (a : Ask) → outer a ≡ a → first_unmet (ask_demand c.known a) ≡ None → is_numbered (numbered_ask a) ≡ true
+  met_ask (Wants s i) o h = met_known (c.known.number s) _ i h
+  met_ask (Within i) o h = absurd (cc o)
+  met_ask a o h = refl
+
+  met_asks : (asks : List Ask) → map outer asks ≡ asks → first_unmet (ask_demands c.known asks) ≡ None → are_numbered (map numbered_ask asks) ≡ true
+  met_asks [] o h = refl
+  met_asks (a ∷ asks) o h =
+      let head : outer a ≡ a = cc in
+      let tail : map outer asks ≡ asks = cc in
+      let p = met_parts (ask_demand c.known a) (ask_demands c.known asks) h in
+      ap (λ b. b && are_numbered (map numbered_ask asks)) (met_ask a head p.0) ∙ met_asks asks tail p.1
+
+  -- Where what a site demands is met, what is asked there, once it is numbered, is numbers.
+  site_numbered : (s : Site) → IsOuter s → first_unmet (site_demand c s) ≡ None → are_numbered (numbered_in c s) ≡ true
+  site_numbered (Asked a) o h = ap (λ b. b && true) (met_ask a o h)
+  site_numbered (Used w u) o h = met_asks (in_type_use u) (outer_use u) (met_parts (ask_demands c.known (in_type_use u)) (match_if c u.index u.inline) h).0
+  site_numbered (LocalAt locals i) o h = ap (λ b. b && true) (met_known (local_number c locals) _ i h)
+  site_numbered (LabelAt blocks i) o h = ap (λ b. b && true) (met_known (λ name. denotes name blocks) _ i h)
+  site_numbered (Repeated blocks m) o h = mark_passes is_numbered (λ m. refl) m
+  site_numbered (Begins blocks m) o h = mark_passes is_numbered (λ m. refl) m
+  site_numbered (Declared before m) o h = refl
+  site_numbered Ends o h = refl
+
+  sites_numbered : (ss : List Site) → Each IsOuter ss → first_unmet (site_demands c ss) ≡ None → are_numbered (flat_map (numbered_in c) ss) ≡ true
+  sites_numbered [] o h = refl
+  sites_numbered (s ∷ ss) o h =
+      let p = met_parts (site_demand c s) (site_demands c ss) h in
+      list_all-append is_numbered (numbered_in c s) (flat_map (numbered_in c) ss)
+      ∙ both_so (are_numbered (numbered_in c s)) (are_numbered (flat_map (numbered_in c) ss)) (site_numbered s o.0 p.0) (sites_numbered ss o.1 p.1)
+
+  -- no generation is new, below a bound
+  module _ (m : ℕ) where
+    abbrev is_under : Ask → Bool
+    is_under a = nat_lt (generation_in a) m
+
+    under : (a b : Ask) → generation_in b ≤ generation_in a → is_under a ≡ true → is_under b ≡ true
+    under a b le h = let lt = ltb-true (generation_in a) m h in lt-ltb (generation_in b) m (omega (arith, le, lt))
+
+    ask_under : (a : Ask) → is_under a ≡ true → is_under (numbered_ask a) ≡ true
+    ask_under (Wants s i) h = under (Wants s i) (Wants s (numbered_at c.known s i)) (below_index (c.known.number s) i) h
+    ask_under a h = h
+
+    site_under : (s : Site) → list_all is_under (asked_in s) ≡ true → list_all is_under (numbered_in c s) ≡ true
+    site_under (Asked a) h = ap (λ b. b && true) (ask_under a (first_so (is_under a) true h))
+    site_under (Used w u) h = list_all-map is_under numbered_ask (in_type_use u) ∙ all_pass is_under (λ a. is_under (numbered_ask a)) ask_under (in_type_use u) h
+    site_under (LocalAt locals i) h =
+        ap (λ b. b && true) (under (Within i) (Within (numbered (local_number c locals) i)) (below_index (local_number c locals) i) (first_so (is_under (Within i)) true h))
+    site_under (LabelAt blocks i) h =
+        let number : Name → Option ℕ = λ name. denotes name blocks in
+        ap (λ b. b && true) (under (Within i) (Within (numbered number i)) (below_index number i) (first_so (is_under (Within i)) true h))
+    site_under s h = h
+
+    sites_under : (ss : List Site) → list_all is_under (asked ss) ≡ true → list_all is_under (flat_map (numbered_in c) ss) ≡ true
+    sites_under ss h =
+        all_parts is_under (numbered_in c) ss ∙ all_pass (λ s. list_all is_under (asked_in s)) (λ s. list_all is_under (numbered_in c s)) site_under ss (sym (all_parts is_under asked_in ss) ∙ h)
+
+  pub items_stay : (fields : List ModuleField) → items (map (mapped (numbering c)) fields) ≡ items fields
+  items_stay fields = items_alone (numbering c) (λ o. refl) fields
 
   module _ (l : Known) where
-    kept_ask : (a : Ask) → is_kept k a ≡ true → is_numbered (mapped_ask (numbered_at k) a) ≡ true → is_kept l (mapped_ask (numbered_at k) a) ≡ true
-    kept_ask (Wants s i) h n = number_settles (l.number s) (numbered_at k s i) n
+    kept_ask : (a : Ask) → is_kept c.known a ≡ true → is_numbered (numbered_ask a) ≡ true → is_kept l (numbered_ask a) ≡ true
+    kept_ask (Wants s i) h n = number_settles (l.number s) (numbered_at c.known s i) n
+    kept_ask (Within i) h n = h
     kept_ask (Unasked m) h n = refl
     kept_ask (Clause n holds) h m = h
     kept_ask (Supported holds) h m = h
 
-    kept_asks : (asks : List Ask) → are_kept k asks ≡ true → are_numbered (map (mapped_ask (numbered_at k)) asks) ≡ true → are_kept l (map (mapped_ask (numbered_at k)) asks) ≡ true
+    kept_asks : (asks : List Ask) → are_kept c.known asks ≡ true → are_numbered (map numbered_ask asks) ≡ true → are_kept l (map numbered_ask asks) ≡ true
     kept_asks [] h n = refl
     kept_asks (a ∷ asks) h n =
-        let b = mapped_ask (numbered_at k) a in
-        let rest = map (mapped_ask (numbered_at k)) asks in
-        ap (λ c. c && are_kept l rest) (kept_ask a (first_so (is_kept k a) (are_kept k asks) h) (first_so (is_numbered b) (are_numbered rest) n))
-        ∙ kept_asks asks (second_so (is_kept k a) (are_kept k asks) h) (second_so (is_numbered b) (are_numbered rest) n)
+        let b = numbered_ask a in
+        let rest = map numbered_ask asks in
+        ap (λ d. d && are_kept l rest) (kept_ask a (first_so (is_kept c.known a) (are_kept c.known asks) h) (first_so (is_numbered b) (are_numbered rest) n))
+        ∙ kept_asks asks (second_so (is_kept c.known a) (are_kept c.known asks) h) (second_so (is_numbered b) (are_numbered rest) n)
 
--- Where what the sites demand is met, what their asks demand is.
-module _ (c : Scope) where
-  site_met : (s : Site) → first_unmet (site_demand c s) ≡ None → first_unmet (ask_demands c.known (asked_in s)) ≡ None
-  site_met (Asked a) met = ap first_unmet (append-nil (ask_demand c.known a)) ∙ met
-  site_met (Used u) met = (met_parts (ask_demands c.known (in_type_use u)) (match_if c u.index u.inline) met).0
-  site_met (Declared before m) met = refl
+    site_kept : (s : Site) → are_kept c.known (asked_in s) ≡ true → are_numbered (numbered_in c s) ≡ true → are_kept l (numbered_in c s) ≡ true
+    site_kept (Asked a) h n = ap (λ b. b && true) (kept_ask a (first_so (is_kept c.known a) true h) (first_so (is_numbered (numbered_ask a)) true n))
+    site_kept (Used w u) h n = kept_asks (in_type_use u) h n
+    site_kept (LocalAt locals i) h n =
+        let j : Index = numbered (local_number c locals) i in
+        ap (λ b. b && true) (number_written j (first_so (is_number j) true n))
+    site_kept (LabelAt blocks i) h n =
+        let j : Index = numbered (λ name. denotes name blocks) i in
+        ap (λ b. b && true) (number_written j (first_so (is_number j) true n))
+    site_kept (Repeated blocks m) h n = mark_passes (is_kept l) (λ m. refl) m
+    site_kept (Begins blocks m) h n = mark_passes (is_kept l) (λ m. refl) m
+    site_kept (Declared before m) h n = refl
+    site_kept Ends h n = refl
 
-  sites_met : (ss : List Site) → first_unmet (site_demands c ss) ≡ None → first_unmet (ask_demands c.known (asked ss)) ≡ None
-  sites_met [] met = refl
-  sites_met (s ∷ ss) met =
-      let p = met_parts (site_demand c s) (site_demands c ss) met in
-      ap first_unmet (flat_map-append (ask_demand c.known) (asked_in s) (asked ss)) ∙ (first_unmet-append (ask_demands c.known (asked_in s)) (ask_demands c.known (asked ss)) (site_met s p.0) ∙ sites_met ss p.1)
+    sites_kept : (ss : List Site) → are_kept c.known (asked ss) ≡ true → are_numbered (flat_map (numbered_in c) ss) ≡ true → are_kept l (flat_map (numbered_in c) ss) ≡ true
+    sites_kept [] h n = refl
+    sites_kept (s ∷ ss) h n =
+        let now = numbered_in c s in
+        let behind = flat_map (numbered_in c) ss in
+        let kept = sym (list_all-append (is_kept c.known) (asked_in s) (asked ss)) ∙ h in
+        let numbers = sym (list_all-append is_numbered now behind) ∙ n in
+        list_all-append (is_kept l) now behind
+        ∙ both_so (are_kept l now) (are_kept l behind)
+        (site_kept s (first_so (are_kept c.known (asked_in s)) (are_kept c.known (asked ss)) kept) (first_so (are_numbered now) (are_numbered behind) numbers))
+        (sites_kept ss (second_so (are_kept c.known (asked_in s)) (are_kept c.known (asked ss)) kept) (second_so (are_numbered now) (are_numbered behind) numbers))
 
 -- So what is asked, once it is numbered, is numbers.
-asks_numbered : (fields : List ModuleField) → first_unmet (name_demands fields) ≡ None → are_numbered (map (mapped_ask (numbered_at (known (items fields)))) (asked (in_module fields))) ≡ true
+asks_numbered : (fields : List ModuleField) → first_unmet (name_demands fields) ≡ None → are_numbered (flat_map (numbered_in (scope fields)) (in_module fields)) ≡ true
 asks_numbered fields met =
     let c = scope fields in
-    let sites = (met_parts (item_demands (items fields)) (site_demands c (in_module fields)) met).1 in
-    met_asks c.known (asked (in_module fields)) (sites_met c (in_module fields) sites)
+    sites_numbered c (in_module fields) (all_outer fields) (met_parts (item_demands (items fields)) (site_demands c (in_module fields)) met).1
 
 pub all_numbered : (fields : List ModuleField) → first_unmet (name_demands fields) ≡ None → has_numbers (resolved fields) ≡ true
-all_numbered fields met = ap are_numbered (asked_resolved fields) ∙ asks_numbered fields met
+all_numbered fields met = asked_passes (scope fields) is_numbered fields (asks_numbered fields met)
 
 pub still_well_formed : (fields : List ModuleField) → is_well_formed fields ≡ true → first_unmet (name_demands fields) ≡ None → is_well_formed (resolved fields) ≡ true
 still_well_formed fields h met =
     let l = known (items (resolved fields)) in
-    ap (are_kept l) (asked_resolved fields) ∙ kept_asks (known (items fields)) l (asked (in_module fields)) h (asks_numbered fields met)
+    asked_passes (scope fields) (is_kept l) fields (sites_kept (scope fields) l (in_module fields) h (asks_numbered fields met))
 
 pub still_below : (fields : List ModuleField) → greatest_generation (resolved fields) ≤ greatest_generation fields
 still_below fields =
-    let k = known (items fields) in
-    let i : greatest_item (items (resolved fields)) ≡ greatest_item (items fields) = ap greatest_item (items_stay k fields) in
-    let a : greatest_asked (asked (in_module (resolved fields))) ≡ greatest_asked (map (mapped_ask (numbered_at k)) (asked (in_module fields))) = ap greatest_asked (asked_resolved fields) in
-    let b = below_asks k (asked (in_module fields)) in
-    omega arith
+    let c = scope fields in
+    let i : greatest_item (items (resolved fields)) ≡ greatest_item (items fields) = ap greatest_item (items_stay c fields) in
+    let g : ℕ = greatest_asked (asked (in_module fields)) in
+    let each = each_below (suc g) generation_in (asked (in_module fields)) (omega arith) in
+    let a : greatest_asked (asked (in_module (resolved fields))) < suc g =
+    greatest_below (suc g) generation_in (asked (in_module (resolved fields))) (omega arith) (asked_passes c (λ x. nat_lt (generation_in x) (suc g)) fields (sites_under c (suc g) (in_module fields) each)) in
+    omega (arith, i, a)

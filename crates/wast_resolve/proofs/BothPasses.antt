@@ -1,6 +1,6 @@
 -- The walk over the uses, after the items had what they demand.
-use Rattle.std.specs.Prelude.{⊤}
-use Rattle.std.proofs.Common.{◌≡◌, List, None, Option, sym, ◌∙◌, ap, subst}
+use Rattle.std.specs.Prelude.{⊤, flat_map}
+use Rattle.std.proofs.Common.{◌≡◌, List, None, Option, inr, sym, ◌∙◌, ap, subst}
 use Rattle.wast_base.specs.Faults.{Told}
 use Rattle.wast_tree.specs.Items.{items}
 use Rattle.wast_tree.specs.Sites.{in_module}
@@ -9,8 +9,7 @@ use Rattle.wast_types.specs.Signatures.{Signature}
 use Rattle.wast_resolve.specs.Tree.{ModuleField}
 use Rattle.wast_resolve.specs.Scopes.{Scope, scope, signatures}
 use Rattle.wast_resolve.specs.Resolvers.{Resolution, known_of, scope_of, with_types}
-use Rattle.wast_resolve.specs.Demands.{first_unmet, item_demands, site_demands, name_demands, Answers, HasMany, item_counts, local_counts, IsCrowded}
-use Rattle.wast_resolve.proofs.Counted.{many_right}
+use Rattle.wast_resolve.specs.Demands.{first_unmet, item_demands, site_demands, name_demands, Answers, HasMany, body_counts_in, IsCrowded}
 use Rattle.wast_resolve.proofs.Unmet.{first_unmet-append, answers_first, answers_after}
 
 -- gs are the fields that were read, k what is known
@@ -31,10 +30,10 @@ pub scope_known : (fs : List ModuleField) (r names : Resolution) (types : List (
 scope_known fs r names types k t is = ap scope_of is ∙ (λ i. record { known = k i; types = t i })
 
 module _ (fs : List ModuleField) (c : Scope) (same : c ≡ scope fs) (met : first_unmet (item_demands (items fs)) ≡ None) where
-  pub uses_stop : (t : Told) → Answers ⊤ (HasMany (local_counts fs)) t (first_unmet (site_demands c (in_module fs))) → Answers ⊤ (IsCrowded fs) t (first_unmet (name_demands fs))
+  pub uses_stop : (t : Told) → Answers ⊤ (HasMany (flat_map (body_counts_in c) fs)) t (first_unmet (site_demands c (in_module fs))) → Answers ⊤ (IsCrowded fs) t (first_unmet (name_demands fs))
   uses_stop t h =
-      answers_after t (item_demands (items fs)) (site_demands (scope fs) (in_module fs)) (λ l. l) (many_right (item_counts (items fs)) (local_counts fs)) met
-      (subst (λ (c : Scope). Answers ⊤ (HasMany (local_counts fs)) t (first_unmet (site_demands c (in_module fs)))) same h)
+      answers_after t (item_demands (items fs)) (site_demands (scope fs) (in_module fs)) (λ l. l) (λ m. inr (met, m)) met
+      (subst (λ (c : Scope). Answers ⊤ (HasMany (flat_map (body_counts_in c) fs)) t (first_unmet (site_demands c (in_module fs)))) same h)
 
   pub both_pass : first_unmet (site_demands c (in_module fs)) ≡ None → first_unmet (name_demands fs) ≡ None
   both_pass h = first_unmet-append (item_demands (items fs)) (site_demands (scope fs) (in_module fs)) met ∙ (ap (λ (c : Scope). first_unmet (site_demands c (in_module fs))) (sym same) ∙ h)

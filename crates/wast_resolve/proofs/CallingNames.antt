@@ -3,7 +3,7 @@ use Rattle.std.proofs.Common.{◌≡◌, ℕ, zero, suc, arith, Bool, true, fals
 use Rattle.std.specs.List.{flat_map, Contains}
 use Rattle.wast_base.specs.declared.faults.Error.{Error}
 use Rattle.wast_base.specs.Faults.{told}
-use Rattle.wast_tree.specs.Sites.{Ask, Wants, Unasked, Clause, Supported}
+use Rattle.wast_tree.specs.Sites.{Ask, Wants, Within, Unasked, Clause, Supported}
 use Rattle.wast_tree.specs.Known.{Known}
 use Rattle.wast_resolve.specs.Tree.{Index}
 use Rattle.wast_resolve.specs.Tree.index
@@ -27,6 +27,7 @@ type_demand k i = ask_demand k (Wants space.Ty i)
 typed_demands : (k : Known) (asks : List Ask) → ask_demands k (map as_type asks) ≡ flat_map (type_demand k) (indices_of asks)
 typed_demands k [] = refl
 typed_demands k (Wants s i ∷ asks) = ap (λ ds. type_demand k i ++ ds) (typed_demands k asks)
+typed_demands k (Within i ∷ asks) = typed_demands k asks
 typed_demands k (Unasked m ∷ asks) = typed_demands k asks
 typed_demands k (Clause n holds ∷ asks) = typed_demands k asks
 typed_demands k (Supported holds ∷ asks) = typed_demands k asks
@@ -38,6 +39,7 @@ both_true false b h = absurd (cc h)
 -- what is settled of asks is settled of each index among them
 settled_each : (k : Known) (asks : List Ask) → are_settled k (map as_type asks) ≡ true → (i : Index) → Contains (indices_of asks) i → IsSettledFor k space.Ty i
 settled_each k [] h i (n, lt, is) = absurd (omega (arith, lt))
+settled_each k (Within j ∷ asks) h i c = settled_each k asks h i c
 settled_each k (Unasked m ∷ asks) h i c = settled_each k asks h i c
 settled_each k (Clause n holds ∷ asks) h i c = settled_each k asks h i c
 settled_each k (Supported holds ∷ asks) h i c = settled_each k asks h i c

@@ -1,5 +1,5 @@
 -- What passes of all that the fields ask passes of what they ask with the implied types, since each of these stands in a use.
-use Rattle.std.proofs.Common.{◌≡◌, ℕ, ◌<◌, Bool, true, ◌&&◌, List, [], ◌∷◌, ◌++◌, map, Option, Some, None, refl, sym, ap, ◌∙◌, arith}
+use Rattle.std.proofs.Common.{◌≡◌, ℕ, ◌<◌, Bool, true, false, ◌&&◌, List, [], ◌∷◌, ◌++◌, map, Option, Some, None, refl, sym, ap, ◌∙◌, arith}
 use Rattle.std.specs.Prelude.{nat_lt}
 use Rattle.std.specs.Cmp.{first_so, second_so}
 use Rattle.std.specs.List.{flat_map, list_all}
@@ -7,11 +7,11 @@ use Rattle.std.proofs.Math.Bool.{and-true}
 use Rattle.std.proofs.lemmas.Bool.{lt-ltb}
 use Rattle.std.proofs.lemmas.List.Folds.{list_all-append, list_all-map}
 use Rattle.std.proofs.lemmas.Grind.{flat_map-append}
-use Rattle.wast_tree.specs.Sites.{Ask, Supported, Site, Asked, Used, Declared, if_there, in_index, in_id, in_val, in_param, in_signature, in_field, in_module, asking, asked_in, asked}
+use Rattle.wast_tree.specs.Sites.{Ask, Supported, Where, Site, Used, if_there, in_index, in_id, in_val, in_param, in_signature, in_field, in_module, asking, asked_in, asked}
 use Rattle.wast_tree.specs.Generations.{generation_in, greatest_asked}
 use Rattle.wast_tree.proofs.Visiting.{asked_both, asked_asking}
 use Rattle.wast_types.specs.Signatures.{Signature, type_of_param, signature_of}
-use Rattle.wast_types.specs.NeedingUses.{needed_without, needed_at, needed_in}
+use Rattle.wast_types.specs.NeedingUses.{inline_signature, needs_type, needed_if, needed_without, needed_at, needed_in}
 use Rattle.wast_types.specs.ImpliedTypes.{implied}
 use Rattle.wast_types.specs.Expanded.{nameless, unnamed_type}
 use Rattle.wast_types.specs.Completed.{completed}
@@ -54,15 +54,21 @@ module _ (ok : Ask → Bool) where
       (list_all-map value_passes type_of_param t.params ∙ all_pass param_passes (λ p. value_passes p.2) (λ p. second_part (if_there in_id p.0) (in_val p.2)) t.params params)
       (second_so (list_all param_passes t.params) (list_all value_passes t.results) both)
 
-  use_needs : (i : Option Index) (inline : Option FunctionType) → pass (if_there in_signature inline) ≡ true → all_pass_in (needed_without i inline) ≡ true
-  use_needs (Some i) inline h = refl
-  use_needs None None h = refl
-  use_needs None (Some t) h = both_so (values_pass value_passes (signature_of t)) true (signature_needs t h) refl
+  inline_passes : (inline : Option FunctionType) → pass (if_there in_signature inline) ≡ true → values_pass value_passes (inline_signature inline) ≡ true
+  inline_passes None h = refl
+  inline_passes (Some t) h = signature_needs t h
+
+  needed_passes : (b : Bool) (s : Signature) → values_pass value_passes s ≡ true → all_pass_in (needed_if b s) ≡ true
+  needed_passes true s h = both_so (values_pass value_passes s) true h refl
+  needed_passes false s h = refl
+
+  use_needs : (w : Where) (i : Option Index) (inline : Option FunctionType) → pass (if_there in_signature inline) ≡ true → all_pass_in (needed_without w i inline) ≡ true
+  use_needs w (Some i) inline h = refl
+  use_needs w None inline h = needed_passes (needs_type w inline) (inline_signature inline) (inline_passes inline h)
 
   site_needs : (s : Site) → pass (asked_in s) ≡ true → all_pass_in (needed_at s) ≡ true
-  site_needs (Asked a) h = refl
-  site_needs (Used u) h = use_needs u.index u.inline (second_part (if_there (in_index space.Ty) u.index) (if_there in_signature u.inline) h)
-  site_needs (Declared before m) h = refl
+  site_needs (Used w u) h = use_needs w u.index u.inline (second_part (if_there (in_index space.Ty) u.index) (if_there in_signature u.inline) h)
+  site_needs s h = refl
 
   sites_need : (ss : List Site) → pass (asked ss) ≡ true → all_pass_in (needed_in ss) ≡ true
   sites_need ss h =

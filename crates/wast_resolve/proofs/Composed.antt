@@ -1,39 +1,33 @@
 -- What an expanded list answers, and what is so of it when it is resolved.
-use Rattle.std.proofs.Common.{◌≡◌, ℕ, ◌+◌, ◌<◌, true, not, ◌&&◌, ◌||◌, List, [], ◌∷◌, ◌++◌, map, append-nil, Option, Some, None, is_some, refl, sym, ap, ◌∙◌, subst, arith}
+use Rattle.std.proofs.Common.{◌≡◌, ℕ, ◌+◌, ◌<◌, true, not, ◌&&◌, ◌||◌, List, ◌∷◌, None, is_some, refl, ap, ◌∙◌, arith}
 use Rattle.std.specs.Prelude.{max}
 use Rattle.std.proofs.Math.Bool.{or-true}
-use Rattle.std.specs.Option.{option_or}
-use Rattle.wast_base.specs.Ids.{Name, name_of, mark_of, generation_of, is_generated}
-use Rattle.wast_base.specs.Faults.{Cause}
-use Rattle.wast_base.specs.Spaces.{word_of}
+use Rattle.wast_base.specs.Ids.{Name, name_of, generation_of, is_generated}
 use Rattle.wast_tree.specs.Items.{items}
 use Rattle.wast_tree.specs.Known.{Known, known}
-use Rattle.wast_tree.specs.Sites.{Ask, Wants, Site, Asked, Used, Declared, if_there, in_index, in_signature, asked, in_module}
+use Rattle.wast_tree.specs.Sites.{Ask, Wants, asked, in_module}
 use Rattle.wast_tree.specs.Generations.{generation_in, greatest_item, greatest_asked, greatest_generation}
 use Rattle.wast_tree.specs.WellFormed.{is_kept, are_kept, is_well_formed}
-use Rattle.wast_map.specs.Mapped.{mapped_site}
-use Rattle.wast_map.proofs.Laws.{stands}
-use Rattle.wast_types.specs.Signatures.{Signature, signature_of}
-use Rattle.wast_types.specs.NeedingUses.{inline_signature}
 use Rattle.wast_types.specs.Expanders.{LookUp, index_of}
-use Rattle.wast_types.specs.Expanded.{typed, bindings, bound_index, binding, expanded, ids_wanted}
+use Rattle.wast_types.specs.Expanded.{typed, bindings, expanded, ids_wanted}
 use Rattle.wast_types.specs.Completed.{completed}
 use Rattle.wast_deinline.proofs.Below.{each_below}
-use Rattle.wast_resolve.specs.Tree.{Index, Span, Space, FunctionType, ModuleField}
+use Rattle.wast_resolve.specs.Tree.{Index, Space, ModuleField}
 use Rattle.wast_resolve.specs.Tree.space
 use Rattle.wast_resolve.specs.Scopes.{Scope, scope}
-use Rattle.wast_resolve.specs.Demands.{Demand, first_unmet, unknown, ask_demand, ask_demands, item_demands, match_demands, match_if, site_demand, site_demands, order_demands, name_demands, demands, item_counts, local_counts}
-use Rattle.wast_resolve.proofs.OfExpanded.{SameUnmet, SameNumbers, StaysWellFormed, IsNumbered, IsWellFormedNumbered, IsBelowNext}
+use Rattle.wast_resolve.specs.Demands.{first_unmet, item_demands, site_demands, order_demands, name_demands, demands, body_counts}
+use Rattle.wast_resolve.proofs.OfExpanded.{SameUnmet, SameNumbers, SameBodies, StaysWellFormed, IsNumbered, IsWellFormedNumbered, IsBelowNext}
 use Rattle.wast_resolve.proofs.AtRest.{all_numbered, still_well_formed, still_below}
-use Rattle.wast_resolve.proofs.Unmet.{first_unmet-or, alike_behind, met_parts}
+use Rattle.wast_resolve.proofs.Unmet.{alike_behind, met_parts}
 use Rattle.wast_resolve.proofs.OrderKept.{expanded_orders}
-use Rattle.wast_resolve.proofs.ExpandedItems.{bound_items, expanded_position, expanded_clashes, expanded_item_counts, expanded_below}
-use Rattle.wast_resolve.proofs.ExpandedTypes.{same_signatures, same_local_counts}
-use Rattle.wast_resolve.proofs.FoundMatches.{what_is_found, it_matches}
-use Rattle.wast_resolve.proofs.AlikeScopes.{old_uses}
-use Rattle.wast_resolve.proofs.ExpandedAsks.{bound_ask, bound_measure, typed_asks}
+use Rattle.wast_resolve.proofs.ExpandedItems.{expanded_position, expanded_clashes, expanded_item_counts, expanded_below}
+use Rattle.wast_resolve.proofs.ExpandedTypes.{same_signatures}
+use Rattle.wast_resolve.proofs.ExpandedBodies.{expanded_bodies}
+use Rattle.wast_resolve.proofs.ExpandedUses.{found_known, uses_met}
+use Rattle.wast_resolve.proofs.AlikeScopes.{old_uses, old_bodies}
+use Rattle.wast_resolve.proofs.ExpandedAsks.{bound_measure, typed_asks}
 use Rattle.wast_resolve.proofs.CompletedAsks.{completed_pass, completed_below}
-use Rattle.wast_resolve.proofs.FoundTypes.{IsTypeOf, found}
+use Rattle.wast_resolve.proofs.FoundTypes.{IsTypeOf}
 use Rattle.wast_resolve.proofs.KeptAlike.{completed_borne, all_kept_alike}
 
 module _ (n : ℕ) (fields : List ModuleField) where
@@ -48,15 +42,6 @@ module _ (n : ℕ) (fields : List ModuleField) where
 
   abbrev new_scope : Scope
   new_scope = scope (expanded n fields)
-
-  -- What a signature is bound to is a known type.
-  found_known : (s : Signature) (i : Index) → find s ≡ Some i → IsTypeOf (items (expanded n fields)) i
-  found_known s i e = subst (λ xs. IsTypeOf xs i) (sym (bound_items find types)) (found types s i e)
-
-  found_met : (i : Index) → IsTypeOf (items (expanded n fields)) i → (asks : List Ask) → first_unmet (ask_demands new (Wants space.Ty i ∷ asks)) ≡ first_unmet (ask_demands new asks)
-  found_met i h asks =
-      ap (λ j. first_unmet (ask_demands new (Wants space.Ty j ∷ asks))) h.is
-      ∙ ap (λ b. first_unmet (unknown (word_of space.Ty) (mark_of h.id) b ++ ask_demands new asks)) h.borne
 
   found_kept : (i : Index) → IsTypeOf (items (expanded n fields)) i → (asks : List Ask) → are_kept new (Wants space.Ty i ∷ asks) ≡ are_kept new asks
   found_kept i h asks =
@@ -73,61 +58,13 @@ module _ (n : ℕ) (fields : List ModuleField) where
   -- What is kept, and the greatest generation, go by what the fields ask with the implied types.
   uses_kept : are_kept new (asked (in_module (expanded n fields))) ≡ are_kept new (asked (in_module (completed fields)))
   uses_kept =
-      bound_measure find (λ (asks : List Ask). are_kept new asks) (λ a xs ys h. ap (λ b. is_kept new a && b) h) (λ s i asks e. found_kept i (found_known s i e) asks) types
+      bound_measure find (λ (asks : List Ask). are_kept new asks) (λ a xs ys h. ap (λ b. is_kept new a && b) h) (λ s i asks e. found_kept i (found_known n fields s i e) asks) types
       ∙ ap (λ os. are_kept new (asked os)) (typed_asks n fields)
 
   uses_below : greatest_generation (expanded n fields) ≡ greatest_with (asked (in_module (completed fields)))
   uses_below =
-      bound_measure find greatest_with (λ a xs ys h. omega (arith, h)) (λ s i asks e. found_below i (found_known s i e) asks) types
+      bound_measure find greatest_with (λ a xs ys h. omega (arith, h)) (λ s i asks e. found_below i (found_known n fields s i e) asks) types
       ∙ ap (λ os. greatest_with (asked os)) (typed_asks n fields)
-
-  -- Where no items clash, uses demand what they demand in the list without their indices: each index that is filled in is
-  -- known, and an inline type matches it once its names are known.
-  module _ (free : first_unmet (item_demands (items (expanded n fields))) ≡ None) where
-    nothing_more : (o p : Option (Cause × Span)) → (o ≡ None → p ≡ None) → option_or o p ≡ option_or o None
-    nothing_more None p h = h refl
-    nothing_more (Some f) p h = refl
-
-    abbrev use_demanded : (i : Option Index) (inline : Option FunctionType) → List Demand
-    use_demanded i inline = ask_demands new (if_there (in_index space.Ty) i ++ if_there in_signature inline) ++ match_if new_scope i inline
-
-    given_index : (i : Index) (inline : Option FunctionType) → find (inline_signature inline) ≡ Some i → first_unmet (use_demanded (Some i) inline) ≡ first_unmet (use_demanded None inline)
-    given_index i None e = ap first_unmet (append-nil (ask_demands new (Wants space.Ty i ∷ []))) ∙ found_met i (found_known (inline_signature None) i e) []
-    given_index i (Some t) e =
-        let asked = in_signature t in
-        let matched = match_demands new_scope i t in
-        let known : first_unmet (ask_demands new (Wants space.Ty i ∷ asked)) ≡ first_unmet (ask_demands new asked) = found_met i (found_known (signature_of t) i e) asked in
-        first_unmet-or (ask_demands new (Wants space.Ty i ∷ asked)) matched
-        ∙ (ap (λ o. option_or o (first_unmet matched)) known
-        ∙ (nothing_more (first_unmet (ask_demands new asked)) (first_unmet matched) (λ met. it_matches new_scope t i (what_is_found n fields free (signature_of t) i e) met)
-        ∙ sym (first_unmet-or (ask_demands new asked) [])))
-
-    bound_use_met : (i : Option Index) (inline : Option FunctionType) → first_unmet (use_demanded (bound_index find i inline) inline) ≡ first_unmet (use_demanded i inline)
-    bound_use_met (Some i) inline = refl
-    bound_use_met None inline = by_found (find (inline_signature inline)) refl
-      where
-        by_found : (o : Option Index) → find (inline_signature inline) ≡ o → first_unmet (use_demanded o inline) ≡ first_unmet (use_demanded None inline)
-        by_found None e = refl
-        by_found (Some i) e = given_index i inline e
-
-    site_met : (s : Site) → first_unmet (site_demand new_scope (mapped_site (binding find) s)) ≡ first_unmet (site_demand new_scope s)
-    site_met (Asked a) = ap (λ b. first_unmet (ask_demand new b)) (bound_ask find a)
-    site_met (Used u) = bound_use_met u.index u.inline
-    site_met (Declared before m) = refl
-
-    sites_met : (ss : List Site) → first_unmet (site_demands new_scope (map (mapped_site (binding find)) ss)) ≡ first_unmet (site_demands new_scope ss)
-    sites_met [] = refl
-    sites_met (s ∷ ss) =
-        let one = mapped_site (binding find) s in
-        let bound = map (mapped_site (binding find)) ss in
-        first_unmet-or (site_demand new_scope one) (site_demands new_scope bound)
-        ∙ (ap (λ o. option_or o (first_unmet (site_demands new_scope bound))) (site_met s)
-        ∙ (ap (option_or (first_unmet (site_demand new_scope s))) (sites_met ss) ∙ sym (first_unmet-or (site_demand new_scope s) (site_demands new_scope ss))))
-
-    pub uses_met : first_unmet (site_demands new_scope (in_module (expanded n fields))) ≡ first_unmet (site_demands new_scope (in_module (completed fields)))
-    uses_met =
-        ap (λ ss. first_unmet (site_demands new_scope ss)) (stands (binding find) (λ u. refl) types)
-        ∙ (sites_met (in_module types) ∙ ap (λ ss. first_unmet (site_demands new_scope ss)) (typed_asks n fields))
 
   module _ (above : greatest_generation fields < n) where
     old_items_below : greatest_item (items fields) < n
@@ -142,9 +79,14 @@ module _ (n : ℕ) (fields : List ModuleField) where
     pub same_uses : first_unmet (item_demands (items (expanded n fields))) ≡ None
         → first_unmet (site_demands new_scope (in_module (expanded n fields))) ≡ first_unmet (site_demands (scope (completed fields)) (in_module (completed fields)))
     same_uses free =
-        uses_met free
+        uses_met n fields free
         ∙ ap first_unmet
         (old_uses n (expanded n fields) (completed fields) (same_signatures n fields) (λ s q lt. expanded_position n fields old_items_below q s lt) (each_below n generation_in (asked (in_module (completed fields))) old_asks_below))
+
+    pub same_bodies_if : first_unmet (item_demands (items (completed fields))) ≡ None → body_counts (expanded n fields) ≡ body_counts (completed fields)
+    same_bodies_if free =
+        expanded_bodies n fields (expanded_clashes n fields old_items_below ∙ free)
+        ∙ old_bodies n (expanded n fields) (completed fields) (same_signatures n fields) (λ s q lt. expanded_position n fields old_items_below q s lt) (each_below n generation_in (asked (in_module (completed fields))) old_asks_below)
 
     still_kept : is_well_formed fields ≡ true → is_well_formed (expanded n fields) ≡ true
     still_kept h =
@@ -175,8 +117,13 @@ pub names_met : (n : ℕ) (fields : List ModuleField) → greatest_generation fi
 names_met n fields above met = same_names n fields above ∙ (met_parts (order_demands (completed fields)) (name_demands (completed fields)) met).1
 
 pub same_counts : SameNumbers
-same_counts n fields above =
-    ap (λ ms. ms ++ local_counts (expanded n fields)) (expanded_item_counts n fields (old_items_below n fields above)) ∙ ap (λ ms. item_counts (items (completed fields)) ++ ms) (same_local_counts n fields)
+same_counts n fields above = expanded_item_counts n fields (old_items_below n fields above)
+
+pub same_clashes : (n : ℕ) (fields : List ModuleField) → greatest_generation fields < n → first_unmet (item_demands (items (expanded n fields))) ≡ first_unmet (item_demands (items (completed fields)))
+same_clashes n fields above = expanded_clashes n fields (old_items_below n fields above)
+
+pub same_bodies : SameBodies
+same_bodies n fields above free = same_bodies_if n fields above free
 
 pub expanded_well_formed : StaysWellFormed
 expanded_well_formed n fields above h = still_kept n fields above h

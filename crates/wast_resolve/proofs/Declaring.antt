@@ -2,9 +2,9 @@
 use Rattle.std.proofs.Common.{◌≡◌, ℕ, zero, suc, ◌+◌, ◌<◌, ◌≤◌, ◌^◌, Bool, true, false, List, [], ◌∷◌, ◌++◌, map, length, get_or, drop, length-append, length-drop, append_assoc, Option, Some, None, refl, sym, ap, ◌∙◌, subst, arith}
 use Rattle.std.specs.Prelude.{⊤, not, cond, codes, slice_index_or}
 use Rattle.std.proofs.Math.Seq.{get_or-append_seam, take-append_seam, drop-cons}
-use Rattle.std.proofs.lemmas.List.{map-append, length-map}
+use Rattle.std.proofs.lemmas.List.{map-append, length-map, get_or-map}
 use Rattle.wast_base.specs.Ids.{Name, Mark, marked}
-use Rattle.wast_base.specs.Faults.{Cause, Duplicate, Told}
+use Rattle.wast_base.specs.Faults.{Cause, Duplicate, Told, At}
 use Rattle.wast_base.specs.Spaces.{name_if, is_borne}
 use Rattle.wast_tree.specs.Sites.{param_marks, declaring}
 use Rattle.wast_resolve.specs.Tree.{Span, Id, NameAnnotation, ValType, FunctionType, Expression, Local}
@@ -13,8 +13,7 @@ use Rattle.wast_resolve.specs.Scopes.{Scope}
 use Rattle.wast_resolve.specs.Demands.{first_unmet, Answers, site_demands, declared}
 use Rattle.wast_namespace.specs.Filling.{IsClash, IsFirstClash, HasFirstClash}
 use Rattle.wast_resolve.specs.Gathers.{Stops}
-use Rattle.wast_resolve.specs.Locals.{params_in, opening, marks, names, said_of}
-use Rattle.wast_namespace.specs.Outcomes.{Outcome}
+use Rattle.wast_resolve.specs.Locals.{params_in, opening, marks, marks_of, names, said_of, NamesLocals}
 use Rattle.wast_base.specs.declared.faults.Error.{Error}
 use Rattle.std.specs.Prelude.{Result}
 use Rattle.wast_resolve.proofs.Collecting.{stops_more}
@@ -123,19 +122,31 @@ long_as : (inline : Option FunctionType) (locals : List Local) (e : Expression) 
 long_as None locals e = refl
 long_as (Some t) locals e = refl
 
--- an answer for the names of these parameters and locals is one for the function
-pub names_answer : (K : Type 0) (c : Scope) (inline : Option FunctionType) (ls : List Local) (e : Expression) (ps : List Local) (r : Result (Unit {0}) Error) → ps ≡ ls
-    → (let ms = marks (λ p. marked p.0) (λ l. marked l.id) (params_in inline) ps in Outcome K (2 ^ 32 ≤ length ms) (first_unmet (site_demands c (declaring [] ms))) r)
-    → Outcome K (2 ^ 32 ≤ length (declared inline (func.Inline ls e))) (first_unmet (site_demands c (opening (param_marks inline) (func.Inline ls e)))) r
-names_answer K c inline ls e ps r same h =
-    let are = marks (λ p. marked p.0) (λ l. marked l.id) (params_in inline) in
-    subst (λ ss. Outcome K (2 ^ 32 ≤ length (declared inline (func.Inline ls e))) (first_unmet (site_demands c ss)) r) (sym (opening_is inline ls e))
-    (subst (λ ms. Outcome K (2 ^ 32 ≤ length ms) (first_unmet (site_demands c (declaring [] (are ls)))) r) (long_as inline ls e)
-    (subst (λ (xs : List Local). let ms = are xs in Outcome K (2 ^ 32 ≤ length ms) (first_unmet (site_demands c (declaring [] ms))) r) same h))
+-- what is said of one that has the name of an earlier one
+pub clash_told : (K M : Type 0) (c : Scope) (ms : List (Option Mark)) (at : ℕ) (m : Mark) (t : Told) → IsFirstClash (names ms) at → Some m ≡ slice_index_or ms at None → t ≡ At (Duplicate (codes "local")) m.1
+    → Answers K M t (first_unmet (site_demands c (declaring [] ms)))
+clash_told K M c ms at m t first here is =
+    subst (λ t. Answers K M t (first_unmet (site_demands c (declaring [] ms)))) (sym is) (first_name c ms at first ∙ ap said_of (sym here))
+
+-- the first clash has a name
+pub clash_named : {T : Type 0} (ms : List (Option Mark)) (at : ℕ) → IsFirstClash (names ms) at → None ≡ slice_index_or ms at None → T
+clash_named ms at first none =
+    let lt : at < length ms = omega (arith, first.clash.within, length-map ms name_if) in
+    let e : None ≡ Some first.clash.name = ap name_if none ∙ (sym (get_or-map name_if ms at None None lt) ∙ first.clash.bears) in
+    absurd (cc e)
 
 -- the same parameters under another name
-pub params_answer : (K : Type 0) (c : Scope) (ps qs : List (Option Id × Option NameAnnotation × ValType)) (ls : List Local) (r : Result (Unit {0}) Error) → ps ≡ qs
-    → (let ms = marks (λ p. marked p.0) (λ l. marked l.id) ps ls in Outcome K (2 ^ 32 ≤ length ms) (first_unmet (site_demands c (declaring [] ms))) r)
-    → (let ms = marks (λ p. marked p.0) (λ l. marked l.id) qs ls in Outcome K (2 ^ 32 ≤ length ms) (first_unmet (site_demands c (declaring [] ms))) r)
-params_answer K c ps qs ls r same h =
-    subst (λ (xs : List (Option Id × Option NameAnnotation × ValType)). let ms = marks (λ p. marked p.0) (λ l. marked l.id) xs ls in Outcome K (2 ^ 32 ≤ length ms) (first_unmet (site_demands c (declaring [] ms))) r) same h
+pub params_answer : {T : Type 0} (c : Scope) (n : ℕ) (ps qs : List (Option Id × Option NameAnnotation × ValType)) (ls : List Local) (r : Result T Error) → ps ≡ qs
+    → NamesLocals c n (declaring [] (marks_of ps ls)) (length (marks_of ps ls)) r → NamesLocals c n (declaring [] (marks_of qs ls)) (length (marks_of qs ls)) r
+params_answer c n ps qs ls r same h =
+    subst (λ (xs : List (Option Id × Option NameAnnotation × ValType)). NamesLocals c n (declaring [] (marks_of xs ls)) (length (marks_of xs ls)) r) same h
+
+-- an answer for the names of these parameters and locals is one for the function
+pub names_answer : {T : Type 0} (c : Scope) (n m : ℕ) (inline : Option FunctionType) (ls : List Local) (e : Expression) (ps : List Local) (r : Result T Error) → n ≡ m → ps ≡ ls
+    → NamesLocals c n (declaring [] (marks_of (params_in inline) ps)) (length (marks_of (params_in inline) ps)) r
+    → NamesLocals c m (opening (param_marks inline) (func.Inline ls e)) (length (declared inline (func.Inline ls e))) r
+names_answer c n m inline ls e ps r alike same h =
+    subst (λ ss. NamesLocals c m ss (length (declared inline (func.Inline ls e))) r) (sym (opening_is inline ls e))
+    (subst (λ ms. NamesLocals c m (declaring [] (marks_of (params_in inline) ls)) (length ms) r) (long_as inline ls e)
+    (subst (λ (xs : List Local). NamesLocals c m (declaring [] (marks_of (params_in inline) xs)) (length (marks_of (params_in inline) xs)) r) same
+    (subst (λ n. NamesLocals c n (declaring [] (marks_of (params_in inline) ps)) (length (marks_of (params_in inline) ps)) r) alike h)))

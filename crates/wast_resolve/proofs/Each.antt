@@ -1,9 +1,9 @@
 -- A walk over each item of a list, in its place.
-use Rattle.std.proofs.Common.{◌≡◌, ℕ, suc, ◌+◌, ◌<◌, List, [], ◌∷◌, ◌++◌, None, sym, ◌∙◌, ap, length, map, get_or, drop, take, arith, add-one, subst}
+use Rattle.std.proofs.Common.{◌≡◌, ℕ, suc, ◌+◌, ◌<◌, List, [], ◌∷◌, ◌++◌, ◌≤◌, None, sym, ◌∙◌, ap, length, map, get_or, drop, take, arith, add-one, subst}
 use Rattle.std.proofs.Math.ListN.{set, length-set}
 use Rattle.std.proofs.Math.Seq.{drop-cons, take-suc}
 use Rattle.std.specs.Prelude.{flat_map}
-use Rattle.std.proofs.lemmas.List.{append-nil, drop-drop, drop-set-lt, take_more_set, take-append-drop, map-append}
+use Rattle.std.proofs.lemmas.List.{append-nil, drop-drop, drop-set-lt, take_more_set, take-append-drop, take_all, map-append}
 use Rattle.std.proofs.lemmas.Grind.{flat_map-append}
 use Rattle.wast_base.specs.Faults.{Told}
 use Rattle.wast_resolve.specs.Demands.{Demand, first_unmet, Answers}
@@ -57,3 +57,10 @@ module _ {X A : Type 0} {g : A → List Demand} {f : X → List A} {w : X → X}
 
   pub stops : {nows : List X} {i : ℕ} {x : X} (t : Told) → IsHalfway g f w olds nows i → i < length olds → x ≡ get_or nows i x → Answers ⊥ ⊥ t (first_unmet (flat_map g (f x))) → Answers ⊥ ⊥ t (first_unmet (flat_map g (flat_map f olds)))
   stops t p lt is failed = stops_with ⊥ ⊥ t p lt is failed
+
+  -- all of them are walked
+  pub all_met : {nows : List X} {i : ℕ} → IsHalfway g f w olds nows i → length olds ≤ i → first_unmet (flat_map g (flat_map f olds)) ≡ None
+  all_met {nows} {i} p le = subst (λ xs. first_unmet (flat_map g (flat_map f xs)) ≡ None) (take_all i olds le) p.met
+
+  pub all_become : {nows : List X} {i : ℕ} → IsHalfway g f w olds nows i → length olds ≤ i → nows ≡ map w olds
+  all_become {nows} {i} p le = sym (take_all i nows (omega (arith, p.len, le))) ∙ (p.become ∙ ap (map w) (take_all i olds le))

@@ -1,8 +1,6 @@
 -- What is so of the list in which nothing is left out: it is the expanded list of what is written out.
 use Rattle.std.proofs.Common.{◌≡◌, ℕ, ◌+◌, ◌<◌, List, None, ap, ◌∙◌, arith}
 use Rattle.wast_tree.specs.Generations.{greatest_generation}
-use Rattle.wast_tree.specs.Items.{items}
-use Rattle.wast_tree.specs.Known.{known}
 use Rattle.wast_deinline.specs.Written.{written_out_from, references_wanted}
 use Rattle.wast_deinline.proofs.Left.{nothing_is_left}
 use Rattle.wast_deinline.proofs.Below.{written_below}
@@ -10,15 +8,16 @@ use Rattle.wast_deinline.proofs.Settled.{written_well_formed}
 use Rattle.wast_types.specs.Expanded.{ids_wanted}
 use Rattle.wast_types.specs.Completed.{completed}
 use Rattle.wast_resolve.specs.Tree.{ModuleField}
+use Rattle.wast_resolve.specs.Scopes.{scope}
 use Rattle.wast_resolve.specs.Demands.{first_unmet, demands}
 use Rattle.wast_resolve.specs.Explicit.{explicit, explicit_from, ids_filled}
-use Rattle.wast_resolve.specs.Laws.{SameAnswer, SameCounts, ExplicitStaysWellFormed, NoIdIsLeft, FinishedStaysWellFormed, SamePositions, FinishedIsResolved, FinishedIsBelow, UsesHaveIndices, FinishedIsWrittenOut, ItemsStay}
+use Rattle.wast_resolve.specs.Laws.{SameAnswer, SameCounts, SameBodyCounts, ExplicitStaysWellFormed, NoIdIsLeft, FinishedStaysWellFormed, SamePositions, FinishedIsResolved, FinishedIsBelow, UsesHaveIndices, FinishedIsWrittenOut, ItemsStay}
 use Rattle.wast_resolve.proofs.AtRest.{items_stay}
-use Rattle.wast_resolve.proofs.Composed.{same_answer, same_counts, expanded_well_formed, all_are_numbers, numbered_well_formed, numbered_below}
+use Rattle.wast_resolve.proofs.Composed.{same_answer, same_counts, same_bodies, expanded_well_formed, all_are_numbers, numbered_well_formed, numbered_below}
 use Rattle.wast_resolve.proofs.Indexed.{numbered_indexed, numbered_resolved}
 use Rattle.wast_resolve.proofs.InPlace.{numbered_written_out}
 use Rattle.wast_resolve.proofs.ByPosition.{numbered_by_position}
-use Rattle.wast_resolve.proofs.WrittenAlike.{written_unmet, written_counts, written_wants}
+use Rattle.wast_resolve.proofs.WrittenAlike.{written_unmet, clashes_alike, written_counts, written_bodies, written_wants}
 use Rattle.wast_resolve.proofs.WrittenPositions.{written_positions}
 
 module _ (n : ℕ) (fields : List ModuleField) where
@@ -44,6 +43,10 @@ explicit_answer n fields above = same_answer (next n fields) (written_out_from n
 
 pub explicit_counts : SameCounts
 explicit_counts n fields above = same_counts (next n fields) (written_out_from n fields) (still_above n fields above) ∙ written_counts n fields above
+
+pub explicit_bodies : SameBodyCounts
+explicit_bodies n fields above free =
+    same_bodies (next n fields) (written_out_from n fields) (still_above n fields above) (clashes_alike n fields above ∙ free) ∙ written_bodies n fields above
 
 pub explicit_well_formed : ExplicitStaysWellFormed
 explicit_well_formed n fields above h = expanded_well_formed (next n fields) (written_out_from n fields) (still_above n fields above) (written_well_formed n fields h)
@@ -74,4 +77,4 @@ pub finished_written_out : FinishedIsWrittenOut
 finished_written_out n fields = numbered_written_out (next n fields) (written_out_from n fields) ∙ nothing_is_left n fields
 
 pub finished_items : ItemsStay
-finished_items n fields = let all = explicit_from n fields in items_stay (known (items all)) all
+finished_items n fields = let all = explicit_from n fields in items_stay (scope all) all

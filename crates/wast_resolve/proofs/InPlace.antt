@@ -1,12 +1,11 @@
 -- Resolving puts nothing in place.
 use Rattle.std.proofs.Common.{◌∙◌}
-use Rattle.wast_tree.specs.Known.{known}
-use Rattle.wast_tree.specs.Items.{items}
 use Rattle.wast_map.proofs.Alone.{written_alone}
 use Rattle.wast_types.specs.Expanded.{expanded}
 use Rattle.wast_types.proofs.InPlace.{stays_written_out}
+use Rattle.wast_resolve.specs.Scopes.{scope}
 use Rattle.wast_resolve.specs.Resolved.{numbering}
 use Rattle.wast_resolve.proofs.OfExpanded.{StaysWrittenOut}
 
 pub numbered_written_out : StaysWrittenOut
-numbered_written_out n fields = written_alone (numbering (known (items (expanded n fields)))) (expanded n fields) ∙ stays_written_out n fields
+numbered_written_out n fields = written_alone (numbering (scope (expanded n fields))) (expanded n fields) ∙ stays_written_out n fields

@@ -1,5 +1,6 @@
 pub mod AlikeScopes
 pub mod AtRest
+pub mod Bodies
 pub mod BothPasses
 pub mod ByPosition
 pub mod Calling
@@ -14,8 +15,10 @@ pub mod Counted
 pub mod Declaring
 pub mod Each
 pub mod ExpandedAsks
+pub mod ExpandedBodies
 pub mod ExpandedItems
 pub mod ExpandedTypes
+pub mod ExpandedUses
 pub mod Explicit
 pub mod FieldClashes
 pub mod FoundClashes
@@ -28,10 +31,13 @@ pub mod Indexed
 pub mod InPlace
 pub mod KeptAlike
 pub mod Matching
+pub mod Moving
+pub mod Nameless
 pub mod Numbering
 pub mod OfExpanded
 pub mod OrderKept
 pub mod Orders
+pub mod OwnLocals
 pub mod Parts
 pub mod PartsOfTypes
 pub mod Resolving
@@ -40,9 +46,11 @@ pub mod SameUses
 pub mod Standing
 pub mod Stepping
 pub mod Trying
+pub mod Turned
 pub mod TwoSteps
 pub mod TypeParts
 pub mod Unmet
+pub mod Within
 pub mod Worked
 pub mod WrittenAlike
 pub mod WrittenItems

@@ -2,9 +2,9 @@
 use Rattle.std.proofs.Common.{◌≡◌, List, [], ◌∷◌, refl, ap, map, Option, Some, None, option_map}
 use Rattle.wast_base.specs.Ids.{marked}
 use Rattle.wast_tree.specs.Sites.{param_marks}
-use Rattle.wast_tree.specs.Known.{Known}
 use Rattle.wast_map.specs.Mapped.{Indices, KeepsMarks, mapped_param, mapped_signature}
 use Rattle.wast_resolve.specs.Tree.{Id, NameAnnotation, ValType, FunctionType}
+use Rattle.wast_resolve.specs.Scopes.{Scope}
 use Rattle.wast_resolve.specs.Resolved.{numbered_at, numbering}
 
 module _ (f : Indices) where
@@ -16,5 +16,5 @@ module _ (f : Indices) where
   inline_keeps None = refl
   inline_keeps (Some t) = params_keep t.params
 
-pub numbering_keeps : (k : Known) → KeepsMarks (numbering k)
-numbering_keeps k u = inline_keeps (numbered_at k) u.inline
+pub numbering_keeps : (c : Scope) → KeepsMarks (numbering c)
+numbering_keeps c u = inline_keeps (numbered_at c.known) u.inline

@@ -1,5 +1,6 @@
 -- What is so of each expanded list, where the counter begins above the generations of the fields.
 use Rattle.std.specs.Prelude.{◌≡◌, ℕ, ◌+◌, ◌<◌, true, [], None, List}
+use Rattle.wast_tree.specs.Items.{items}
 use Rattle.wast_tree.specs.WellFormed.{is_well_formed}
 use Rattle.wast_tree.specs.Resolved.{has_numbers, is_resolved}
 use Rattle.wast_tree.specs.WrittenOut.{is_written_out}
@@ -8,7 +9,7 @@ use Rattle.wast_types.specs.NeedingUses.{needed}
 use Rattle.wast_types.specs.Expanded.{expanded, ids_wanted}
 use Rattle.wast_types.specs.Completed.{completed}
 use Rattle.wast_resolve.specs.Tree.{ModuleField}
-use Rattle.wast_resolve.specs.Demands.{first_unmet, demands, counts}
+use Rattle.wast_resolve.specs.Demands.{first_unmet, item_demands, demands, item_counts, body_counts}
 use Rattle.wast_resolve.specs.Resolved.{resolved}
 
 -- the expanded list, once each index is a number
@@ -19,7 +20,10 @@ abbrev pub SameUnmet : Type 0
 SameUnmet = (n : ℕ) (fields : List ModuleField) → greatest_generation fields < n → first_unmet (demands (expanded n fields)) ≡ first_unmet (demands (completed fields))
 
 abbrev pub SameNumbers : Type 0
-SameNumbers = (n : ℕ) (fields : List ModuleField) → greatest_generation fields < n → counts (expanded n fields) ≡ counts (completed fields)
+SameNumbers = (n : ℕ) (fields : List ModuleField) → greatest_generation fields < n → item_counts (items (expanded n fields)) ≡ item_counts (items (completed fields))
+
+abbrev pub SameBodies : Type 0
+SameBodies = (n : ℕ) (fields : List ModuleField) → greatest_generation fields < n → first_unmet (item_demands (items (completed fields))) ≡ None → body_counts (expanded n fields) ≡ body_counts (completed fields)
 
 abbrev pub StaysWellFormed : Type 0
 StaysWellFormed = (n : ℕ) (fields : List ModuleField) → greatest_generation fields < n → is_well_formed fields ≡ true → is_well_formed (expanded n fields) ≡ true

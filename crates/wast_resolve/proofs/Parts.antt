@@ -7,7 +7,7 @@ use Rattle.wast_tree.specs.Sites.{Ask, Wants, Site, Asked, if_there, in_index, a
 use Rattle.wast_tree.specs.Known.{Known}
 use Rattle.wast_base.specs.declared.faults.Error.{Error}
 use Rattle.wast_resolve.specs.Tree.{Span, Space, Id, Index}
-use Rattle.wast_resolve.specs.Demands.{Demand, first_unmet, Answers, ask_demand, ask_demands, site_demand, site_demands}
+use Rattle.wast_resolve.specs.Demands.{Demand, first_unmet, Answers, ask_demand, ask_demands, site_demand, site_demands, open_counts_at, open_counts}
 use Rattle.wast_resolve.specs.Scopes.{Scope}
 use Rattle.wast_resolve.specs.Walking.{Walks}
 use Rattle.wast_resolve.proofs.Unmet.{first_unmet-append, answers_more, answers_first, answers_after}
@@ -32,6 +32,11 @@ module _ (K M : Type 0) (c : Scope) (xs ys : List Site) (t : Told) where
 
   pub fails_second : first_unmet (site_demands c xs) ≡ None → Answers K M t (first_unmet (site_demands c ys)) → Answers K M t (first_unmet (site_demands c (xs ++ ys)))
   fails_second met a = second_fails (site_demand c) xs ys K M t met a
+
+-- and where nothing else is promised of the second part
+module _ (K M : Type 0) (c : Scope) (xs ys : List Site) (t : Told) where
+  pub fails_behind : first_unmet (site_demands c xs) ≡ None → Answers ⊥ ⊥ t (first_unmet (site_demands c ys)) → Answers K M t (first_unmet (site_demands c (xs ++ ys)))
+  fails_behind met a = second_fails (site_demand c) xs ys K M t met (answers_more t _ _ (λ l. absurd l) (λ m. absurd m) (λ f h. h) a)
 
 pub more_answers : (K M N : Type 0) (t : Told) (o : Option (Cause × Span)) → (M → N) → Answers K M t o → Answers K N t o
 more_answers K M N t o n a = answers_more t o o (λ l. l) n (λ f h. h) a
@@ -59,6 +64,10 @@ optional_demands c s (Some i) = refl
 pub all_but_last : (c : Scope) (ss : List Site) (last : Ask) → ask_demand c.known last ≡ [] → site_demands c (ss ++ Asked last ∷ []) ≡ site_demands c ss
 all_but_last c ss last none = flat_map-append (site_demand c) ss (Asked last ∷ []) ∙ (ap (λ ds. site_demands c ss ++ (ds ++ [])) none ∙ append-nil (site_demands c ss))
 
+-- and opens nothing
+pub all_counts_but_last : (ss : List Site) (last : Ask) → open_counts (ss ++ Asked last ∷ []) ≡ open_counts ss
+all_counts_but_last ss last = flat_map-append open_counts_at ss (Asked last ∷ []) ∙ append-nil (open_counts ss)
+
 -- a walk over a part of what is walked
 pub walks_as : {T U K L M N : Type 0} (l : K → L) (n : M → N) (ds es : List Demand) (want new : T) (want2 new2 : U) (result : Result (Unit {0}) Error) → first_unmet ds ≡ first_unmet es → (new ≡ want → new2 ≡ want2)
     → Walks K M ds want new result → Walks L N es want2 new2 result
@@ -75,3 +84,11 @@ pub walks_made : {T U : Type 0} (c : Scope) (asks : List Ask) (make : T → U) (
     → Walks ⊥ ⊥ (ask_demands c.known asks) want new result → Walks ⊥ ⊥ (site_demands c (asking asks)) (make want) (make new) result
 walks_made c asks make want new result walked =
     walks_as (λ l. l) (λ m. m) (ask_demands c.known asks) (site_demands c (asking asks)) want new (make want) (make new) result (ap first_unmet (sym (asking_demands c asks))) (ap make) walked
+
+-- more may be refused
+pub more_refused : {T : Type 0} (K M : Type 0) (ds : List Demand) (want new : T) (result : Result (Unit {0}) Error) → Walks ⊥ ⊥ ds want new result → Walks K M ds want new result
+more_refused K M ds want new result walked = walks_as {L = K} {N = M} (λ l. absurd l) (λ m. absurd m) ds ds want new want new result refl (λ h. h) walked
+
+-- what is made of a part
+pub walks_in : {T U : Type 0} (K M : Type 0) (make : T → U) (ds : List Demand) (want new : T) (result : Result (Unit {0}) Error) → Walks K M ds want new result → Walks K M ds (make want) (make new) result
+walks_in K M make ds want new result walked = walks_as {L = K} {N = M} (λ l. l) (λ m. m) ds ds want new (make want) (make new) result refl (ap make) walked

@@ -1,21 +1,27 @@
 -- What numbering the expanded list answers is what resolving the fields answers.
 use Rattle.std.proofs.Common.{◌≡◌, ℕ, ◌+◌, ◌<◌, ◌≤◌, ◌^◌, ◌⊎◌, List, None, inl, inr, sym, ap, ◌∙◌, subst, arith}
-use Rattle.std.specs.Prelude.{⊤, Contains}
+use Rattle.std.specs.Prelude.{⊤}
 use Rattle.wast_base.specs.Faults.{told, too_large, out_of_memory}
 use Rattle.wast_base.specs.declared.faults.Error.{Error}
 use Rattle.wast_base.specs.Filling.{RunsOut}
+use Rattle.wast_tree.specs.Items.{items}
 use Rattle.wast_tree.specs.Generations.{greatest_generation}
 use Rattle.wast_deinline.specs.Written.{written_out_from, references_wanted, CannotBeWritten}
 use Rattle.wast_types.specs.Expanded.{expanded, ids_wanted}
 use Rattle.wast_types.specs.Completed.{completed}
 use Rattle.wast_resolve.specs.Tree.{ModuleField}
 use Rattle.wast_resolve.specs.Explicit.{explicit, explicit_from}
-use Rattle.wast_resolve.specs.Demands.{first_unmet, Answers, order_demands, name_demands, demands, counts, IsCrowded, IsTooLarge, IsUnnumbered, IsUnresolved}
-use Rattle.wast_resolve.proofs.Composed.{same_names, same_counts}
+use Rattle.wast_resolve.specs.Demands.{first_unmet, Answers, item_demands, order_demands, name_demands, demands, item_counts, body_counts, HasMany, IsCrowded, IsTooLarge, IsUnnumbered, IsUnresolved}
+use Rattle.wast_resolve.proofs.Composed.{same_names, same_counts, same_bodies, same_clashes}
 use Rattle.wast_resolve.proofs.Explicit.{next, wants_as_many, still_above, unmet_alike}
 use Rattle.wast_resolve.proofs.OrderKept.{completed_orders}
 use Rattle.wast_resolve.proofs.Unmet.{first_unmet-append, answers_more, answers_first, answers_after}
-use Rattle.wast_resolve.proofs.WrittenAlike.{written_counts}
+use Rattle.wast_resolve.proofs.WrittenAlike.{clashes_alike, written_counts, written_bodies}
+
+-- There is as much in a list that has as many items, which clash alike, and as much in its bodies where none clash.
+crowded_as : (xs ys : List ModuleField) → item_counts (items xs) ≡ item_counts (items ys) → first_unmet (item_demands (items xs)) ≡ first_unmet (item_demands (items ys))
+    → (first_unmet (item_demands (items ys)) ≡ None → body_counts xs ≡ body_counts ys) → IsCrowded xs → IsCrowded ys
+crowded_as xs ys counts clashes bodies h = elim h [ inl many ↦ inl (subst HasMany counts many) | inr inside ↦ let free = sym clashes ∙ inside.0 in inr (free, subst HasMany (bodies free) inside.1) ]
 
 -- The counter would run out, or too much is asked for: so it is told, whatever is unmet.
 out_of : (n : ℕ) (fields : List ModuleField) (too_much : Type 0) (e : Error) → (too_much → IsTooLarge n fields) → (e ≡ out_of_memory) ⊎ ((e ≡ too_large) × too_much) → IsUnresolved n fields e
@@ -38,7 +44,7 @@ module _ (n : ℕ) (fields : List ModuleField) (above : greatest_generation fiel
   IsLarge = IsCrowded (completed rest) ⊎ (2 ^ 64 ≤ next n fields + ids_wanted rest)
 
   crowded_alike : IsCrowded (completed rest) → IsTooLarge n fields
-  crowded_alike h = inl (subst (λ ms. (m : ℕ) × (Contains ms m × (2 ^ 32 ≤ m))) (written_counts n fields above) h)
+  crowded_alike h = inl (crowded_as (completed rest) (explicit fields) (written_counts n fields above) (clashes_alike n fields above) (λ free. written_bodies n fields above) h)
 
   large_alike : IsLarge → IsTooLarge n fields
   large_alike h = elim h [ inl crowded ↦ crowded_alike crowded | inr counter ↦ inr (inl (subst (λ m. 2 ^ 64 ≤ m) (wants_as_many n fields) counter)) ]
@@ -62,7 +68,10 @@ module _ (n : ℕ) (fields : List ModuleField) (above : greatest_generation fiel
     same_unmet = ap (λ (ys : List ModuleField). first_unmet (name_demands ys)) expands ∙ same_names (next n fields) rest (still_above n fields above)
 
     crowded_still : IsCrowded xs → IsLarge
-    crowded_still h = inl (subst (λ ms. (m : ℕ) × (Contains ms m × (2 ^ 32 ≤ m))) (ap counts expands ∙ same_counts (next n fields) rest (still_above n fields above)) h)
+    crowded_still h =
+        let over = still_above n fields above in
+        inl (crowded_as (expanded (next n fields) rest) (completed rest) (same_counts (next n fields) rest over) (same_clashes (next n fields) rest over) (same_bodies (next n fields) rest over)
+        (subst IsCrowded expands h))
 
     module _ (ordered : first_unmet (order_demands rest) ≡ None) where
       still_ordered : first_unmet (order_demands (completed rest)) ≡ None

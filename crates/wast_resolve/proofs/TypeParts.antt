@@ -1,11 +1,11 @@
 -- Parts that are given by the indices that stand in them and by the rest of them, and how they are put together.
 use Rattle.std.proofs.Common.{◌≡◌, List, [], ◌∷◌, ◌++◌, refl, sym, ap, ◌∙◌, length, map, arith, Option, Some, None}
-use Rattle.std.specs.Prelude.{Bool, option_map}
+use Rattle.std.specs.Prelude.{Bool, true, option_map}
 use Rattle.std.specs.List.{flat_map}
 use Rattle.std.proofs.lemmas.List.{length-append, map-append}
 use Rattle.wast_resolve.specs.Tree.{Id, Index}
 use Rattle.wast_resolve.specs.Tree.space
-use Rattle.wast_tree.specs.Sites.{Ask, Wants, Unasked, Clause, Supported, if_there, in_id, in_index, in_descriptor}
+use Rattle.wast_tree.specs.Sites.{Ask, Wants, Within, Unasked, Clause, Supported, if_there, in_id, in_index, in_descriptor}
 use Rattle.wast_map.specs.Mapped.{Indices}
 use Rattle.wast_resolve.specs.CoreTypes.{indices_of, blank}
 use Rattle.wast_resolve.proofs.Calling.{indices-append}
@@ -13,6 +13,7 @@ use Rattle.wast_resolve.proofs.Calling.{indices-append}
 -- what is asked, of types
 abbrev pub as_type : Ask → Ask
 as_type (Wants s i) = Wants space.Ty i
+as_type (Within i) = Supported true
 as_type (Unasked m) = Unasked m
 as_type (Clause n holds) = Clause n holds
 as_type (Supported holds) = Supported holds
@@ -32,7 +33,7 @@ split f (a ∷ us) bs (c ∷ cs) ds n h =
     let rest = split f us bs cs ds (omega (arith, n)) tail in (λ i. head i ∷ rest.0 i, rest.1)
 
 -- what stands in one part after the other
-both_typed : (us bs : List Ask) → map as_type us ≡ us → map as_type bs ≡ bs → map as_type (us ++ bs) ≡ us ++ bs
+pub both_typed : (us bs : List Ask) → map as_type us ≡ us → map as_type bs ≡ bs → map as_type (us ++ bs) ≡ us ++ bs
 both_typed us bs p q = map-append as_type us bs ∙ (ap (λ zs. zs ++ map as_type bs) p ∙ ap (λ zs. us ++ zs) q)
 
 both_many : (us bs cs ds : List Ask) → length (indices_of cs) ≡ length (indices_of us) → length (indices_of ds) ≡ length (indices_of bs) → length (indices_of (cs ++ ds)) ≡ length (indices_of (us ++ bs))

@@ -1,6 +1,7 @@
 -- The worked modules, computed.
 use Rattle.std.proofs.Common.{refl}
-use Rattle.wast_resolve.specs.WorkedAnswers.{Row27, Row31, Row32, Row2, Row7, Row8, Row24, TwoFunctions, ClashOfTypes, FieldsOfOneStruct, FieldsOfTwoStructs, ClashesInOrder, Row14, Row22, Row23, UnknownNames, MatchedByNumber, Row17}
+use Rattle.wast_resolve.specs.WorkedAnswers.{Row27, Row31, Row32, Row2, Row7, Row8, Row24, TwoFunctions, ClashOfTypes, FieldsOfOneStruct, FieldsOfTwoStructs, ClashesInOrder, Row14, Row22, Row23, UnknownNames, MatchedByNumber, Row17, IndirectCalls}
+use Rattle.wast_resolve.specs.WorkedBodies.{NestedLabels, InnermostOfTwo, CaughtOutside, CaughtInItself, DelegatedOutside, DelegatedToItself, LabelsAtEnds, BlockOfTwo, BehindNameless}
 use Rattle.wast_resolve.specs.WorkedImports.{Row12, Row13, Row21, BehindAMemory, ImportsInOrder, ImportedTwice, UnknownStart}
 use Rattle.wast_resolve.specs.WorkedUnknowns.{UnknownInSegments, UnknownInTables, UnknownInGlobals}
 
@@ -58,6 +59,9 @@ matched_by_number a b c d e = (refl, refl, refl)
 pub row17 : Row17
 row17 a b c = (refl, refl)
 
+pub indirect_calls : IndirectCalls
+indirect_calls a b c = (refl, refl, refl, refl, refl, refl, refl)
+
 pub row12 : Row12
 row12 a b = refl
 
@@ -87,3 +91,30 @@ unknown_in_tables a b = (refl, refl)
 
 pub unknown_in_globals : UnknownInGlobals
 unknown_in_globals a b = (refl, refl)
+
+pub nested_labels : NestedLabels
+nested_labels a b c d = (refl, refl, refl)
+
+pub innermost_of_two : InnermostOfTwo
+innermost_of_two a b c d = (refl, refl)
+
+pub caught_outside : CaughtOutside
+caught_outside a b c d = (refl, refl)
+
+pub caught_in_itself : CaughtInItself
+caught_in_itself a b = refl
+
+pub delegated_outside : DelegatedOutside
+delegated_outside a b = (refl, refl)
+
+pub delegated_to_itself : DelegatedToItself
+delegated_to_itself a b = refl
+
+pub labels_at_ends : LabelsAtEnds
+labels_at_ends a b = (refl, refl)
+
+pub block_of_two : BlockOfTwo
+block_of_two = (refl, refl)
+
+pub behind_nameless : BehindNameless
+behind_nameless a b = (refl, refl, refl, refl)

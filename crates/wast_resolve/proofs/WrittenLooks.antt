@@ -22,14 +22,19 @@ use Rattle.wast_types.specs.Expanders.{LookUp}
 use Rattle.wast_types.specs.Expanded.{start_of_text, lacks_id, unnamed_type, ids_wanted}
 use Rattle.wast_types.specs.Completed.{completed}
 use Rattle.wast_types.specs.Positioned.{position_for}
-use Rattle.wast_resolve.specs.Tree.{Id, Index, Space, Span, ModuleField}
+use Rattle.wast_resolve.specs.Tree.{Id, Index, Space, Span, FunctionType, TypeUse, ModuleField}
 use Rattle.wast_resolve.specs.Tree.index
 use Rattle.wast_resolve.specs.Tree.field
 use Rattle.wast_resolve.specs.ImportOrder.{import_place, nothing_defined}
-use Rattle.wast_resolve.specs.Scopes.{signatures_in, signatures}
-use Rattle.wast_resolve.specs.Demands.{Demand, local_counts_in, local_counts, order_demands}
+use Rattle.wast_resolve.specs.Scopes.{Scope, signatures_in, signatures, nameless}
+use Rattle.wast_resolve.specs.Demands.{Demand, declared, open_counts, body_counts_in, order_demands}
 use Rattle.wast_resolve.proofs.Orders.{orders_from, orders_are}
 use Rattle.wast_resolve.proofs.WrittenSame.{called, IsBlind, AllOwn, fields_alike}
+
+-- the type use of a function, and how many parameters and locals it names
+abbrev functions_in : ModuleField → List (TypeUse FunctionType × ℕ)
+functions_in (field.Func f) = (f.ty, length (declared f.ty.inline f.kind)) ∷ []
+functions_in x = []
 
 -- what is read of a field beside the id of its item and what it refers to
 pub record Look : Type 0 where
@@ -37,7 +42,8 @@ pub record Look : Type 0 where
   pub writes : List Signature
   pub types : List (Option Signature)
   pub signatures : List (Option Signature)
-  pub locals : List ℕ
+  pub functions : List (TypeUse FunctionType × ℕ)
+  pub opens : List ℕ
   pub place : Option Span
   pub space : Option Space
   pub lacks : Bool
@@ -48,7 +54,8 @@ look x = record {
   writes = written_in x;
   types = types_in x;
   signatures = signatures_in x;
-  locals = local_counts_in x;
+  functions = functions_in x;
+  opens = open_counts (in_field x);
   place = import_place x;
   space = defined_space x;
   lacks = lacks_id x;
@@ -79,6 +86,17 @@ by_looks : {A : Type 0} (g : Look → List A) (xs : List ModuleField) → flat_m
 by_looks g [] = refl
 by_looks g (x ∷ xs) = ap (λ ys. g (look x) ++ ys) (by_looks g xs)
 
+abbrev bodies_of : Scope → Look → List ℕ
+bodies_of c l = map (λ p. nameless c (Some p.0) + p.1) l.functions ++ l.opens
+
+body_by_look : (c : Scope) (x : ModuleField) → body_counts_in c x ≡ bodies_of c (look x)
+body_by_look c (field.Func f) = refl
+body_by_look c x = refl
+
+bodies_by_looks : (c : Scope) (xs : List ModuleField) → flat_map (body_counts_in c) xs ≡ flat_map (λ x. bodies_of c (look x)) xs
+bodies_by_looks c [] = refl
+bodies_by_looks c (x ∷ xs) = ap (λ ns. ns ++ flat_map (body_counts_in c) xs) (body_by_look c x) ∙ ap (λ ns. bodies_of c (look x) ++ ns) (bodies_by_looks c xs)
+
 abbrev orders_of : Option Space → List Look → List Demand
 orders_of last [] = []
 orders_of last (l ∷ ls) = nothing_defined last l.place ++ orders_of (option_or l.space last) ls
@@ -101,8 +119,8 @@ module _ {xs ys : List ModuleField} (h : LookAlike xs ys) where
   pub alike_signatures : signatures xs ≡ signatures ys
   alike_signatures = alike (λ l. l.signatures)
 
-  pub alike_local_counts : local_counts xs ≡ local_counts ys
-  alike_local_counts = alike (λ l. l.locals)
+  pub alike_bodies : (c : Scope) → flat_map (body_counts_in c) xs ≡ flat_map (body_counts_in c) ys
+  alike_bodies c = bodies_by_looks c xs ∙ (alike (bodies_of c) ∙ sym (bodies_by_looks c ys))
 
   alike_needed : needed xs ≡ needed ys
   alike_needed = each_of_each in_field needed_at xs ∙ (alike (λ l. l.needs) ∙ sym (each_of_each in_field needed_at ys))

@@ -1,7 +1,9 @@
 -- A change that numbers indices and sets generated ids aside makes one list of what is written out by ids and by positions.
 use Rattle.std.proofs.Common.{◌≡◌, ℕ, List, [], Some, None, refl, ap}
+use Rattle.wast_base.specs.Blocks.{Blocks}
 use Rattle.wast_base.specs.Ids.{generated}
 use Rattle.wast_tree.specs.Known.{Known}
+use Rattle.wast_tree.specs.Sites.{Where, Locals}
 use Rattle.wast_map.specs.Mapped.{Change, mapped, mapped_constant, mapped_payload}
 use Rattle.wast_map.specs.Laws.{all_mapped}
 use Rattle.wast_deinline.specs.Segments.{at_zero}
@@ -17,9 +19,9 @@ use Rattle.wast_resolve.proofs.WrittenSame.{called, IsBlind, AllOwn}
 use Rattle.wast_resolve.proofs.WrittenLooks.{completed_alike}
 use Rattle.wast_resolve.proofs.WrittenOwn.{Numbers}
 
-module _ (k : Known) (used : TypeUse FunctionType → TypeUse FunctionType) where
+module _ (k : Known) (used : Where → TypeUse FunctionType → TypeUse FunctionType) (local : Locals → Index → Index) (label : Blocks → Index → Index) where
   abbrev pub telling_numbers : Change
-  telling_numbers = record { index = numbered_at k; used = used; id = written_id }
+  telling_numbers = record { index = numbered_at k; used = used; local = local; label = label; id = written_id }
 
   told_blind : (n : ℕ) → IsBlind (Numbers k) n (mapped telling_numbers)
   told_blind n = record {

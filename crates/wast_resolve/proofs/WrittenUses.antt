@@ -1,21 +1,23 @@
 -- What uses demand in the list that is written out by ids is what they demand in the one by positions, where the ids by which it
 -- refers denote these positions.
 use Rattle.std.proofs.Common.{◌≡◌, ℕ, false, List, [], ◌∷◌, map, Option, Some, None, is_some, refl, sym, ap, ◌∙◌}
+use Rattle.std.specs.Prelude.{codes}
 use Rattle.std.specs.Option.{option_or}
 use Rattle.wast_base.specs.Ids.{name_of, mark_of}
 use Rattle.wast_base.specs.Faults.{Cause}
 use Rattle.wast_base.specs.Spaces.{word_of}
-use Rattle.wast_tree.specs.Sites.{Wants, Site, Asked, Used, Declared, in_module}
-use Rattle.wast_map.specs.Mapped.{Change, mapped_site}
+use Rattle.wast_tree.specs.Sites.{Wants, Site, Asked, LocalAt, in_module}
+use Rattle.wast_map.specs.Mapped.{Change, mapped_locals, mapped_site}
 use Rattle.wast_map.specs.Laws.{all_mapped}
 use Rattle.wast_map.proofs.Laws.{stands}
 use Rattle.wast_deinline.specs.Written.{written_out_from, written_out}
 use Rattle.wast_types.specs.Completed.{completed}
-use Rattle.wast_resolve.specs.Tree.{Id, Index, Space, Span, ModuleField}
+use Rattle.wast_resolve.specs.Tree.{Index, Space, Span, ModuleField}
 use Rattle.wast_resolve.specs.Tree.index
 use Rattle.wast_resolve.specs.Scopes.{Scope}
 use Rattle.wast_resolve.specs.Demands.{first_unmet, unknown, site_demand, site_demands}
 use Rattle.wast_resolve.specs.Resolved.{numbered_by, numbered_at}
+use Rattle.wast_resolve.proofs.Nameless.{by_names}
 use Rattle.wast_resolve.proofs.Unmet.{first_unmet-or}
 use Rattle.wast_resolve.proofs.WrittenSame.{AllOwn}
 use Rattle.wast_resolve.proofs.WrittenOwn.{Numbers}
@@ -34,13 +36,11 @@ unmet_at s (index.Id id) = first_unmet (unknown (word_of s) (mark_of id) false)
 module _ (c : Scope) where
   -- the indices outside type uses are numbers
   abbrev numbers : Change
-  numbers = telling_numbers c.known (λ u. u)
+  numbers = telling_numbers c.known (λ w u. u) (λ l i. i) (λ b i. i)
 
   abbrev unmet : Site → Option (Cause × Span)
   unmet (Asked (Wants s i)) = unmet_at s i
-  unmet (Asked a) = None
-  unmet (Used u) = first_unmet (site_demand c (Used u))
-  unmet (Declared before m) = first_unmet (site_demand c (Declared before m))
+  unmet s = first_unmet (site_demand c s)
 
   index_unmet : (s : Space) (i : Index) → first_unmet (site_demand c (Asked (Wants s i))) ≡ unmet_at s (numbered_at c.known s i)
   index_unmet s (index.Num n p) = refl
@@ -52,6 +52,7 @@ module _ (c : Scope) where
 
   site_unmet : (s : Site) → first_unmet (site_demand c s) ≡ unmet (mapped_site numbers s)
   site_unmet (Asked (Wants s i)) = index_unmet s i
+  site_unmet (LocalAt locals i) = ap first_unmet (by_names c locals (codes "local") i ∙ sym (by_names c (mapped_locals numbers locals) (codes "local") i))
   site_unmet s = refl
 
   sites_unmet : (ss : List Site) → first_unmet (site_demands c ss) ≡ first_of (map unmet (map (mapped_site numbers) ss))
@@ -67,4 +68,4 @@ module _ (c : Scope) where
       → first_unmet (site_demands c (in_module (completed (written_out_from n fields)))) ≡ first_unmet (site_demands c (in_module (completed (written_out fields))))
   written_uses n fields own =
       fields_unmet (completed (written_out_from n fields))
-      ∙ (ap (λ xs. first_of (map unmet (in_module xs))) (told_alike c.known (λ u. u) n fields own) ∙ sym (fields_unmet (completed (written_out fields))))
+      ∙ (ap (λ xs. first_of (map unmet (in_module xs))) (told_alike c.known (λ w u. u) (λ l i. i) (λ b i. i) n fields own) ∙ sym (fields_unmet (completed (written_out fields))))

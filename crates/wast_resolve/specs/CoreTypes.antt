@@ -1,7 +1,7 @@
 -- What resolving the indices of a type does, by what one call on an index does (text format: types, indices).
 use Rattle.std.specs.Prelude.{ℕ, List, [], ◌∷◌, flat_map, Contains, Result, Ok, Err}
 use Rattle.wast_base.specs.declared.faults.Error.{Error}
-use Rattle.wast_tree.specs.Sites.{Ask, Wants, Unasked, Clause, Supported}
+use Rattle.wast_tree.specs.Sites.{Ask, Wants, Within, Unasked, Clause, Supported}
 use Rattle.wast_map.specs.Mapped.{Indices, mapped_def}
 use Rattle.wast_resolve.specs.Tree.{Index}
 use Rattle.wast_resolve.specs.Tree.index
@@ -18,6 +18,7 @@ pub data Calls {C : Type 0} (called : C → Index → C → Index → Result ℕ
 -- the indices among what is asked
 abbrev pub index_asked : Ask → List Index
 index_asked (Wants s i) = i ∷ []
+index_asked (Within i) = []
 index_asked (Unasked m) = []
 index_asked (Clause n holds) = []
 index_asked (Supported holds) = []

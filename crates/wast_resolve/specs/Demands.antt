@@ -1,23 +1,25 @@
 -- What a module demands of its imports and names, in the order in which it is answered (text format: identifiers, indices, modules).
-use Rattle.std.specs.Prelude.{⊤, ℕ, ◌+◌, ◌≤◌, ◌^◌, ◌⊎◌, Bool, false, not, List, [], ◌∷◌, ◌++◌, length, map, flat_map, Option, Some, None, codes, Contains, IsTrue}
+use Rattle.std.specs.Prelude.{◌≡◌, ⊤, ℕ, ◌+◌, ◌≤◌, ◌^◌, ◌⊎◌, Bool, false, not, List, [], ◌∷◌, ◌++◌, length, map, flat_map, Option, Some, None, codes, Contains, IsTrue}
 use Rattle.std.specs.List.{list_any}
 use Rattle.wast_resolve.specs.Tree.{Span, Index, FunctionType, TypeUse, FuncKind, ModuleField}
 use Rattle.wast_resolve.specs.Tree.space
 use Rattle.wast_resolve.specs.Tree.func
 use Rattle.wast_resolve.specs.Tree.field
 use Rattle.wast_base.specs.Ids.{Name, text_of, Mark, span_of_index}
-use Rattle.wast_base.specs.Faults.{Cause, Duplicate, DuplicateField, OutOfBounds, NotFunc, NoMatch, told}
+use Rattle.wast_base.specs.Faults.{Cause, Duplicate, DuplicateField, OutOfBounds, NotFunc, NoMatch, Labels, told}
 use Rattle.wast_base.specs.declared.faults.Error.{Error}
 use Rattle.wast_base.specs.Spaces.{spaces, word_of, name_if, is_borne}
 use Rattle.wast_tree.specs.Items.{Item, items}
-use Rattle.wast_tree.specs.Sites.{Ask, Wants, Unasked, Clause, Supported, Site, Asked, Used, Declared, in_type_use, param_marks, local_marks, in_module}
+use Rattle.wast_base.specs.Blocks.{Blocks}
+use Rattle.wast_labels.specs.OpenBlocks.{denotes, expects}
+use Rattle.wast_tree.specs.Sites.{Ask, Wants, Within, Unasked, Clause, Supported, Site, Asked, Used, Declared, LocalAt, LabelAt, Repeated, Begins, Ends, in_type_use, param_marks, local_marks, in_field, in_module}
 use Rattle.wast_tree.specs.Known.{Known, names_in}
 use Rattle.wast_types.specs.Signatures.{Signature}
 use Rattle.wast_deinline.specs.Segments.{overflows}
 use Rattle.wast_resolve.specs.Explicit.{explicit, ids_filled}
 pub use Rattle.wast_namespace.specs.FirstUnmet.{Demand, one_demand, first_unmet, unknown, known_index, Answers}
 use Rattle.wast_resolve.specs.ImportOrder.{order_demand}
-use Rattle.wast_resolve.specs.Scopes.{Scope, scope, denoted, type_at}
+use Rattle.wast_resolve.specs.Scopes.{Scope, scope, denoted, type_at, nameless, local_number}
 use Rattle.wast_resolve.specs.Matches.{matches}
 
 -- what each demands, after those before it
@@ -61,6 +63,7 @@ item_demands xs = each_after item_demand [] xs
 -- An id where an index is wanted denotes an item of the space.
 abbrev pub ask_demand : Known → Ask → List Demand
 ask_demand k (Wants s i) = known_index (k.number s) (word_of s) i
+ask_demand k (Within i) = []
 ask_demand k (Unasked m) = []
 ask_demand k (Clause n holds) = []
 ask_demand k (Supported holds) = []
@@ -90,11 +93,21 @@ match_if c (Some i) (Some t) = match_demands c i t
 abbrev pub use_demand : Scope → TypeUse FunctionType → List Demand
 use_demand c u = ask_demands c.known (in_type_use u) ++ match_if c u.index u.inline
 
--- No earlier parameter or local has the name of one that is declared.
+-- A label at an `else` or an `end` is that of the innermost open block, where a block is open.
+abbrev pub repeated_demand : Blocks → Option Mark → List Demand
+repeated_demand blocks None = []
+repeated_demand blocks (Some m) = one_demand Labels m.1 (expects (Some m.0) blocks)
+
+-- No earlier parameter or local has the name of one that is declared; an id of a local or a label denotes one.
 abbrev pub site_demand : Scope → Site → List Demand
 site_demand c (Asked a) = ask_demand c.known a
-site_demand c (Used u) = use_demand c u
+site_demand c (Used w u) = use_demand c u
 site_demand c (Declared before m) = new_name_in (codes "local") before m
+site_demand c (LocalAt locals i) = known_index (local_number c locals) (codes "local") i
+site_demand c (LabelAt blocks i) = known_index (λ name. denotes name blocks) (codes "label") i
+site_demand c (Repeated blocks m) = repeated_demand blocks m
+site_demand c (Begins blocks m) = []
+site_demand c Ends = []
 
 -- those of all sites
 abbrev pub site_demands : Scope → List Site → List Demand
@@ -112,8 +125,8 @@ order_demands fields = each_after order_demand [] fields
 abbrev pub demands : List ModuleField → List Demand
 demands fields = order_demands fields ++ name_demands fields
 
--- How many there are of all that is counted: the items of each space, the fields of each item, and the parameters and
--- locals of each function.
+-- How many there are of all that is counted: the items of each space, the fields of each item, and, of bodies, the parameters
+-- and locals of each function and the open blocks wherever one begins.
 abbrev pub space_counts : List Item → List ℕ
 space_counts xs = map (λ s. length (names_in s xs)) spaces
 
@@ -134,26 +147,36 @@ kind_marks (func.Inline locals e) = local_marks locals
 abbrev pub declared : Option FunctionType → FuncKind → List (Option Mark)
 declared inline k = param_marks inline ++ kind_marks k
 
--- the parameters and locals of a function
-abbrev pub local_counts_in : ModuleField → List ℕ
-local_counts_in (field.Func f) = length (declared f.ty.inline f.kind) ∷ []
-local_counts_in x = []
+-- the parameters and locals of a function, those without names too
+abbrev pub local_counts_in : Scope → ModuleField → List ℕ
+local_counts_in c (field.Func f) = (nameless c (Some f.ty) + length (declared f.ty.inline f.kind)) ∷ []
+local_counts_in c x = []
 
--- of each function
-abbrev pub local_counts : List ModuleField → List ℕ
-local_counts fields = flat_map local_counts_in fields
+-- where a block begins, the open blocks with it
+abbrev pub open_counts_at : Site → List ℕ
+open_counts_at (Begins blocks m) = (length blocks + 1) ∷ []
+open_counts_at s = []
 
--- of items, of their fields, and of parameters and locals
-abbrev pub counts : List ModuleField → List ℕ
-counts fields = item_counts (items fields) ++ local_counts fields
+-- at all sites of a list
+abbrev pub open_counts : List Site → List ℕ
+open_counts sites = flat_map open_counts_at sites
+
+-- of a field: its parameters and locals, and the open blocks in it
+abbrev pub body_counts_in : Scope → ModuleField → List ℕ
+body_counts_in c x = local_counts_in c x ++ open_counts (in_field x)
+
+-- of each field
+abbrev pub body_counts : List ModuleField → List ℕ
+body_counts fields = flat_map (body_counts_in (scope fields)) fields
 
 -- One of some numbers is 2^32 or more.
 abbrev pub HasMany : List ℕ → Type 0
 HasMany ns = (n : ℕ) × (Contains ns n × (2 ^ 32 ≤ n))
 
--- There are 2^32 or more of something.
+-- There are 2^32 or more of something: of items or of fields of a struct; or, where no two of these have one name, of something
+-- in a body.
 abbrev pub IsCrowded : List ModuleField → Type 0
-IsCrowded fields = HasMany (counts fields)
+IsCrowded fields = HasMany (item_counts (items fields)) ⊎ ((first_unmet (item_demands (items fields)) ≡ None) × HasMany (body_counts fields))
 
 -- Why numbering the fields is refused: by the first unmet demand, at its place; or memory was refused, or there are too
 -- many of something.

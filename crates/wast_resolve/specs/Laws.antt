@@ -3,15 +3,17 @@
 use Rattle.std.specs.Prelude.{◌≡◌, ℕ, ◌+◌, ◌<◌, true, [], None, List, Result, IsTrue}
 use Rattle.std.specs.Borrow.{Bor}
 use Rattle.wast_tree.specs.Items.{items}
-use Rattle.wast_tree.specs.Sites.{Ask}
+use Rattle.wast_labels.specs.Turns.{open_blocks}
+use Rattle.wast_tree.specs.Instrs.{turns}
+use Rattle.wast_tree.specs.Sites.{Ask, Here, after_all, in_instrs}
 use Rattle.wast_tree.specs.WellFormed.{is_well_formed}
 use Rattle.wast_tree.specs.WrittenOut.{is_written_out}
 use Rattle.wast_base.specs.declared.faults.Error.{Error}
 use Rattle.wast_tree.specs.Generations.{greatest_generation}
 use Rattle.wast_types.specs.NeedingUses.{needed}
-use Rattle.wast_resolve.specs.Tree.{ModuleField}
+use Rattle.wast_resolve.specs.Tree.{Instruction, ModuleField}
 use Rattle.wast_resolve.specs.Tree.space
-use Rattle.wast_resolve.specs.Demands.{first_unmet, ask_demands, demands, counts}
+use Rattle.wast_resolve.specs.Demands.{first_unmet, ask_demands, demands, item_demands, item_counts, body_counts}
 use Rattle.wast_resolve.specs.Explicit.{explicit, explicit_from, by_positions, ids_filled}
 use Rattle.wast_map.specs.Mapped.{Indices}
 use Rattle.wast_map.specs.Laws.{all_mapped}
@@ -28,9 +30,14 @@ use Rattle.wast_resolve.specs.Finished.{finished}
 abbrev pub SameAnswer : Type 0
 SameAnswer = (n : ℕ) (fields : List ModuleField) → greatest_generation fields < n → first_unmet (demands (explicit_from n fields)) ≡ first_unmet (demands (explicit fields))
 
--- and there are as many of all that is counted.
+-- and there are as many items and fields of structs.
 abbrev pub SameCounts : Type 0
-SameCounts = (n : ℕ) (fields : List ModuleField) → greatest_generation fields < n → counts (explicit_from n fields) ≡ counts (explicit fields)
+SameCounts = (n : ℕ) (fields : List ModuleField) → greatest_generation fields < n → item_counts (items (explicit_from n fields)) ≡ item_counts (items (explicit fields))
+
+-- and, where no two of these have one name, as many parameters, locals and open blocks.
+abbrev pub SameBodyCounts : Type 0
+SameBodyCounts = (n : ℕ) (fields : List ModuleField) → greatest_generation fields < n → first_unmet (item_demands (items (explicit fields))) ≡ None
+    → body_counts (explicit_from n fields) ≡ body_counts (explicit fields)
 
 -- Well formed fields stay so with them.
 abbrev pub ExplicitStaysWellFormed : Type 0
@@ -78,3 +85,7 @@ ByResolver {T} asks changed = (old new : Bor Resolution) (before after : T) (res
 -- and it has what it needs where the generated ids in the part are those of types.
 abbrev pub NeedsOfResolver : {T : Type 0} → (T → List Ask) → Type 0
 NeedsOfResolver {T} asks = (names : Bor Resolution) (x : T) → are_settled (known_of names.now) (asks x) ≡ true → HasNeeds (λ names i. IsSettledFor (known_of names.now) space.Ty i) names (asks x)
+
+-- Behind instructions of a body, those blocks are open that counting their openers and closers gives.
+abbrev pub BlocksAreCounted : Type 0
+BlocksAreCounted = (h : Here) (is : List Instruction) → h.blocks ≡ [] → (after_all h (in_instrs h is)).blocks ≡ open_blocks (turns is)

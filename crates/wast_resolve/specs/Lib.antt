@@ -9,6 +9,7 @@ pub mod Laws
 pub mod Locals
 pub mod LookUps
 pub mod Matches
+pub mod Openable
 pub mod Resolved
 pub mod Resolvers
 pub mod Scopes
@@ -17,5 +18,6 @@ pub mod Tree
 pub mod TwoSteps
 pub mod Walking
 pub mod WorkedAnswers
+pub mod WorkedBodies
 pub mod WorkedImports
 pub mod WorkedUnknowns

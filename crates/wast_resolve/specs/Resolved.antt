@@ -2,8 +2,11 @@
 use Rattle.std.specs.Prelude.{List, map, option_map}
 use Rattle.wast_resolve.specs.Tree.{FunctionType, TypeUse, ModuleField}
 use Rattle.wast_resolve.specs.Tree.space
-use Rattle.wast_tree.specs.Items.{items}
-use Rattle.wast_tree.specs.Known.{Known, known}
+use Rattle.wast_labels.specs.OpenBlocks.{denotes}
+use Rattle.wast_resolve.specs.Scopes.{Scope, scope, local_number}
+use Rattle.wast_tree.specs.Sites.{Where, OfItem, OfCall, OfBlock}
+use Rattle.wast_tree.specs.Types.{said_once}
+use Rattle.wast_tree.specs.Known.{Known}
 use Rattle.wast_map.specs.Mapped.{Indices, Change, mapped_signature, mapped}
 pub use Rattle.wast_namespace.specs.Denoted.{numbered_by, numbered}
 
@@ -15,10 +18,22 @@ numbered_at k s i = numbered (k.number s) i
 abbrev pub numbered_use : Known → TypeUse FunctionType → TypeUse FunctionType
 numbered_use k u = record { index = option_map (numbered_at k space.Ty) u.index; inline = option_map (mapped_signature (numbered_at k)) u.inline }
 
+-- a type use of an item keeps its inline type; of an indirect call and of a block, an index says it all
+abbrev pub resolved_use : Known → Where → TypeUse FunctionType → TypeUse FunctionType
+resolved_use k OfItem u = numbered_use k u
+resolved_use k OfCall u = said_once (numbered_use k u)
+resolved_use k OfBlock u = said_once (numbered_use k u)
+
 -- what resolving changes: the ids of items stay
-abbrev pub numbering : Known → Change
-numbering k = record { index = numbered_at k; used = numbered_use k; id = λ o. o }
+abbrev pub numbering : Scope → Change
+numbering c = record {
+  index = numbered_at c.known;
+  used = resolved_use c.known;
+  local = λ l i. numbered (local_number c l) i;
+  label = λ blocks i. numbered (λ name. denotes name blocks) i;
+  id = λ o. o;
+}
 
 -- the list with the numbers that its own items have
 abbrev pub resolved : List ModuleField → List ModuleField
-resolved fields = map (mapped (numbering (known (items fields)))) fields
+resolved fields = map (mapped (numbering (scope fields))) fields

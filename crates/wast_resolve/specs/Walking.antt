@@ -4,7 +4,7 @@ use Rattle.wast_base.specs.declared.faults.Error.{Error}
 use Rattle.wast_base.specs.Faults.{told}
 use Rattle.wast_tree.specs.Sites.{Ask, Site}
 use Rattle.wast_map.specs.Mapped.{Change}
-use Rattle.wast_resolve.specs.Demands.{Demand, first_unmet, ask_demands, site_demands, Answers}
+use Rattle.wast_resolve.specs.Demands.{Demand, first_unmet, ask_demands, site_demands, open_counts, HasMany, Answers}
 use Rattle.wast_resolve.specs.Resolved.{numbering}
 use Rattle.wast_resolve.specs.Resolvers.{Resolution, known_of, scope_of}
 
@@ -16,12 +16,16 @@ Walks memory many ds want new (Err e) = Answers memory many (told e) (first_unme
 
 -- of a part in which this is asked, by the names of a module: nothing else is refused
 abbrev pub WalksAsks : {T : Type 0} → Resolution → (T → List Ask) → (Change → T → T) → T → T → Result (Unit {0}) Error → Type 0
-WalksAsks names asked mapped old new result = Walks ⊥ ⊥ (ask_demands (known_of names) (asked old)) (mapped (numbering (known_of names)) old) new result
+WalksAsks names asked mapped old new result = Walks ⊥ ⊥ (ask_demands (known_of names) (asked old)) (mapped (numbering (scope_of names)) old) new result
 
 -- of a part with these sites
 abbrev pub WalksSites : {T : Type 0} → Resolution → (T → List Site) → (Change → T → T) → T → T → Result (Unit {0}) Error → Type 0
-WalksSites names sites mapped old new result = Walks ⊥ ⊥ (site_demands (scope_of names) (sites old)) (mapped (numbering (known_of names)) old) new result
+WalksSites names sites mapped old new result = Walks ⊥ ⊥ (site_demands (scope_of names) (sites old)) (mapped (numbering (scope_of names)) old) new result
 
 -- of a part with functions: the names of their locals take memory, and may be too many
 abbrev pub WalksFunctions : {T : Type 0} → Type 0 → Resolution → (T → List Site) → (Change → T → T) → T → T → Result (Unit {0}) Error → Type 0
-WalksFunctions many names sites mapped old new result = Walks ⊤ many (site_demands (scope_of names) (sites old)) (mapped (numbering (known_of names)) old) new result
+WalksFunctions many names sites mapped old new result = Walks ⊤ many (site_demands (scope_of names) (sites old)) (mapped (numbering (scope_of names)) old) new result
+
+-- of a part in which blocks may be opened: these take memory, and may be too many
+abbrev pub WalksBodies : {T : Type 0} → Resolution → (T → List Site) → (Change → T → T) → T → T → Result (Unit {0}) Error → Type 0
+WalksBodies names sites mapped old new result = WalksFunctions (HasMany (open_counts (sites old))) names sites mapped old new result

@@ -1,19 +1,21 @@
 -- What worked modules answer, computed. A text may lie anywhere in memory.
-use Rattle.std.specs.Prelude.{◌≡◌, ℕ, false, List, [], ◌∷◌, ◌++◌, Option, Some, None, codes}
+use Rattle.std.specs.Prelude.{◌≡◌, ℕ, false, List, [], ◌∷◌, ◌++◌, map, Option, Some, None, codes}
 use Rattle.wast_base.specs.Faults.{Duplicate, DuplicateField, Unknown, OutOfBounds, NotFunc, NoMatch}
+use Rattle.wast_tree.specs.Items.{items}
 use Rattle.wast_tree.specs.WorkedModules.{Address, place, id_at, by_id, by_number, plain_def, plain_type, plain_func, type_field, export_field, row27_with, row27, row31, row32}
 use Rattle.wast_types.specs.Signatures.{empty_signature}
-use Rattle.wast_types.specs.Expanded.{unnamed_type, implied_type, expanded}
+use Rattle.wast_types.specs.Expanded.{unnamed_type, implied_type, implied_types, expanded}
 use Rattle.wast_types.specs.Completed.{completed}
 use Rattle.wast_types.specs.Positioned.{positioned}
-use Rattle.wast_types.specs.WorkedExpansions.{func_at, function_type, type_at, ref_to, row2, row7, row7_with, row8_with, row23_with}
-use Rattle.wast_resolve.specs.Tree.{Id, Index, ValType, StructField, ModuleField}
+use Rattle.wast_types.specs.WorkedExpansions.{func_at, function_type, type_at, ref_to, row2, row7, row7_with, row8_with, row23_with, indirect_with, indirect_calls, types_of_calls}
+use Rattle.wast_resolve.specs.Tree.{Id, Index, ValType, FunctionType, StructField, ModuleField}
 use Rattle.wast_resolve.specs.Tree.value
 use Rattle.wast_resolve.specs.Tree.storage
 use Rattle.wast_resolve.specs.Tree.inner
+use Rattle.wast_resolve.specs.Tree.instr
 use Rattle.wast_resolve.specs.Tree.func
 use Rattle.wast_resolve.specs.Tree.field
-use Rattle.wast_resolve.specs.Demands.{first_unmet, demands, counts}
+use Rattle.wast_resolve.specs.Demands.{first_unmet, demands, item_counts}
 use Rattle.wast_resolve.specs.Resolved.{resolved}
 use Rattle.wast_resolve.specs.Finished.{finished}
 
@@ -98,7 +100,7 @@ abbrev pub FieldsOfOneStruct : Type 0
 FieldsOfOneStruct = (a b : Address) →
     (first_unmet (demands (twice_named a b)) ≡ Some (DuplicateField (codes "field") (codes "a"), place 44))
     × (first_unmet (demands (expanded 5 (twice_named a b))) ≡ Some (DuplicateField (codes "field") (codes "a"), place 44))
-    × (counts (twice_named a b) ≡ 0 ∷ 0 ∷ 0 ∷ 0 ∷ 0 ∷ 0 ∷ 0 ∷ 1 ∷ 2 ∷ [])
+    × (item_counts (items (twice_named a b)) ≡ 0 ∷ 0 ∷ 0 ∷ 0 ∷ 0 ∷ 0 ∷ 0 ∷ 1 ∷ 2 ∷ [])
 
 -- `(module (type (struct (field $a i32))) (type (struct (field $a i32))))`: each struct has fields of its own.
 abbrev pub FieldsOfTwoStructs : Type 0
@@ -187,3 +189,35 @@ abbrev pub Row17 : Type 0
 Row17 = (a b c : Address) →
     (first_unmet (demands (completed (row17_with a b value.I32))) ≡ Some (Duplicate (codes "local"), place 36))
     × (first_unmet (demands (completed (row17_with a b (ref_to (by_id c (codes "x") 44))))) ≡ Some (Unknown (codes "type") (codes "x"), place 44))
+
+-- `(module (func call_indirect (param i32)) (global i32 call_indirect (result i32)))`: once an indirect call has the number of
+-- its type, it has no inline type.
+abbrev pub numbered_calls : List ModuleField
+numbered_calls = indirect_with (Some (by_number 0 0)) (Some (by_number 1 0)) (Some (by_number 2 0)) None None
+
+-- In `(module (func call_indirect $t (type $f) (param (ref $x))))` the table is asked first, then the index of the type, and
+-- then its inline type.
+abbrev pub asking_call : Index → Index → FunctionType → List ModuleField
+asking_call table type inline =
+    field.Func (record {
+      span = place 9;
+      id = None;
+      name = None;
+      exports = record { names = [] };
+      kind = func.Inline [] (record { instrs = instr.call_indirect (record { table = table; ty = record { index = Some type; inline = Some inline } }) ∷ []; branch_hints = [] });
+      ty = record { index = Some (by_number 0 0); inline = None };
+    })
+    ∷ []
+
+abbrev pub IndirectCalls : Type 0
+IndirectCalls = (a b c : Address) →
+    (first_unmet (demands (completed indirect_calls)) ≡ None)
+    × (finished 5 indirect_calls ≡ numbered_calls ++ implied_types 5 types_of_calls)
+    × (resolved (positioned indirect_calls) ≡ numbered_calls ++ map unnamed_type types_of_calls)
+    × (first_unmet (demands (asking_call (by_id a (codes "t") 28) (by_id b (codes "f") 37) (function_type (ref_to (by_id c (codes "x") 53) ∷ []) [])))
+    ≡ Some (Unknown (codes "table") (codes "t"), place 28))
+    × (first_unmet (demands (asking_call (by_number 0 28) (by_id b (codes "f") 37) (function_type (ref_to (by_id c (codes "x") 53) ∷ []) [])))
+    ≡ Some (Unknown (codes "type") (codes "f"), place 37))
+    × (first_unmet (demands (asking_call (by_number 0 28) (by_number 5 37) (function_type (ref_to (by_id c (codes "x") 53) ∷ []) [])))
+    ≡ Some (Unknown (codes "type") (codes "x"), place 53))
+    × (first_unmet (demands (asking_call (by_number 0 28) (by_number 5 37) (function_type [] []))) ≡ Some (OutOfBounds, place 37))

@@ -1,20 +1,16 @@
-//! Walks over fields whose parts stand apart: what is asked outside of bodies, type uses, and constant expressions.
+//! Walks over fields whose parts stand apart: what is asked outside of bodies, and type uses.
 #![tactic(auto, using(crate::proofs::Parts::both_met, crate::proofs::Parts::first_fails, crate::proofs::Parts::second_fails))]
 
-ghost use Rattle.std.specs.Prelude.{List, map, flat_map, option_map};
-ghost use Rattle.wast_tree.specs.Sites.{Site, asking, at_index, if_there, in_use, in_tag_type, in_item_kind, in_import, in_constant, in_table_kind, in_memory_kind, in_global_kind, in_global, in_elem_kind, in_payload, in_elem, in_data_kind};
-ghost use Rattle.wast_map.specs.Mapped.{Change, mapped_tag_type, mapped_item_kind, mapped_sig, mapped_import_items, mapped_import, mapped_constant, mapped_table_kind, mapped_table, mapped_memory, mapped_global_kind, mapped_global, mapped_tag, mapped_elem_kind, mapped_payload, mapped_elem, mapped_data_kind, mapped_data};
-ghost use Rattle.wast_resolve.specs.TwoSteps.{in_type_of_table, in_init, with_table_type, with_init, in_elem_table, in_elem_offset, with_elem_table, with_elem_offset, in_elements, in_element_type, with_elements, with_element_type, in_data_memory, in_data_offset, with_data_memory, with_data_offset};
+ghost use Rattle.std.specs.Prelude.{List};
+ghost use Rattle.wast_tree.specs.Sites.{OfItem, Site, asking, at_index, in_use, in_tag_type, in_item_kind, in_import, in_memory_kind};
+ghost use Rattle.wast_map.specs.Mapped.{Change, mapped_tag_type, mapped_item_kind, mapped_sig, mapped_import_items, mapped_import, mapped_memory, mapped_tag};
 ghost use Rattle.wast_resolve.specs.Walking.{WalksSites};
 
 use crate::resolver::Resolver;
-use crate::walks::{
-    Walk, walk_each, walk_expression, walk_index, walk_indices, walk_optional, walk_type_use,
-};
+use crate::walks::{Walk, walk_index, walk_type_use};
 use wast_tree::{
-    Data, DataKind, Elem, ElemKind, ElemPayload, Error, Expression, FunctionType, Global,
-    GlobalKind, ImportItems, Imports, Index, ItemKind, ItemSig, Memory, MemoryKind, Seq, Space,
-    Table, TableKind, Tag, TagType, TypeUse,
+    Error, FunctionType, ImportItems, Imports, Index, ItemKind, ItemSig, Memory, MemoryKind, Space,
+    Tag, TagType, TypeUse,
 };
 
 /// Walks over a part of a field in which nothing stands in a body.
@@ -38,28 +34,6 @@ pub(crate) fn walk_outside_index<'a>(
     walk_index(names, space, index)
 }
 
-/// Walks over an index of a field, if there is one.
-fn walk_outside_optional<'a>(
-    names: &Resolver<'a>,
-    space: Space,
-    index: &mut Option<Index<'a>>,
-) -> Result<(), Error<'a>>
-    ensures { WalksSites names.now (if_there (at_index space)) (λ f. option_map (f.index space)) index.old index.new result }
-{
-    walk_optional(names, space, index)
-}
-
-/// Walks over indices of a field, in order.
-fn walk_outside_indices<'a>(
-    names: &Resolver<'a>,
-    space: Space,
-    indices: &mut Seq<Index<'a>>,
-) -> Result<(), Error<'a>>
-    ensures { WalksSites names.now (flat_map (at_index space)) (λ f. map (f.index space)) indices.old indices.new result }
-{
-    walk_indices(names, space, indices)
-}
-
 /// A part of a field whose parts stand apart: none reads what another declares.
 pub(crate) trait WalkApart<'a> {
     /// What stands in it.
@@ -73,52 +47,14 @@ pub(crate) trait WalkApart<'a> {
         ensures { WalksSites names.now stands mapped self.old self.new result };
 }
 
-/// Walks over each part of a list, in order.
-fn walk_each_apart<'a, T: WalkApart<'a>>(
-    names: &Resolver<'a>,
-    parts: &mut Seq<T>,
-) -> Result<(), Error<'a>>
-    ensures { WalksSites names.now (flat_map T.stands) (λ f. map (T.mapped f)) parts.old parts.new result }
-{
-    for i in 0..parts.len() {
-        parts.at_mut(i).walk_apart(names)?;
-    }
-    Ok(())
-}
-
 impl<'a> WalkApart<'a> for TypeUse<'a, FunctionType<'a>> {
-    ghost stands = { in_use };
+    ghost stands = { in_use OfItem };
 
-    ghost mapped = { λ f. f.used };
+    ghost mapped = { λ f. f.used OfItem };
 
     fn walk_apart(&mut self, names: &Resolver<'a>) -> Result<(), Error<'a>> {
         walk_type_use(names, self)?;
         Ok(())
-    }
-}
-
-/// A constant expression.
-impl<'a> WalkApart<'a> for Expression<'a> {
-    ghost stands = { in_constant };
-
-    ghost mapped = { mapped_constant };
-
-    fn walk_apart(&mut self, names: &Resolver<'a>) -> Result<(), Error<'a>> {
-        walk_expression(names, self)?;
-        Ok(())
-    }
-}
-
-impl<'a> WalkApart<'a> for Option<Expression<'a>> {
-    ghost stands = { if_there in_constant };
-
-    ghost mapped = { λ f o. option_map (mapped_constant f) o };
-
-    fn walk_apart(&mut self, names: &Resolver<'a>) -> Result<(), Error<'a>> {
-        match self {
-            None => Ok(()),
-            Some(expression) => expression.walk_apart(names),
-        }
     }
 }
 
@@ -184,152 +120,6 @@ impl<'a> WalkApart<'a> for Imports<'a> {
     }
 }
 
-/// Walks over the type of a table, or of its elements in place.
-fn walk_table_type<'a>(names: &Resolver<'a>, kind: &mut TableKind<'a>) -> Result<(), Error<'a>>
-    ensures { WalksSites names.now in_type_of_table with_table_type kind.old kind.new result }
-{
-    match kind {
-        TableKind::Import { ty, .. } => walk_outside(names, ty),
-        TableKind::Normal { ty, .. } => walk_outside(names, ty),
-        TableKind::Inline { elem, .. } => walk_outside(names, elem),
-    }
-}
-
-/// Walks over what the elements of a table are at first, or over those in place.
-fn walk_init<'a>(names: &Resolver<'a>, kind: &mut TableKind<'a>) -> Result<(), Error<'a>>
-    ensures { WalksSites names.now in_init with_init kind.old kind.new result }
-{
-    match kind {
-        TableKind::Import { .. } => Ok(()),
-        TableKind::Normal { init_expr, .. } => init_expr.walk_apart(names),
-        TableKind::Inline { payload, .. } => payload.walk_apart(names),
-    }
-}
-
-impl<'a> WalkApart<'a> for TableKind<'a> {
-    ghost stands = { in_table_kind };
-
-    ghost mapped = { mapped_table_kind };
-
-    fn walk_apart(&mut self, names: &Resolver<'a>) -> Result<(), Error<'a>> {
-        walk_table_type(names, self)?;
-        walk_init(names, self)?;
-        Ok(())
-    }
-}
-
-/// Walks over the table of an element segment.
-fn walk_elem_table<'a>(names: &Resolver<'a>, kind: &mut ElemKind<'a>) -> Result<(), Error<'a>>
-    ensures { WalksSites names.now in_elem_table with_elem_table kind.old kind.new result }
-{
-    match kind {
-        ElemKind::Passive => Ok(()),
-        ElemKind::Declared => Ok(()),
-        ElemKind::Active { table, .. } => walk_outside_optional(names, Space::Table, table),
-    }
-}
-
-/// Walks over the offset of an element segment.
-fn walk_elem_offset<'a>(names: &Resolver<'a>, kind: &mut ElemKind<'a>) -> Result<(), Error<'a>>
-    ensures { WalksSites names.now in_elem_offset with_elem_offset kind.old kind.new result }
-{
-    match kind {
-        ElemKind::Passive => Ok(()),
-        ElemKind::Declared => Ok(()),
-        ElemKind::Active { offset, .. } => offset.walk_apart(names),
-    }
-}
-
-impl<'a> WalkApart<'a> for ElemKind<'a> {
-    ghost stands = { in_elem_kind };
-
-    ghost mapped = { mapped_elem_kind };
-
-    fn walk_apart(&mut self, names: &Resolver<'a>) -> Result<(), Error<'a>> {
-        walk_elem_table(names, self)?;
-        walk_elem_offset(names, self)?;
-        Ok(())
-    }
-}
-
-/// Walks over the elements of a segment.
-fn walk_elements<'a>(names: &Resolver<'a>, payload: &mut ElemPayload<'a>) -> Result<(), Error<'a>>
-    ensures { WalksSites names.now in_elements with_elements payload.old payload.new result }
-{
-    match payload {
-        ElemPayload::Indices(indices) => walk_outside_indices(names, Space::Func, indices),
-        ElemPayload::Exprs { exprs, .. } => walk_each_apart(names, exprs),
-    }
-}
-
-/// Walks over the type of the expressions of a segment.
-fn walk_element_type<'a>(
-    names: &Resolver<'a>,
-    payload: &mut ElemPayload<'a>,
-) -> Result<(), Error<'a>>
-    ensures { WalksSites names.now in_element_type with_element_type payload.old payload.new result }
-{
-    match payload {
-        ElemPayload::Indices(_) => Ok(()),
-        ElemPayload::Exprs { ty, .. } => walk_outside(names, ty),
-    }
-}
-
-impl<'a> WalkApart<'a> for ElemPayload<'a> {
-    ghost stands = { in_payload };
-
-    ghost mapped = { mapped_payload };
-
-    fn walk_apart(&mut self, names: &Resolver<'a>) -> Result<(), Error<'a>> {
-        walk_elements(names, self)?;
-        walk_element_type(names, self)?;
-        Ok(())
-    }
-}
-
-/// Walks over the memory of a data segment.
-fn walk_data_memory<'a>(names: &Resolver<'a>, kind: &mut DataKind<'a>) -> Result<(), Error<'a>>
-    ensures { WalksSites names.now in_data_memory with_data_memory kind.old kind.new result }
-{
-    match kind {
-        DataKind::Passive => Ok(()),
-        DataKind::Active { memory, .. } => walk_outside_index(names, Space::Memory, memory),
-    }
-}
-
-/// Walks over the offset of a data segment.
-fn walk_data_offset<'a>(names: &Resolver<'a>, kind: &mut DataKind<'a>) -> Result<(), Error<'a>>
-    ensures { WalksSites names.now in_data_offset with_data_offset kind.old kind.new result }
-{
-    match kind {
-        DataKind::Passive => Ok(()),
-        DataKind::Active { offset, .. } => offset.walk_apart(names),
-    }
-}
-
-impl<'a> WalkApart<'a> for DataKind<'a> {
-    ghost stands = { in_data_kind };
-
-    ghost mapped = { mapped_data_kind };
-
-    fn walk_apart(&mut self, names: &Resolver<'a>) -> Result<(), Error<'a>> {
-        walk_data_memory(names, self)?;
-        walk_data_offset(names, self)?;
-        Ok(())
-    }
-}
-
-impl<'a> WalkApart<'a> for Table<'a> {
-    ghost stands = { λ t. in_table_kind t.kind };
-
-    ghost mapped = { mapped_table };
-
-    fn walk_apart(&mut self, names: &Resolver<'a>) -> Result<(), Error<'a>> {
-        self.kind.walk_apart(names)?;
-        Ok(())
-    }
-}
-
 impl<'a> WalkApart<'a> for Memory<'a> {
     ghost stands = { λ m. in_memory_kind m.kind };
 
@@ -341,54 +131,6 @@ impl<'a> WalkApart<'a> for Memory<'a> {
             MemoryKind::Normal(_) => Ok(()),
             MemoryKind::Inline { .. } => Ok(()),
         }
-    }
-}
-
-impl<'a> WalkApart<'a> for GlobalKind<'a> {
-    ghost stands = { in_global_kind };
-
-    ghost mapped = { mapped_global_kind };
-
-    fn walk_apart(&mut self, names: &Resolver<'a>) -> Result<(), Error<'a>> {
-        match self {
-            GlobalKind::Import(_) => Ok(()),
-            GlobalKind::Inline(value) => value.walk_apart(names),
-        }
-    }
-}
-
-impl<'a> WalkApart<'a> for Global<'a> {
-    ghost stands = { in_global };
-
-    ghost mapped = { mapped_global };
-
-    fn walk_apart(&mut self, names: &Resolver<'a>) -> Result<(), Error<'a>> {
-        walk_outside(names, &mut self.ty)?;
-        self.kind.walk_apart(names)?;
-        Ok(())
-    }
-}
-
-impl<'a> WalkApart<'a> for Elem<'a> {
-    ghost stands = { in_elem };
-
-    ghost mapped = { mapped_elem };
-
-    fn walk_apart(&mut self, names: &Resolver<'a>) -> Result<(), Error<'a>> {
-        self.kind.walk_apart(names)?;
-        self.payload.walk_apart(names)?;
-        Ok(())
-    }
-}
-
-impl<'a> WalkApart<'a> for Data<'a> {
-    ghost stands = { λ d. in_data_kind d.kind };
-
-    ghost mapped = { mapped_data };
-
-    fn walk_apart(&mut self, names: &Resolver<'a>) -> Result<(), Error<'a>> {
-        self.kind.walk_apart(names)?;
-        Ok(())
     }
 }
 

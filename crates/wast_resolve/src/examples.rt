@@ -1,6 +1,7 @@
 //! Worked modules, whose answers the definitions compute.
 
-ghost use Rattle.wast_resolve.specs.WorkedAnswers.{Row27, Row31, Row32, Row2, Row7, Row8, Row24, TwoFunctions, ClashOfTypes, FieldsOfOneStruct, FieldsOfTwoStructs, ClashesInOrder, Row14, Row22, Row23, UnknownNames, MatchedByNumber, Row17};
+ghost use Rattle.wast_resolve.specs.WorkedAnswers.{Row27, Row31, Row32, Row2, Row7, Row8, Row24, TwoFunctions, ClashOfTypes, FieldsOfOneStruct, FieldsOfTwoStructs, ClashesInOrder, Row14, Row22, Row23, UnknownNames, MatchedByNumber, Row17, IndirectCalls};
+ghost use Rattle.wast_resolve.specs.WorkedBodies.{NestedLabels, InnermostOfTwo, CaughtOutside, CaughtInItself, DelegatedOutside, DelegatedToItself, LabelsAtEnds, BlockOfTwo, BehindNameless};
 ghost use Rattle.wast_resolve.specs.WorkedImports.{Row12, Row13, Row21, BehindAMemory, ImportsInOrder, ImportedTwice, UnknownStart};
 ghost use Rattle.wast_resolve.specs.WorkedUnknowns.{UnknownInSegments, UnknownInTables, UnknownInGlobals};
 
@@ -70,6 +71,46 @@ pub(crate) fn inline_references()
 #[tactic(auto, using(crate::proofs::Worked::row17))]
 pub(crate) fn row17()
     ensures { Row17 }
+{}
+
+/// Indirect calls: beside an index no inline type stays, and they ask for their table first.
+#[tactic(auto, using(crate::proofs::Worked::indirect_calls))]
+pub(crate) fn indirect_calls()
+    ensures { IndirectCalls }
+{}
+
+/// Labels of blocks: they count from the innermost, and a label is that of the innermost block that has it.
+#[tactic(auto, using(crate::proofs::Worked::nested_labels, crate::proofs::Worked::innermost_of_two))]
+pub(crate) fn labels_of_blocks()
+    ensures nested { NestedLabels }
+    ensures innermost { InnermostOfTwo }
+{}
+
+/// Labels of what catches, which are read outside of the block: E4 at the block's own.
+#[tactic(auto, using(crate::proofs::Worked::caught_outside, crate::proofs::Worked::caught_in_itself, crate::proofs::Worked::delegated_outside, crate::proofs::Worked::delegated_to_itself))]
+pub(crate) fn labels_outside()
+    ensures caught { CaughtOutside }
+    ensures caught_itself { CaughtInItself }
+    ensures delegated { DelegatedOutside }
+    ensures delegated_itself { DelegatedToItself }
+{}
+
+/// A label at an `end` that is not that of its block: E8 there; none where no block is open.
+#[tactic(auto, using(crate::proofs::Worked::labels_at_ends))]
+pub(crate) fn labels_at_ends()
+    ensures { LabelsAtEnds }
+{}
+
+/// A block that gives two values: its type is implied.
+#[tactic(auto, using(crate::proofs::Worked::block_of_two))]
+pub(crate) fn block_of_two()
+    ensures { BlockOfTwo }
+{}
+
+/// A local behind a parameter without a name, which its number counts; E4 at one that is not there.
+#[tactic(auto, using(crate::proofs::Worked::behind_nameless))]
+pub(crate) fn behind_nameless()
+    ensures { BehindNameless }
 {}
 
 /// Imports behind what is defined: E1 at the first, by what is defined last, and before any clash of names.

@@ -1,19 +1,23 @@
-//! Laws for callers to cite: of the resolved list of fields, and of types that the resolver of a module resolves.
+//! Laws for callers to cite: of the resolved list of fields, of types that the resolver of a module resolves, and of the open
+//! blocks of a body.
 
 ghost use Rattle.wast_tree.specs.Sites.{in_heap, in_ref, in_val, in_storage, in_signature, in_def, in_type};
 ghost use Rattle.wast_map.specs.Mapped.{mapped_heap, mapped_ref, mapped_val, mapped_storage, mapped_signature, mapped_def};
 ghost use Rattle.wast_resolve.specs.CoreTypes.{with_def};
-ghost use Rattle.wast_resolve.specs.Laws.{ByResolver, NeedsOfResolver, SameAnswer, SameCounts, ExplicitStaysWellFormed, NoIdIsLeft, FinishedStaysWellFormed, SamePositions, FinishedIsResolved, FinishedIsBelow, UsesHaveIndices, FinishedIsWrittenOut, ItemsStay};
+ghost use Rattle.wast_resolve.specs.Laws.{ByResolver, NeedsOfResolver, SameAnswer, SameCounts, SameBodyCounts, ExplicitStaysWellFormed, NoIdIsLeft, FinishedStaysWellFormed, SamePositions, FinishedIsResolved, FinishedIsBelow, UsesHaveIndices, FinishedIsWrittenOut, ItemsStay, BlocksAreCounted};
 
-/// Where the counter begins above the ids of the fields, the ids that are filled in change no answer and no count, and
-/// well formed fields stay well formed. In the resolved list of fields whose demands are met no id is left where an index
+use wast_labels::walking_law;
+
+/// Where the counter begins above the ids of the fields, the ids that are filled in change no answer and no count of items, nor
+/// one in bodies where no items clash, and well formed fields stay well formed. In the resolved list of fields whose demands are met no id is left where an index
 /// is wanted, each type use has an index, so it is resolved; it is well formed if they are, and each generation in it is below
 /// that of the next id; it is written out; and it is the list by positions, generated ids and places of type uses aside. Its items are
 /// those of the list in which nothing is left out, whatever is met. It does nothing.
-#[tactic(auto, using(crate::proofs::Explicit::explicit_answer, crate::proofs::Explicit::explicit_counts, crate::proofs::Explicit::explicit_well_formed, crate::proofs::Explicit::finished_numbered, crate::proofs::Explicit::finished_resolved, crate::proofs::Explicit::finished_well_formed, crate::proofs::Explicit::finished_by_position, crate::proofs::Explicit::finished_below, crate::proofs::Explicit::finished_indexed, crate::proofs::Explicit::finished_written_out, crate::proofs::Explicit::finished_items))]
+#[tactic(auto, using(crate::proofs::Explicit::explicit_answer, crate::proofs::Explicit::explicit_counts, crate::proofs::Explicit::explicit_bodies, crate::proofs::Explicit::explicit_well_formed, crate::proofs::Explicit::finished_numbered, crate::proofs::Explicit::finished_resolved, crate::proofs::Explicit::finished_well_formed, crate::proofs::Explicit::finished_by_position, crate::proofs::Explicit::finished_below, crate::proofs::Explicit::finished_indexed, crate::proofs::Explicit::finished_written_out, crate::proofs::Explicit::finished_items))]
 pub fn resolved_laws()
     ensures answer { SameAnswer }
     ensures counts { SameCounts }
+    ensures bodies { SameBodyCounts }
     ensures explicit { ExplicitStaysWellFormed }
     ensures numbers { NoIdIsLeft }
     ensures resolved { FinishedIsResolved }
@@ -46,3 +50,11 @@ pub fn core_type_laws()
     ensures heaps_needs { NeedsOfResolver in_heap }
     ensures storages_needs { NeedsOfResolver in_storage }
 {}
+
+/// Behind the instructions of a body, the blocks that are open, by which labels are looked up (text format, control
+/// instructions: labels), are those that counting its openers and closers gives, each with its label. It does nothing.
+pub fn label_law()
+    ensures { BlocksAreCounted }
+{
+    walking_law();
+}

@@ -3,12 +3,15 @@
 
 mod apart;
 mod clashes;
+mod constants;
 mod core_types;
 mod examples;
 mod func_types;
 mod gathers;
 mod imports;
+mod instrs;
 mod laws;
+mod local_names;
 mod locals;
 mod matches;
 mod passes;
@@ -21,7 +24,7 @@ pub use core_types::{
     ResolveCoreType, resolve_heaptype, resolve_reftype, resolve_storagetype, resolve_type,
     resolve_type_def, resolve_type_func, resolve_valtype,
 };
-pub use laws::{core_type_laws, resolved_laws};
+pub use laws::{core_type_laws, label_law, resolved_laws};
 pub use resolution::{Names, discard_names, resolve};
 pub use resolver::{Ns, Resolver};
 pub use wast_namespace::{Namespace, resolve_error};

@@ -1,20 +1,24 @@
 //! The names of the parameters and locals of a function.
 
-ghost use Rattle.std.specs.Prelude.{◌≡◌, ⊤, ◌≤◌, ◌^◌, [], length, slice_index_or, None, IfOk, IfErr};
+ghost use Rattle.std.specs.Prelude.{◌≡◌, ◌≤◌, ◌^◌, ◌+◌, ◌↔◌, [], length, slice_index_or, None, Some, IsTrue, IfOk, IfErr};
 ghost use Rattle.wast_base.specs.Ids.{marked};
 ghost use Rattle.wast_base.specs.Faults.{told};
-ghost use Rattle.wast_tree.specs.Sites.{param_marks};
-ghost use Rattle.wast_resolve.specs.Scopes.{Scope};
-ghost use Rattle.wast_resolve.specs.Demands.{first_unmet, site_demands, declared};
-ghost use Rattle.wast_namespace.specs.Filling.{HasFirstClash};
+ghost use Rattle.wast_tree.specs.Sites.{param_marks, declaring};
+ghost use Rattle.wast_resolve.specs.Resolvers.{scope_of};
+ghost use Rattle.wast_resolve.specs.Scopes.{Scope, nameless as nameless_of};
+ghost use Rattle.wast_resolve.specs.Demands.{declared};
+ghost use Rattle.wast_namespace.specs.Filling.{FillsSpace};
 ghost use Rattle.wast_resolve.specs.Gathers.{Stops, Gathers};
-ghost use Rattle.wast_resolve.specs.Locals.{params_in, opening, marks_of, names, said_of, ChecksNames};
-ghost use Rattle.wast_namespace.specs.Outcomes.{Outcome};
+ghost use Rattle.wast_resolve.specs.Locals.{params_in, opening, marks_of, names as names_of, NumbersFrom, NumbersIn, locals_in, NamesLocals};
 
 use crate::gathers::{count_ids, gather_each};
+use crate::local_names::LocalNames;
+use crate::resolver::Resolver;
 use std::alloc::Global;
-use wast_namespace::Gathering;
-use wast_tree::{Error, Fault, FuncKind, FunctionType, Id, Local, NameAnnotation, ValType};
+use wast_namespace::{Gathering, Namespace};
+use wast_tree::{
+    Error, Fault, FuncKind, FunctionType, Id, Local, NameAnnotation, TypeUse, ValType,
+};
 
 /// A parameter: its id, its name annotation and its type.
 type Param<'a> = (Option<Id<'a>>, Option<NameAnnotation<'a>>, ValType<'a>);
@@ -25,7 +29,7 @@ fn gather_locals<'a>(
     params: &[Param<'a>],
     locals: &[Local<'a>],
 ) -> Result<Gathering<'a>, Error<'a>>
-    ensures { Gathers (Ok []) (names (marks_of params.now locals.now)) result }
+    ensures { Gathers (Ok []) (names_of (marks_of params.now locals.now)) result }
 {
     let ids = count_ids(params).saturating_add(count_ids(locals));
     let mut gathering = Gathering::new(alloc, ids)?;
@@ -49,75 +53,92 @@ fn id_at<'a>(params: &[Param<'a>], locals: &[Local<'a>], at: usize) -> Option<Id
     }
 }
 
-/// The position among parameters and locals of the first that has the name of an earlier one.
-fn first_clash<'a>(
+/// The name space of parameters and locals, or the position of the first that has the name of an earlier one.
+fn try_names<'a>(
     alloc: Global,
     params: &[Param<'a>],
     locals: &[Local<'a>],
-) -> Result<Option<u32>, Error<'a>>
-    ensures found { IfOk result (HasFirstClash (names (marks_of params.now locals.now))) }
+) -> Result<Result<Namespace<'a>, u32>, Error<'a>>
+    ensures found { IfOk result (FillsSpace (names_of (marks_of params.now locals.now))) }
     ensures stops { IfErr result (λ e. Stops (told e) 0 (length (marks_of params.now locals.now))) }
 {
     let gathering = gather_locals(alloc, params, locals)?;
-    Ok(gathering.first_clash())
+    Ok(gathering.sorted(alloc))
 }
 
-/// E2 at the id at a position among parameters and locals, if there is one.
-fn clash_at<'a>(params: &[Param<'a>], locals: &[Local<'a>], at: usize) -> Result<(), Error<'a>>
-    ensures { Outcome ⊥ ⊥ (said_of (slice_index_or (marks_of params.now locals.now) at None)) result }
+/// Whether there are 2^32 parameters and locals or more, with those of which no name is written.
+fn are_many<'a>(nameless: usize, params: &[Param<'a>], locals: &[Local<'a>]) -> bool
+    ensures { IsTrue result ↔ (2 ^ 32 ≤ nameless + length (marks_of params.now locals.now)) }
 {
-    match id_at(params, locals, at) {
-        None => Ok(()),
-        Some(id) => Err(Error::new(id.span(), Fault::Duplicate("local"))),
-    }
+    let named = params.len().saturating_add(locals.len());
+    nameless.saturating_add(named) > u32::MAX as usize
 }
 
-/// Whether the names of parameters and locals differ: E2 at the first that has the name of an earlier one.
-fn check_names<'a>(
+/// The names of parameters and locals, behind those of which no name is written: E2 at the first that has the name of an
+/// earlier one.
+fn name_each<'a>(
     alloc: Global,
+    nameless: usize,
     params: &[Param<'a>],
     locals: &[Local<'a>],
-) -> Result<(), Error<'a>>
-    ensures { (c : Scope) → ChecksNames c (marks_of params.now locals.now) result }
+) -> Result<LocalNames<'a>, Error<'a>>
+    ensures numbers { IfOk result (NumbersFrom nameless (names_of (marks_of params.now locals.now))) }
+    ensures names { (c : Scope) → NamesLocals c nameless (declaring [] (marks_of params.now locals.now))
+        (length (marks_of params.now locals.now)) result }
 {
-    match first_clash(alloc, params, locals)? {
-        None => Ok(()),
-        Some(at) => {
-            clash_at(params, locals, at as usize)?;
-            Ok(())
-        }
+    if are_many(nameless, params, locals) {
+        return Err(Error::refusal(Fault::TooLarge));
+    }
+    match try_names(alloc, params, locals)? {
+        Ok(space) => Ok(LocalNames::behind(nameless as u32, space)),
+        Err(at) => match id_at(params, locals, at as usize) {
+            Some(id) => Err(Error::new(id.span(), Fault::Duplicate("local"))),
+            None => Ok(LocalNames::none(alloc)),
+        },
     }
 }
 
-/// Whether the names of the parameters of an inline type and of locals differ: E2 at the first that has the name of an
-/// earlier one.
-fn check_declared<'a>(
+/// The names of the parameters of an inline type and of locals, behind parameters of which no name is written.
+fn name_declared<'a>(
     alloc: Global,
+    nameless: usize,
     inline: &Option<FunctionType<'a>>,
     locals: &[Local<'a>],
-) -> Result<(), Error<'a>>
-    ensures { (c : Scope) → ChecksNames c (marks_of (params_in inline.now) locals.now) result }
+) -> Result<LocalNames<'a>, Error<'a>>
+    ensures numbers { IfOk result (NumbersFrom nameless (names_of (marks_of (params_in inline.now) locals.now))) }
+    ensures names { (c : Scope) → NamesLocals c nameless (declaring [] (marks_of (params_in inline.now) locals.now))
+        (length (marks_of (params_in inline.now) locals.now)) result }
 {
     match inline {
-        None => check_names(alloc, &[], locals),
-        Some(ty) => check_names(alloc, ty.params.as_slice(), locals),
+        None => name_each(alloc, nameless, &[], locals),
+        Some(ty) => name_each(alloc, nameless, ty.params.as_slice(), locals),
     }
 }
 
-/// Whether the names of the parameters and locals of a function differ: E2 at the first that has the name of an earlier one.
-/// One that is imported in place has no body in which they would be looked up.
+/// The names of the parameters and locals of a function, behind the parameters of the type at its index where no inline type
+/// is written: E2 at the first that has the name of an earlier one. One that is imported in place has no body in which they
+/// would be looked up.
 ///
 /// It takes memory for the ids. Where it is refused, that is E12; where there are 2^32 parameters and locals or more, E10.
-pub(crate) fn check_locals<'a>(
+pub(crate) fn name_locals<'a>(
     alloc: Global,
-    inline: &Option<FunctionType<'a>>,
+    names: &Resolver<'a>,
+    ty: &TypeUse<'a, FunctionType<'a>>,
     kind: &FuncKind<'a>,
-) -> Result<(), Error<'a>>
-    ensures { (c : Scope) → Outcome ⊤ (2 ^ 32 ≤ length (declared inline.now kind.now))
-        (first_unmet (site_demands c (opening (param_marks inline.now) kind.now))) result }
+) -> Result<LocalNames<'a>, Error<'a>>
+    ensures numbers { IfOk result (NumbersIn (scope_of names.now) (locals_in ty.now kind.now) kind.now) }
+    ensures names { (c : Scope) → NamesLocals c (nameless_of (scope_of names.now) (Some ty.now))
+        (opening (param_marks ty.now.inline) kind.now) (length (declared ty.now.inline kind.now)) result }
 {
     match kind {
-        FuncKind::Import(..) => Ok(()),
-        FuncKind::Inline { locals, .. } => check_declared(alloc, inline, locals.as_slice()),
+        FuncKind::Import(..) => Ok(LocalNames::none(alloc)),
+        FuncKind::Inline { locals, .. } => {
+            name_declared(
+                alloc,
+                names.unsaid_params(ty),
+                &ty.inline,
+                locals.as_slice(),
+            )
+        }
     }
 }

@@ -20,12 +20,14 @@ use wast_tree::{Error, ModuleField, Seq, discard_fields};
 ///
 /// It gives the fields, and what their ids denote and which function types they have. It needs nothing of the fields: what
 /// stands in place stays there, and a type use without an index has none afterwards ([`wast_types::types::expand`] gives
-/// each one an index). The error is the first demand that is not met: in the order of the fields E2 at the second bearer of
-/// an id in a space, and directly after a type E3 at the second bearer of an id among the fields of its struct; after all of
-/// these, field by field, E4 at an id that denotes nothing; E6, E5 or E7 at an index whose type is not the inline type
-/// beside it; and E2 at the second of two parameters and locals of one id. It is E12 where memory was refused, and E10 only
-/// where some space has 2^32 or more items, or some struct as many fields, or where a function declares as many parameters
-/// and locals. On an error the fields are dropped.
+/// each one an index that wants one). The error is the first demand that is not met: in the order of the fields E2 at the
+/// second bearer of an id in a space, and directly after a type E3 at the second bearer of an id among the fields of its
+/// struct; after all of these, field by field, E4 at an id that denotes nothing, labels and locals of the body in which it
+/// stands among them; E6, E5 or E7 at an index whose type is not the inline type beside it; E2 at the second of two
+/// parameters and locals of one id; and E8 at a label of an `else` or an `end` that is not that of the innermost open block.
+/// It is E12 where memory was refused, and E10 only where some space has 2^32 or more items, or some struct as many fields;
+/// or, where no items clash, where a function has as many parameters and locals, those without names too, or where as many
+/// blocks would be open at once. On an error the fields are dropped.
 pub fn resolve<'a>(
     alloc: Global,
     fields: Seq<ModuleField<'a>>,

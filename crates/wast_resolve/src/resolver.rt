@@ -5,7 +5,8 @@ ghost use Rattle.wast_base.specs.Ids.{name_of};
 ghost use Rattle.wast_resolve.specs.LookUps.{IsSettledFor, AnswersFor};
 ghost use Rattle.wast_resolve.specs.Resolved.{numbered_at};
 ghost use Rattle.wast_namespace.specs.Namespaces.{number_in};
-ghost use Rattle.wast_resolve.specs.Scopes.{denoted};
+ghost use Rattle.wast_resolve.specs.Scopes.{denoted, type_at, params_of, nameless};
+ghost use Rattle.wast_resolve.specs.Tree.space;
 ghost use Rattle.wast_resolve.specs.Matches.{same_type};
 ghost use Rattle.wast_resolve.specs.Demands.{first_unmet, match_demands};
 ghost use Rattle.wast_namespace.specs.Outcomes.{Outcome};
@@ -15,7 +16,7 @@ use crate::matches::has_signature;
 use std::alloc::Global;
 use std::marker::Model;
 use wast_namespace::Namespace;
-use wast_tree::{Error, Fault, FunctionType, Id, Index, Space};
+use wast_tree::{Error, Fault, FunctionType, Id, Index, Space, TypeUse};
 use wast_types::FuncKey;
 
 /// A space of items that an index can stand for (text format, indices).
@@ -166,6 +167,32 @@ impl<'a> Resolver<'a> {
                     Err(Error::new(idx.span(), Fault::NoMatch))
                 }
             }
+        }
+    }
+
+    /// How many parameters a function has that no inline type says: those of the type at its index.
+    pub(crate) fn unsaid_params(&self, ty: &TypeUse<'a, FunctionType<'a>>) -> usize
+        ensures { result ≡ nameless (scope_of self.now) (Some ty.now) }
+    {
+        match (&ty.index, &ty.inline) {
+            (Some(index), None) => self.params_at(index),
+            (Some(_), Some(_)) => 0,
+            (None, Some(_)) => 0,
+            (None, None) => 0,
+        }
+    }
+
+    /// How many parameters the function type has that an index denotes; another type has none.
+    fn params_at(&self, idx: &Index<'a>) -> usize
+        ensures { result ≡ params_of (type_at self.now.types (denoted ((known_of self.now).number space.Ty) idx.now)) }
+    {
+        let Some(number) = self.denoted(Space::Ty, idx) else {
+            return 0;
+        };
+        match self.types.get(number as usize) {
+            None => 0,
+            Some(None) => 0,
+            Some(Some(key)) => key.0.len(),
         }
     }
 

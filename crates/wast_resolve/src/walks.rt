@@ -1,31 +1,37 @@
 //! Walks over the tree in its place: each id where an index is wanted becomes the number that it denotes.
 #![tactic(auto, using(crate::proofs::Parts::both_met, crate::proofs::Parts::first_fails, crate::proofs::Parts::second_fails, crate::proofs::Parts::id_met))]
 
-ghost use Rattle.std.specs.Prelude.{⊤, ◌≤◌, ◌^◌, List, length, map, flat_map, option_map};
-ghost use Rattle.wast_tree.specs.Sites.{Ask, Here, if_there, in_index, in_heap, in_ref, in_val, in_signature, in_type, in_rec, in_type_use, in_mem_arg, in_pair, in_select, in_instr, in_instrs, in_expression, in_local, param_marks, in_func_kind, in_func, in_use, in_table_type, in_global_type, exported_space, in_field, in_module};
-ghost use Rattle.wast_map.specs.Mapped.{Change, mapped_heap, mapped_ref, mapped_val, mapped_signature, mapped_type, mapped_rec, mapped_table_type, mapped_global_type, mapped_local, mapped_export, mapped_mem_arg, mapped_select, mapped_memory_init, mapped_memory_copy, mapped_table_init, mapped_table_copy, mapped_instr, mapped_instrs, mapped_expression, mapped_func_kind, mapped_func, mapped};
-ghost use Rattle.wast_resolve.specs.Demands.{match_if, first_unmet, declared, local_counts_in, local_counts, HasMany};
+ghost use Rattle.std.specs.Prelude.{⊤, List, map, flat_map, option_map};
+ghost use Rattle.wast_tree.specs.Sites.{Ask, OfItem, OfCall, OfBlock, Locals, if_there, in_index, in_heap, in_ref, in_val, in_signature, in_type, in_rec, in_type_use, in_mem_arg, in_pair, in_select, in_local, in_func_kind, in_func, in_use, in_table_type, in_global_type, exported_space, in_field, in_module};
+ghost use Rattle.wast_map.specs.Mapped.{Change, mapped_heap, mapped_ref, mapped_val, mapped_signature, mapped_type, mapped_rec, mapped_table_type, mapped_global_type, mapped_local, mapped_export, mapped_mem_arg, mapped_select, mapped_memory_init, mapped_memory_copy, mapped_table_init, mapped_table_copy, mapped_func_kind, mapped_func, mapped};
+ghost use Rattle.wast_resolve.specs.Demands.{match_if, first_unmet, body_counts_in, HasMany};
+ghost use Rattle.wast_resolve.specs.Locals.{NumbersIn, SaysAsMuch, kind_counts};
+ghost use Rattle.wast_resolve.specs.Openable.{begin};
 ghost use Rattle.wast_namespace.specs.Outcomes.{Outcome};
 ghost use Rattle.wast_resolve.specs.TwoSteps.{in_locals, in_body, with_locals, with_body};
 ghost use Rattle.wast_resolve.specs.Resolvers.{known_of, scope_of};
 ghost use Rattle.wast_resolve.specs.LookUps.{LooksTypesUp};
 ghost use Rattle.wast_resolve.specs.Tree.field;
 ghost use Rattle.wast_resolve.specs.Tree.space;
-ghost use Rattle.wast_resolve.specs.Walking.{WalksAsks, WalksSites, WalksFunctions};
+ghost use Rattle.wast_resolve.specs.Tree.{FunctionType, TypeUse as Use};
+ghost use Rattle.wast_resolve.specs.Walking.{WalksAsks, WalksSites, WalksFunctions, WalksBodies};
 
 use crate::apart::{WalkApart, walk_outside, walk_outside_index};
+use crate::constants::WalkConstants;
 use crate::core_types::{
     ResolveCoreType, resolve_heaptype, resolve_reftype, resolve_type, resolve_type_func,
     resolve_valtype,
 };
-use crate::locals::check_locals;
+use crate::instrs::walk_expression;
+use crate::local_names::LocalNames;
+use crate::locals::name_locals;
 use crate::resolver::Resolver;
 use std::alloc::Global;
 use wast_tree::{
-    ArrayType, Error, Export, Expression, Func, FuncKind, FunctionType, GlobalType, HeapType, Id,
-    Index, InnerTypeKind, Instruction, Local, MemArg, MemArgTarget, MemoryCopy, MemoryInit,
-    ModuleField, NameAnnotation, Rec, RefType, SelectTypes, Seq, Space, StorageType, StructField,
-    StructType, TableCopy, TableInit, TableType, Type, TypeDef, TypeUse, ValType,
+    ArrayType, Error, Export, Func, FuncKind, FunctionType, GlobalType, HeapType, Id, Index,
+    InnerTypeKind, Local, MemArg, MemArgTarget, MemoryCopy, MemoryInit, ModuleField,
+    NameAnnotation, Rec, RefType, SelectTypes, Seq, Space, StorageType, StructField, StructType,
+    TableCopy, TableInit, TableType, Type, TypeDef, TypeUse, ValType, discard_said_inline,
 };
 
 /// Walks over an index of a space. The error is E4 at an id that denotes nothing.
@@ -196,7 +202,7 @@ impl<'a, T: Walk<'a>> Walk<'a> for Option<T> {
 impl<'a> Walk<'a> for TypeUse<'a, FunctionType<'a>> {
     ghost asks = { in_type_use };
 
-    ghost mapped = { λ f. f.used };
+    ghost mapped = { λ f. f.used OfItem };
 
     fn walk(&mut self, names: &Resolver<'a>) -> Result<(), Error<'a>> {
         walk_optional(names, Space::Ty, &mut self.index)?;
@@ -322,67 +328,6 @@ impl<'a> Walk<'a> for TableCopy<'a> {
     }
 }
 
-/// Walks over an instruction.
-fn walk_instr<'a>(names: &Resolver<'a>, instr: &mut Instruction<'a>) -> Result<(), Error<'a>>
-    ensures { (h : Here) → WalksSites names.now (in_instr h) (λ f. mapped_instr f h) instr.old instr.new result }
-{
-    match instr {
-        Instruction::Plain(_) => Ok(()),
-        Instruction::Mem(_, arg) => arg.walk(names),
-        Instruction::catch(tag) => walk_index(names, Space::Tag, tag),
-        Instruction::throw(tag) => walk_index(names, Space::Tag, tag),
-        Instruction::call(func) => walk_index(names, Space::Func, func),
-        Instruction::return_call(func) => walk_index(names, Space::Func, func),
-        Instruction::call_ref(ty) => walk_index(names, Space::Ty, ty),
-        Instruction::return_call_ref(ty) => walk_index(names, Space::Ty, ty),
-        Instruction::select(types) => types.walk(names),
-        Instruction::global_get(global) => walk_index(names, Space::Global, global),
-        Instruction::global_set(global) => walk_index(names, Space::Global, global),
-        Instruction::table_get(arg) => walk_index(names, Space::Table, &mut arg.dst),
-        Instruction::table_set(arg) => walk_index(names, Space::Table, &mut arg.dst),
-        Instruction::table_init(arg) => arg.walk(names),
-        Instruction::elem_drop(elem) => walk_index(names, Space::Elem, elem),
-        Instruction::table_copy(arg) => arg.walk(names),
-        Instruction::table_grow(arg) => walk_index(names, Space::Table, &mut arg.dst),
-        Instruction::table_size(arg) => walk_index(names, Space::Table, &mut arg.dst),
-        Instruction::table_fill(arg) => walk_index(names, Space::Table, &mut arg.dst),
-        Instruction::memory_size(arg) => walk_index(names, Space::Memory, &mut arg.mem),
-        Instruction::memory_grow(arg) => walk_index(names, Space::Memory, &mut arg.mem),
-        Instruction::memory_init(arg) => arg.walk(names),
-        Instruction::data_drop(data) => walk_index(names, Space::Data, data),
-        Instruction::memory_copy(arg) => arg.walk(names),
-        Instruction::memory_fill(arg) => walk_index(names, Space::Memory, &mut arg.mem),
-        Instruction::i32_const(_) => Ok(()),
-        Instruction::i64_const(_) => Ok(()),
-        Instruction::f32_const(_) => Ok(()),
-        Instruction::f64_const(_) => Ok(()),
-        Instruction::ref_null(heap) => heap.walk(names),
-        Instruction::ref_func(func) => walk_index(names, Space::Func, func),
-    }
-}
-
-/// Walks over instructions, in order.
-fn walk_instrs<'a>(names: &Resolver<'a>, instrs: &mut Seq<Instruction<'a>>) -> Result<(), Error<'a>>
-    ensures { (h : Here) → WalksSites names.now (in_instrs h) (λ f. mapped_instrs f h) instrs.old instrs.new result }
-{
-    for i in 0..instrs.len() {
-        walk_instr(names, instrs.at_mut(i))?;
-    }
-    Ok(())
-}
-
-/// Walks over an expression.
-pub(crate) fn walk_expression<'a>(
-    names: &Resolver<'a>,
-    expression: &mut Expression<'a>,
-) -> Result<(), Error<'a>>
-    ensures { (h : Here) →
-        WalksSites names.now (in_expression h) (λ f. mapped_expression f h) expression.old expression.new result }
-{
-    walk_instrs(names, &mut expression.instrs)?;
-    Ok(())
-}
-
 /// Whether the inline type of a type use is that of the index beside it: E6, E5 or E7 at the index.
 fn check_type_use<'a>(
     names: &Resolver<'a>,
@@ -403,10 +348,23 @@ pub(crate) fn walk_type_use<'a>(
     names: &Resolver<'a>,
     ty: &mut TypeUse<'a, FunctionType<'a>>,
 ) -> Result<(), Error<'a>>
-    ensures { WalksSites names.now in_use (λ f. f.used) ty.old ty.new result }
+    ensures { WalksSites names.now (in_use OfItem) (λ f. f.used OfItem) ty.old ty.new result }
 {
     ty.walk(names)?;
     check_type_use(names, ty)?;
+    Ok(())
+}
+
+/// Walks over the type use of an indirect call or a block: where it has an index, its inline type is dropped at the end.
+pub(crate) fn walk_body_type<'a>(
+    names: &Resolver<'a>,
+    ty: &mut TypeUse<'a, FunctionType<'a>>,
+) -> Result<(), Error<'a>>
+    ensures call { WalksSites names.now (in_use OfCall) (λ f. f.used OfCall) ty.old ty.new result }
+    ensures block { WalksSites names.now (in_use OfBlock) (λ f. f.used OfBlock) ty.old ty.new result }
+{
+    walk_type_use(names, ty)?;
+    discard_said_inline(ty);
     Ok(())
 }
 
@@ -420,41 +378,47 @@ fn walk_locals<'a>(names: &Resolver<'a>, kind: &mut FuncKind<'a>) -> Result<(), 
     }
 }
 
-/// Walks over the body of a function.
-fn walk_body<'a>(names: &Resolver<'a>, kind: &mut FuncKind<'a>) -> Result<(), Error<'a>>
-    ensures { (h : Here) → WalksSites names.now (in_body h) (λ f. with_body f h) kind.old kind.new result }
+/// Walks over the body of a function, whose parameters and locals have these names.
+fn walk_body<'a>(
+    alloc: Global,
+    names: &Resolver<'a>,
+    locals: &LocalNames<'a>,
+    kind: &mut FuncKind<'a>,
+) -> Result<(), Error<'a>>
+    ensures { (l : Locals) → NumbersIn (scope_of names.now) l kind.old locals.now →
+        WalksBodies names.now (in_body (begin l)) (λ f. with_body f (begin l)) kind.old kind.new result }
 {
     match kind {
         FuncKind::Import(..) => Ok(()),
-        FuncKind::Inline { expression, .. } => walk_expression(names, expression),
+        FuncKind::Inline { expression, .. } => walk_expression(alloc, names, locals, expression),
     }
 }
 
-/// Walks over what a function is made of: the types of the locals, whether the names of parameters and locals differ, and
-/// then the body.
+/// Walks over what a function of a type use is made of: the types of the locals, whether the names of parameters and locals
+/// differ, and then the body. The type use has been walked over before, and says as much as before of the parameters.
 fn walk_kind<'a>(
     alloc: Global,
     names: &Resolver<'a>,
-    inline: &Option<FunctionType<'a>>,
+    ty: &TypeUse<'a, FunctionType<'a>>,
     kind: &mut FuncKind<'a>,
 ) -> Result<(), Error<'a>>
-    ensures { let ps = param_marks inline.now in
-        WalksFunctions (2 ^ 32 ≤ length (declared inline.now kind.old))
-        names.now (in_func_kind ps) (λ f. mapped_func_kind f ps) kind.old kind.new result }
+    ensures { (u : Use FunctionType) → SaysAsMuch (scope_of names.now) u ty.now →
+        WalksFunctions (HasMany (kind_counts (scope_of names.now) u kind.old))
+        names.now (in_func_kind u) (λ f. mapped_func_kind f u) kind.old kind.new result }
 {
     walk_locals(names, kind)?;
-    check_locals(alloc, inline, kind)?;
-    walk_body(names, kind)?;
+    let locals = name_locals(alloc, names, ty, kind)?;
+    walk_body(alloc, names, &locals, kind)?;
     Ok(())
 }
 
 /// Walks over a function: its type use, and then what it is made of.
 fn walk_func<'a>(alloc: Global, names: &Resolver<'a>, func: &mut Func<'a>) -> Result<(), Error<'a>>
-    ensures { WalksFunctions (HasMany (local_counts_in (field.Func func.old)))
+    ensures { WalksFunctions (HasMany (body_counts_in (scope_of names.now) (field.Func func.old)))
         names.now in_func mapped_func func.old func.new result }
 {
     walk_type_use(names, &mut func.ty)?;
-    walk_kind(alloc, names, &func.ty.inline, &mut func.kind)?;
+    walk_kind(alloc, names, &func.ty, &mut func.kind)?;
     Ok(())
 }
 
@@ -464,34 +428,35 @@ fn walk_field<'a>(
     names: &Resolver<'a>,
     field: &mut ModuleField<'a>,
 ) -> Result<(), Error<'a>>
-    ensures { WalksFunctions (HasMany (local_counts_in field.old)) names.now in_field mapped field.old field.new result }
+    ensures { WalksFunctions (HasMany (body_counts_in (scope_of names.now) field.old))
+        names.now in_field mapped field.old field.new result }
 {
     match field {
         ModuleField::Ty(ty) => walk_outside(names, ty),
         ModuleField::Rec(rec) => walk_outside(names, rec),
         ModuleField::Import(imports) => imports.walk_apart(names),
         ModuleField::Func(func) => walk_func(alloc, names, func),
-        ModuleField::Table(table) => table.walk_apart(names),
+        ModuleField::Table(table) => table.walk_constants(alloc, names),
         ModuleField::Memory(memory) => memory.walk_apart(names),
-        ModuleField::Global(global) => global.walk_apart(names),
+        ModuleField::Global(global) => global.walk_constants(alloc, names),
         ModuleField::Export(export) => walk_outside(names, export),
         ModuleField::Start(func) => walk_outside_index(names, Space::Func, func),
-        ModuleField::Elem(elem) => elem.walk_apart(names),
-        ModuleField::Data(data) => data.walk_apart(names),
+        ModuleField::Elem(elem) => elem.walk_constants(alloc, names),
+        ModuleField::Data(data) => data.walk_constants(alloc, names),
         ModuleField::Tag(tag) => tag.walk_apart(names),
     }
 }
 
 /// Walks over the fields, in order.
 ///
-/// It takes memory for the names of parameters and locals: E12 where it is refused, and E10 only where a function has 2^32
-/// of them or more.
+/// It takes memory for the names of parameters and locals and for open blocks: E12 where it is refused, and E10 only where a
+/// function has 2^32 parameters and locals or more, or where as many blocks would be open at once.
 pub(crate) fn walk_fields<'a>(
     alloc: Global,
     names: &Resolver<'a>,
     fields: &mut Seq<ModuleField<'a>>,
 ) -> Result<(), Error<'a>>
-    ensures { WalksFunctions (HasMany (local_counts fields.old))
+    ensures { WalksFunctions (HasMany (flat_map (body_counts_in (scope_of names.now)) fields.old))
         names.now in_module (λ f. map (mapped f)) fields.old fields.new result }
 {
     for i in 0..fields.len() {

@@ -4,6 +4,7 @@
 //! the maker asks it at the end.
 #![tactic(auto)]
 
+mod block_samples;
 mod field_samples;
 mod inline_samples;
 mod instr_samples;

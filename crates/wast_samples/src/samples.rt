@@ -4,7 +4,7 @@ ghost use Rattle.std.specs.Prelude.{◌≡◌, is_some, IfSome, IfErr};
 ghost use Rattle.wast_base.specs.Faults.{out_of_memory};
 ghost use Rattle.wast_samples.specs.RowNumbers.{is_row};
 
-use crate::{field_samples, inline_samples, instr_samples, type_samples};
+use crate::{block_samples, field_samples, inline_samples, instr_samples, type_samples};
 use std::alloc::Global;
 use wast_tree::{
     Error, Export, ExportKind, Func, FunctionType, Id, Index, InnerTypeKind, Instruction, Local,
@@ -204,15 +204,20 @@ fn fields_of_row<'a>(alloc: Global, maker: &mut Maker, n: u32) -> Option<Seq<Mod
         6 => Some(inline_samples::table_of_a_function(alloc, maker)),
         7 => Some(type_samples::type_written_later(alloc, maker)),
         8 => Some(group_and_function(alloc, maker)),
+        9 => Some(block_samples::caught_exception(alloc, maker)),
+        10 => Some(block_samples::delegated_exception(alloc, maker)),
         12 => Some(field_samples::import_after_a_function(alloc, maker)),
         13 => Some(field_samples::unknown_start_before_a_clash(alloc, maker)),
         14 => Some(type_samples::results_for_parameters(alloc, maker)),
+        15 => Some(block_samples::end_of_another_label(alloc, maker)),
         17 => Some(type_samples::local_named_as_a_parameter(alloc, maker)),
         21 => Some(field_samples::import_after_a_tag(alloc, maker)),
         22 => Some(type_samples::index_of_no_type(alloc, maker)),
         23 => Some(type_samples::function_of_a_struct(alloc, maker)),
         24 => Some(one_function(alloc, maker, None, TypeUse::of(Index::Num(5, at(20))))),
+        25 => Some(block_samples::end_of_no_block(alloc, maker)),
         27 => Some(exported_call(alloc, maker)),
+        28 => Some(block_samples::branches_out_of_two(alloc, maker)),
         30 => Some(field_samples::started_import(alloc, maker)),
         31 => Some(unknown_export(alloc, maker)),
         32 => Some(same_type_twice(alloc, maker)),
@@ -229,7 +234,11 @@ fn fields_of_row<'a>(alloc: Global, maker: &mut Maker, n: u32) -> Option<Seq<Mod
         43 => Some(inline_samples::imported_function(alloc, maker)),
         44 => Some(inline_samples::exported_empty_memory(alloc, maker)),
         45 => Some(instr_samples::memory_filled_by_a_segment(alloc, maker)),
+        46 => Some(block_samples::block_of_two_results(alloc, maker)),
         47 => Some(instr_samples::load_of_another_memory(alloc, maker)),
+        55 => Some(block_samples::label_within_its_like(alloc, maker)),
+        56 => Some(block_samples::block_behind_an_end(alloc, maker)),
+        57 => Some(block_samples::global_of_a_block(alloc, maker)),
         65 => Some(type_samples::name_and_number_of_a_type(alloc, maker)),
         _ => None,
     }
@@ -237,8 +246,8 @@ fn fields_of_row<'a>(alloc: Global, maker: &mut Maker, n: u32) -> Option<Seq<Mod
 
 /// The fields of the module of a worked row, or out of memory; `None` where there is no such row.
 ///
-/// The rows are 1 to 8, 12, 13, 14, 17, 21 to 24, 27, 30 to 45, 47 and 65. Places are offsets in the text of the row's module:
-/// of a field that of its keyword, of an id that of its `$`.
+/// The rows are 1 to 10, 12 to 15, 17, 21 to 25, 27, 28, 30 to 47, 55, 56, 57 and 65. Places are offsets in the text of the
+/// row's module: of a field that of its keyword, of an id that of its `$`.
 pub fn sample_fields<'a>(alloc: Global, n: u32) -> Option<Result<Seq<ModuleField<'a>>, Error<'a>>>
     ensures there { is_some result ≡ is_row n }
     ensures refusal { IfSome result (λ made. IfErr made (λ e. e ≡ out_of_memory)) }

@@ -3,9 +3,10 @@
 use std::alloc::Global;
 use std::process::Abort;
 use wast_tree::{
-    DataVal, Expression, ImportItems, Imports, Index, Instruction, ItemKind, ItemSig, Maker,
-    MemArg, MemArgTarget, MemOp, ModuleField, Seq, Span, TypeUse, discard_data, discard_expression,
-    discard_field, discard_fields, discard_instruction, fields_with_capacity, push_field,
+    BlockKind, BlockType, DataVal, Expression, Id, ImportItems, Imports, Index, Instruction,
+    ItemKind, ItemSig, Maker, MemArg, MemArgTarget, MemOp, ModuleField, Seq, Span, TryTableCatch,
+    TryTableCatchKind, TypeUse, discard_data, discard_expression, discard_field, discard_fields,
+    discard_instruction, fields_with_capacity, push_field,
 };
 
 fn at(offset: usize) -> Span {
@@ -93,4 +94,51 @@ fn lists_of_a_tree_are_made(rt: HostRuntime) {
     }
     assert!(rt; bytes.as_slice() == b"ab".as_slice());
     discard_data(pieces);
+}
+
+/// `$l`
+fn label<'a>() -> Option<Id<'a>> {
+    Some(Id::new("l", at(3)))
+}
+
+/// `$l`, and no type
+fn labelled<'a>() -> BlockType<'a> {
+    BlockType {
+        label: label(),
+        label_name: None,
+        ty: TypeUse::none(),
+    }
+}
+
+/// Whether it opens a block of the label `$l`.
+fn opens(instruction: &Instruction<'_>) -> bool {
+    match instruction.block_type() {
+        Some(block) => block.label == label() && !instruction.is_closer(),
+        None => false,
+    }
+}
+
+#[test]
+fn openers_of_blocks_are_made(rt: HostRuntime) {
+    let alloc = rt.alloc();
+    let mut maker = Maker::new(alloc);
+    let mut instrs = Seq::new(alloc);
+    for kind in [
+        BlockKind::Block,
+        BlockKind::Loop,
+        BlockKind::If,
+        BlockKind::Try,
+    ] {
+        maker.push_block(&mut instrs, kind, labelled());
+    }
+    let catches = maker.catches(&[TryTableCatch {
+        kind: TryTableCatchKind::CatchAll,
+        label: Index::Num(0, at(4)),
+    }]);
+    maker.push_try_table(&mut instrs, labelled(), catches);
+    assert!(rt; !maker.is_refused() && instrs.len() == 5);
+    for instruction in instrs.as_slice() {
+        assert!(rt; opens(instruction));
+    }
+    discard_expression(Expression::new(alloc, instrs));
 }

@@ -4,11 +4,12 @@ use Rattle.std.specs.Prelude.{flat_map}
 use Rattle.std.proofs.lemmas.Grind.{flat_map-append}
 use Rattle.std.proofs.lemmas.List.{take_more}
 use Rattle.std.specs.Prelude.{Option, Some, None, map}
-use Rattle.wast_base.specs.Ids.{Name, Mark}
+use Rattle.wast_base.specs.Blocks.{Blocks}
+use Rattle.wast_base.specs.Ids.{Name, Mark, marked}
 use Rattle.wast_base.specs.Spaces.{name_if}
-use Rattle.wast_tree.specs.Tree.{Index, Space, RefType, FunctionType, TypeUse, Instruction, Expression, Local}
+use Rattle.wast_tree.specs.Tree.{Id, Index, BrTableIndices, TryTable, TryTableCatch, Space, RefType, FunctionType, TypeUse, Instruction, Expression, Local}
 use Rattle.wast_tree.specs.Tree.func
-use Rattle.wast_tree.specs.Sites.{Ask, Wants, Site, Here, after_all, asking, at_index, if_there, in_index, in_use, in_ref, in_type_use, in_constant, in_local, in_instr, in_instrs, in_expression, local_marks, declaring, body_here, in_func_kind, asked_in, asked}
+use Rattle.wast_tree.specs.Sites.{Ask, Wants, Within, Where, Site, Begins, Here, after_all, asking, at_index, if_there, in_id, in_index, in_use, in_ref, in_type_use, at_label, in_caught, in_catch, in_try_table, in_br_table, mark_asked, param_marks, in_constant, in_local, in_instr, in_instrs, in_expression, local_marks, declaring, body_here, in_func_kind, asked_in, asked}
 use Rattle.wast_tree.specs.Visits.{Tells, Visits}
 use Rattle.wast_tree.proofs.Behind.{instrs-append}
 
@@ -39,6 +40,10 @@ pub each_of_each : {A B C : Type 0} (f : A → List B) (g : B → List C) (xs : 
 each_of_each f g [] = refl
 each_of_each f g (x ∷ xs) = flat_map-append g (f x) (flat_map f xs) ∙ ap (λ zs. flat_map g (f x) ++ zs) (each_of_each f g xs)
 
+pub each_alone : {A B : Type 0} (f : A → B) (xs : List A) → map f xs ≡ flat_map (λ x. f x ∷ []) xs
+each_alone f [] = refl
+each_alone f (x ∷ xs) = ap (λ ys. f x ∷ ys) (each_alone f xs)
+
 pub asked_asking : (asks : List Ask) → asked (asking asks) ≡ asks
 asked_asking [] = refl
 asked_asking (a ∷ asks) = ap (λ zs. a ∷ zs) (asked_asking asks)
@@ -46,8 +51,8 @@ asked_asking (a ∷ asks) = ap (λ zs. a ∷ zs) (asked_asking asks)
 pub asked_both : (xs ys : List Site) → asked (xs ++ ys) ≡ asked xs ++ asked ys
 asked_both xs ys = flat_map-append asked_in xs ys
 
-pub asked_use : (u : TypeUse FunctionType) → asked (in_use u) ≡ in_type_use u
-asked_use u = append-nil (in_type_use u)
+pub asked_use : (w : Where) (u : TypeUse FunctionType) → asked (in_use w u) ≡ in_type_use u
+asked_use w u = append-nil (in_type_use u)
 
 -- of parts that may be there, and of lists of parts
 pub asked_if : {A : Type 0} (f : A → List Site) (o : Option A) → asked (if_there f o) ≡ if_there (λ x. asked (f x)) o
@@ -76,14 +81,49 @@ asked_declaring before [] = refl
 asked_declaring before (m ∷ ms) = asked_declaring (before ++ name_if m ∷ []) ms
 
 -- A function asks the types and ids of its locals, and then its body.
-pub asked_inline : (params : List (Option Mark)) (locals : List Local) (e : Expression)
-    → asked (in_func_kind params (func.Inline locals e)) ≡ flat_map in_local locals ++ asked (in_expression (body_here (params ++ local_marks locals)) e)
-asked_inline params locals e =
-    let marks = params ++ local_marks locals in
-    let body = in_expression (body_here marks) e in
+pub asked_inline : (u : TypeUse FunctionType) (locals : List Local) (e : Expression)
+    → asked (in_func_kind u (func.Inline locals e)) ≡ flat_map in_local locals ++ asked (in_expression (body_here u (param_marks u.inline ++ local_marks locals)) e)
+asked_inline u locals e =
+    let marks = param_marks u.inline ++ local_marks locals in
+    let body = in_expression (body_here u marks) e in
     asked_both (asking (flat_map in_local locals)) (declaring [] marks ++ body)
     ∙ (ap (λ asks. asks ++ asked (declaring [] marks ++ body)) (asked_asking (flat_map in_local locals))
     ∙ ap (λ asks. flat_map in_local locals ++ asks) (asked_both (declaring [] marks) body ∙ ap (λ asks. asks ++ asked body) (asked_declaring [] marks)))
+
+-- Which blocks are open changes nothing of what is asked.
+pub asked_label : (id : Option Id) → if_there in_id id ≡ mark_asked (marked id)
+asked_label None = refl
+asked_label (Some id) = refl
+
+asked_catch : (blocks : Blocks) (c : TryTableCatch) → asked (in_catch blocks c) ≡ asked (in_catch [] c)
+asked_catch blocks c = asked_both (asking (in_caught c.kind)) (at_label blocks c.label) ∙ sym (asked_both (asking (in_caught c.kind)) (at_label [] c.label))
+
+asked_catches : (blocks : Blocks) (cs : List TryTableCatch) → asked (flat_map (in_catch blocks) cs) ≡ flat_map (λ c. asked (in_catch [] c)) cs
+asked_catches blocks [] = refl
+asked_catches blocks (c ∷ cs) =
+    asked_both (in_catch blocks c) (flat_map (in_catch blocks) cs)
+    ∙ (ap (λ asks. asks ++ asked (flat_map (in_catch blocks) cs)) (asked_catch blocks c) ∙ ap (λ asks. asked (in_catch [] c) ++ asks) (asked_catches blocks cs))
+
+pub asked_try_table : (blocks : Blocks) (t : TryTable)
+    → asked (in_try_table blocks t) ≡ in_type_use t.block.ty ++ (flat_map (λ c. asked (in_catch [] c)) t.catches ++ if_there in_id t.block.label)
+asked_try_table blocks t =
+    ap (λ asks. in_type_use t.block.ty ++ asks)
+    (asked_both (flat_map (in_catch blocks) t.catches) (Begins blocks (marked t.block.label) ∷ [])
+    ∙ (ap (λ asks. asks ++ (mark_asked (marked t.block.label) ++ [])) (asked_catches blocks t.catches)
+    ∙ ap (λ asks. flat_map (λ c. asked (in_catch [] c)) t.catches ++ asks) (append-nil (mark_asked (marked t.block.label)) ∙ sym (asked_label t.block.label))))
+
+asked_labels : (blocks : Blocks) (ls : List Index) → asked (flat_map (at_label blocks) ls) ≡ map Within ls
+asked_labels blocks [] = refl
+asked_labels blocks (l ∷ ls) = ap (λ asks. Within l ∷ asks) (asked_labels blocks ls)
+
+pub asked_br_table : (blocks : Blocks) (t : BrTableIndices) → asked (in_br_table blocks t) ≡ map Within t.labels ++ Within t.default ∷ []
+asked_br_table blocks t = asked_both (flat_map (at_label blocks) t.labels) (at_label blocks t.default) ∙ ap (λ asks. asks ++ Within t.default ∷ []) (asked_labels blocks t.labels)
+
+pub asked_anywhere_try_table : (blocks : Blocks) (t : TryTable) → asked (in_try_table blocks t) ≡ asked (in_try_table [] t)
+asked_anywhere_try_table blocks t = asked_try_table blocks t ∙ sym (asked_try_table [] t)
+
+pub asked_anywhere_br_table : (blocks : Blocks) (t : BrTableIndices) → asked (in_br_table blocks t) ≡ asked (in_br_table [] t)
+asked_anywhere_br_table blocks t = asked_br_table blocks t ∙ sym (asked_br_table [] t)
 
 -- one instruction more
 pub visits_next : {V : Type 0} {told : V → Ask → V → Type 0} {a b c : V} (h : Here) (is : List Instruction) (n : ℕ) (i d : Instruction) → n < length is → i ≡ get_or is n d

@@ -1,6 +1,7 @@
 -- What the definitions say of worked modules, computed.
 use Rattle.std.proofs.Common.{refl}
-use Rattle.wast_tree.specs.Private.Examples.{SameIds, StandsInRow27, StandsInFilledMemory, StandsEverywhere, StandsInPlace, StandsInSegments, KnownInRows, WellFormedRows, SettledIndices, UnsettledIndices, WellFormedFuncs, WellFormedTypes, WellFormedSegments, WellFormedEntities, WellFormedInPlace, WrittenOutFields, GenerationsOfRows}
+use Rattle.wast_base.specs.Blocks.{stays_open}
+use Rattle.wast_tree.specs.Private.Examples.{SameIds, StandsInRow27, StandsInFilledMemory, StandsEverywhere, StandsInPlace, StandsInSegments, StandsInBlocks, KnownInRows, WellFormedRows, SettledIndices, UnsettledIndices, WellFormedFuncs, WellFormedTypes, WellFormedSegments, WellFormedEntities, WellFormedInPlace, WellFormedBlocks, WrittenOutFields, GenerationsOfRows}
 
 pub same_ids : SameIds
 same_ids a b = (refl, refl, refl, refl, refl, refl, refl, refl)
@@ -9,16 +10,22 @@ pub stands_in_row27 : StandsInRow27
 stands_in_row27 a b c d e f = (refl, refl, refl)
 
 pub stands_in_filled_memory : StandsInFilledMemory
+unfolding stays_open
 stands_in_filled_memory a b c d e = (refl, refl, refl)
 
 pub stands_everywhere : StandsEverywhere
 stands_everywhere a = (refl, refl)
 
 pub stands_in_place : StandsInPlace
+unfolding stays_open
 stands_in_place a = (refl, refl, refl, refl)
 
 pub stands_in_segments : StandsInSegments
+unfolding stays_open
 stands_in_segments = (refl, refl, refl)
+
+pub stands_in_blocks : StandsInBlocks
+stands_in_blocks a = (refl, refl)
 
 pub known_in_rows : KnownInRows
 known_in_rows a b c d e f = (refl, refl, refl, refl, refl, refl, refl, refl)
@@ -39,13 +46,20 @@ pub well_formed_types : WellFormedTypes
 well_formed_types a = (refl, refl, refl, refl, refl, refl, refl, refl, refl, refl, refl, refl)
 
 pub well_formed_segments : WellFormedSegments
+unfolding stays_open
 well_formed_segments = (refl, refl, refl, refl, refl)
 
 pub well_formed_entities : WellFormedEntities
+unfolding stays_open
 well_formed_entities = (refl, refl, refl, refl, refl)
 
 pub well_formed_in_place : WellFormedInPlace
+unfolding stays_open
 well_formed_in_place a = (refl, refl, refl, refl, refl, refl, refl)
+
+pub well_formed_blocks : WellFormedBlocks
+unfolding stays_open
+well_formed_blocks = (refl, refl, refl, refl, refl, refl, refl, refl, refl)
 
 pub written_out_fields : WrittenOutFields
 written_out_fields a b c d e f = (refl, refl, refl, refl, refl, refl, refl)

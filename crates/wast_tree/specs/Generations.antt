@@ -4,7 +4,7 @@ use Rattle.wast_tree.specs.Tree.{Index, ModuleField}
 use Rattle.wast_tree.specs.Tree.index
 use Rattle.wast_base.specs.Ids.{Mark, name_of, generation_of}
 use Rattle.wast_tree.specs.Items.{Item, items}
-use Rattle.wast_tree.specs.Sites.{Ask, Wants, Unasked, Clause, Supported, asked, in_module}
+use Rattle.wast_tree.specs.Sites.{Ask, Wants, Within, Unasked, Clause, Supported, asked, in_module}
 
 -- the greatest of some numbers, and 0 where there are none
 abbrev pub greatest : List ℕ → ℕ
@@ -24,6 +24,7 @@ generation_at (index.Id id) = generation_of (name_of id)
 -- the generation of what is asked
 abbrev pub generation_in : Ask → ℕ
 generation_in (Wants s i) = generation_at i
+generation_in (Within i) = generation_at i
 generation_in (Unasked m) = generation_of m.0
 generation_in (Clause n holds) = 0
 generation_in (Supported holds) = 0

@@ -1,7 +1,7 @@
 -- The one list of what stands in a module beside its items, in the order in which it is asked (text format: identifiers,
 -- indices): what stands in a type, and sites of fields and bodies, which carry what they may read of those before them.
 use Rattle.std.specs.Prelude.{ℕ, Bool, false, not, ◌==◌, is_none, length, List, [], ◌∷◌, ◌++◌, map, Option, Some, None, flat_map}
-use Rattle.wast_tree.specs.Tree.{Id, Index, NameAnnotation, Space, RefType, HeapType, ValType, StorageType, StructField, StructType, ArrayType, FunctionType, TypeUse, InnerTypeKind, TypeDef, Rec, MemArg, MemArgTarget, SelectTypes, Instruction, Expression, Local, FuncKind, Func, TableType, GlobalType, TagType, ItemKind, ImportItems, TableKind, MemoryKind, GlobalKind, Global, ExportKind, ElemKind, ElemPayload, Elem, DataKind, ModuleField}
+use Rattle.wast_tree.specs.Tree.{Id, Index, NameAnnotation, Space, RefType, HeapType, ValType, StorageType, StructField, StructType, ArrayType, FunctionType, TypeUse, InnerTypeKind, TypeDef, Rec, BlockType, BrTableIndices, TryTable, TryTableCatch, TryTableCatchKind, MemArg, MemArgTarget, CallIndirect, SelectTypes, Instruction, Expression, Local, FuncKind, Func, TableType, GlobalType, TagType, ItemKind, ImportItems, TableKind, MemoryKind, GlobalKind, Global, ExportKind, ElemKind, ElemPayload, Elem, DataKind, ModuleField}
 use Rattle.wast_tree.specs.Tree.space
 use Rattle.wast_tree.specs.Tree.heap
 use Rattle.wast_tree.specs.Tree.value
@@ -9,6 +9,7 @@ use Rattle.wast_tree.specs.Tree.storage
 use Rattle.wast_tree.specs.Tree.inner
 use Rattle.wast_tree.specs.Tree.ty
 use Rattle.wast_tree.specs.Tree.target
+use Rattle.wast_tree.specs.Tree.caught
 use Rattle.wast_tree.specs.Tree.instr
 use Rattle.wast_tree.specs.Tree.func
 use Rattle.wast_tree.specs.Tree.tag
@@ -23,14 +24,19 @@ use Rattle.wast_tree.specs.Tree.data_kind
 use Rattle.wast_tree.specs.Tree.export
 use Rattle.wast_tree.specs.Tree.field
 use Rattle.std.specs.Int.{is_power_of_two}
+use Rattle.wast_base.specs.Blocks.{Blocks, closed, is_balanced}
 use Rattle.wast_base.specs.Ids.{Name, Mark, mark_of, marked}
 use Rattle.wast_base.specs.Spaces.{name_if}
 use Rattle.wast_tree.specs.Clauses.{is_page_exponent, suits}
+use Rattle.wast_tree.specs.Instrs.{turns}
+pub use Rattle.wast_tree.specs.Types.{Where, OfItem, OfCall, OfBlock}
 
 -- what stands beside the items of a module, and is asked of it
 pub data Ask : Type 0 where
   -- an index, a number or an id, where one of this space is wanted
   Wants : Space → Index → Ask
+  -- an index, a number or an id, of what stands within a function: a local or a label
+  Within : Index → Ask
   -- an id of which nothing is asked
   Unasked : Mark → Ask
   -- the clause of "well formed" of this number, and whether it holds here
@@ -38,28 +44,50 @@ pub data Ask : Type 0 where
   -- whether what stands here is a form that the tree supports today
   Supported : Bool → Ask
 
--- where something is asked: alone, in a type use, or of a parameter or a local
+-- the parameters and locals of a body: the type use of its function, whose type has the parameters that no inline type names,
+-- and the names of the parameters and locals behind them; a constant expression has none
+pub record Locals : Type 0 where
+  pub owner : Option (TypeUse FunctionType)
+  pub names : List (Option Name)
+
+-- where something is asked: alone, in a type use, or in a body
 pub data Site : Type 0 where
   -- what is asked of the names of the module alone
   Asked : Ask → Site
   -- a type use: its index, its inline type, and whether the two match
-  Used : TypeUse FunctionType → Site
+  Used : Where → TypeUse FunctionType → Site
   -- a parameter or a local, with its id if it has one, behind those of these names
   Declared : List (Option Name) → Option Mark → Site
+  -- an index of a local, among these
+  LocalAt : Locals → Index → Site
+  -- an index of a label, among those of these open blocks
+  LabelAt : Blocks → Index → Site
+  -- a label that an `else` or an `end` repeats, where these blocks are open
+  Repeated : Blocks → Option Mark → Site
+  -- a block begins, with its label if it has one, where these are open
+  Begins : Blocks → Option Mark → Site
+  -- the innermost open block ends
+  Ends : Site
 
--- what an instruction may read of what stands before it in its body: the names of the parameters and locals
+-- what an instruction may read of what stands before it in its body: the parameters and locals, and the open blocks
 pub record Here : Type 0 where
-  pub locals : List (Option Name)
+  pub locals : Locals
+  pub blocks : Blocks
 
--- a constant expression has no parameters and no locals
+-- a constant expression has no parameters and no locals, and begins with no open block
 abbrev pub start : Here
-start = record { locals = [] }
+start = record { locals = record { owner = None; names = [] }; blocks = [] }
 
--- no site of today moves the place
+-- blocks begin and end; no other site moves the place
 abbrev pub after : Here → Site → Here
 after h (Asked a) = h
-after h (Used u) = h
+after h (Used w u) = h
 after h (Declared before m) = h
+after h (LocalAt locals i) = h
+after h (LabelAt blocks i) = h
+after h (Repeated blocks m) = h
+after h (Begins blocks m) = record h { blocks = name_if m ∷ h.blocks }
+after h Ends = record h { blocks = closed h.blocks }
 
 -- where one stands behind these
 abbrev pub after_all : Here → List Site → Here
@@ -175,17 +203,71 @@ in_pair s i t j = in_index s i ++ in_index t j
 abbrev pub in_select : SelectTypes → List Ask
 in_select t = if_there (flat_map in_val) t.tys
 
--- an instruction, from where it stands
+-- a type use is a site as a whole
+abbrev pub in_use : Where → TypeUse FunctionType → List Site
+in_use w u = Used w u ∷ []
+
+-- an indirect call: its table, and then its type
+abbrev pub in_indirect : CallIndirect → List Site
+in_indirect c = at_index space.Table c.table ++ in_use OfCall c.ty
+
+-- a label that is read
+abbrev pub at_label : Blocks → Index → List Site
+at_label blocks l = LabelAt blocks l ∷ []
+
+-- a block: its type, and then it begins
+abbrev pub in_block : Blocks → BlockType → List Site
+in_block blocks b = in_use OfBlock b.ty ++ Begins blocks (marked b.label) ∷ []
+
+-- what a clause of `try_table` catches
+abbrev pub in_caught : TryTableCatchKind → List Ask
+in_caught (caught.Catch e) = in_index space.Tag e
+in_caught (caught.CatchRef e) = in_index space.Tag e
+in_caught caught.CatchAll = []
+in_caught caught.CatchAllRef = []
+
+-- a clause of `try_table`: its tag, and then its label, which is read outside of the block
+abbrev pub in_catch : Blocks → TryTableCatch → List Site
+in_catch blocks c = asking (in_caught c.kind) ++ at_label blocks c.label
+
+-- a block that catches: its type, what it catches, and then it begins
+abbrev pub in_try_table : Blocks → TryTable → List Site
+in_try_table blocks t = in_use OfBlock t.block.ty ++ (flat_map (in_catch blocks) t.catches ++ Begins blocks (marked t.block.label) ∷ [])
+
+-- the labels that a number chooses from, and then the one for all others
+abbrev pub in_br_table : Blocks → BrTableIndices → List Site
+in_br_table blocks t = flat_map (at_label blocks) t.labels ++ at_label blocks t.default
+
+-- an instruction, from where it stands; the label of `delegate` is read once its block has ended
 abbrev pub in_instr : Here → Instruction → List Site
 in_instr h (instr.Plain op) = []
 in_instr h (instr.Mem op m) = asking (in_mem_arg m)
+in_instr h (instr.block b) = in_block h.blocks b
+in_instr h (instr.loop_ b) = in_block h.blocks b
+in_instr h (instr.if_ b) = in_block h.blocks b
+in_instr h (instr.else_ label) = Repeated h.blocks (marked label) ∷ []
+in_instr h (instr.try_ b) = in_block h.blocks b
+in_instr h (instr.try_table t) = in_try_table h.blocks t
+in_instr h (instr.end_ label) = Repeated h.blocks (marked label) ∷ Ends ∷ []
+in_instr h (instr.delegate l) = Ends ∷ at_label (closed h.blocks) l
+in_instr h (instr.br l) = at_label h.blocks l
+in_instr h (instr.br_if l) = at_label h.blocks l
+in_instr h (instr.br_table t) = in_br_table h.blocks t
+in_instr h (instr.br_on_null l) = at_label h.blocks l
+in_instr h (instr.br_on_non_null l) = at_label h.blocks l
+in_instr h (instr.rethrow l) = at_label h.blocks l
 in_instr h (instr.catch e) = at_index space.Tag e
 in_instr h (instr.throw e) = at_index space.Tag e
 in_instr h (instr.call f) = at_index space.Func f
 in_instr h (instr.return_call f) = at_index space.Func f
+in_instr h (instr.call_indirect c) = in_indirect c
+in_instr h (instr.return_call_indirect c) = in_indirect c
 in_instr h (instr.call_ref t) = at_index space.Ty t
 in_instr h (instr.return_call_ref t) = at_index space.Ty t
 in_instr h (instr.select t) = asking (in_select t)
+in_instr h (instr.local_get x) = LocalAt h.locals x ∷ []
+in_instr h (instr.local_set x) = LocalAt h.locals x ∷ []
+in_instr h (instr.local_tee x) = LocalAt h.locals x ∷ []
 in_instr h (instr.global_get g) = at_index space.Global g
 in_instr h (instr.global_set g) = at_index space.Global g
 in_instr h (instr.table_get a) = at_index space.Table a.dst
@@ -240,24 +322,20 @@ abbrev pub declaring : List (Option Name) → List (Option Mark) → List Site
 declaring before [] = []
 declaring before (m ∷ ms) = Declared before m ∷ declaring (before ++ name_if m ∷ []) ms
 
--- where a body stands: behind what is declared
-abbrev pub body_here : List (Option Mark) → Here
-body_here marks = record { locals = map name_if marks }
+-- where a body stands: behind what is declared, in a function of this type use
+abbrev pub body_here : TypeUse FunctionType → List (Option Mark) → Here
+body_here u marks = record { locals = record { owner = Some u; names = map name_if marks }; blocks = [] }
 
--- behind these parameters: the types of the locals, what is declared, and then the body; an imported function is not exact
-abbrev pub in_func_kind : List (Option Mark) → FuncKind → List Site
-in_func_kind params (func.Import import exact) = Asked (Supported (not exact)) ∷ []
-in_func_kind params (func.Inline locals e) =
-    let marks = params ++ local_marks locals in
-    asking (flat_map in_local locals) ++ (declaring [] marks ++ in_expression (body_here marks) e)
-
--- a type use is a site as a whole
-abbrev pub in_use : TypeUse FunctionType → List Site
-in_use u = Used u ∷ []
+-- behind a type use: the types of the locals, what is declared, and then the body; an imported function is not exact
+abbrev pub in_func_kind : TypeUse FunctionType → FuncKind → List Site
+in_func_kind u (func.Import import exact) = Asked (Supported (not exact)) ∷ []
+in_func_kind u (func.Inline locals e) =
+    let marks = param_marks u.inline ++ local_marks locals in
+    asking (flat_map in_local locals) ++ (declaring [] marks ++ in_expression (body_here u marks) e)
 
 -- a function: its type use, and then what it is made of
 abbrev pub in_func : Func → List Site
-in_func f = in_use f.ty ++ in_func_kind (param_marks f.ty.inline) f.kind
+in_func f = in_use OfItem f.ty ++ in_func_kind f.ty f.kind
 
 -- a table type, which is not shared
 abbrev pub in_table_type : TableType → List Ask
@@ -269,11 +347,11 @@ in_global_type t = in_val t.ty ++ Supported (not t.shared) ∷ []
 
 -- a tag type
 abbrev pub in_tag_type : TagType → List Site
-in_tag_type (tag.Exception u) = in_use u
+in_tag_type (tag.Exception u) = in_use OfItem u
 
 -- what is imported: its type
 abbrev pub in_item_kind : ItemKind → List Site
-in_item_kind (kind.Func u) = in_use u
+in_item_kind (kind.Func u) = in_use OfItem u
 in_item_kind (kind.Table t) = asking (in_table_type t)
 in_item_kind (kind.Memory t) = []
 in_item_kind (kind.Global t) = asking (in_global_type t)
@@ -283,9 +361,9 @@ in_item_kind (kind.Tag t) = in_tag_type t
 abbrev pub in_import : ImportItems → List Site
 in_import (import_items.Single source name sig) = in_item_kind sig.kind
 
--- a constant expression stands alone
+-- a constant expression stands alone, and closes as many blocks as it opens, none before it is open
 abbrev pub in_constant : Expression → List Site
-in_constant e = in_expression start e
+in_constant e = in_expression start e ++ Asked (Clause 5 (is_balanced (turns e.instrs))) ∷ []
 
 -- functions; or expressions, and then their type
 abbrev pub in_payload : ElemPayload → List Site
@@ -355,11 +433,21 @@ in_field (field.Tag t) = in_tag_type t.ty
 abbrev pub in_module : List ModuleField → List Site
 in_module fields = flat_map in_field fields
 
+-- nothing is asked of the id of a label
+abbrev pub mark_asked : Option Mark → List Ask
+mark_asked None = []
+mark_asked (Some m) = Unasked m ∷ []
+
 -- What is asked, wherever it stands.
 abbrev pub asked_in : Site → List Ask
 asked_in (Asked a) = a ∷ []
-asked_in (Used u) = in_type_use u
+asked_in (Used w u) = in_type_use u
 asked_in (Declared before m) = []
+asked_in (LocalAt locals i) = Within i ∷ []
+asked_in (LabelAt blocks i) = Within i ∷ []
+asked_in (Repeated blocks m) = mark_asked m
+asked_in (Begins blocks m) = mark_asked m
+asked_in Ends = []
 
 -- all that is asked at some sites
 abbrev pub asked : List Site → List Ask

@@ -29,12 +29,19 @@ pub use Rattle.wast_base.specs.declared.plain.BareOp.{BareOp}
 pub use Rattle.wast_base.specs.declared.plain.BareOp.TheVariants as bare
 pub use Rattle.wast_base.specs.declared.plain.Plain.{Plain}
 pub use Rattle.wast_base.specs.declared.plain.Plain.TheVariants as plain
+pub use Rattle.wast_tree.specs.declared.immediates.BlockType.{BlockType}
+pub use Rattle.wast_tree.specs.declared.immediates.BrTableIndices.{BrTableIndices}
+pub use Rattle.wast_tree.specs.declared.immediates.TryTable.{TryTable}
+pub use Rattle.wast_tree.specs.declared.immediates.TryTableCatch.{TryTableCatch}
+pub use Rattle.wast_tree.specs.declared.immediates.TryTableCatchKind.{TryTableCatchKind}
+pub use Rattle.wast_tree.specs.declared.immediates.TryTableCatchKind.TheVariants as caught
 pub use Rattle.wast_tree.specs.declared.immediates.TableArg.{TableArg}
 pub use Rattle.wast_tree.specs.declared.immediates.MemoryArg.{MemoryArg}
 pub use Rattle.wast_tree.specs.declared.immediates.MemoryInit.{MemoryInit}
 pub use Rattle.wast_tree.specs.declared.immediates.MemoryCopy.{MemoryCopy}
 pub use Rattle.wast_tree.specs.declared.immediates.TableInit.{TableInit}
 pub use Rattle.wast_tree.specs.declared.immediates.TableCopy.{TableCopy}
+pub use Rattle.wast_tree.specs.declared.immediates.CallIndirect.{CallIndirect}
 pub use Rattle.wast_tree.specs.declared.immediates.SelectTypes.{SelectTypes}
 pub use Rattle.wast_tree.specs.declared.immediates.MemArg.{MemArg}
 pub use Rattle.wast_tree.specs.declared.immediates.MemArgTarget.{MemArgTarget}

@@ -80,9 +80,8 @@ pub(crate) fn bearer_from(
     ensures borne { is_some result ≡ is_borne (name_of id.now) (names_in space (items fields.now)) }
     ensures below { MatchOption result ⊤ (λ i. i < length fields.now) }
 {
-    let (before, after) = fields.split_at(start);
-    match first_bearer(after, space, id) {
+    match first_bearer(&fields[start..], space, id) {
         Some(at) => Some(start + at),
-        None => first_bearer(before, space, id),
+        None => first_bearer(&fields[..start], space, id),
     }
 }

@@ -6,7 +6,7 @@ ghost use Rattle.wast_base.specs.Spaces.{is_borne, is_settled_index};
 ghost use Rattle.wast_tree.specs.Items.{items};
 ghost use Rattle.wast_tree.specs.Known.{Known, known, names_in};
 ghost use Rattle.wast_tree.specs.Sites.{asked, in_module};
-ghost use Rattle.wast_tree.specs.WellFormed.{is_kept, are_kept, is_well_formed};
+ghost use Rattle.wast_tree.specs.WellFormed.{is_written_index, is_kept, are_kept, is_well_formed};
 
 use crate::bearers::bearer_from;
 use crate::fields::ModuleField;
@@ -63,6 +63,16 @@ impl<'f, 'a> Settler for Bearers<'f, 'a> {
     }
 }
 
+/// Whether the index is no generated id.
+fn is_written(index: &Index<'_>) -> bool
+    ensures { result ≡ is_written_index index.now }
+{
+    match index {
+        Index::Num(_, _) => true,
+        Index::Id(id) => !id.is_gensym(),
+    }
+}
+
 /// Whether all that it was told keeps to what a well formed list of fields with such items asks.
 #[derive(Drop)]
 struct Keeper<S> {
@@ -75,6 +85,10 @@ impl<S: Settler> Visitor for Keeper<S> {
 
     fn index(&mut self, space: Space, index: &Index<'_>) {
         self.all = self.all && self.settler.settles(space, index);
+    }
+
+    fn within(&mut self, index: &Index<'_>) {
+        self.all = self.all && is_written(index);
     }
 
     fn id(&mut self, _id: &Id<'_>) {}
@@ -99,15 +113,16 @@ fn keep<S: Settler + Drop>(fields: &[ModuleField<'_>], settler: S) -> bool
 
 /// Whether the fields are well formed (text format: indices, modules). It takes no memory.
 ///
-/// They are, where each generated id that stands for an index is that of an item of its space, and where they keep to what
-/// the tree covers today: no expression has hints; types, tables and globals are not
+/// They are, where each generated id that stands for an index is that of an item of its space, none stands for a local or a
+/// label, and where they keep to what the tree covers today: no expression has hints; types, tables and globals are not
 /// shared, types are without descriptor and describes, and no shared heap type is referred to; the alignment of a memory
-/// argument is a power of two, and it has no ordering. What is imported in place is
-/// not exact, and where a memory holds its bytes in place, its page size is 2 to less than 64. Of an active element segment
-/// without a table, which stands for the first one, expressions are of type `funcref`: for another type the binary format
-/// wants the table written. A type use may have no index, and an inline type may be another than
-/// that of the index beside it: this is E5, E6 or E7, which resolving answers. A written id may be that of no item (E4), and
-/// two parameters and locals of a function (E2), or two fields of a struct (E3), may have one id.
+/// argument is a power of two, and it has no ordering; a constant expression closes as many blocks as it opens, and none
+/// before it is open. What is imported in place is not exact, and where a memory holds its bytes in place, its page size is
+/// 2 to less than 64. Of an active element segment without a table, which stands for the first one, expressions are of type
+/// `funcref`: for another type the binary format wants the table written. A type use may have no index, and an inline type
+/// may be another than that of the index beside it: this is E5, E6 or E7, which resolving answers. A written id may be that
+/// of no item (E4), a label at an `else` or an `end` may be another than that of its block (E8), and two parameters and
+/// locals of a function (E2), or two fields of a struct (E3), may have one id.
 ///
 /// It is quick where generated ids stand in the order of their items. In another order each may be looked for through all
 /// the fields.

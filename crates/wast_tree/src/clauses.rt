@@ -1,8 +1,11 @@
 //! What is asked of single parts of a well formed module.
 
 ghost use Rattle.std.specs.Prelude.{◌≡◌};
+ghost use Rattle.wast_base.specs.Blocks.{is_balanced};
+ghost use Rattle.wast_tree.specs.Instrs.{turns};
 ghost use Rattle.wast_tree.specs.Clauses.{is_page_exponent, is_func, is_funcref, holds_functions, suits};
 
+use crate::instrs::Instruction;
 use crate::segments::{ElemKind, ElemPayload};
 use crate::types::{AbstractHeapType, HeapType, RefType};
 
@@ -65,4 +68,22 @@ pub(crate) fn suits(kind: &ElemKind<'_>, payload: &ElemPayload<'_>) -> bool
         ElemKind::Declared => true,
         ElemKind::Active { table, .. } => table.is_some() || holds_functions(payload),
     }
+}
+
+/// Whether they close as many blocks as they open, none before it is open.
+pub(crate) fn is_balanced(instrs: &[Instruction<'_>]) -> bool
+    ensures { result ≡ is_balanced (turns instrs.now) }
+{
+    let mut open: usize = 0;
+    for instr in instrs {
+        if instr.block_type().is_some() {
+            open += 1;
+        } else if instr.is_closer() {
+            if open == 0 {
+                return false;
+            }
+            open -= 1;
+        }
+    }
+    open == 0
 }

@@ -1,6 +1,6 @@
 //! Worked modules, of which the definitions compute what they say.
 
-ghost use Rattle.wast_tree.specs.Private.Examples.{SameIds, StandsInRow27, StandsInFilledMemory, StandsEverywhere, StandsInPlace, StandsInSegments, KnownInRows, WellFormedRows, SettledIndices, UnsettledIndices, WellFormedFuncs, WellFormedTypes, WellFormedSegments, WellFormedEntities, WellFormedInPlace, WrittenOutFields, GenerationsOfRows};
+ghost use Rattle.wast_tree.specs.Private.Examples.{SameIds, StandsInRow27, StandsInFilledMemory, StandsEverywhere, StandsInPlace, StandsInSegments, StandsInBlocks, KnownInRows, WellFormedRows, SettledIndices, UnsettledIndices, WellFormedFuncs, WellFormedTypes, WellFormedSegments, WellFormedEntities, WellFormedInPlace, WellFormedBlocks, WrittenOutFields, GenerationsOfRows};
 
 /// Which ids and indices are the same.
 #[tactic(auto, using(crate::proofs::Worked::same_ids))]
@@ -9,18 +9,19 @@ pub(crate) fn same_ids()
 {}
 
 /// What stands in small modules, in which order, and what they make known.
-#[tactic(auto, using(crate::proofs::Worked::stands_in_row27, crate::proofs::Worked::stands_in_filled_memory, crate::proofs::Worked::stands_everywhere, crate::proofs::Worked::stands_in_place, crate::proofs::Worked::stands_in_segments, crate::proofs::Worked::known_in_rows))]
+#[tactic(auto, using(crate::proofs::Worked::stands_in_row27, crate::proofs::Worked::stands_in_filled_memory, crate::proofs::Worked::stands_everywhere, crate::proofs::Worked::stands_in_place, crate::proofs::Worked::stands_in_segments, crate::proofs::Worked::stands_in_blocks, crate::proofs::Worked::known_in_rows))]
 pub(crate) fn occurrences()
     ensures row27 { StandsInRow27 }
     ensures filled_memory { StandsInFilledMemory }
     ensures everywhere { StandsEverywhere }
     ensures in_place { StandsInPlace }
     ensures segments { StandsInSegments }
+    ensures blocks { StandsInBlocks }
     ensures known { KnownInRows }
 {}
 
 /// Which modules are well formed, and which are not.
-#[tactic(auto, using(crate::proofs::Worked::well_formed_rows, crate::proofs::Worked::settled_indices, crate::proofs::Worked::unsettled_indices, crate::proofs::Worked::well_formed_funcs, crate::proofs::Worked::well_formed_types, crate::proofs::Worked::well_formed_segments, crate::proofs::Worked::well_formed_entities, crate::proofs::Worked::well_formed_in_place))]
+#[tactic(auto, using(crate::proofs::Worked::well_formed_rows, crate::proofs::Worked::settled_indices, crate::proofs::Worked::unsettled_indices, crate::proofs::Worked::well_formed_funcs, crate::proofs::Worked::well_formed_types, crate::proofs::Worked::well_formed_segments, crate::proofs::Worked::well_formed_entities, crate::proofs::Worked::well_formed_in_place, crate::proofs::Worked::well_formed_blocks))]
 pub(crate) fn well_formed()
     ensures rows { WellFormedRows }
     ensures settled { SettledIndices }
@@ -30,6 +31,7 @@ pub(crate) fn well_formed()
     ensures segments { WellFormedSegments }
     ensures entities { WellFormedEntities }
     ensures in_place { WellFormedInPlace }
+    ensures blocks { WellFormedBlocks }
 {}
 
 /// Which modules are written out, and which are not.

@@ -21,6 +21,15 @@ impl Greatest {
     {
         self.generation = self.generation.max(id.generation());
     }
+
+    fn see_index(&mut self, index: &Index<'_>)
+        ensures { self.new.generation ≡ max self.old.generation (generation_at index.now) }
+    {
+        match index {
+            Index::Num(_, _) => {}
+            Index::Id(id) => self.see(id),
+        }
+    }
 }
 
 impl<'a> ItemVisitor<'a> for Greatest {
@@ -37,10 +46,11 @@ impl Visitor for Greatest {
     ghost told = { λ old a new. new.generation ≡ max old.generation (generation_in a) };
 
     fn index(&mut self, _space: Space, index: &Index<'_>) {
-        match index {
-            Index::Num(_, _) => {}
-            Index::Id(id) => self.see(id),
-        }
+        self.see_index(index);
+    }
+
+    fn within(&mut self, index: &Index<'_>) {
+        self.see_index(index);
     }
 
     fn id(&mut self, id: &Id<'_>) {
@@ -54,8 +64,8 @@ impl Visitor for Greatest {
 
 /// The greatest generation of an id in the fields, and 0 where no id is generated. It takes no memory.
 ///
-/// The ids are those of items, parameters, locals and fields of structs, and those that stand for indices. A counter that
-/// begins above it gives ids that are new to the fields.
+/// The ids are those of items, parameters, locals, labels and fields of structs, and those that stand for indices. A
+/// counter that begins above it gives ids that are new to the fields.
 pub fn gensym_bound(fields: &[ModuleField<'_>]) -> u64
     ensures { result ≡ greatest_generation fields.now }
 {

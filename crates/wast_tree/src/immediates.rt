@@ -1,7 +1,58 @@
 //! What instructions hold beside an index or a number (text format: instructions).
 
-use crate::types::ValType;
-use wast_base::{Index, Seq};
+use crate::types::{FunctionType, TypeUse, ValType};
+use wast_base::{Boxed, Id, Index, NameAnnotation, Seq};
+
+/// The label and the type of a block: `$l (result i32)` (text format, control instructions).
+#[derive(Debug, Drop)]
+pub struct BlockType<'a> {
+    /// The label.
+    pub label: Option<Id<'a>>,
+    /// What the name section calls the label, where that is written (custom annotations).
+    pub label_name: Option<NameAnnotation<'a>>,
+    /// The type: what the block takes and gives.
+    pub ty: TypeUse<'a, FunctionType<'a>>,
+}
+
+/// The labels of `br_table $a $b $c` (text format, control instructions).
+#[derive(Debug, Drop)]
+pub struct BrTableIndices<'a> {
+    /// The labels that a number chooses from.
+    pub labels: Seq<Index<'a>>,
+    /// The label for all other numbers.
+    pub default: Index<'a>,
+}
+
+/// A block that catches exceptions: `try_table $l (catch $e $h)` (text format, control instructions).
+#[derive(Debug, Drop)]
+pub struct TryTable<'a> {
+    /// The label and the type.
+    pub block: Boxed<BlockType<'a>>,
+    /// What is caught, in the order of the text.
+    pub catches: Seq<TryTableCatch<'a>>,
+}
+
+/// A clause of `try_table`: `(catch $e $h)` (text format, control instructions).
+#[derive(Clone, Copy, Debug, PartialEq, Eq)]
+pub struct TryTableCatch<'a> {
+    /// What is caught.
+    pub kind: TryTableCatchKind<'a>,
+    /// The block that is left, by its label.
+    pub label: Index<'a>,
+}
+
+/// What a clause of `try_table` catches (text format, control instructions).
+#[derive(Clone, Copy, Debug, PartialEq, Eq)]
+pub enum TryTableCatchKind<'a> {
+    /// An exception of a tag: `catch $e`
+    Catch(Index<'a>),
+    /// An exception of a tag, with a reference to it: `catch_ref $e`
+    CatchRef(Index<'a>),
+    /// Any exception: `catch_all`
+    CatchAll,
+    /// Any exception, with a reference to it: `catch_all_ref`
+    CatchAllRef,
+}
 
 /// The table of an instruction: `table.get $t` (text format, table instructions).
 #[derive(Clone, Copy, Debug, PartialEq, Eq)]
@@ -51,6 +102,15 @@ pub struct TableCopy<'a> {
     pub dst: Index<'a>,
     /// The table that is copied.
     pub src: Index<'a>,
+}
+
+/// The table and the type of an indirect call: `call_indirect $t (type $f)` (text format, control instructions).
+#[derive(Debug, Drop)]
+pub struct CallIndirect<'a> {
+    /// The table.
+    pub table: Index<'a>,
+    /// The type of the function that is called.
+    pub ty: TypeUse<'a, FunctionType<'a>>,
 }
 
 /// The types of what `select` gives: `select (result i32)` (text format, parametric instructions).

@@ -2,15 +2,15 @@
 
 ghost use Rattle.std.specs.Prelude.{◌≡◌, [], ◌∷◌, option_map, IfOk, IfErr};
 ghost use Rattle.wast_base.specs.Faults.{out_of_memory};
-ghost use Rattle.wast_tree.specs.Instrs.{mem_arg_of, needs_data_count};
+ghost use Rattle.wast_tree.specs.Instrs.{mem_arg_of, needs_data_count, block_of, is_closer};
 
 use crate::immediates::{
-    F32, F64, MemArg, MemoryArg, MemoryCopy, MemoryInit, SelectTypes, TableArg, TableCopy,
-    TableInit,
+    BlockType, BrTableIndices, CallIndirect, F32, F64, MemArg, MemoryArg, MemoryCopy, MemoryInit,
+    SelectTypes, TableArg, TableCopy, TableInit, TryTable,
 };
 use crate::types::HeapType;
 use std::alloc::Global;
-use wast_base::{Error, Index, MemOp, Plain, Seq};
+use wast_base::{Boxed, Error, Id, Index, MemOp, Plain, Seq};
 
 /// An instruction (text format, instructions). Each variant but the classes has the name of its text, with `_` for `.`.
 #[allow(non_camel_case_types)]
@@ -20,6 +20,34 @@ pub enum Instruction<'a> {
     Plain(Plain),
     /// A load or a store: `i32.load $m`
     Mem(MemOp, MemArg<'a>),
+    /// `block $l (result i32)`
+    block(Boxed<BlockType<'a>>),
+    /// `loop $l`
+    loop_(Boxed<BlockType<'a>>),
+    /// `if $l`
+    if_(Boxed<BlockType<'a>>),
+    /// `else $l`
+    else_(Option<Id<'a>>),
+    /// `try $l`, of exceptions as they were first proposed
+    try_(Boxed<BlockType<'a>>),
+    /// `try_table $l (catch $e $h)`
+    try_table(TryTable<'a>),
+    /// `end $l`
+    end_(Option<Id<'a>>),
+    /// `delegate $l`, of exceptions as they were first proposed
+    delegate(Index<'a>),
+    /// `br $l`
+    br(Index<'a>),
+    /// `br_if $l`
+    br_if(Index<'a>),
+    /// `br_table $a $b`
+    br_table(BrTableIndices<'a>),
+    /// `br_on_null $l`
+    br_on_null(Index<'a>),
+    /// `br_on_non_null $l`
+    br_on_non_null(Index<'a>),
+    /// `rethrow $l`, of exceptions as they were first proposed
+    rethrow(Index<'a>),
     /// `catch $e`, of exceptions as they were first proposed
     catch(Index<'a>),
     /// `throw $e`
@@ -28,12 +56,22 @@ pub enum Instruction<'a> {
     call(Index<'a>),
     /// `return_call $f`
     return_call(Index<'a>),
+    /// `call_indirect $t (type $f)`
+    call_indirect(CallIndirect<'a>),
+    /// `return_call_indirect $t (type $f)`
+    return_call_indirect(CallIndirect<'a>),
     /// `call_ref $t`
     call_ref(Index<'a>),
     /// `return_call_ref $t`
     return_call_ref(Index<'a>),
     /// `select (result i32)`
     select(SelectTypes<'a>),
+    /// `local.get $x`
+    local_get(Index<'a>),
+    /// `local.set $x`
+    local_set(Index<'a>),
+    /// `local.tee $x`
+    local_tee(Index<'a>),
     /// `global.get $g`
     global_get(Index<'a>),
     /// `global.set $g`
@@ -88,6 +126,31 @@ impl<'a> Instruction<'a> {
         match self {
             Instruction::Mem(_, arg) => Some(arg),
             _ => None,
+        }
+    }
+
+    /// The label and the type of the block that it opens; `None` where it opens none (text format, control instructions).
+    /// It takes no memory.
+    pub fn block_type(&self) -> Option<&BlockType<'a>>
+        ensures { option_map (λ b. b.now) result ≡ block_of self.now }
+    {
+        match self {
+            Instruction::block(block)
+            | Instruction::loop_(block)
+            | Instruction::if_(block)
+            | Instruction::try_(block) => Some(block.get()),
+            Instruction::try_table(table) => Some(table.block.get()),
+            _ => None,
+        }
+    }
+
+    /// Whether it closes a block (text format, control instructions). It takes no memory.
+    pub fn is_closer(&self) -> bool
+        ensures { result ≡ is_closer self.now }
+    {
+        match self {
+            Instruction::end_(_) | Instruction::delegate(_) => true,
+            _ => false,
         }
     }
 

@@ -35,17 +35,18 @@ pub use fields::{
 };
 pub use generations::gensym_bound;
 pub use immediates::{
-    F32, F64, MemArg, MemArgOrdering, MemArgTarget, MemoryArg, MemoryCopy, MemoryInit, Ordering,
-    SelectTypes, TableArg, TableCopy, TableInit,
+    BlockType, BrTableIndices, CallIndirect, F32, F64, MemArg, MemArgOrdering, MemArgTarget,
+    MemoryArg, MemoryCopy, MemoryInit, Ordering, SelectTypes, TableArg, TableCopy, TableInit,
+    TryTable, TryTableCatch, TryTableCatchKind,
 };
 pub use imports::{ImportItems, Imports, ItemKind, ItemSig};
 pub use instrs::{BranchHint, Expression, Instruction};
-pub use makers::Maker;
+pub use makers::{BlockKind, Maker};
 pub use moves::{
     discard_data, discard_elem_payload, discard_exports, discard_expression, discard_field,
     discard_fields, discard_func, discard_func_kind, discard_function_type, discard_instruction,
-    discard_item_kind, discard_tag_type, discard_type, discard_type_use, fields_with_capacity,
-    push_field, take_field,
+    discard_item_kind, discard_said_inline, discard_tag_type, discard_type, discard_type_use,
+    fields_with_capacity, push_field, take_field,
 };
 pub use segments::{Data, DataKind, DataVal, Elem, ElemKind, ElemPayload};
 pub use types::{

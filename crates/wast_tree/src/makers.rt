@@ -2,9 +2,11 @@
 
 ghost use Rattle.std.specs.Prelude.{◌≡◌, [], ◌∷◌, ◌++◌, true, false, IfOk, IfErr};
 ghost use Rattle.wast_base.specs.Faults.{out_of_memory};
-ghost use Rattle.wast_tree.specs.Makers.{Makes};
+ghost use Rattle.wast_tree.specs.Makers.{Makes, opener};
+ghost use Rattle.wast_tree.specs.Tree.instr;
 
 use crate::fields::{Local, ModuleField};
+use crate::immediates::{BlockType, TryTable, TryTableCatch};
 use crate::imports::ItemSig;
 use crate::instrs::{Expression, Instruction};
 use crate::moves::discard_fields;
@@ -12,7 +14,34 @@ use crate::segments::DataVal;
 use crate::types::{StructField, Type, ValType};
 use std::alloc::Global;
 use std::marker::Model;
-use wast_base::{Error, Fault, Id, Index, NameAnnotation, Seq};
+use wast_base::{Boxed, Error, Fault, Id, Index, NameAnnotation, Seq};
+
+/// The openers of blocks that hold no more than a label and a type (text format, control instructions).
+#[derive(Clone, Copy, Debug, PartialEq, Eq)]
+pub enum BlockKind {
+    /// `block`
+    Block,
+    /// `loop`
+    Loop,
+    /// `if`
+    If,
+    /// `try`, of exceptions as they were first proposed
+    Try,
+}
+
+impl BlockKind {
+    /// The opener of a block of this kind.
+    fn opener<'a>(self, block: Boxed<BlockType<'a>>) -> Instruction<'a>
+        ensures { result ≡ opener self block.entry }
+    {
+        match self {
+            BlockKind::Block => Instruction::block(block),
+            BlockKind::Loop => Instruction::loop_(block),
+            BlockKind::If => Instruction::if_(block),
+            BlockKind::Try => Instruction::try_(block),
+        }
+    }
+}
 
 /// Makes the lists of a tree, element after element, and keeps a refusal of memory until [`Maker::finish`] tells it: so
 /// code that makes a tree has no error to pass on, and nothing to drop.
@@ -75,6 +104,46 @@ impl Maker {
         if instrs.push(instruction).is_err() {
             self.refused = true;
         }
+    }
+
+    /// Puts the opener of a block at the end of a list (text format, control instructions).
+    pub fn push_block<'a>(
+        &mut self,
+        instrs: &mut Seq<Instruction<'a>>,
+        kind: BlockKind,
+        block: BlockType<'a>,
+    )
+        ensures { Makes self.old self.new (instrs.new ≡ instrs.old ++ opener kind block.entry ∷ []) }
+    {
+        match Boxed::new(self.alloc, block) {
+            Ok(block) => self.push_instruction(instrs, kind.opener(block)),
+            Err(_) => self.refused = true,
+        }
+    }
+
+    /// Puts `try_table` at the end of a list (text format, control instructions).
+    pub fn push_try_table<'a>(
+        &mut self,
+        instrs: &mut Seq<Instruction<'a>>,
+        block: BlockType<'a>,
+        catches: Seq<TryTableCatch<'a>>,
+    )
+        ensures { Makes self.old self.new (instrs.new ≡ instrs.old ++ instr.try_table (record { block = block.entry; catches = catches.entry }) ∷ []) }
+    {
+        match Boxed::new(self.alloc, block) {
+            Ok(block) => self.push_instruction(
+                instrs,
+                Instruction::try_table(TryTable { block, catches }),
+            ),
+            Err(_) => self.refused = true,
+        }
+    }
+
+    /// The clauses of `try_table` (text format, control instructions).
+    pub fn catches<'a>(&mut self, catches: &[TryTableCatch<'a>]) -> Seq<TryTableCatch<'a>>
+        ensures { Makes self.old self.new (result ≡ catches.now) }
+    {
+        copied(self, catches)
     }
 
     /// Puts a type at the end of those of a group (text format, recursive types).

@@ -5,6 +5,7 @@ ghost use Rattle.std.specs.Prelude.{◌≡◌, [], ◌∷◌, ◌++◌, IfOk, On
 ghost use Rattle.wast_base.specs.Faults.{out_of_memory};
 ghost use Rattle.wast_tree.specs.Tree.field;
 ghost use Rattle.wast_tree.specs.Tree.index;
+ghost use Rattle.wast_tree.specs.Types.{said_once};
 
 use crate::entities::TagType;
 use crate::fields::{Func, FuncKind, InlineExport, ModuleField};
@@ -96,6 +97,15 @@ pub fn discard_exports(exports: InlineExport<'_>) {
 /// Drops a type use, and gives its memory back.
 pub fn discard_type_use<'a>(ty: TypeUse<'a, FunctionType<'a>>) {
     drop(ty);
+}
+
+/// Drops the inline type of a type use that has an index, and gives its memory back; another type use stays as it is.
+pub fn discard_said_inline<'a>(ty: &mut TypeUse<'a, FunctionType<'a>>)
+    ensures { ty.new ≡ said_once ty.old }
+{
+    if ty.index.is_some() {
+        ty.inline = None;
+    }
 }
 
 /// Drops a function type, and gives its memory back.

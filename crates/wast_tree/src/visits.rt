@@ -1,15 +1,20 @@
 //! Walks over the tree to read it: a visitor is told of each item, or of each id and index beside them, in order.
 #![tactic(auto, using(crate::proofs::Visiting::visits_both, crate::proofs::Visiting::visits_one, crate::proofs::Visiting::visits_none, crate::proofs::Visiting::asked_asking, crate::proofs::Visiting::asked_both, crate::proofs::Visiting::asked_use))]
 
-ghost use Rattle.std.specs.Prelude.{◌≡◌, Bool, List, Option};
+ghost use Rattle.std.specs.Prelude.{◌≡◌, Bool, List, [], map, Option};
 ghost use Rattle.std.specs.Prelude.{flat_map};
-ghost use Rattle.wast_base.specs.Ids.{Mark, mark_of};
+ghost use Rattle.wast_base.specs.Ids.{mark_of};
+ghost use Rattle.wast_tree.specs.Tree.{TypeUse, FunctionType};
 ghost use Rattle.wast_tree.specs.Items.{Item, item, fields_of, items_of_type, items_of_import, items_in, items};
-ghost use Rattle.wast_tree.specs.Sites.{Ask, Wants, Unasked, Clause, Supported, Here, if_there, in_index, in_id, in_heap, in_ref, in_val, in_storage, in_param, in_signature, in_struct_field, in_struct, in_array, in_inner, in_descriptor, in_def, in_type, in_rec, in_type_use, in_mem_arg, in_pair, in_select, in_instr, in_instrs, in_expression, in_constant, in_local, in_func_kind, in_func, in_field, in_module, asked};
+ghost use Rattle.wast_tree.specs.Sites.{Ask, Wants, Within, Unasked, Clause, Supported, Here, if_there, in_index, in_id, in_heap, in_ref, in_val, in_storage, in_param, in_signature, in_struct_field, in_struct, in_array, in_inner, in_descriptor, in_def, in_type, in_rec, in_type_use, in_block, in_caught, in_catch, in_try_table, in_br_table, in_mem_arg, in_pair, in_select, in_indirect, mark_asked, in_instr, in_instrs, in_expression, in_constant, in_local, in_func_kind, in_func, in_field, in_module, asked};
 ghost use Rattle.wast_tree.specs.Visits.{Visits};
 
+use crate::clauses::is_balanced;
 use crate::fields::{Func, FuncKind, Local, ModuleField};
-use crate::immediates::{MemArg, MemArgTarget, SelectTypes};
+use crate::immediates::{
+    BlockType, BrTableIndices, CallIndirect, MemArg, MemArgTarget, SelectTypes, TryTable,
+    TryTableCatch, TryTableCatchKind,
+};
 use crate::imports::ImportItems;
 use crate::instrs::{Expression, Instruction};
 use crate::types::{
@@ -36,6 +41,10 @@ pub(crate) trait Visitor {
     /// An index where one of a space is wanted.
     fn index(&mut self, space: Space, index: &Index<'_>)
         ensures { told self.old (Wants space index.now) self.new };
+
+    /// An index of a local or a label.
+    fn within(&mut self, index: &Index<'_>)
+        ensures { told self.old (Within index.now) self.new };
 
     /// An id of which nothing is asked.
     fn id(&mut self, id: &Id<'_>)
@@ -339,6 +348,77 @@ impl Visit for MemArg<'_> {
     }
 }
 
+impl Visit for BlockType<'_> {
+    ghost asks = { λ b. asked (in_block [] b) };
+
+    fn visit<V: Visitor>(&self, visitor: &mut V) {
+        self.ty.visit(visitor);
+        self.label.visit(visitor);
+    }
+}
+
+impl Visit for TryTableCatchKind<'_> {
+    ghost asks = { in_caught };
+
+    fn visit<V: Visitor>(&self, visitor: &mut V) {
+        match self {
+            TryTableCatchKind::Catch(tag) => visitor.index(Space::Tag, tag),
+            TryTableCatchKind::CatchRef(tag) => visitor.index(Space::Tag, tag),
+            TryTableCatchKind::CatchAll => {}
+            TryTableCatchKind::CatchAllRef => {}
+        }
+    }
+}
+
+impl Visit for TryTableCatch<'_> {
+    ghost asks = { λ c. asked (in_catch [] c) };
+
+    fn visit<V: Visitor>(&self, visitor: &mut V) {
+        self.kind.visit(visitor);
+        visitor.within(&self.label);
+    }
+}
+
+impl Visit for TryTable<'_> {
+    ghost asks = { λ t. asked (in_try_table [] t) };
+
+    #[tactic(auto, using(crate::proofs::Visiting::visits_both, crate::proofs::Visiting::asked_try_table))]
+    fn visit<V: Visitor>(&self, visitor: &mut V) {
+        let block = self.block.get();
+        block.ty.visit(visitor);
+        self.catches.visit(visitor);
+        block.label.visit(visitor);
+    }
+}
+
+/// Tells a visitor of the indices of labels.
+fn visit_labels<V: Visitor>(labels: &[Index<'_>], visitor: &mut V)
+    ensures { Visits V.told visitor.old (map Within labels.now) visitor.new }
+{
+    for label in labels {
+        visitor.within(label);
+    }
+}
+
+impl Visit for BrTableIndices<'_> {
+    ghost asks = { λ t. asked (in_br_table [] t) };
+
+    #[tactic(auto, using(crate::proofs::Visiting::visits_both, crate::proofs::Visiting::visits_one, crate::proofs::Visiting::asked_br_table))]
+    fn visit<V: Visitor>(&self, visitor: &mut V) {
+        visit_labels(self.labels.as_slice(), visitor);
+        visitor.within(&self.default);
+    }
+}
+
+impl Visit for CallIndirect<'_> {
+    ghost asks = { λ c. asked (in_indirect c) };
+
+    fn visit<V: Visitor>(&self, visitor: &mut V) {
+        visitor.index(Space::Table, &self.table);
+        self.ty.visit(visitor);
+    }
+}
+
 impl Visit for SelectTypes<'_> {
     ghost asks = { in_select };
 
@@ -368,11 +448,30 @@ fn visit_instr<V: Visitor>(instr: &Instruction<'_>, visitor: &mut V)
     match instr {
         Instruction::Plain(_) => {}
         Instruction::Mem(_, arg) => arg.visit(visitor),
+        Instruction::block(block)
+        | Instruction::loop_(block)
+        | Instruction::if_(block)
+        | Instruction::try_(block) => block.get().visit(visitor),
+        Instruction::else_(label) | Instruction::end_(label) => label.visit(visitor),
+        Instruction::try_table(table) => table.visit(visitor),
+        Instruction::delegate(label)
+        | Instruction::br(label)
+        | Instruction::br_if(label)
+        | Instruction::br_on_null(label)
+        | Instruction::br_on_non_null(label)
+        | Instruction::rethrow(label) => visitor.within(label),
+        Instruction::br_table(table) => table.visit(visitor),
+        Instruction::local_get(local)
+        | Instruction::local_set(local)
+        | Instruction::local_tee(local) => visitor.within(local),
         Instruction::catch(tag) | Instruction::throw(tag) => visitor.index(Space::Tag, tag),
         Instruction::call(func) | Instruction::return_call(func) => visitor.index(
             Space::Func,
             func,
         ),
+        Instruction::call_indirect(call) | Instruction::return_call_indirect(call) => {
+            call.visit(visitor)
+        }
         Instruction::call_ref(ty) | Instruction::return_call_ref(ty) => visitor.index(
             Space::Ty,
             ty,
@@ -435,6 +534,7 @@ impl Visit for Expression<'_> {
 
     fn visit<V: Visitor>(&self, visitor: &mut V) {
         visit_expression(self, visitor);
+        visitor.clause(5, is_balanced(self.instrs.as_slice()));
     }
 }
 
@@ -450,7 +550,7 @@ impl Visit for Local<'_> {
 /// Tells a visitor of what a function is made of.
 #[tactic(auto, using(crate::proofs::Visiting::visits_both, crate::proofs::Visiting::visits_one, crate::proofs::Visiting::asked_inline))]
 fn visit_func_kind<V: Visitor>(kind: &FuncKind<'_>, visitor: &mut V)
-    ensures { (params : List (Option Mark)) → Visits V.told visitor.old (asked (in_func_kind params kind.now)) visitor.new }
+    ensures { (u : TypeUse FunctionType) → Visits V.told visitor.old (asked (in_func_kind u kind.now)) visitor.new }
 {
     match kind {
         FuncKind::Import(_, exact) => visitor.supported(!*exact),
@@ -495,5 +595,7 @@ impl Visit for ModuleField<'_> {
 pub(crate) fn visit_fields<V: Visitor>(fields: &[ModuleField<'_>], visitor: &mut V)
     ensures { Visits V.told visitor.old (asked (in_module fields.now)) visitor.new }
 {
-    visit_each(fields, visitor);
+    for field in fields {
+        field.visit(visitor);
+    }
 }

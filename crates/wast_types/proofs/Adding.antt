@@ -141,3 +141,6 @@ first_after a ss ts =
     let rest : List Signature = first_new (λ t. known t || is_among (first_new known ss) t) ts in
     let l : length (new_signatures a.bound (ss ++ ts)) ≡ length (new_signatures a.bound ss) + length rest = ap length (first_new-append known ss ts) ∙ length-append (new_signatures a.bound ss) rest in
     omega arith
+
+pub first_runs_out : (a : State) (ss ts : List Signature) (e : Error) → RunsOut (next_after a ss) e → RunsOut (next_after a (ss ++ ts)) e
+first_runs_out a ss ts e h = less_runs_out (next_after a ss) (next_after a (ss ++ ts)) e (first_after a ss ts) h

@@ -12,7 +12,7 @@ use Rattle.wast_types.specs.Expanders.{LookUp, index_of}
 use Rattle.wast_types.specs.Expanded.{lacks_id, with_type_id, implied_types, typed, bindings, bound_field, expanded}
 use Rattle.wast_types.specs.Laws.{TypesAreTheSpace, StaysExpanded, WantsNoMore}
 use Rattle.wast_types.proofs.Adding.{types_again}
-use Rattle.wast_types.proofs.Staying.{fields_stay, ty_stays, rec_stays}
+use Rattle.wast_types.proofs.Staying.{fields_stay, fields_say, ty_stays, rec_stays}
 use Rattle.wast_types.proofs.HavingTypes.{uses_are_bound}
 
 -- Ids and bound uses change no type.
@@ -93,4 +93,4 @@ pub stays_expanded : StaysExpanded
 stays_expanded m n fields =
     let xs : List ModuleField = expanded n fields in
     let find : LookUp = index_of (bindings (typed m xs)) in
-    ap (map (bound_field find)) (typed_again m n fields) ∙ fields_stay find xs (uses_are_bound n fields)
+    ap (map (bound_field find)) (typed_again m n fields) ∙ fields_stay find xs (uses_are_bound n fields) (fields_say (index_of (bindings (typed n fields))) (typed n fields))

@@ -1,4 +1,5 @@
 pub mod Needing
+pub mod InConstants
 pub mod Staying
 pub mod Bound
 pub mod Adding

@@ -1,24 +1,27 @@
 -- What is needed at sites; and the type uses of a body are the same wherever it stands.
-use Rattle.std.specs.Prelude.{false}
+use Rattle.std.specs.Prelude.{true, false}
 use Rattle.std.proofs.Common.{◌≡◌, ℕ, List, map, [], ◌∷◌, ◌++◌, append-nil, Option, Some, None, refl, sym, ap, ◌∙◌, arith}
 use Rattle.std.specs.List.{flat_map}
 use Rattle.std.proofs.lemmas.Grind.{common_steps, flat_map-append}
-use Rattle.wast_base.specs.Ids.{Name, Mark, generated}
+use Rattle.wast_base.specs.Ids.{Name, Mark, marked, generated}
 use Rattle.wast_base.specs.Spaces.{name_if}
-use Rattle.wast_tree.specs.Sites.{Ask, Site, Here, start, asking, at_index, in_heap, in_mem_arg, in_select, in_type, in_rec, in_instr, behind, in_instrs, in_expression, in_constant, param_marks, local_marks, declaring, body_here, in_func_kind, in_use, in_func, in_payload, in_field}
-use Rattle.wast_types.specs.Tree.{Index, SelectTypes, Instruction, Expression, Local, FuncKind, Func, Table, Global, ElemPayload, Elem, Data, Rec}
+use Rattle.wast_base.specs.Blocks.{Blocks, is_balanced}
+use Rattle.wast_tree.specs.Instrs.{turns}
+use Rattle.wast_tree.specs.Sites.{Ask, Clause, OfItem, OfBlock, Site, Asked, Begins, Here, start, asking, at_index, at_label, in_caught, in_catch, in_block, in_try_table, in_br_table, in_heap, in_mem_arg, in_select, in_type, in_rec, in_instr, behind, in_instrs, in_expression, in_constant, in_local, param_marks, local_marks, declaring, body_here, in_func_kind, in_use, in_func, in_payload, in_field}
+use Rattle.wast_types.specs.Tree.{Index, BlockType, BrTableIndices, TryTable, TryTableCatch, FunctionType, TypeUse, SelectTypes, Instruction, Expression, Local, FuncKind, Func, Table, Global, ElemPayload, Elem, Data, Rec}
 use Rattle.wast_types.specs.Tree.space
 use Rattle.wast_types.specs.Tree.ty
 use Rattle.wast_types.specs.Tree.instr
 use Rattle.wast_types.specs.Tree.func
 use Rattle.wast_types.specs.Tree.field
-use Rattle.wast_map.specs.Mapped.{mapped_select, mapped_instr, mapped_instrs, mapped_expression, mapped_constant, mapped_local, mapped_func_kind}
+use Rattle.wast_map.specs.Mapped.{mapped_select, mapped_block, mapped_catch, mapped_try_table, mapped_br_table, mapped_instr, mapped_instrs, mapped_expression, mapped_constant, mapped_local, mapped_func_kind}
 use Rattle.wast_map.proofs.Types.{val_at}
-use Rattle.wast_map.proofs.Fields.{select_at}
-use Rattle.wast_types.specs.Signatures.{Signature}
-use Rattle.wast_types.specs.NeedingUses.{needed_at, needed_in}
+use Rattle.wast_map.proofs.Fields.{select_at, caught_at}
+use Rattle.wast_types.specs.Signatures.{Signature, signature_of}
+use Rattle.wast_types.specs.NeedingUses.{inline_signature, needed_if, needed_without, needed_at, needed_in}
 use Rattle.wast_types.specs.Expanders.{LookUp}
-use Rattle.wast_types.specs.Expanded.{def_of, start_of_text, binding}
+use Rattle.wast_types.specs.Expanded.{def_of, start_of_text, bound_if, bound_inline, bound_use, binding}
+use Rattle.wast_types.specs.Binding.{no_use, wants_type}
 
 -- What is needed in parts that stand one after the other, and in each of a list.
 pub needed_both : (xs ys : List Site) → needed_in (xs ++ ys) ≡ needed_in xs ++ needed_in ys
@@ -28,7 +31,7 @@ pub needed_each : {T : Type 0} (sites : T → List Site) (xs : List T) → neede
 needed_each sites [] = refl
 needed_each sites (x ∷ xs) = needed_both (sites x) (flat_map sites xs) ∙ ap (λ ss. needed_in (sites x) ++ ss) (needed_each sites xs)
 
-each_none : {X A : Type 0} {f : X → List A} → ((x : X) → f x ≡ []) → (xs : List X) → flat_map f xs ≡ []
+pub each_none : {X A : Type 0} {f : X → List A} → ((x : X) → f x ≡ []) → (xs : List X) → flat_map f xs ≡ []
 each_none one [] = refl
 each_none {f = f} one (x ∷ xs) = ap (λ ys. ys ++ flat_map f xs) (one x) ∙ each_none one xs
 
@@ -41,9 +44,35 @@ needed_declaring : (before : List (Option Name)) (marks : List (Option Mark)) �
 needed_declaring before [] = refl
 needed_declaring before (m ∷ ms) = needed_declaring (before ++ name_if m ∷ []) ms
 
+-- No more do labels.
+needed_label : (blocks : Blocks) (l : Index) → needed_in (at_label blocks l) ≡ []
+needed_label blocks l = refl
+
+needed_catch : (blocks : Blocks) (c : TryTableCatch) → needed_in (in_catch blocks c) ≡ []
+needed_catch blocks c = needed_both (asking (in_caught c.kind)) (at_label blocks c.label) ∙ (append-nil (needed_in (asking (in_caught c.kind))) ∙ needed_asking (in_caught c.kind))
+
+pub needed_br_table : (blocks : Blocks) (t : BrTableIndices) → needed_in (in_br_table blocks t) ≡ []
+needed_br_table blocks t =
+    needed_both (flat_map (at_label blocks) t.labels) (at_label blocks t.default)
+    ∙ (append-nil (needed_in (flat_map (at_label blocks) t.labels)) ∙ (needed_each (at_label blocks) t.labels ∙ each_none (needed_label blocks) t.labels))
+
+-- A block needs the type that its type use needs, and one that catches no more.
+pub needed_block : (blocks : Blocks) (b : BlockType) → needed_in (in_block blocks b) ≡ needed_in (in_use OfBlock b.ty)
+needed_block blocks b = needed_both (in_use OfBlock b.ty) (Begins blocks (marked b.label) ∷ []) ∙ append-nil (needed_in (in_use OfBlock b.ty))
+
+pub needed_try_table : (blocks : Blocks) (t : TryTable) → needed_in (in_try_table blocks t) ≡ needed_in (in_use OfBlock t.block.ty)
+needed_try_table blocks t =
+    let catches = flat_map (in_catch blocks) t.catches in
+    let begins = Begins blocks (marked t.block.label) ∷ [] in
+    needed_both (in_use OfBlock t.block.ty) (catches ++ begins)
+    ∙ (ap (λ ss. needed_in (in_use OfBlock t.block.ty) ++ ss)
+    (needed_both catches begins ∙ (append-nil (needed_in catches) ∙ (needed_each (in_catch blocks) t.catches ∙ each_none (needed_catch blocks) t.catches)))
+    ∙ append-nil (needed_in (in_use OfBlock t.block.ty)))
+
 -- An instruction has the same type uses wherever it stands, and so has a body.
 instr_anywhere : (h : Here) (i : Instruction) → needed_in (in_instr h i) ≡ needed_in (in_instr start i)
-instr_anywhere h (instr.call f) = refl
+instr_anywhere h (instr.try_table t) = needed_try_table h.blocks t ∙ sym (needed_try_table [] t)
+instr_anywhere h (instr.br_table t) = needed_br_table h.blocks t ∙ sym (needed_br_table [] t)
 instr_anywhere h i = refl
 
 instrs_anywhere : (h : Here) (is : List Instruction) → needed_in (in_instrs h is) ≡ flat_map (λ i. needed_in (in_instr start i)) is
@@ -55,16 +84,28 @@ instrs_anywhere h (i ∷ is) =
 pub needed_body : (h : Here) (e : Expression) → needed_in (in_expression h e) ≡ flat_map (λ i. needed_in (in_instr start i)) e.instrs
 needed_body h e = needed_both (in_instrs h e.instrs) _ ∙ (append-nil (needed_in (in_instrs h e.instrs)) ∙ instrs_anywhere h e.instrs)
 
+pub needed_constant : (e : Expression) → needed_in (in_constant e) ≡ flat_map (λ i. needed_in (in_instr start i)) e.instrs
+needed_constant e = needed_both (in_expression start e) (Asked (Clause 5 (is_balanced (turns e.instrs))) ∷ []) ∙ (append-nil (needed_in (in_expression start e)) ∙ needed_body start e)
+
 -- a body alone needs types
-pub needed_inline : (params : List (Option Mark)) (locals : List Local) (e : Expression) → needed_in (in_func_kind params (func.Inline locals e)) ≡ needed_in (in_constant e)
-needed_inline params locals e = grind (arith, common_steps, needed_both, needed_asking, needed_declaring, needed_body)
+pub needed_inline : (u : TypeUse FunctionType) (locals : List Local) (e : Expression) → needed_in (in_func_kind u (func.Inline locals e)) ≡ needed_in (in_constant e)
+needed_inline u locals e =
+    let marks = param_marks u.inline ++ local_marks locals in
+    let types = asking (flat_map in_local locals) in
+    let names = declaring [] marks in
+    let body = in_expression (body_here u marks) e in
+    needed_both types (names ++ body)
+    ∙ (ap (λ ss. ss ++ needed_in (names ++ body)) (needed_asking (flat_map in_local locals))
+    ∙ (needed_both names body
+    ∙ (ap (λ ss. ss ++ needed_in body) (needed_declaring [] marks)
+    ∙ (needed_body (body_here u marks) e ∙ sym (needed_constant e)))))
 
-kind_anywhere : (params : List (Option Mark)) (k : FuncKind) → needed_in (in_func_kind params k) ≡ needed_in (in_func_kind [] k)
-kind_anywhere params (func.Import import exact) = refl
-kind_anywhere params (func.Inline locals e) = needed_inline params locals e ∙ sym (needed_inline [] locals e)
+kind_anywhere : (u : TypeUse FunctionType) (k : FuncKind) → needed_in (in_func_kind u k) ≡ needed_in (in_func_kind no_use k)
+kind_anywhere u (func.Import import exact) = refl
+kind_anywhere u (func.Inline locals e) = needed_inline u locals e ∙ sym (needed_inline no_use locals e)
 
-pub needed_func : (f : Func) → needed_in (in_func f) ≡ needed_in (in_use f.ty) ++ needed_in (in_func_kind [] f.kind)
-needed_func f = needed_both (in_use f.ty) (in_func_kind (param_marks f.ty.inline) f.kind) ∙ ap (λ ss. needed_in (in_use f.ty) ++ ss) (kind_anywhere (param_marks f.ty.inline) f.kind)
+pub needed_func : (f : Func) → needed_in (in_func f) ≡ needed_in (in_use OfItem f.ty) ++ needed_in (in_func_kind no_use f.kind)
+needed_func f = needed_both (in_use OfItem f.ty) (in_func_kind f.ty f.kind) ∙ ap (λ ss. needed_in (in_use OfItem f.ty) ++ ss) (kind_anywhere f.ty f.kind)
 
 -- no type stands in place in the types of what `select` gives
 pub select_stays : (t : SelectTypes) → mapped_select (λ s i. i) t ≡ t
@@ -72,6 +113,22 @@ select_stays t = (select_at t).still
 
 -- And it is bound in the same way wherever it stands.
 module _ (find : LookUp) where
+  -- of a block that catches the type alone
+  catch_stays : (blocks : Blocks) (c : TryTableCatch) → mapped_catch (binding find) blocks c ≡ c
+  catch_stays blocks c = λ t. record { kind = (caught_at c.kind).still t; label = c.label }
+
+  pub catches_stay : (blocks : Blocks) (cs : List TryTableCatch) → map (mapped_catch (binding find) blocks) cs ≡ cs
+  catches_stay blocks [] = refl
+  catches_stay blocks (c ∷ cs) = λ t. catch_stays blocks c t ∷ catches_stay blocks cs t
+
+  labels_stay : (ls : List Index) → map (λ l. l) ls ≡ ls
+  labels_stay [] = refl
+  labels_stay (l ∷ ls) = λ t. l ∷ labels_stay ls t
+
+  -- and of a choice of labels nothing
+  pub br_table_stays : (t : BrTableIndices) → mapped_br_table (binding find) [] t ≡ t
+  br_table_stays t = λ r. record { labels = labels_stay t.labels r; default = t.default }
+
   bound_anywhere : (h : Here) (i : Instruction) → mapped_instr (binding find) h i ≡ mapped_instr (binding find) start i
   bound_anywhere h (instr.call f) = refl
   bound_anywhere h i = refl
@@ -87,49 +144,41 @@ module _ (find : LookUp) where
   locals_stay [] = refl
   locals_stay (l ∷ ls) = λ t. record l { ty = (val_at l.ty).still t } ∷ locals_stay ls t
 
-  pub bound_inline : (params : List (Option Mark)) (locals : List Local) (e : Expression) → mapped_func_kind (binding find) params (func.Inline locals e) ≡ func.Inline locals (mapped_constant (binding find) e)
-  bound_inline params locals e = λ t. func.Inline (locals_stay locals t) (bound_body (body_here (params ++ local_marks locals)) e t)
+  pub inline_bound : (u : TypeUse FunctionType) (locals : List Local) (e : Expression) → mapped_func_kind (binding find) u (func.Inline locals e) ≡ func.Inline locals (mapped_constant (binding find) e)
+  inline_bound u locals e = λ t. func.Inline (locals_stay locals t) (bound_body (body_here u (param_marks u.inline ++ local_marks locals)) e t)
 
-  pub bound_kind_anywhere : (params : List (Option Mark)) (k : FuncKind) → mapped_func_kind (binding find) params k ≡ mapped_func_kind (binding find) [] k
-  bound_kind_anywhere params (func.Import import exact) = refl
-  bound_kind_anywhere params (func.Inline locals e) = bound_inline params locals e ∙ sym (bound_inline [] locals e)
+  pub bound_kind_anywhere : (u : TypeUse FunctionType) (k : FuncKind) → mapped_func_kind (binding find) u k ≡ mapped_func_kind (binding find) no_use k
+  bound_kind_anywhere u (func.Import import exact) = refl
+  bound_kind_anywhere u (func.Inline locals e) = inline_bound u locals e ∙ sym (inline_bound no_use locals e)
 
--- No instruction has a type use today: so no expression needs a type, and no field but functions, imports and tags.
-instr_none : (i : Instruction) → needed_in (in_instr start i) ≡ []
-instr_none (instr.Mem op m) = needed_asking (in_mem_arg m)
-instr_none (instr.select t) = needed_asking (in_select t)
-instr_none (instr.ref_null t) = needed_asking (in_heap t)
-instr_none i = refl
+-- The type use of a block that wants a type is bound as another, and else its inline type is all that is said.
+module _ (find : LookUp) where
+  pub block_wants : (i : Option Index) (inline : Option FunctionType) → wants_type i inline ≡ true
+      → bound_use find OfBlock (record { index = i; inline = inline }) ≡ bound_use find OfItem (record { index = i; inline = inline })
+  block_wants (Some j) inline h = absurd cc
+  block_wants None None h = absurd cc
+  block_wants None (Some t) h = ap (λ b. record { index = bound_if b (find (signature_of t)); inline = Some t }) h
 
-constant_none : (e : Expression) → needed_in (in_constant e) ≡ []
-constant_none e = needed_body start e ∙ each_none instr_none e.instrs
+  pub block_rests : (i : Option Index) (inline : Option FunctionType) → wants_type i inline ≡ false
+      → bound_use find OfBlock (record { index = i; inline = inline }) ≡ record { index = i; inline = bound_inline OfBlock i inline }
+  block_rests (Some j) inline h = refl
+  block_rests None None h = refl
+  block_rests None (Some t) h = ap (λ b. record { index = bound_if b (find (signature_of t)); inline = Some t }) h
 
-constants_none : (es : List Expression) → needed_in (flat_map in_constant es) ≡ []
-constants_none es = needed_each in_constant es ∙ each_none constant_none es
+pub wanted_is : (i : Option Index) (inline : Option FunctionType) → wants_type i inline ≡ true → needed_without OfBlock i inline ≡ needed_without OfItem i inline
+wanted_is (Some j) inline h = refl
+wanted_is None inline h = ap (λ b. needed_if b (inline_signature inline)) h
 
-functions_none : (is : List Index) → needed_in (flat_map (at_index space.Func) is) ≡ []
-functions_none is = needed_each (at_index space.Func) is ∙ each_none (λ i. refl) is
+pub unwanted_is : (i : Option Index) (inline : Option FunctionType) → wants_type i inline ≡ false → needed_without OfBlock i inline ≡ []
+unwanted_is (Some j) inline h = refl
+unwanted_is None inline h = ap (λ b. needed_if b (inline_signature inline)) h
 
-payload_none : (p : ElemPayload) → needed_in (in_payload p) ≡ []
-payload_none p = grind (arith, common_steps, needed_both, needed_asking, constants_none, functions_none)
-
+-- No type needs another.
 pub ty_none : (t : ty.«Type») → needed_in (in_field (field.Ty t)) ≡ []
 ty_none t = needed_asking (in_type t)
 
 pub rec_none : (r : Rec) → needed_in (in_field (field.Rec r)) ≡ []
 rec_none r = needed_asking (in_rec r)
-
-pub table_none : (t : Table) → needed_in (in_field (field.Table t)) ≡ []
-table_none t = grind (arith, common_steps, needed_both, needed_asking, constant_none, payload_none)
-
-pub global_none : (g : Global) → needed_in (in_field (field.Global g)) ≡ []
-global_none g = grind (arith, common_steps, needed_both, needed_asking, constant_none)
-
-pub elem_none : (e : Elem) → needed_in (in_field (field.Elem e)) ≡ []
-elem_none e = grind (arith, common_steps, needed_both, constant_none, payload_none)
-
-pub data_none : (d : Data) → needed_in (in_field (field.Data d)) ≡ []
-data_none d = grind (arith, common_steps, constant_none)
 
 -- the type that is made for a signature, with its id
 abbrev pub made_type : ℕ → Signature → ty.«Type»

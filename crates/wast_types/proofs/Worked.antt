@@ -1,6 +1,6 @@
 -- What the definitions say of worked modules, computed.
 use Rattle.std.proofs.Common.{refl}
-use Rattle.wast_types.specs.WorkedExpansions.{SameSignatures, DistinctSignatures, SameReferences, Row2, Row7, Row8, Row23, Row37, Several, AfterStruct, ByIdAndNumber, FirstOfTwo, UsesInOrder}
+use Rattle.wast_types.specs.WorkedExpansions.{SameSignatures, DistinctSignatures, SameReferences, Row2, Row7, Row8, Row23, Row37, Several, AfterStruct, ByIdAndNumber, FirstOfTwo, UsesInOrder, IndirectCalls}
 
 pub same_signatures : SameSignatures
 same_signatures = (refl, refl, refl, refl, refl)
@@ -40,3 +40,6 @@ first_of_two a b = (refl, refl)
 
 pub uses_in_order : UsesInOrder
 uses_in_order a = (refl, refl, refl, refl)
+
+pub indirect_calls : IndirectCalls
+indirect_calls = (refl, refl, refl)

@@ -1,10 +1,21 @@
 -- How the uses of a list are bound one after the other. Private functions alone use this.
-use Rattle.std.specs.Prelude.{◌≡◌, ℕ, ◌+◌, is_some, List, ◌++◌, length}
-use Rattle.wast_types.specs.Tree.{ModuleField}
+use Rattle.std.specs.Prelude.{◌≡◌, ℕ, ◌+◌, is_some, Bool, false, List, ◌++◌, length, Option, Some, None}
+use Rattle.wast_types.specs.Tree.{Index, FunctionType, TypeUse, ModuleField}
 use Rattle.wast_types.specs.Signatures.{Signature}
+use Rattle.wast_tree.specs.Sites.{OfBlock}
+use Rattle.wast_types.specs.NeedingUses.{needs_type}
 use Rattle.wast_types.specs.ImpliedTypes.{first_new}
 use Rattle.wast_types.specs.Expanders.{BoundSignatures, index_of, Extends}
 use Rattle.wast_types.specs.Expanded.{implied_types, bindings}
+
+-- a type use that says nothing
+abbrev pub no_use : TypeUse FunctionType
+no_use = record { index = None; inline = None }
+
+-- The type use of a block needs a type.
+abbrev pub wants_type : Option Index → Option FunctionType → Bool
+wants_type (Some i) inline = false
+wants_type None inline = needs_type OfBlock inline
 
 -- what signatures are bound to, the types that are implied so far, and the generation of the next id
 pub record State : Type 0 where

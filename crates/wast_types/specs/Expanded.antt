@@ -1,16 +1,16 @@
 -- The list of fields in which each type has an id and each type use an index (text format, type uses: abbreviations).
-use Rattle.std.specs.Prelude.{ℕ, ◌+◌, is_none, length, Bool, false, List, [], ◌∷◌, ◌++◌, map, flat_map, Option, Some, None}
+use Rattle.std.specs.Prelude.{ℕ, ◌+◌, is_none, length, Bool, true, false, List, [], ◌∷◌, ◌++◌, map, flat_map, Option, Some, None}
 use Rattle.wast_types.specs.Tree.{Span, Id, Index, NameAnnotation, ValType, FunctionType, TypeUse, InnerTypeKind, TypeDef, ModuleField}
 use Rattle.wast_types.specs.Tree.index
 use Rattle.wast_types.specs.Tree.inner
 use Rattle.wast_types.specs.Tree.ty
 use Rattle.wast_types.specs.Tree.field
 use Rattle.wast_base.specs.Ids.{generated}
-use Rattle.wast_tree.specs.Sites.{if_there}
+use Rattle.wast_tree.specs.Sites.{Where, OfItem, OfCall, OfBlock, if_there}
 use Rattle.wast_tree.specs.Types.{lone_type}
 use Rattle.wast_map.specs.Mapped.{Change, mapped}
 use Rattle.wast_types.specs.Signatures.{Signature, signature_of}
-use Rattle.wast_types.specs.NeedingUses.{inline_signature}
+use Rattle.wast_types.specs.NeedingUses.{inline_signature, needs_type}
 use Rattle.wast_types.specs.ImpliedTypes.{implied}
 use Rattle.wast_base.specs.Filling.{filled, wanted}
 use Rattle.wast_types.specs.Expanders.{BoundSignatures, LookUp, index_of}
@@ -80,18 +80,35 @@ bindings_in x = if_there (λ (t : ty.«Type»). binding_of t.def.kind t.id) (lon
 abbrev pub bindings : List ModuleField → BoundSignatures
 bindings fields = flat_map bindings_in fields
 
--- a use without an index has that of its type
-abbrev pub bound_index : LookUp → Option Index → Option FunctionType → Option Index
-bound_index find None inline = find (inline_signature inline)
-bound_index find (Some i) inline = Some i
+-- what is bound, where a type is needed
+abbrev pub bound_if : Bool → Option Index → Option Index
+bound_if true index = index
+bound_if false index = None
 
--- a type use, with the index of its type
-abbrev pub bound_use : LookUp → TypeUse FunctionType → TypeUse FunctionType
-bound_use find u = record u { index = bound_index find u.index u.inline }
+-- a use that needs a type has the index of its type
+abbrev pub bound_index : LookUp → Where → Option Index → Option FunctionType → Option Index
+bound_index find w None inline = bound_if (needs_type w inline) (find (inline_signature inline))
+bound_index find w (Some i) inline = Some i
+
+-- `(func)`
+abbrev pub empty_type : FunctionType
+empty_type = record { params = []; results = [] }
+
+-- a block without index and inline type has the empty one
+abbrev pub bound_inline : Where → Option Index → Option FunctionType → Option FunctionType
+bound_inline OfItem index inline = inline
+bound_inline OfCall index inline = inline
+bound_inline OfBlock (Some i) inline = inline
+bound_inline OfBlock None (Some t) = Some t
+bound_inline OfBlock None None = Some empty_type
+
+-- a type use, with the index of its type where it needs one
+abbrev pub bound_use : LookUp → Where → TypeUse FunctionType → TypeUse FunctionType
+bound_use find w u = record { index = bound_index find w u.index u.inline; inline = bound_inline w u.index u.inline }
 
 -- no other index changes, and no id
 abbrev pub binding : LookUp → Change
-binding find = record { index = λ s i. i; used = bound_use find; id = λ o. o }
+binding find = record { index = λ s i. i; used = λ w u. bound_use find w u; local = λ l i. i; label = λ b i. i; id = λ o. o }
 
 -- a field, its type uses bound
 abbrev pub bound_field : LookUp → ModuleField → ModuleField

@@ -28,6 +28,11 @@ pub use Rattle.wast_base.specs.declared.plain.BareOp.{BareOp}
 pub use Rattle.wast_base.specs.declared.plain.BareOp.TheVariants as bare
 pub use Rattle.wast_base.specs.declared.plain.Plain.{Plain}
 pub use Rattle.wast_base.specs.declared.plain.Plain.TheVariants as plain
+pub use Rattle.wast_tree.specs.declared.immediates.BlockType.{BlockType}
+pub use Rattle.wast_tree.specs.declared.immediates.BrTableIndices.{BrTableIndices}
+pub use Rattle.wast_tree.specs.declared.immediates.TryTable.{TryTable}
+pub use Rattle.wast_tree.specs.declared.immediates.TryTableCatch.{TryTableCatch}
+pub use Rattle.wast_tree.specs.declared.immediates.CallIndirect.{CallIndirect}
 pub use Rattle.wast_tree.specs.declared.immediates.SelectTypes.{SelectTypes}
 pub use Rattle.wast_tree.specs.declared.instrs.Instruction.{Instruction}
 pub use Rattle.wast_tree.specs.declared.instrs.Instruction.TheVariants as instr
@@ -46,6 +51,9 @@ pub use Rattle.wast_tree.specs.declared.segments.ElemPayload.TheVariants as payl
 pub use Rattle.wast_tree.specs.declared.segments.Data.{Data}
 pub use Rattle.wast_tree.specs.declared.segments.DataKind.{DataKind}
 pub use Rattle.wast_tree.specs.declared.segments.DataKind.TheVariants as data_kind
+pub use Rattle.wast_tree.specs.declared.entities.TableType.{TableType}
+pub use Rattle.wast_tree.specs.declared.entities.GlobalType.{GlobalType}
+pub use Rattle.wast_tree.specs.declared.fields.InlineImport.{InlineImport}
 pub use Rattle.wast_tree.specs.declared.fields.Table.{Table}
 pub use Rattle.wast_tree.specs.declared.fields.TableKind.{TableKind}
 pub use Rattle.wast_tree.specs.declared.fields.TableKind.TheVariants as table

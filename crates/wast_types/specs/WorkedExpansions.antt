@@ -1,12 +1,14 @@
 -- What the definitions say of worked modules (text format, type uses: abbreviations). Texts of names may lie anywhere.
 use Rattle.std.specs.Prelude.{◌≡◌, ℕ, ◌+◌, true, false, List, [], ◌∷◌, ◌++◌, map, Bool, Option, Some, None, codes}
-use Rattle.wast_types.specs.Tree.{Id, Index, AbstractHeapType, ValType, FunctionType, ModuleField}
+use Rattle.wast_types.specs.Tree.{Id, Index, AbstractHeapType, ValType, FunctionType, Expression, ModuleField}
 use Rattle.wast_types.specs.Tree.index
 use Rattle.wast_types.specs.Tree.abstract
 use Rattle.wast_types.specs.Tree.heap
 use Rattle.wast_types.specs.Tree.value
 use Rattle.wast_types.specs.Tree.inner
+use Rattle.wast_types.specs.Tree.instr
 use Rattle.wast_types.specs.Tree.func
+use Rattle.wast_types.specs.Tree.global
 use Rattle.wast_types.specs.Tree.tag
 use Rattle.wast_types.specs.Tree.tag_kind
 use Rattle.wast_types.specs.Tree.kind
@@ -18,7 +20,7 @@ use Rattle.wast_types.specs.Signatures.{Signature, empty_signature, same_value, 
 use Rattle.wast_types.specs.NeedingUses.{needed}
 use Rattle.wast_types.specs.ImpliedTypes.{implied, are_distinct}
 use Rattle.wast_types.specs.TypeSpace.{index_for}
-use Rattle.wast_types.specs.Expanded.{unnamed_type, implied_type, expanded, ids_wanted}
+use Rattle.wast_types.specs.Expanded.{unnamed_type, implied_type, implied_types, expanded, ids_wanted}
 use Rattle.wast_types.specs.Completed.{completed}
 use Rattle.wast_types.specs.Positioned.{positioned}
 
@@ -250,3 +252,48 @@ UsesInOrder = (a : Address) →
     ≡ uses_with a (Some (by_number 0 0)) (Some (by_number 0 0)) (Some (by_number 1 0)) ++ (unnamed_type (value.I32 ∷ [], []) ∷ unnamed_type empty_signature ∷ []))
     × (expanded 5 (uses_with a None None None)
     ≡ uses_with a (Some (by_made 5)) (Some (by_made 5)) (Some (by_made 6)) ++ (implied_type 5 (value.I32 ∷ [], []) ∷ implied_type 6 empty_signature ∷ []))
+
+-- `(module (func call_indirect (param i32)) (global i32 call_indirect (result i32)))`: indirect calls need types where they
+-- stand, in a body behind the type of its function, and in constant expressions too.
+abbrev pub indirect_at : ℕ → Option Index → Option FunctionType → Expression
+indirect_at n type inline = record {
+  instrs = instr.call_indirect (record { table = by_number 0 n; ty = record { index = type; inline = inline } }) ∷ [];
+  branch_hints = [];
+}
+
+abbrev pub indirect_with : (function body constant : Option Index) (of_body of_constant : Option FunctionType) → List ModuleField
+indirect_with function body constant of_body of_constant =
+    field.Func (record {
+      span = place 9;
+      id = None;
+      name = None;
+      exports = record { names = [] };
+      kind = func.Inline [] (indirect_at 14 body of_body);
+      ty = record { index = function; inline = None };
+    })
+    ∷ field.Global (record {
+      span = place 42;
+      id = None;
+      name = None;
+      exports = record { names = [] };
+      ty = record { ty = value.I32; mutable = false; shared = false };
+      kind = global.Inline (indirect_at 53 constant of_constant);
+    })
+    ∷ []
+
+abbrev pub gives_i32 : FunctionType
+gives_i32 = function_type [] (value.I32 ∷ [])
+
+abbrev pub indirect_calls : List ModuleField
+indirect_calls = indirect_with None None None (Some takes_i32) (Some gives_i32)
+
+abbrev pub types_of_calls : List Signature
+types_of_calls = empty_signature ∷ (value.I32 ∷ [], []) ∷ ([], value.I32 ∷ []) ∷ []
+
+abbrev pub IndirectCalls : Type 0
+IndirectCalls =
+    (needed indirect_calls ≡ types_of_calls)
+    × (positioned indirect_calls
+    ≡ indirect_with (Some (by_number 0 0)) (Some (by_number 1 0)) (Some (by_number 2 0)) (Some takes_i32) (Some gives_i32) ++ map unnamed_type types_of_calls)
+    × (expanded 5 indirect_calls
+    ≡ indirect_with (Some (by_made 5)) (Some (by_made 6)) (Some (by_made 7)) (Some takes_i32) (Some gives_i32) ++ implied_types 5 types_of_calls)

@@ -5,21 +5,22 @@ ghost use Rattle.wast_base.specs.Ids.{generated};
 ghost use Rattle.wast_base.specs.Faults.{out_of_memory};
 ghost use Rattle.wast_types.specs.Tree.index;
 ghost use Rattle.wast_types.specs.Signatures.{Signature};
-ghost use Rattle.wast_tree.specs.Sites.{start, in_instr, in_constant, in_func_kind, in_use, in_func, in_tag_type, in_item_kind, in_import, in_field};
-ghost use Rattle.wast_map.specs.Mapped.{mapped_instr, mapped_constant, mapped_func_kind, mapped_func, mapped_tag_type, mapped_item_kind, mapped_sig, mapped_import_items, mapped_import, mapped_tag};
+ghost use Rattle.wast_tree.specs.Sites.{OfItem, OfBlock, start, in_block, in_try_table, in_instr, in_indirect, in_constant, in_func_kind, in_use, in_func, in_tag_type, in_item_kind, in_import, in_field};
+ghost use Rattle.wast_tree.specs.Types.{is_short};
+ghost use Rattle.wast_map.specs.Mapped.{mapped_block, mapped_try_table, mapped_indirect, mapped_instr, mapped_constant, mapped_func_kind, mapped_func, mapped_tag_type, mapped_item_kind, mapped_sig, mapped_import_items, mapped_import, mapped_tag};
 ghost use Rattle.wast_types.specs.NeedingUses.{needed_in, inline_signature};
 ghost use Rattle.wast_base.specs.Filling.{RunsOut};
 ghost use Rattle.wast_types.specs.Expanders.{BoundSignatures, LookUp, index_of, with_more, Extends};
-ghost use Rattle.wast_types.specs.Expanded.{start_of_text, implied_type, bound_use, binding, bound_field};
-ghost use Rattle.wast_types.specs.Binding.{state, next_after, AddsTypes};
+ghost use Rattle.wast_types.specs.Expanded.{start_of_text, implied_type, bound_inline, bound_use, binding, bound_field};
+ghost use Rattle.wast_types.specs.Binding.{no_use, wants_type, state, next_after, AddsTypes};
 
 use crate::expanders::Expander;
 use crate::keys::{FuncKey, TypeKey, TypeReference};
 use std::alloc::Global;
 use wast_tree::{
-    Error, Expression, Func, FuncKind, FunctionType, Gensym, ImportItems, Imports, Index,
-    Instruction, ItemKind, ItemSig, ModuleField, Seq, Span, Tag, TagType, Type, TypeUse,
-    push_field,
+    BlockType, CallIndirect, Error, Expression, Func, FuncKind, FunctionType, Gensym, ImportItems,
+    Imports, Index, Instruction, ItemKind, ItemSig, ModuleField, Seq, Span, Tag, TagType, TryTable,
+    Type, TypeUse, push_field,
 };
 
 /// A part of the tree in which type uses may stand. They are the same wherever it stands, so a part of a body is seen as if
@@ -91,13 +92,25 @@ impl<'a> Bind<'a> for ModuleField<'a> {
                 func.bind(alloc, cx, implied, gensym)?;
                 Ok(())
             }
-            ModuleField::Table(_) => Ok(()),
+            ModuleField::Table(table) => {
+                table.bind(alloc, cx, implied, gensym)?;
+                Ok(())
+            }
             ModuleField::Memory(_) => Ok(()),
-            ModuleField::Global(_) => Ok(()),
+            ModuleField::Global(global) => {
+                global.bind(alloc, cx, implied, gensym)?;
+                Ok(())
+            }
             ModuleField::Export(_) => Ok(()),
             ModuleField::Start(_) => Ok(()),
-            ModuleField::Elem(_) => Ok(()),
-            ModuleField::Data(_) => Ok(()),
+            ModuleField::Elem(elem) => {
+                elem.bind(alloc, cx, implied, gensym)?;
+                Ok(())
+            }
+            ModuleField::Data(data) => {
+                data.bind(alloc, cx, implied, gensym)?;
+                Ok(())
+            }
             ModuleField::Tag(tag) => {
                 tag.bind(alloc, cx, implied, gensym)?;
                 Ok(())
@@ -246,9 +259,9 @@ impl<'a> Bind<'a> for Func<'a> {
 }
 
 impl<'a> Bind<'a> for FuncKind<'a> {
-    ghost needed = { λ k. needed_in (in_func_kind [] k) };
+    ghost needed = { λ k. needed_in (in_func_kind no_use k) };
 
-    ghost bound = { λ find. mapped_func_kind (binding find) [] };
+    ghost bound = { λ find. mapped_func_kind (binding find) no_use };
 
     fn bind(
         &mut self,
@@ -267,6 +280,7 @@ impl<'a> Bind<'a> for FuncKind<'a> {
     }
 }
 
+/// A constant expression, or a body.
 impl<'a> Bind<'a> for Expression<'a> {
     ghost needed = { λ e. needed_in (in_constant e) };
 
@@ -291,18 +305,58 @@ impl<'a> Bind<'a> for Instruction<'a> {
 
     fn bind(
         &mut self,
-        _alloc: Global,
-        _cx: &mut Expander<'a>,
-        _implied: &mut Seq<ModuleField<'a>>,
-        _gensym: &mut Gensym,
+        alloc: Global,
+        cx: &mut Expander<'a>,
+        implied: &mut Seq<ModuleField<'a>>,
+        gensym: &mut Gensym,
     ) -> Result<(), Error<'a>> {
         match self {
             Instruction::Plain(_) => Ok(()),
             Instruction::Mem(..) => Ok(()),
+            Instruction::block(block) => {
+                block.get_mut().bind(alloc, cx, implied, gensym)?;
+                Ok(())
+            }
+            Instruction::loop_(block) => {
+                block.get_mut().bind(alloc, cx, implied, gensym)?;
+                Ok(())
+            }
+            Instruction::if_(block) => {
+                block.get_mut().bind(alloc, cx, implied, gensym)?;
+                Ok(())
+            }
+            Instruction::else_(_) => Ok(()),
+            Instruction::try_(block) => {
+                block.get_mut().bind(alloc, cx, implied, gensym)?;
+                Ok(())
+            }
+            Instruction::try_table(table) => {
+                table.bind(alloc, cx, implied, gensym)?;
+                Ok(())
+            }
+            Instruction::end_(_) => Ok(()),
+            Instruction::delegate(_) => Ok(()),
+            Instruction::br(_) => Ok(()),
+            Instruction::br_if(_) => Ok(()),
+            Instruction::br_table(_) => Ok(()),
+            Instruction::br_on_null(_) => Ok(()),
+            Instruction::br_on_non_null(_) => Ok(()),
+            Instruction::rethrow(_) => Ok(()),
+            Instruction::local_get(_) => Ok(()),
+            Instruction::local_set(_) => Ok(()),
+            Instruction::local_tee(_) => Ok(()),
             Instruction::catch(_) => Ok(()),
             Instruction::throw(_) => Ok(()),
             Instruction::call(_) => Ok(()),
             Instruction::return_call(_) => Ok(()),
+            Instruction::call_indirect(call) => {
+                call.bind(alloc, cx, implied, gensym)?;
+                Ok(())
+            }
+            Instruction::return_call_indirect(call) => {
+                call.bind(alloc, cx, implied, gensym)?;
+                Ok(())
+            }
             Instruction::call_ref(_) => Ok(()),
             Instruction::return_call_ref(_) => Ok(()),
             Instruction::select(_) => Ok(()),
@@ -332,10 +386,95 @@ impl<'a> Bind<'a> for Instruction<'a> {
     }
 }
 
-impl<'a> Bind<'a> for TypeUse<'a, FunctionType<'a>> {
-    ghost needed = { λ u. needed_in (in_use u) };
+/// The type of a block needs one of its own only where it has a parameter or two results; without an index it has an inline
+/// type from then on.
+impl<'a> Bind<'a> for BlockType<'a> {
+    ghost needed = { λ b. needed_in (in_block [] b) };
 
-    ghost bound = { bound_use };
+    ghost bound = { λ find. mapped_block (binding find) };
+
+    fn bind(
+        &mut self,
+        alloc: Global,
+        cx: &mut Expander<'a>,
+        implied: &mut Seq<ModuleField<'a>>,
+        gensym: &mut Gensym,
+    ) -> Result<(), Error<'a>> {
+        if !wants_type(&self.ty) {
+            say_inline(alloc, &mut self.ty);
+            return Ok(());
+        }
+        self.ty.bind(alloc, cx, implied, gensym)?;
+        Ok(())
+    }
+}
+
+impl<'a> Bind<'a> for TryTable<'a> {
+    ghost needed = { λ t. needed_in (in_try_table [] t) };
+
+    ghost bound = { λ find t. mapped_try_table (binding find) [] t };
+
+    fn bind(
+        &mut self,
+        alloc: Global,
+        cx: &mut Expander<'a>,
+        implied: &mut Seq<ModuleField<'a>>,
+        gensym: &mut Gensym,
+    ) -> Result<(), Error<'a>> {
+        self.block.get_mut().bind(alloc, cx, implied, gensym)?;
+        Ok(())
+    }
+}
+
+/// Whether the type use of a block needs a type: it has no index, and an inline type with a parameter or two results.
+fn wants_type<'a>(ty: &TypeUse<'a, FunctionType<'a>>) -> bool
+    ensures { result ≡ wants_type ty.now.index ty.now.inline }
+{
+    match (&ty.index, &ty.inline) {
+        (Some(_), _) => false,
+        (None, None) => false,
+        (None, Some(inline)) => !is_short(inline),
+    }
+}
+
+/// Whether a function type has no parameters and at most one result, so that a block may have it without an index.
+fn is_short(ty: &FunctionType<'_>) -> bool
+    ensures { result ≡ is_short ty.now }
+{
+    ty.params.is_empty() && ty.results.len() < 2
+}
+
+/// Gives the type use of a block that says nothing the empty inline type.
+fn say_inline<'a>(alloc: Global, ty: &mut TypeUse<'a, FunctionType<'a>>)
+    ensures { ty.new ≡ record ty.old { inline = bound_inline OfBlock ty.old.index ty.old.inline } }
+{
+    if ty.index.is_none() && ty.inline.is_none() {
+        ty.inline = Some(FunctionType::empty(alloc));
+    }
+}
+
+impl<'a> Bind<'a> for CallIndirect<'a> {
+    ghost needed = { λ c. needed_in (in_indirect c) };
+
+    ghost bound = { λ find. mapped_indirect (binding find) };
+
+    fn bind(
+        &mut self,
+        alloc: Global,
+        cx: &mut Expander<'a>,
+        implied: &mut Seq<ModuleField<'a>>,
+        gensym: &mut Gensym,
+    ) -> Result<(), Error<'a>> {
+        self.ty.bind(alloc, cx, implied, gensym)?;
+        Ok(())
+    }
+}
+
+/// A type use needs the same wherever it stands, but in a block.
+impl<'a> Bind<'a> for TypeUse<'a, FunctionType<'a>> {
+    ghost needed = { λ u. needed_in (in_use OfItem u) };
+
+    ghost bound = { λ find. bound_use find OfItem };
 
     fn bind(
         &mut self,

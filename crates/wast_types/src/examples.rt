@@ -1,6 +1,6 @@
 //! Worked modules, of which the definitions compute what they say.
 
-ghost use Rattle.wast_types.specs.WorkedExpansions.{SameSignatures, DistinctSignatures, SameReferences, Row2, Row7, Row8, Row23, Row37, Several, AfterStruct, ByIdAndNumber, FirstOfTwo, UsesInOrder};
+ghost use Rattle.wast_types.specs.WorkedExpansions.{SameSignatures, DistinctSignatures, SameReferences, Row2, Row7, Row8, Row23, Row37, Several, AfterStruct, ByIdAndNumber, FirstOfTwo, UsesInOrder, IndirectCalls};
 
 /// Which signatures are equal as they are written.
 #[tactic(auto, using(crate::proofs::Worked::same_signatures))]
@@ -78,4 +78,10 @@ pub(crate) fn first_of_two()
 #[tactic(auto, using(crate::proofs::Worked::uses_in_order))]
 pub(crate) fn uses_in_order()
     ensures { UsesInOrder }
+{}
+
+/// Indirect calls in a body and in a constant expression: their types are implied in the order of the uses.
+#[tactic(auto, using(crate::proofs::Worked::indirect_calls))]
+pub(crate) fn indirect_calls()
+    ensures { IndirectCalls }
 {}

@@ -5,6 +5,7 @@
 #![tactic(auto)]
 
 mod binding;
+mod constants;
 mod examples;
 mod expanders;
 mod expansion;

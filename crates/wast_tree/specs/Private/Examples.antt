@@ -1,6 +1,6 @@
 -- What the definitions say of worked modules.
-use Rattle.std.specs.Prelude.{◌≡◌, ℕ, Bool, true, false, List, [], ◌∷◌, map, Option, Some, None, codes}
-use Rattle.wast_tree.specs.Tree.{Id, Index, Space, RefType, ValType, StructField, TypeDef, Instruction, Expression, TableType, GlobalType, InlineImport, Func, ElemPayload, ModuleField}
+use Rattle.std.specs.Prelude.{◌≡◌, ℕ, pos, Bool, true, false, List, [], ◌∷◌, map, Option, Some, None, codes}
+use Rattle.wast_tree.specs.Tree.{Id, Index, Space, RefType, ValType, StructField, FunctionType, TypeUse, TypeDef, BlockType, Instruction, Expression, TableType, GlobalType, InlineImport, Func, ElemPayload, ModuleField}
 use Rattle.wast_tree.specs.Tree.index
 use Rattle.wast_tree.specs.Tree.space
 use Rattle.wast_tree.specs.Tree.heap
@@ -10,6 +10,7 @@ use Rattle.wast_tree.specs.Tree.storage
 use Rattle.wast_tree.specs.Tree.inner
 use Rattle.wast_tree.specs.Tree.bare
 use Rattle.wast_tree.specs.Tree.plain
+use Rattle.wast_tree.specs.Tree.caught
 use Rattle.wast_tree.specs.Tree.instr
 use Rattle.wast_tree.specs.Tree.func
 use Rattle.wast_tree.specs.Tree.table
@@ -21,7 +22,7 @@ use Rattle.wast_tree.specs.Tree.bytes
 use Rattle.wast_tree.specs.Tree.field
 use Rattle.wast_base.specs.Ids.{Name, Written, Generated, Mark, mark_of, generated, same_id, same_index}
 use Rattle.wast_tree.specs.Items.{items}
-use Rattle.wast_tree.specs.Sites.{Wants, Unasked, Clause, Supported, Site, Asked, Used, Declared, in_module, asked}
+use Rattle.wast_tree.specs.Sites.{Wants, Unasked, Clause, Supported, Site, OfItem, OfBlock, Asked, Used, Declared, LocalAt, LabelAt, Repeated, Begins, Ends, in_module, asked}
 use Rattle.wast_tree.specs.Known.{known}
 use Rattle.wast_tree.specs.WellFormed.{is_well_formed}
 use Rattle.wast_tree.specs.WrittenOut.{is_written_out}
@@ -68,6 +69,34 @@ field_of id t = record { id = id; name = None; mutable = true; ty = storage.Val 
 abbrev pub expression_of : List Instruction → Expression
 expression_of instrs = record { instrs = instrs; branch_hints = [] }
 
+-- a type use without an index and without an inline type
+abbrev pub nothing_used : TypeUse FunctionType
+nothing_used = record { index = None; inline = None }
+
+-- the label of a block, and its type use
+abbrev pub block_of : Option Id → TypeUse FunctionType → BlockType
+block_of label u = record { label = label; label_name = None; ty = u }
+
+-- a type use with a generated id in each place for one
+abbrev pub used_everywhere : TypeUse FunctionType
+used_everywhere = record { index = Some (made_index 9); inline = Some (record { params = (Some (made 10), None, value.I32) ∷ []; results = [] }) }
+
+-- blocks with a generated id in each place for one
+abbrev pub everywhere_in_blocks : List Instruction
+everywhere_in_blocks =
+    instr.try_table (record {
+      block = block_of (Some (made 20)) (record { index = Some (made_index 21); inline = None });
+      catches = record { kind = caught.Catch (made_index 22); label = made_index 23 } ∷ [];
+    })
+    ∷ instr.if_ (block_of (Some (made 24)) nothing_used)
+    ∷ instr.local_get (made_index 25)
+    ∷ instr.br_table (record { labels = made_index 26 ∷ []; default = made_index 27 })
+    ∷ instr.else_ (Some (made 28))
+    ∷ instr.br (made_index 29)
+    ∷ instr.end_ (Some (made 30))
+    ∷ instr.delegate (made_index 31)
+    ∷ []
+
 -- a module with a generated id in each place for one
 abbrev pub everywhere_generated : Address → List ModuleField
 everywhere_generated a =
@@ -89,8 +118,8 @@ everywhere_generated a =
           ∷ [];
     })
     ∷ field.Func (record (plain_func (Some (made 6)) 0 (made_index 9) []) {
-      kind = func.Inline (record { id = Some (made 7); name = None; ty = ref_to (made_index 19) } ∷ []) (expression_of (instr.call (made_index 8) ∷ []));
-      ty = record { index = Some (made_index 9); inline = Some (record { params = (Some (made 10), None, value.I32) ∷ []; results = [] }) };
+      kind = func.Inline (record { id = Some (made 7); name = None; ty = ref_to (made_index 19) } ∷ []) (expression_of (instr.call (made_index 8) ∷ everywhere_in_blocks));
+      ty = used_everywhere;
     })
     ∷ export_field a 0 (made_index 11)
     ∷ []
@@ -103,6 +132,10 @@ wanted s i = Asked (Wants s i)
 abbrev pub supported : Bool → Site
 supported holds = Asked (Supported holds)
 
+-- a constant expression that closes what it opens, or not
+abbrev pub balanced : Bool → Site
+balanced holds = Asked (Clause 5 holds)
+
 -- Row 27 has two items, and beside them a type use and two indices, the first of them in a body. They stand as they are
 -- written, and so do numbers.
 abbrev pub StandsInRow27 : Type 0
@@ -113,14 +146,14 @@ StandsInRow27 = (a b c d e f : Address) →
     ∷ [])
     × (in_module (row27 a b c d e f)
     ≡ supported true
-    ∷ Used (record { index = Some (by_id d (codes "t") 40); inline = None })
+    ∷ Used OfItem (record { index = Some (by_id d (codes "t") 40); inline = None })
     ∷ wanted space.Func (by_id e (codes "f") 49)
     ∷ supported true
     ∷ wanted space.Func (by_id f (codes "f") 71)
     ∷ [])
     × (in_module (row27_with a b c (by_number 0 40) (by_number 1 49) (by_number 2 71))
     ≡ supported true
-    ∷ Used (record { index = Some (by_number 0 40); inline = None })
+    ∷ Used OfItem (record { index = Some (by_number 0 40); inline = None })
     ∷ wanted space.Func (by_number 1 49)
     ∷ supported true
     ∷ wanted space.Func (by_number 2 71)
@@ -140,12 +173,14 @@ StandsInFilledMemory = (a b c d e : Address) →
     ∷ wanted space.Memory (by_id d (codes "m") 69)
     ∷ wanted space.Global (by_id e (codes "g") 92)
     ∷ supported true
+    ∷ balanced true
     ∷ [])
     × (is_well_formed (filled_memory a b c d e) ≡ true)
 
 -- A type has its parents before its descriptor, what it describes, its parameters and its results, and last whether it is
 -- shared; a function has its type use before its locals and its body. Parameters and locals are declared before the body,
--- each behind the names of those before it. The types of a group are items one by one, a struct among them with its fields.
+-- each behind the names of those before it. A clause of `try_table` reads its label outside of the block, and `delegate` once
+-- its block has ended. The types of a group are items one by one, a struct among them with its fields.
 abbrev pub StandsEverywhere : Type 0
 StandsEverywhere = (a : Address) →
     (items (everywhere_generated a)
@@ -169,12 +204,27 @@ StandsEverywhere = (a : Address) →
     ∷ supported true
     ∷ wanted space.Ty (made_index 18)
     ∷ supported true
-    ∷ Used (record { index = Some (made_index 9); inline = Some (record { params = (Some (made 10), None, value.I32) ∷ []; results = [] }) })
+    ∷ Used OfItem used_everywhere
     ∷ wanted space.Ty (made_index 19)
     ∷ Asked (Unasked (made_mark 7))
     ∷ Declared [] (Some (made_mark 10))
     ∷ Declared (Some (Generated 10) ∷ []) (Some (made_mark 7))
     ∷ wanted space.Func (made_index 8)
+    ∷ Used OfBlock (record { index = Some (made_index 21); inline = None })
+    ∷ wanted space.Tag (made_index 22)
+    ∷ LabelAt [] (made_index 23)
+    ∷ Begins [] (Some (made_mark 20))
+    ∷ Used OfBlock nothing_used
+    ∷ Begins (Some (Generated 20) ∷ []) (Some (made_mark 24))
+    ∷ LocalAt (record { owner = Some used_everywhere; names = Some (Generated 10) ∷ Some (Generated 7) ∷ [] }) (made_index 25)
+    ∷ LabelAt (Some (Generated 24) ∷ Some (Generated 20) ∷ []) (made_index 26)
+    ∷ LabelAt (Some (Generated 24) ∷ Some (Generated 20) ∷ []) (made_index 27)
+    ∷ Repeated (Some (Generated 24) ∷ Some (Generated 20) ∷ []) (Some (made_mark 28))
+    ∷ LabelAt (Some (Generated 24) ∷ Some (Generated 20) ∷ []) (made_index 29)
+    ∷ Repeated (Some (Generated 24) ∷ Some (Generated 20) ∷ []) (Some (made_mark 30))
+    ∷ Ends
+    ∷ Ends
+    ∷ LabelAt [] (made_index 31)
     ∷ supported true
     ∷ wanted space.Func (made_index 11)
     ∷ [])
@@ -339,11 +389,12 @@ StandsInPlace = (a : Address) →
     ≡ supported true
     ∷ wanted space.Func (made_index 1)
     ∷ supported true
+    ∷ balanced true
     ∷ wanted space.Ty (made_index 2)
     ∷ supported false
     ∷ [])
     × (in_module (func_alone (record nameless_func { kind = func.Import (from_m a) false; ty = record { index = Some (made_index 1); inline = None } }))
-    ≡ Used (record { index = Some (made_index 1); inline = None })
+    ≡ Used OfItem (record { index = Some (made_index 1); inline = None })
     ∷ supported true
     ∷ [])
     × (in_module (memory_in_place a None ∷ []) ≡ Asked (Clause 3 true) ∷ [])
@@ -363,8 +414,10 @@ StandsInSegments =
     ≡ wanted space.Table (made_index 1)
     ∷ wanted space.Global (made_index 2)
     ∷ supported true
+    ∷ balanced true
     ∷ wanted space.Func (made_index 3)
     ∷ supported true
+    ∷ balanced true
     ∷ wanted space.Ty (made_index 4)
     ∷ Asked (Clause 4 true)
     ∷ [])
@@ -375,7 +428,7 @@ StandsInSegments =
       exports = record { names = [] };
       kind = table.Normal (record plain_table_type { elem = record { nullable = true; heap = heap.Concrete (made_index 1) } }) (Some (expression_of (instr.ref_func (made_index 2) ∷ [])));
     }) ∷ [])
-    ≡ wanted space.Ty (made_index 1) ∷ supported true ∷ wanted space.Func (made_index 2) ∷ supported true ∷ [])
+    ≡ wanted space.Ty (made_index 1) ∷ supported true ∷ wanted space.Func (made_index 2) ∷ supported true ∷ balanced true ∷ [])
     × (in_module (field.Global (record {
       span = place 1;
       id = None;
@@ -384,7 +437,70 @@ StandsInSegments =
       ty = record plain_global_type { ty = ref_to (made_index 1) };
       kind = global.Inline (expression_of (instr.global_get (made_index 2) ∷ []));
     }) ∷ [])
-    ≡ wanted space.Ty (made_index 1) ∷ supported true ∷ wanted space.Global (made_index 2) ∷ supported true ∷ [])
+    ≡ wanted space.Ty (made_index 1) ∷ supported true ∷ wanted space.Global (made_index 2) ∷ supported true ∷ balanced true ∷ [])
+
+-- `$l`, which is written at n
+abbrev pub label_at : Address → ℕ → Id
+label_at a n = id_at a (codes "l") n
+
+-- a function of such a type use and such instructions
+abbrev pub func_of : TypeUse FunctionType → List Instruction → Func
+func_of u instrs = record nameless_func { ty = u; kind = func.Inline [] (expression_of instrs) }
+
+-- `(param $p i32)`
+abbrev pub param_used : Address → TypeUse FunctionType
+param_used a = record { index = None; inline = Some (record { params = (Some (id_at a (codes "p") 20), None, value.I32) ∷ []; results = [] }) }
+
+-- `(func (param $p i32) block $l local.get $p br_if $l end $l)`: a label and a local are read where they stand. `(func try $l
+-- delegate $l)`: the label is read where the block has ended, so that none of this name is open.
+abbrev pub StandsInBlocks : Type 0
+StandsInBlocks = (a : Address) →
+    (in_module (func_alone (func_of (param_used a) (
+    instr.block (block_of (Some (label_at a 30)) nothing_used)
+    ∷ instr.local_get (by_id a (codes "p") 40)
+    ∷ instr.br_if (index.Id (label_at a 50))
+    ∷ instr.end_ (Some (label_at a 60))
+    ∷ [])))
+    ≡ Used OfItem (param_used a)
+    ∷ Declared [] (Some (Written (codes "p"), place 20))
+    ∷ Used OfBlock nothing_used
+    ∷ Begins [] (Some (Written (codes "l"), place 30))
+    ∷ LocalAt (record { owner = Some (param_used a); names = Some (Written (codes "p")) ∷ [] }) (by_id a (codes "p") 40)
+    ∷ LabelAt (Some (Written (codes "l")) ∷ []) (index.Id (label_at a 50))
+    ∷ Repeated (Some (Written (codes "l")) ∷ []) (Some (Written (codes "l"), place 60))
+    ∷ Ends
+    ∷ supported true
+    ∷ [])
+    × (in_module (func_alone (func_of nothing_used (instr.try_ (block_of (Some (label_at a 30)) nothing_used) ∷ instr.delegate (index.Id (label_at a 40)) ∷ [])))
+    ≡ Used OfItem nothing_used
+    ∷ Used OfBlock nothing_used
+    ∷ Begins [] (Some (Written (codes "l"), place 30))
+    ∷ Ends
+    ∷ LabelAt [] (index.Id (label_at a 40))
+    ∷ supported true
+    ∷ [])
+
+-- a global whose value is this
+abbrev pub global_as : List Instruction → ModuleField
+global_as instrs = field.Global (record { span = place 1; id = None; name = None; exports = record { names = [] }; ty = plain_global_type; kind = global.Inline (expression_of instrs) })
+
+-- a block without a label
+abbrev pub plain_block : Instruction
+plain_block = instr.block (block_of None nothing_used)
+
+-- A constant expression closes what it opens, and nothing before it is open: not so `i32.const 0 end`, `end block` and a block
+-- that stays open. A function may hold these, and `delegate` closes a block. A generated id is no label and no local.
+abbrev pub WellFormedBlocks : Type 0
+WellFormedBlocks =
+    (is_well_formed (global_as (plain_block ∷ instr.end_ None ∷ instr.i32_const (pos 0) ∷ []) ∷ []) ≡ true)
+    × (is_well_formed (global_as (instr.i32_const (pos 0) ∷ instr.end_ None ∷ []) ∷ []) ≡ false)
+    × (is_well_formed (global_as (instr.end_ None ∷ plain_block ∷ []) ∷ []) ≡ false)
+    × (is_well_formed (global_as (plain_block ∷ []) ∷ []) ≡ false)
+    × (is_well_formed (global_as (instr.try_ (block_of None nothing_used) ∷ instr.delegate (by_number 0 20) ∷ []) ∷ []) ≡ true)
+    × (is_well_formed_func (func_of nothing_used (instr.end_ None ∷ plain_block ∷ [])) ≡ true)
+    × (is_well_formed_func (func_of nothing_used (instr.local_get (by_number 0 20) ∷ instr.br (by_number 0 20) ∷ [])) ≡ true)
+    × (is_well_formed_func (func_of nothing_used (instr.local_get (made_index 1) ∷ [])) ≡ false)
+    × (is_well_formed_func (func_of nothing_used (instr.block (block_of (Some (made 1)) nothing_used) ∷ instr.br (made_index 1) ∷ [])) ≡ false)
 
 -- Elements in place may be of any type that is not shared; the page of bytes in place has a size below 2 to the 64.
 abbrev pub WellFormedInPlace : Type 0
@@ -418,4 +534,4 @@ GenerationsOfRows = (a b c d e f : Address) →
     × (greatest_generation (field.Ty (plain_type (Some (made 7)) 0) ∷ export_field a 0 (made_index 3) ∷ []) ≡ 7)
     × (greatest_generation [] ≡ 0)
     × (map (λ x. generation_or_zero x.id) (items (everywhere_generated a)) ≡ 1 ∷ 14 ∷ 17 ∷ 6 ∷ [])
-    × (map generation_in (asked (in_module (everywhere_generated a))) ≡ 3 ∷ 4 ∷ 0 ∷ 5 ∷ 0 ∷ 2 ∷ 12 ∷ 13 ∷ 0 ∷ 15 ∷ 16 ∷ 0 ∷ 18 ∷ 0 ∷ 9 ∷ 10 ∷ 19 ∷ 7 ∷ 8 ∷ 0 ∷ 11 ∷ [])
+    × (map generation_in (asked (in_module (everywhere_generated a))) ≡ 3 ∷ 4 ∷ 0 ∷ 5 ∷ 0 ∷ 2 ∷ 12 ∷ 13 ∷ 0 ∷ 15 ∷ 16 ∷ 0 ∷ 18 ∷ 0 ∷ 9 ∷ 10 ∷ 19 ∷ 7 ∷ 8 ∷ 21 ∷ 22 ∷ 23 ∷ 20 ∷ 24 ∷ 25 ∷ 26 ∷ 27 ∷ 28 ∷ 29 ∷ 30 ∷ 31 ∷ 0 ∷ 11 ∷ [])

@@ -1,4 +1,4 @@
-use Rattle.wasm_ops.proofs.ExpressionCodes.{no_row_ends, expression_code}
+use Rattle.wasm_ops.proofs.ExpressionCodes.{end_row, expression_code}
 use Rattle.wasm_ops.proofs.InstrCodes.{table_ascends, table_apart, instr_code}
 use Rattle.wasm_ops.proofs.laws.instruction_law.Goals as goal
 
@@ -11,8 +11,8 @@ returns-clause-apart c = table_apart
 pub returns-clause-instructions : goal.returns-clause-instructions
 returns-clause-instructions c = instr_code
 
-pub returns-clause-no_end : goal.returns-clause-no_end
-returns-clause-no_end c = no_row_ends
+pub returns-clause-end : goal.returns-clause-end
+returns-clause-end c = end_row
 
 pub returns-clause-expressions : goal.returns-clause-expressions
 returns-clause-expressions c = expression_code

@@ -1,4 +1,5 @@
 use Rattle.wasm_ops.proofs.Codes.{name_code}
+use Rattle.wasm_ops.proofs.ControlCodes.{block_type_code, catch_code}
 use Rattle.wasm_ops.proofs.EntityCodes.{table_type_code, memory_type_code, global_type_code, tag_type_code, entity_type_code}
 use Rattle.wasm_ops.proofs.RefTypeCodes.{heap_type_code, ref_type_code}
 use Rattle.wasm_ops.proofs.TypeCodes.{val_type_code, storage_type_code, field_type_code, export_kind_code, func_type_code, struct_type_code, array_type_code, composite_type_code, sub_type_code}
@@ -15,6 +16,12 @@ returns-clause-ref_types c = ref_type_code
 
 pub returns-clause-val_types : goal.returns-clause-val_types
 returns-clause-val_types c = val_type_code
+
+pub returns-clause-block_types : goal.returns-clause-block_types
+returns-clause-block_types c = block_type_code
+
+pub returns-clause-catches : goal.returns-clause-catches
+returns-clause-catches c = catch_code
 
 pub returns-clause-storage_types : goal.returns-clause-storage_types
 returns-clause-storage_types c = storage_type_code

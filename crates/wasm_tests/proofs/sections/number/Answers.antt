@@ -1,7 +1,7 @@
-use Rattle.std.proofs.Common.{sym, subst}
-use Rattle.wasm_ops.specs.Table.{SpellsInstrs}
-use Rattle.wasm_out.proofs.Building.{spells_instr}
+use Rattle.std.proofs.Common.{refl, sym, subst}
+use Rattle.wasm_ops.specs.ConstExprs.{SpellsExpression}
+use Rattle.wasm_out.proofs.Building.{spells_expression}
 use Rattle.wasm_tests.proofs.sections.number.Goals as goal
 
 pub raw-requires : goal.raw-requires
-raw-requires c = subst SpellsInstrs (sym c.in_ok-bytes.ensures.bytes) (spells_instr _ c.in_ok-bytes.ensures.in_range)
+raw-requires c = subst SpellsExpression (sym c.in_ok-bytes.ensures.bytes) (spells_expression _ c.in_ok-bytes.ensures.in_range refl)

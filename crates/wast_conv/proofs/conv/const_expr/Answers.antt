@@ -1,12 +1,14 @@
 use Rattle.std.proofs.Common.{◌≡◌, ◌∙◌, ap, subst}
 use Rattle.std.specs.List.{All, flat_map, list_all}
 use Rattle.std.proofs.lemmas.Result.{err_from_is_err_and}
+use Rattle.wast_base.specs.Blocks.{is_balanced}
+use Rattle.wast_tree.specs.Instrs.{turns}
 use Rattle.wasm_ops.specs.Table.{instr, InRangeInstr}
 use Rattle.wasm_out.specs.Built.{IsRefused}
 use Rattle.wast_conv.specs.Encodable.{is_encodable_instr}
 use Rattle.wast_conv.specs.Meaning as meaning
 use Rattle.wast_conv.proofs.Expressions.{spells_expression, expression_made, expression_refused}
-use Rattle.wast_conv.proofs.Standing.{ready_instrs}
+use Rattle.wast_conv.proofs.Standing.{ready_instrs, ready_balanced}
 use Rattle.wast_conv.proofs.conv.const_expr.Goals as goal
 
 pub returns-in_err-bytes-clause-refusal : goal.returns-in_err-bytes-clause-refusal
@@ -18,7 +20,9 @@ pub instrs_bytes-requires : goal.instrs_bytes-requires
 instrs_bytes-requires c = ap (list_all is_encodable_instr) c.as_slice.ensures ∙ ready_instrs c.args.expression.now c.requires
 
 pub raw-requires : goal.raw-requires
-raw-requires c = spells_expression c.as_slice.result.now c.in_ok-bytes.bytes.items (ap (list_all is_encodable_instr) c.as_slice.ensures ∙ ready_instrs c.args.expression.now c.requires) c.in_ok-bytes.ensures.value
+raw-requires c =
+    spells_expression c.as_slice.result.now c.in_ok-bytes.bytes.items (ap (list_all is_encodable_instr) c.as_slice.ensures ∙ ready_instrs c.args.expression.now c.requires)
+    (ap (λ is. is_balanced (turns is)) c.as_slice.ensures ∙ ready_balanced c.args.expression.now c.requires) c.in_ok-bytes.ensures.value
 
 pub returns-clause-value : goal.returns-clause-value
 returns-clause-value c =

@@ -33,3 +33,6 @@ returns-clause-import_parameter c = computed.imported_parameter
 
 pub returns-clause-tag_parameter : goal.returns-clause-tag_parameter
 returns-clause-tag_parameter c = computed.tag_parameter
+
+pub returns-clause-labels : goal.returns-clause-labels
+returns-clause-labels c = computed.named_labels

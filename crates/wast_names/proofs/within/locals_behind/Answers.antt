@@ -4,13 +4,13 @@ use Rattle.wast_names.proofs.ListedNames.{params_then, nameless_then, nothing_na
 use Rattle.wast_names.proofs.within.locals_behind.Goals as goal
 
 pub returns-in-Some : goal.returns-in-Some
-returns-in-Some c =
+returns-in-Some g c =
     rw (c.in-Some.is, c.as_slice-params.ensures) (params_then c.in-Some.inline.params c.args.locals.now)
 
 pub returns-then-count_each-eq0 : goal.returns-then-count_each-eq0
-returns-then-count_each-eq0 c =
-    rw (c.none.ensures, c.in_default.is) (nothing_named (arity_at c.args.fields.now c.args.ty.now.index) c.args.locals.now c.count_each.result c.count_each.ensures c.if-count_each-eq0.true)
+returns-then-count_each-eq0 g c =
+    rw (c.none.ensures, c.in_default.is) (nothing_named (arity_at (g.A.Arities.fields c.args.arities.now) c.args.ty.now.index) c.args.locals.now c.count_each.result c.count_each.ensures c.if-count_each-eq0.true)
 
 pub returns-in-Some-arity_at : goal.returns-in-Some-arity_at
-returns-in-Some-arity_at c =
+returns-in-Some-arity_at g c =
     rw (c.none-in-Some-arity_at.ensures, c.in_default.is, sym c.in-Some-arity_at.ensures) (nameless_then c.in-Some-arity_at.arity c.args.locals.now)

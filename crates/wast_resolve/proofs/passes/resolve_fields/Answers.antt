@@ -1,8 +1,7 @@
 use Rattle.std.proofs.Common.{◌∙◌, ap, map}
 use Rattle.std.proofs.lemmas.Result.{err_from_is_err_and}
 use Rattle.wast_base.specs.Faults.{told}
-use Rattle.wast_tree.specs.Known.{Known}
-use Rattle.wast_resolve.specs.Scopes.{signatures}
+use Rattle.wast_resolve.specs.Scopes.{Scope, signatures}
 use Rattle.wast_map.specs.Mapped.{mapped}
 use Rattle.wast_resolve.specs.Resolved.{numbering}
 use Rattle.wast_resolve.specs.Resolvers.{known_of, scope_of}
@@ -39,7 +38,8 @@ pub returns-clause-list : goal.returns-clause-list
 returns-clause-list c =
     let fs = c.args.fields.now in
     let known = items_known fs c.as_slice-2.result.now c.as_slice-2.ensures (known_of c.in_ok-spaces.spaces) c.in_ok-spaces.ensures.names in
-    c.in_ok-walk_fields.ensures.1 ∙ ap (λ (k : Known). map (mapped (numbering k)) fs) (ap known_of c.with_types-names.ensures ∙ known)
+    let same = scope_known fs c.in_ok-spaces.spaces c.with_types-names.result c.in_ok-types.types.items known (c.in_ok-types.ensures.types ∙ ap signatures c.as_slice.ensures) c.with_types-names.ensures in
+    c.in_ok-walk_fields.ensures.1 ∙ ap (λ (s : Scope). map (mapped (numbering s)) fs) same
 
 pub returns-clause-names : goal.returns-clause-names
 returns-clause-names c =

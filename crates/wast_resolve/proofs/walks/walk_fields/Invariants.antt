@@ -7,4 +7,4 @@ use Rattle.wast_resolve.proofs.Each.{IsHalfway}
 use Rattle.wast_resolve.proofs.walks.walk_fields.Given as goal
 
 abbrev pub invariant-loop-i : goal.invariant-loop-i
-invariant-loop-i l = IsHalfway (site_demand (scope_of l.names)) in_field (mapped (numbering (known_of l.names))) l.fn.fields l.fields l.i
+invariant-loop-i l = IsHalfway (site_demand (scope_of l.names)) in_field (mapped (numbering (scope_of l.names))) l.fn.fields l.fields l.i

@@ -1,19 +1,56 @@
-use Rattle.std.proofs.Common.{◌≡◌, ap, sym, ◌∙◌, subst}
+use Rattle.std.proofs.Common.{◌≡◌, [], ap, sym, ◌∙◌, subst}
 use Rattle.wast_tree.specs.Sites.{start, in_select, in_instr}
-use Rattle.wast_map.specs.Mapped.{mapped_instr}
+use Rattle.wast_map.specs.Mapped.{mapped_block, mapped_instr}
 use Rattle.wast_types.specs.Tree.instr
 use Rattle.wast_types.specs.Expanded.{binding}
 use Rattle.wast_types.specs.Expanders.{index_of, with_more}
 use Rattle.wast_types.specs.NeedingUses.{needed_in}
 use Rattle.wast_types.specs.Binding.{state}
 use Rattle.wast_types.proofs.Adding.{adds_nothing}
-use Rattle.wast_types.proofs.Needing.{select_stays, needed_asking}
+use Rattle.wast_types.proofs.Needing.{select_stays, needed_asking, needed_br_table}
 use Rattle.wast_types.proofs.binding.InstructionBind.bind.Goals as goal
 
 pub returns-in-select-clause-bound : goal.returns-in-select-clause-bound
 returns-in-select-clause-bound c = λ more.
-    subst (λ i. i ≡ mapped_instr (binding (with_more (index_of c.args._cx.now) more)) start i) (sym c.in-select.is) (ap instr.select (sym (select_stays c.in-select.field-0)))
+    subst (λ i. i ≡ mapped_instr (binding (with_more (index_of c.args.cx.now) more)) start i) (sym c.in-select.is) (ap instr.select (sym (select_stays c.in-select.field-0)))
 
 pub returns-in-select-clause-adds : goal.returns-in-select-clause-adds
 returns-in-select-clause-adds c =
-    adds_nothing (state c.args._cx.now c.args._implied.now c.args._gensym.now) (ap (λ i. needed_in (in_instr start i)) c.in-select.is ∙ needed_asking (in_select c.in-select.field-0))
+    adds_nothing (state c.args.cx.now c.args.implied.now c.args.gensym.now) (ap (λ i. needed_in (in_instr start i)) c.in-select.is ∙ needed_asking (in_select c.in-select.field-0))
+
+pub returns-in_ok-bind-in-call_indirect-clause-bound : goal.returns-in_ok-bind-in-call_indirect-clause-bound
+returns-in_ok-bind-in-call_indirect-clause-bound c = λ more.
+    ap instr.call_indirect (c.in_ok-bind-in-call_indirect.ensures.bound more) ∙ sym (ap (mapped_instr (binding (with_more (index_of c.bind-in-call_indirect.new.cx) more)) start) c.in-call_indirect.is)
+
+pub returns-in_ok-bind-in-return_call_indirect-clause-bound : goal.returns-in_ok-bind-in-return_call_indirect-clause-bound
+returns-in_ok-bind-in-return_call_indirect-clause-bound c = λ more.
+    ap instr.return_call_indirect (c.in_ok-bind-in-return_call_indirect.ensures.bound more)
+    ∙ sym (ap (mapped_instr (binding (with_more (index_of c.bind-in-return_call_indirect.new.cx) more)) start) c.in-return_call_indirect.is)
+
+pub returns-in_ok-bind-in-block-clause-bound : goal.returns-in_ok-bind-in-block-clause-bound
+returns-in_ok-bind-in-block-clause-bound c = λ more.
+    ap instr.block (c.in_ok-bind-in-block.ensures.bound more ∙ ap (mapped_block (binding (with_more (index_of c.bind.new.cx) more))) c.get_mut.ensures.value)
+    ∙ sym (ap (mapped_instr (binding (with_more (index_of c.bind.new.cx) more)) start) c.in-block.is)
+
+pub returns-in_ok-bind-in-loop_-clause-bound : goal.returns-in_ok-bind-in-loop_-clause-bound
+returns-in_ok-bind-in-loop_-clause-bound c = λ more.
+    ap instr.loop_ (c.in_ok-bind-in-loop_.ensures.bound more ∙ ap (mapped_block (binding (with_more (index_of c.bind-in-loop_.new.cx) more))) c.get_mut-in-loop_.ensures.value)
+    ∙ sym (ap (mapped_instr (binding (with_more (index_of c.bind-in-loop_.new.cx) more)) start) c.in-loop_.is)
+
+pub returns-in_ok-bind-in-if_-clause-bound : goal.returns-in_ok-bind-in-if_-clause-bound
+returns-in_ok-bind-in-if_-clause-bound c = λ more.
+    ap instr.if_ (c.in_ok-bind-in-if_.ensures.bound more ∙ ap (mapped_block (binding (with_more (index_of c.bind-in-if_.new.cx) more))) c.get_mut-in-if_.ensures.value)
+    ∙ sym (ap (mapped_instr (binding (with_more (index_of c.bind-in-if_.new.cx) more)) start) c.in-if_.is)
+
+pub returns-in_ok-bind-in-try_-clause-bound : goal.returns-in_ok-bind-in-try_-clause-bound
+returns-in_ok-bind-in-try_-clause-bound c = λ more.
+    ap instr.try_ (c.in_ok-bind-in-try_.ensures.bound more ∙ ap (mapped_block (binding (with_more (index_of c.bind-in-try_.new.cx) more))) c.get_mut-in-try_.ensures.value)
+    ∙ sym (ap (mapped_instr (binding (with_more (index_of c.bind-in-try_.new.cx) more)) start) c.in-try_.is)
+
+pub returns-in_ok-bind-in-try_table-clause-bound : goal.returns-in_ok-bind-in-try_table-clause-bound
+returns-in_ok-bind-in-try_table-clause-bound c = λ more.
+    ap instr.try_table (c.in_ok-bind-in-try_table.ensures.bound more) ∙ sym (ap (mapped_instr (binding (with_more (index_of c.bind-in-try_table.new.cx) more)) start) c.in-try_table.is)
+
+pub returns-in-br_table-clause-adds : goal.returns-in-br_table-clause-adds
+returns-in-br_table-clause-adds c =
+    adds_nothing (state c.args.cx.now c.args.implied.now c.args.gensym.now) (ap (λ i. needed_in (in_instr start i)) c.in-br_table.is ∙ needed_br_table [] c.in-br_table.field-0)

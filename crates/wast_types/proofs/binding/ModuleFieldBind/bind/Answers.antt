@@ -1,13 +1,13 @@
 use Rattle.std.proofs.Common.{ap, sym, ◌∙◌}
 use Rattle.wast_types.specs.Tree.field
 use Rattle.wast_types.specs.Expanders.{index_of, with_more}
-use Rattle.wast_tree.specs.Sites.{in_field}
+use Rattle.wast_tree.specs.Sites.{in_type, in_rec, in_field}
 use Rattle.wast_types.specs.NeedingUses.{needed_in}
 use Rattle.wast_types.specs.Expanded.{bound_field}
 use Rattle.wast_types.specs.Binding.{state}
 use Rattle.wast_types.proofs.Adding.{adds_nothing}
-use Rattle.wast_types.proofs.Needing.{ty_none, rec_none, table_none, global_none, elem_none, data_none}
-use Rattle.wast_types.proofs.Staying.{stays_as}
+use Rattle.wast_types.proofs.Needing.{ty_none, rec_none}
+use Rattle.wast_types.proofs.Staying.{stays_as, asking_says}
 use Rattle.wast_types.proofs.binding.ModuleFieldBind.bind.Goals as goal
 
 pub returns-in_ok-bind-in-Func-clause-bound : goal.returns-in_ok-bind-in-Func-clause-bound
@@ -20,37 +20,25 @@ pub returns-in_ok-bind-in-Tag-clause-bound : goal.returns-in_ok-bind-in-Tag-clau
 returns-in_ok-bind-in-Tag-clause-bound c = λ more. ap field.Tag (c.in_ok-bind-in-Tag.ensures.bound more) ∙ sym (ap (bound_field (with_more (index_of c.bind-in-Tag.new.cx) more)) c.in-Tag.is)
 
 pub returns-in-Ty-clause-bound : goal.returns-in-Ty-clause-bound
-returns-in-Ty-clause-bound c = λ more. stays_as (with_more (index_of c.args.cx.now) more) c.in-Ty.is (ty_none c.in-Ty.field-0)
+returns-in-Ty-clause-bound c = λ more. stays_as (with_more (index_of c.args.cx.now) more) c.in-Ty.is (ty_none c.in-Ty.field-0) (asking_says (in_type c.in-Ty.field-0))
 
 pub returns-in-Ty-clause-adds : goal.returns-in-Ty-clause-adds
 returns-in-Ty-clause-adds c = adds_nothing (state c.args.cx.now c.args.implied.now c.args.gensym.now) (ap (λ x. needed_in (in_field x)) c.in-Ty.is ∙ ty_none c.in-Ty.field-0)
 
 pub returns-in-Rec-clause-bound : goal.returns-in-Rec-clause-bound
-returns-in-Rec-clause-bound c = λ more. stays_as (with_more (index_of c.args.cx.now) more) c.in-Rec.is (rec_none c.in-Rec.field-0)
+returns-in-Rec-clause-bound c = λ more. stays_as (with_more (index_of c.args.cx.now) more) c.in-Rec.is (rec_none c.in-Rec.field-0) (asking_says (in_rec c.in-Rec.field-0))
 
 pub returns-in-Rec-clause-adds : goal.returns-in-Rec-clause-adds
 returns-in-Rec-clause-adds c = adds_nothing (state c.args.cx.now c.args.implied.now c.args.gensym.now) (ap (λ x. needed_in (in_field x)) c.in-Rec.is ∙ rec_none c.in-Rec.field-0)
 
-pub returns-in-Table-clause-bound : goal.returns-in-Table-clause-bound
-returns-in-Table-clause-bound c = λ more. stays_as (with_more (index_of c.args.cx.now) more) c.in-Table.is (table_none c.in-Table.field-0)
+pub returns-in_ok-bind-in-Table-clause-bound : goal.returns-in_ok-bind-in-Table-clause-bound
+returns-in_ok-bind-in-Table-clause-bound c = λ more. ap field.Table (c.in_ok-bind-in-Table.ensures.bound more) ∙ sym (ap (bound_field (with_more (index_of c.bind-in-Table.new.cx) more)) c.in-Table.is)
 
-pub returns-in-Table-clause-adds : goal.returns-in-Table-clause-adds
-returns-in-Table-clause-adds c = adds_nothing (state c.args.cx.now c.args.implied.now c.args.gensym.now) (ap (λ x. needed_in (in_field x)) c.in-Table.is ∙ table_none c.in-Table.field-0)
+pub returns-in_ok-bind-in-Global-clause-bound : goal.returns-in_ok-bind-in-Global-clause-bound
+returns-in_ok-bind-in-Global-clause-bound c = λ more. ap field.Global (c.in_ok-bind-in-Global.ensures.bound more) ∙ sym (ap (bound_field (with_more (index_of c.bind-in-Global.new.cx) more)) c.in-Global.is)
 
-pub returns-in-Global-clause-bound : goal.returns-in-Global-clause-bound
-returns-in-Global-clause-bound c = λ more. stays_as (with_more (index_of c.args.cx.now) more) c.in-Global.is (global_none c.in-Global.field-0)
+pub returns-in_ok-bind-in-Elem-clause-bound : goal.returns-in_ok-bind-in-Elem-clause-bound
+returns-in_ok-bind-in-Elem-clause-bound c = λ more. ap field.Elem (c.in_ok-bind-in-Elem.ensures.bound more) ∙ sym (ap (bound_field (with_more (index_of c.bind-in-Elem.new.cx) more)) c.in-Elem.is)
 
-pub returns-in-Global-clause-adds : goal.returns-in-Global-clause-adds
-returns-in-Global-clause-adds c = adds_nothing (state c.args.cx.now c.args.implied.now c.args.gensym.now) (ap (λ x. needed_in (in_field x)) c.in-Global.is ∙ global_none c.in-Global.field-0)
-
-pub returns-in-Elem-clause-bound : goal.returns-in-Elem-clause-bound
-returns-in-Elem-clause-bound c = λ more. stays_as (with_more (index_of c.args.cx.now) more) c.in-Elem.is (elem_none c.in-Elem.field-0)
-
-pub returns-in-Elem-clause-adds : goal.returns-in-Elem-clause-adds
-returns-in-Elem-clause-adds c = adds_nothing (state c.args.cx.now c.args.implied.now c.args.gensym.now) (ap (λ x. needed_in (in_field x)) c.in-Elem.is ∙ elem_none c.in-Elem.field-0)
-
-pub returns-in-Data-clause-bound : goal.returns-in-Data-clause-bound
-returns-in-Data-clause-bound c = λ more. stays_as (with_more (index_of c.args.cx.now) more) c.in-Data.is (data_none c.in-Data.field-0)
-
-pub returns-in-Data-clause-adds : goal.returns-in-Data-clause-adds
-returns-in-Data-clause-adds c = adds_nothing (state c.args.cx.now c.args.implied.now c.args.gensym.now) (ap (λ x. needed_in (in_field x)) c.in-Data.is ∙ data_none c.in-Data.field-0)
+pub returns-in_ok-bind-in-Data-clause-bound : goal.returns-in_ok-bind-in-Data-clause-bound
+returns-in_ok-bind-in-Data-clause-bound c = λ more. ap field.Data (c.in_ok-bind-in-Data.ensures.bound more) ∙ sym (ap (bound_field (with_more (index_of c.bind-in-Data.new.cx) more)) c.in-Data.is)

@@ -1,0 +1,131 @@
+//! Control instructions of the binary format: blocks, what ends them, and branches by a table.
+
+ghost use Rattle.std.specs.Prelude.{◌≡◌, ◌&&◌, true};
+ghost use Rattle.wasm_ops.specs.Control.{InRangeBlockType, is_covered_block_type};
+ghost use Rattle.wasm_ops.specs.ControlInstrs.{block_key, block_instr, delimiter_key, delimiter_instr, br_table_bytes, try_table_bytes};
+ghost use Rattle.wasm_ops.specs.Opcodes.{opcode_of};
+ghost use Rattle.wasm_ops.specs.Spelling.{InRangeU32};
+ghost use Rattle.wasm_ops.specs.Table.{instr, InRangeInstr};
+
+use crate::blocks::BlockType;
+use crate::encode::Encode;
+use crate::opcodes::Opcode;
+use crate::sink::{Refusal, Sink};
+
+/// An instruction that opens a block, whose one immediate is a block type (binary format, control instructions). The
+/// number of a variant is its key.
+#[derive(Clone, Copy, Debug, PartialEq, Eq)]
+pub enum BlockOp {
+    /// `block`
+    Block = 0x02,
+    /// `loop`
+    Loop = 0x03,
+    /// `if`
+    If = 0x04,
+    /// `try`
+    Try = 0x06,
+}
+
+impl BlockOp {
+    /// The opcode that stands before the block type (binary format, control instructions).
+    pub fn opcode(self) -> Opcode
+        ensures { result ≡ opcode_of (block_key self) }
+    {
+        Opcode::of(self as u32)
+    }
+}
+
+/// An instruction that opens a block: `block (result i32)` (binary format, control instructions).
+#[derive(Clone, Copy, Debug, PartialEq, Eq)]
+pub struct BlockInstr {
+    /// Which instruction it is.
+    pub op: BlockOp,
+    /// What the block takes and gives.
+    pub ty: BlockType,
+}
+
+impl Encode for BlockInstr {
+    ghost spelling = { λ i. instr (block_instr i.op i.ty) };
+
+    ghost in_range = { λ i. InRangeInstr (block_instr i.op i.ty) };
+
+    ghost is_ready = { λ i. is_covered_block_type i.ty };
+
+    fn encode<S: Sink>(&self, out: &mut S) -> Result<(), Refusal> {
+        (self.op.opcode(), self.ty).encode(out)
+    }
+}
+
+/// What stands between the two parts of an `if`, or at the end of a block (binary format, control instructions). The
+/// number of a variant is its key.
+#[derive(Clone, Copy, Debug, PartialEq, Eq)]
+pub enum Delimiter {
+    /// `else`
+    Else = 0x05,
+    /// `end`
+    End = 0x0b,
+}
+
+impl Delimiter {
+    /// The opcode, which stands alone (binary format, control instructions).
+    pub fn opcode(self) -> Opcode
+        ensures { result ≡ opcode_of (delimiter_key self) }
+    {
+        Opcode::of(self as u32)
+    }
+}
+
+impl Encode for Delimiter {
+    ghost spelling = { λ d. instr (delimiter_instr d) };
+
+    ghost in_range = { λ d. InRangeInstr (delimiter_instr d) };
+
+    ghost is_ready = { λ _. true };
+
+    fn encode<S: Sink>(&self, out: &mut S) -> Result<(), Refusal> {
+        self.opcode().encode(out)
+    }
+}
+
+/// A branch by a table, with what spells the list of its labels: `br_table 1 2 0` (binary format, control instructions).
+#[derive(Clone, Copy, Debug)]
+pub struct BrTable<L> {
+    /// The labels that an operand chooses from.
+    pub labels: L,
+    /// The label where the operand is too large.
+    pub default: u32,
+}
+
+impl<L: Encode> Encode for BrTable<L> {
+    ghost spelling = { λ i. br_table_bytes (L.spelling i.labels) i.default };
+
+    ghost in_range = { λ i. L.in_range i.labels × InRangeU32 i.default };
+
+    ghost is_ready = { λ i. L.is_ready i.labels };
+
+    fn encode<S: Sink>(&self, out: &mut S) -> Result<(), Refusal> {
+        (0x0eu8, (&self.labels, self.default)).encode(out)
+    }
+}
+
+/// A block that catches exceptions, with what spells the list of its clauses: `try_table (catch_all 0)` (binary format,
+/// control instructions).
+#[derive(Clone, Copy, Debug)]
+pub struct TryTable<C> {
+    /// What the block takes and gives.
+    pub ty: BlockType,
+    /// The clauses, in their order.
+    pub catches: C,
+}
+
+impl<C: Encode> Encode for TryTable<C> {
+    ghost spelling = { λ i. try_table_bytes i.ty (C.spelling i.catches) };
+
+    ghost in_range = { λ i. InRangeBlockType i.ty × C.in_range i.catches };
+
+    ghost is_ready = { λ i. is_covered_block_type i.ty && C.is_ready i.catches };
+
+    fn encode<S: Sink>(&self, out: &mut S) -> Result<(), Refusal> {
+        (0x1fu8, (self.ty, &self.catches)).encode(out)
+    }
+}

@@ -1,0 +1,239 @@
+//! Instructions of a resolved tree, as they are spelled.
+
+ghost use Rattle.std.specs.Prelude.{◌≡◌, true, map, option_map, IsTrue};
+ghost use Rattle.wast_base.specs.Ids.{is_number};
+ghost use Rattle.wast_tree.specs.Sites.{OfBlock, start, in_heap, in_mem_arg, in_select, in_indirect, in_use, in_br_table, in_try_table};
+ghost use Rattle.wasm_ops.specs.ConstantInstrs.{ref_null_instr};
+ghost use Rattle.wasm_ops.specs.Control.{catch_clause, InRangeCatch};
+ghost use Rattle.wasm_ops.specs.ControlInstrs.{block_instr, br_table_instr, try_table_instr};
+ghost use Rattle.wasm_ops.specs.IndexInstrs.{index_instr, index_pair_instr};
+ghost use Rattle.wasm_ops.specs.MemoryInstrs.{mem_instr};
+ghost use Rattle.wasm_ops.specs.SelectInstrs.{select_instr};
+ghost use Rattle.wasm_ops.specs.Sinks.{Writes};
+ghost use Rattle.wasm_ops.specs.Table.{instr, InRangeInstr};
+ghost use Rattle.wast_conv.specs.Encodable.{are_encodable, encodable, is_encodable_catch, is_encodable_instr};
+ghost use Rattle.wast_conv.specs.Meaning as meaning;
+
+use crate::conv;
+use crate::conv_entities::type_index;
+use crate::values::Resolved;
+use wasm_ops::{
+    BlockInstr, BlockOp, BrTable, Counted, Delimiter, Encode, F32Const, F64Const, I32Const,
+    I64Const, IndexInstr, IndexOp, IndexPair, IndexPairOp, MemInstr, RefNull, Refusal, Sink, Spell,
+};
+use wast_tree::{
+    BlockType, Boxed, BrTableIndices, CallIndirect, HeapType, Index, Instruction, MemArg, MemOp,
+    SelectTypes, TryTable, TryTableCatch,
+};
+
+/// An instruction whose one immediate is an index.
+fn put_index<S: Sink>(op: IndexOp, index: &Index, out: &mut S) -> Result<(), Refusal>
+    requires { IsTrue (is_number index.now) }
+    ensures { Writes S.rules (InRangeInstr (index_instr op (meaning.number index.now)))
+        out.old out.new (instr (index_instr op (meaning.number index.now))) result }
+{
+    IndexInstr {
+        op,
+        index: conv::index(index),
+    }
+    .encode(out)
+}
+
+/// An instruction whose immediates are two indices.
+fn put_pair<S: Sink>(
+    op: IndexPairOp,
+    first: &Index,
+    second: &Index,
+    out: &mut S,
+) -> Result<(), Refusal>
+    requires first { IsTrue (is_number first.now) }
+    requires second { IsTrue (is_number second.now) }
+    ensures { Writes S.rules (InRangeInstr (index_pair_instr op (meaning.number first.now) (meaning.number second.now)))
+        out.old out.new (instr (index_pair_instr op (meaning.number first.now) (meaning.number second.now))) result }
+{
+    IndexPair {
+        op,
+        first: conv::index(first),
+        second: conv::index(second),
+    }
+    .encode(out)
+}
+
+/// An indirect call: the index of its type, and then its table.
+fn put_indirect<S: Sink>(op: IndexPairOp, call: &CallIndirect, out: &mut S) -> Result<(), Refusal>
+    requires { IsTrue (encodable (in_indirect call.now)) }
+    ensures { Writes S.rules (InRangeInstr (index_pair_instr op (meaning.type_index call.now.ty) (meaning.number call.now.table)))
+        out.old out.new (instr (index_pair_instr op (meaning.type_index call.now.ty) (meaning.number call.now.table))) result }
+{
+    IndexPair {
+        op,
+        first: type_index(&call.ty),
+        second: conv::index(&call.table),
+    }
+    .encode(out)
+}
+
+/// A load or a store.
+fn put_mem<S: Sink>(op: MemOp, arg: &MemArg, out: &mut S) -> Result<(), Refusal>
+    requires { IsTrue (are_encodable (in_mem_arg arg.now)) }
+    ensures { Writes S.rules (InRangeInstr (mem_instr op (meaning.as_mem_arg arg.now)))
+        out.old out.new (instr (mem_instr op (meaning.as_mem_arg arg.now))) result }
+{
+    MemInstr {
+        op,
+        memarg: conv::mem_arg(arg),
+    }
+    .encode(out)
+}
+
+/// An instruction that opens a block.
+fn put_block<S: Sink>(op: BlockOp, block: &Boxed<BlockType>, out: &mut S) -> Result<(), Refusal>
+    requires { IsTrue (encodable (in_use OfBlock block.now.ty)) }
+    ensures { Writes S.rules (InRangeInstr (block_instr op (meaning.as_block_type block.now)))
+        out.old out.new (instr (block_instr op (meaning.as_block_type block.now))) result }
+{
+    BlockInstr {
+        op,
+        ty: conv::block_type(block.get()),
+    }
+    .encode(out)
+}
+
+/// A clause of `try_table` (binary format, control instructions).
+impl Spell<TryTableCatch<'_>> for Resolved {
+    ghost spelling = { λ _ c. catch_clause (meaning.as_catch c) };
+
+    ghost in_range = { λ _ c. InRangeCatch (meaning.as_catch c) };
+
+    ghost is_ready = { λ _ c. is_encodable_catch c };
+
+    #[tactic(auto, using(crate::proofs::Ready::sites_resolved))]
+    fn spell<S: Sink>(&self, clause: &TryTableCatch, out: &mut S) -> Result<(), Refusal> {
+        conv::catch(clause).encode(out)
+    }
+}
+
+/// A block that catches exceptions: its type, and its clauses.
+fn put_try_table<S: Sink>(table: &TryTable, out: &mut S) -> Result<(), Refusal>
+    requires { IsTrue (encodable (in_try_table start.blocks table.now)) }
+    ensures { Writes S.rules
+        (InRangeInstr (try_table_instr (meaning.as_block_type table.now.block) (map meaning.as_catch table.now.catches)))
+        out.old out.new
+        (instr (try_table_instr (meaning.as_block_type table.now.block) (map meaning.as_catch table.now.catches))) result }
+{
+    wasm_ops::TryTable {
+        ty: conv::block_type(table.block.get()),
+        catches: Counted(table.catches.as_slice(), Resolved),
+    }
+    .encode(out)
+}
+
+/// A branch by a table: its labels, and then the one for all other numbers.
+fn put_br_table<S: Sink>(table: &BrTableIndices, out: &mut S) -> Result<(), Refusal>
+    requires { IsTrue (encodable (in_br_table start.blocks table.now)) }
+    ensures { Writes S.rules
+        (InRangeInstr (br_table_instr (map meaning.number table.now.labels) (meaning.number table.now.default)))
+        out.old out.new
+        (instr (br_table_instr (map meaning.number table.now.labels) (meaning.number table.now.default))) result }
+{
+    BrTable {
+        labels: Counted(table.labels.as_slice(), Resolved),
+        default: conv::index(&table.default),
+    }
+    .encode(out)
+}
+
+/// The choice between two operands, with its types if they are written.
+fn put_select<S: Sink>(types: &SelectTypes, out: &mut S) -> Result<(), Refusal>
+    requires { IsTrue (are_encodable (in_select types.now)) }
+    ensures { Writes S.rules (InRangeInstr (select_instr (option_map (map meaning.as_val_type) types.now.tys)))
+        out.old out.new (instr (select_instr (option_map (map meaning.as_val_type) types.now.tys))) result }
+{
+    match &types.tys {
+        None => 0x1bu8.encode(out),
+        Some(written) => (0x1cu8, Counted(written.as_slice(), Resolved)).encode(out),
+    }
+}
+
+/// A null reference of a heap type.
+fn put_null<S: Sink>(ty: &HeapType, out: &mut S) -> Result<(), Refusal>
+    requires { IsTrue (are_encodable (in_heap ty.now)) }
+    ensures { Writes S.rules (InRangeInstr (ref_null_instr (meaning.as_heap_type ty.now)))
+        out.old out.new (instr (ref_null_instr (meaning.as_heap_type ty.now))) result }
+{
+    RefNull(conv::heap_type(ty)).encode(out)
+}
+
+/// An instruction (binary format, instructions).
+impl Spell<Instruction<'_>> for Resolved {
+    ghost spelling = { λ _ i. instr (meaning.as_instr i) };
+
+    ghost in_range = { λ _ i. InRangeInstr (meaning.as_instr i) };
+
+    ghost is_ready = { λ _ i. is_encodable_instr i };
+
+    fn spell<S: Sink>(&self, instruction: &Instruction, out: &mut S) -> Result<(), Refusal> {
+        match instruction {
+            Instruction::Plain(op) => op.encode(out),
+            Instruction::Mem(op, arg) => put_mem(*op, arg, out),
+            Instruction::block(block) => put_block(BlockOp::Block, block, out),
+            Instruction::loop_(block) => put_block(BlockOp::Loop, block, out),
+            Instruction::if_(block) => put_block(BlockOp::If, block, out),
+            Instruction::else_(_) => Delimiter::Else.encode(out),
+            Instruction::try_(block) => put_block(BlockOp::Try, block, out),
+            Instruction::try_table(table) => put_try_table(table, out),
+            Instruction::end_(_) => Delimiter::End.encode(out),
+            Instruction::delegate(label) => put_index(IndexOp::Delegate, label, out),
+            Instruction::br(label) => put_index(IndexOp::Br, label, out),
+            Instruction::br_if(label) => put_index(IndexOp::BrIf, label, out),
+            Instruction::br_table(table) => put_br_table(table, out),
+            Instruction::br_on_null(label) => put_index(IndexOp::BrOnNull, label, out),
+            Instruction::br_on_non_null(label) => put_index(IndexOp::BrOnNonNull, label, out),
+            Instruction::rethrow(label) => put_index(IndexOp::Rethrow, label, out),
+            Instruction::catch(tag) => put_index(IndexOp::Catch, tag, out),
+            Instruction::throw(tag) => put_index(IndexOp::Throw, tag, out),
+            Instruction::call(func) => put_index(IndexOp::Call, func, out),
+            Instruction::return_call(func) => put_index(IndexOp::ReturnCall, func, out),
+            Instruction::call_indirect(call) => put_indirect(IndexPairOp::CallIndirect, call, out),
+            Instruction::return_call_indirect(call) => {
+                put_indirect(IndexPairOp::ReturnCallIndirect, call, out)
+            }
+            Instruction::call_ref(ty) => put_index(IndexOp::CallRef, ty, out),
+            Instruction::return_call_ref(ty) => put_index(IndexOp::ReturnCallRef, ty, out),
+            Instruction::select(types) => put_select(types, out),
+            Instruction::local_get(local) => put_index(IndexOp::LocalGet, local, out),
+            Instruction::local_set(local) => put_index(IndexOp::LocalSet, local, out),
+            Instruction::local_tee(local) => put_index(IndexOp::LocalTee, local, out),
+            Instruction::global_get(global) => put_index(IndexOp::GlobalGet, global, out),
+            Instruction::global_set(global) => put_index(IndexOp::GlobalSet, global, out),
+            Instruction::table_get(arg) => put_index(IndexOp::TableGet, &arg.dst, out),
+            Instruction::table_set(arg) => put_index(IndexOp::TableSet, &arg.dst, out),
+            Instruction::table_init(arg) => {
+                put_pair(IndexPairOp::TableInit, &arg.elem, &arg.table, out)
+            }
+            Instruction::elem_drop(elem) => put_index(IndexOp::ElemDrop, elem, out),
+            Instruction::table_copy(arg) => {
+                put_pair(IndexPairOp::TableCopy, &arg.dst, &arg.src, out)
+            }
+            Instruction::table_grow(arg) => put_index(IndexOp::TableGrow, &arg.dst, out),
+            Instruction::table_size(arg) => put_index(IndexOp::TableSize, &arg.dst, out),
+            Instruction::table_fill(arg) => put_index(IndexOp::TableFill, &arg.dst, out),
+            Instruction::memory_size(arg) => put_index(IndexOp::MemorySize, &arg.mem, out),
+            Instruction::memory_grow(arg) => put_index(IndexOp::MemoryGrow, &arg.mem, out),
+            Instruction::memory_init(arg) => {
+                put_pair(IndexPairOp::MemoryInit, &arg.segment, &arg.mem, out)
+            }
+            Instruction::data_drop(data) => put_index(IndexOp::DataDrop, data, out),
+            Instruction::memory_copy(arg) => {
+                put_pair(IndexPairOp::MemoryCopy, &arg.dst, &arg.src, out)
+            }
+            Instruction::memory_fill(arg) => put_index(IndexOp::MemoryFill, &arg.mem, out),
+            Instruction::i32_const(value) => I32Const(*value).encode(out),
+            Instruction::i64_const(value) => I64Const(*value).encode(out),
+            Instruction::f32_const(value) => F32Const(value.bits).encode(out),
+            Instruction::f64_const(value) => F64Const(value.bits).encode(out),
+            Instruction::ref_null(ty) => put_null(ty, out),
+            Instruction::ref_func(func) => put_index(IndexOp::RefFunc, func, out),
+        }
+    }
+}

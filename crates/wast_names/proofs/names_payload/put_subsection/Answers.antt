@@ -1,0 +1,30 @@
+use Rattle.std.proofs.Common.{subst, refl}
+use Rattle.std.specs.List.{flat_map}
+use Rattle.std.proofs.lemmas.List.{map-id}
+use Rattle.wasm_ops.specs.Sinks.{Writes}
+use Rattle.wasm_out.specs.NameSectionBytes.{subsection_id, name_entry, map_entry, InRangeNameEntry, InRangeMapEntry}
+use Rattle.wast_names.specs.GivenNames.{named_from}
+use Rattle.wast_names.specs.FoundNames.{map_bytes, InRangeMap}
+use Rattle.wast_names.specs.ModuleNames.{named_of, named_items, named_within, named_lists}
+use Rattle.wast_names.specs.WithinItems.{lists_within}
+use Rattle.wast_names.proofs.NameMaps.{direct_written, indirect_written}
+use Rattle.wast_names.proofs.names_payload.put_subsection.Goals as goal
+
+pub returns-in-Items : goal.returns-in-Items
+returns-in-Items g c =
+    let rules = g.S.Sink.rules in
+    let space = c.in-Items.space in
+    let id = c.id_of.result in
+    rw c.in-Items.is (direct_written rules c.args.out.now c.put_map.new.out (named_of space) (named_items space c.args.fields.now) id c.put_map.result c.id_of.ensures
+    (subst (λ xs. Writes rules (InRangeMap name_entry InRangeNameEntry (named_from 0 xs)) c.args.out.now c.put_map.new.out (map_bytes id name_entry (named_from 0 xs)) c.put_map.result) c.with_items-there.ensures c.put_map.ensures))
+
+pub returns-in-Within : goal.returns-in-Within
+returns-in-Within g c =
+    let rules = g.S.Sink.rules in
+    let w = c.in-Within.within in
+    let fields = c.args.fields.now in
+    let r = c.put_lists.result in
+    let id = subsection_id (named_within w) in
+    rw c.in-Within.is (indirect_written rules c.args.out.now c.put_lists.new.out (named_within w) (named_lists w fields) id r refl
+    (subst (λ xs. Writes rules (InRangeMap map_entry InRangeMapEntry (named_from 0 xs)) c.args.out.now c.put_lists.new.out (map_bytes id map_entry (named_from 0 xs)) r) c.with_lists-there.ensures
+    (subst (λ fs. Writes rules (InRangeMap map_entry InRangeMapEntry (named_from 0 (flat_map (lists_within fs w) c.with_lists-there.result.now))) c.args.out.now c.put_lists.new.out (map_bytes id map_entry (named_from 0 (flat_map (lists_within fs w) c.with_lists-there.result.now))) r) (map-id fields) c.put_lists.ensures)))

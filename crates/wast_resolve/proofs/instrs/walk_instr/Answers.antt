@@ -1,0 +1,117 @@
+use Rattle.std.specs.Prelude.{⊤, [], ◌∷◌}
+use Rattle.wast_base.specs.Blocks.{closed}
+use Rattle.wast_base.specs.Ids.{marked}
+use Rattle.wast_map.specs.Mapped.{mapped_br_table}
+use Rattle.wast_tree.specs.Sites.{Ends, LocalAt, Repeated, at_label, in_br_table, in_select}
+use Rattle.wast_resolve.specs.Tree.instr
+use Rattle.wast_resolve.specs.Demands.{HasMany, open_counts, site_demands}
+use Rattle.wast_resolve.specs.Resolved.{numbering}
+use Rattle.wast_resolve.specs.Resolvers.{scope_of}
+use Rattle.wast_resolve.proofs.Moving.{asking_moves, br_table_moves}
+use Rattle.wast_resolve.proofs.Parts.{walks_in}
+use Rattle.wast_resolve.proofs.instrs.walk_instr.Goals as goal
+
+pub returns-in-block-clause-blocks : goal.returns-in-block-clause-blocks
+returns-in-block-clause-blocks c l = rw c.in-block.is (c.walk_block.ensures.blocks l)
+
+pub returns-in-loop_-clause-blocks : goal.returns-in-loop_-clause-blocks
+returns-in-loop_-clause-blocks c l = rw c.in-loop_.is (c.walk_block-in-loop_.ensures.blocks l)
+
+pub returns-in-if_-clause-blocks : goal.returns-in-if_-clause-blocks
+returns-in-if_-clause-blocks c l = rw c.in-if_.is (c.walk_block-in-if_.ensures.blocks l)
+
+pub returns-in-try_-clause-blocks : goal.returns-in-try_-clause-blocks
+returns-in-try_-clause-blocks c l = rw c.in-try_.is (c.walk_block-in-try_.ensures.blocks l)
+
+pub returns-in-end_-clause-blocks : goal.returns-in-end_-clause-blocks
+returns-in-end_-clause-blocks c l = rw c.in-end_.is (c.walk_end.ensures.blocks l)
+
+pub returns-in-delegate-clause-blocks : goal.returns-in-delegate-clause-blocks
+returns-in-delegate-clause-blocks c l = rw c.in-delegate.is (c.walk_delegate.ensures.blocks l)
+
+pub returns-in-br_table-clause-blocks : goal.returns-in-br_table-clause-blocks
+returns-in-br_table-clause-blocks c l = rw c.in-br_table.is (br_table_moves c.args.labels.now l c.in-br_table.table c.walk_br_table.result)
+
+pub returns-in-else_-clause-walks : goal.returns-in-else_-clause-walks
+returns-in-else_-clause-walks c l numbers =
+    let names = c.args.names.now in
+    let label = c.in-else_.label in
+    rw c.in-else_.is (walks_in ⊤ (HasMany []) instr.else_ (site_demands (scope_of names) (Repeated c.args.labels.now.blocks (marked label) ∷ [])) label label c.walk_else.result (c.walk_else.ensures names))
+
+pub returns-in-end_-clause-walks : goal.returns-in-end_-clause-walks
+returns-in-end_-clause-walks c l numbers =
+    let names = c.args.names.now in
+    let label = c.in-end_.label in
+    rw c.in-end_.is (walks_in ⊤ (HasMany []) instr.end_ (site_demands (scope_of names) (Repeated c.args.labels.now.blocks (marked label) ∷ Ends ∷ [])) label label c.walk_end.result (c.walk_end.ensures.walks names))
+
+pub returns-in-delegate-clause-walks : goal.returns-in-delegate-clause-walks
+returns-in-delegate-clause-walks c l numbers =
+    let names = c.args.names.now in
+    let blocks = closed c.args.labels.now.blocks in
+    let label = c.in-delegate.label in
+    rw c.in-delegate.is (walks_in ⊤ (HasMany []) instr.delegate (site_demands (scope_of names) (Ends ∷ at_label blocks label)) ((numbering (scope_of names)).label blocks label) c.walk_delegate.new.label c.walk_delegate.result
+    (c.walk_delegate.ensures.walks names))
+
+pub returns-in-br_table-clause-walks : goal.returns-in-br_table-clause-walks
+returns-in-br_table-clause-walks c l numbers =
+    let names = c.args.names.now in
+    let blocks = c.args.labels.now.blocks in
+    let table = c.in-br_table.table in
+    rw c.in-br_table.is (walks_in ⊤ (HasMany (open_counts (in_br_table blocks table))) instr.br_table (site_demands (scope_of names) (in_br_table blocks table)) (mapped_br_table (numbering (scope_of names)) blocks table) c.walk_br_table.new.table
+    c.walk_br_table.result (c.walk_br_table.ensures names))
+
+pub returns-in-br-clause-walks : goal.returns-in-br-clause-walks
+returns-in-br-clause-walks c l numbers =
+    let names = c.args.names.now in
+    let blocks = c.args.labels.now.blocks in
+    let label = c.in-br.label in
+    rw c.in-br.is (walks_in ⊤ (HasMany []) instr.br (site_demands (scope_of names) (at_label blocks label)) ((numbering (scope_of names)).label blocks label) c.walk_branch.new.label c.walk_branch.result (c.walk_branch.ensures names))
+
+pub returns-in-br_if-clause-walks : goal.returns-in-br_if-clause-walks
+returns-in-br_if-clause-walks c l numbers =
+    let names = c.args.names.now in
+    let blocks = c.args.labels.now.blocks in
+    let label = c.in-br_if.label in
+    rw c.in-br_if.is (walks_in ⊤ (HasMany []) instr.br_if (site_demands (scope_of names) (at_label blocks label)) ((numbering (scope_of names)).label blocks label) c.walk_branch-in-br_if.new.label c.walk_branch-in-br_if.result (c.walk_branch-in-br_if.ensures names))
+
+pub returns-in-br_on_null-clause-walks : goal.returns-in-br_on_null-clause-walks
+returns-in-br_on_null-clause-walks c l numbers =
+    let names = c.args.names.now in
+    let blocks = c.args.labels.now.blocks in
+    let label = c.in-br_on_null.label in
+    rw c.in-br_on_null.is (walks_in ⊤ (HasMany []) instr.br_on_null (site_demands (scope_of names) (at_label blocks label)) ((numbering (scope_of names)).label blocks label) c.walk_branch-in-br_on_null.new.label c.walk_branch-in-br_on_null.result (c.walk_branch-in-br_on_null.ensures names))
+
+pub returns-in-br_on_non_null-clause-walks : goal.returns-in-br_on_non_null-clause-walks
+returns-in-br_on_non_null-clause-walks c l numbers =
+    let names = c.args.names.now in
+    let blocks = c.args.labels.now.blocks in
+    let label = c.in-br_on_non_null.label in
+    rw c.in-br_on_non_null.is (walks_in ⊤ (HasMany []) instr.br_on_non_null (site_demands (scope_of names) (at_label blocks label)) ((numbering (scope_of names)).label blocks label) c.walk_branch-in-br_on_non_null.new.label c.walk_branch-in-br_on_non_null.result (c.walk_branch-in-br_on_non_null.ensures names))
+
+pub returns-in-rethrow-clause-walks : goal.returns-in-rethrow-clause-walks
+returns-in-rethrow-clause-walks c l numbers =
+    let names = c.args.names.now in
+    let blocks = c.args.labels.now.blocks in
+    let label = c.in-rethrow.label in
+    rw c.in-rethrow.is (walks_in ⊤ (HasMany []) instr.rethrow (site_demands (scope_of names) (at_label blocks label)) ((numbering (scope_of names)).label blocks label) c.walk_branch-in-rethrow.new.label c.walk_branch-in-rethrow.result (c.walk_branch-in-rethrow.ensures names))
+
+pub returns-in-select-clause-blocks : goal.returns-in-select-clause-blocks
+returns-in-select-clause-blocks c l = rw c.in-select.is (asking_moves c.args.labels.now l (in_select c.in-select.types) c.walk_part-in-select.result)
+
+pub returns-in-local_get-clause-walks : goal.returns-in-local_get-clause-walks
+returns-in-local_get-clause-walks c l numbers =
+    let names = c.args.names.now in
+    let i = c.in-local_get.local in
+    rw c.in-local_get.is (walks_in ⊤ (HasMany []) instr.local_get (site_demands (scope_of names) (LocalAt l i ∷ [])) ((numbering (scope_of names)).local l i) c.walk_local.new.index c.walk_local.result (c.walk_local.ensures names l numbers))
+
+pub returns-in-local_set-clause-walks : goal.returns-in-local_set-clause-walks
+returns-in-local_set-clause-walks c l numbers =
+    let names = c.args.names.now in
+    let i = c.in-local_set.local in
+    rw c.in-local_set.is (walks_in ⊤ (HasMany []) instr.local_set (site_demands (scope_of names) (LocalAt l i ∷ [])) ((numbering (scope_of names)).local l i) c.walk_local-in-local_set.new.index c.walk_local-in-local_set.result (c.walk_local-in-local_set.ensures names l numbers))
+
+pub returns-in-local_tee-clause-walks : goal.returns-in-local_tee-clause-walks
+returns-in-local_tee-clause-walks c l numbers =
+    let names = c.args.names.now in
+    let i = c.in-local_tee.local in
+    rw c.in-local_tee.is (walks_in ⊤ (HasMany []) instr.local_tee (site_demands (scope_of names) (LocalAt l i ∷ [])) ((numbering (scope_of names)).local l i) c.walk_local-in-local_tee.new.index c.walk_local-in-local_tee.result (c.walk_local-in-local_tee.ensures names l numbers))

@@ -1,0 +1,170 @@
+//! The fields of the worked rows about blocks and labels.
+
+use crate::samples::{at, id, one, two};
+use std::alloc::Global;
+use wast_tree::{
+    BareOp, BlockKind, BlockType, Expression, Func, FunctionType, GlobalType, Id, Index,
+    InlineExport, Instruction, Maker, ModuleField, Plain, Seq, Tag, TagKind, TagType,
+    TryTableCatch, TryTableCatchKind, TypeUse, ValType,
+};
+
+/// `(func ..)` of these instructions, at a place.
+fn func_of<'a>(alloc: Global, offset: usize, instrs: Seq<Instruction<'a>>) -> ModuleField<'a> {
+    let none = TypeUse::none();
+    let func = Func::new(alloc, at(offset), None, none, Seq::new(alloc), instrs);
+    ModuleField::Func(func)
+}
+
+/// What `block ..` opens, without a type.
+fn labelled<'a>(label: Option<Id<'a>>) -> BlockType<'a> {
+    BlockType {
+        label,
+        label_name: None,
+        ty: TypeUse::none(),
+    }
+}
+
+/// `block $name` at the end of a body.
+fn open<'a>(maker: &mut Maker, instrs: &mut Seq<Instruction<'a>>, label: Id<'a>) {
+    maker.push_block(instrs, BlockKind::Block, labelled(Some(label)));
+}
+
+/// `br $label` at the end of a body.
+fn branch<'a>(maker: &mut Maker, instrs: &mut Seq<Instruction<'a>>, label: Id<'a>) {
+    maker.push_instruction(instrs, Instruction::br(Index::Id(label)));
+}
+
+/// `end` at the end of a body.
+fn close<'a>(maker: &mut Maker, instrs: &mut Seq<Instruction<'a>>) {
+    maker.push_instruction(instrs, Instruction::end_(None));
+}
+
+/// An instruction without immediates at the end of a body.
+fn plain<'a>(maker: &mut Maker, instrs: &mut Seq<Instruction<'a>>, op: BareOp) {
+    maker.push_instruction(instrs, Instruction::Plain(Plain::Bare(op)));
+}
+
+/// `(tag $e)` at the beginning of a module.
+fn tag_e<'a>(alloc: Global) -> ModuleField<'a> {
+    ModuleField::Tag(Tag {
+        span: at(9),
+        id: Some(id("e", 13)),
+        name: None,
+        exports: InlineExport::none(alloc),
+        ty: TagType::Exception(TypeUse::none()),
+        kind: TagKind::Inline,
+    })
+}
+
+/// `(module (tag $e) (func block $h try_table (catch $e $h) end end))`
+pub(crate) fn caught_exception<'a>(alloc: Global, maker: &mut Maker) -> Seq<ModuleField<'a>> {
+    let catch = TryTableCatch {
+        kind: TryTableCatchKind::Catch(Index::Id(id("e", 49))),
+        label: Index::Id(id("h", 52)),
+    };
+    let catches = maker.catches(&[catch]);
+    let mut instrs = Seq::new(alloc);
+    open(maker, &mut instrs, id("h", 29));
+    maker.push_try_table(&mut instrs, labelled(None), catches);
+    close(maker, &mut instrs);
+    close(maker, &mut instrs);
+    let func = func_of(alloc, 18, instrs);
+    two(alloc, maker, tag_e(alloc), func)
+}
+
+/// `(module (func try $a try delegate $a end))`
+pub(crate) fn delegated_exception<'a>(alloc: Global, maker: &mut Maker) -> Seq<ModuleField<'a>> {
+    let mut instrs = Seq::new(alloc);
+    maker.push_block(&mut instrs, BlockKind::Try, labelled(Some(id("a", 18))));
+    maker.push_block(&mut instrs, BlockKind::Try, labelled(None));
+    let outer = Index::Id(id("a", 34));
+    maker.push_instruction(&mut instrs, Instruction::delegate(outer));
+    close(maker, &mut instrs);
+    let func = func_of(alloc, 9, instrs);
+    one(alloc, maker, func)
+}
+
+/// `(module (func block $l end $m))`
+pub(crate) fn end_of_another_label<'a>(alloc: Global, maker: &mut Maker) -> Seq<ModuleField<'a>> {
+    let mut instrs = Seq::new(alloc);
+    open(maker, &mut instrs, id("l", 20));
+    maker.push_instruction(&mut instrs, Instruction::end_(Some(id("m", 27))));
+    let func = func_of(alloc, 9, instrs);
+    one(alloc, maker, func)
+}
+
+/// `(module (func end $m))`
+pub(crate) fn end_of_no_block<'a>(alloc: Global, maker: &mut Maker) -> Seq<ModuleField<'a>> {
+    let mut instrs = Seq::new(alloc);
+    maker.push_instruction(&mut instrs, Instruction::end_(Some(id("m", 18))));
+    let func = func_of(alloc, 9, instrs);
+    one(alloc, maker, func)
+}
+
+/// `(module (func block $a block $b br $a br $b end end))`
+pub(crate) fn branches_out_of_two<'a>(alloc: Global, maker: &mut Maker) -> Seq<ModuleField<'a>> {
+    let mut instrs = Seq::new(alloc);
+    open(maker, &mut instrs, id("a", 20));
+    open(maker, &mut instrs, id("b", 29));
+    branch(maker, &mut instrs, id("a", 35));
+    branch(maker, &mut instrs, id("b", 41));
+    close(maker, &mut instrs);
+    close(maker, &mut instrs);
+    let func = func_of(alloc, 9, instrs);
+    one(alloc, maker, func)
+}
+
+/// `(module (func block (result i32 i32) unreachable end drop drop))`
+pub(crate) fn block_of_two_results<'a>(alloc: Global, maker: &mut Maker) -> Seq<ModuleField<'a>> {
+    let results = maker.values(&[ValType::I32, ValType::I32]);
+    let ty = FunctionType::new(Seq::new(alloc), results);
+    let block = BlockType {
+        label: None,
+        label_name: None,
+        ty: TypeUse::inline(ty),
+    };
+    let mut instrs = Seq::new(alloc);
+    maker.push_block(&mut instrs, BlockKind::Block, block);
+    plain(maker, &mut instrs, BareOp::unreachable);
+    close(maker, &mut instrs);
+    plain(maker, &mut instrs, BareOp::drop);
+    plain(maker, &mut instrs, BareOp::drop);
+    let func = func_of(alloc, 9, instrs);
+    one(alloc, maker, func)
+}
+
+/// `(module (func block $a block $a br $a end br $a end))`
+pub(crate) fn label_within_its_like<'a>(alloc: Global, maker: &mut Maker) -> Seq<ModuleField<'a>> {
+    let mut instrs = Seq::new(alloc);
+    open(maker, &mut instrs, id("a", 20));
+    open(maker, &mut instrs, id("a", 29));
+    branch(maker, &mut instrs, id("a", 35));
+    close(maker, &mut instrs);
+    branch(maker, &mut instrs, id("a", 45));
+    close(maker, &mut instrs);
+    let func = func_of(alloc, 9, instrs);
+    one(alloc, maker, func)
+}
+
+/// `(module (func end block $l br $l end))`
+pub(crate) fn block_behind_an_end<'a>(alloc: Global, maker: &mut Maker) -> Seq<ModuleField<'a>> {
+    let mut instrs = Seq::new(alloc);
+    close(maker, &mut instrs);
+    open(maker, &mut instrs, id("l", 24));
+    branch(maker, &mut instrs, id("l", 30));
+    close(maker, &mut instrs);
+    let func = func_of(alloc, 9, instrs);
+    one(alloc, maker, func)
+}
+
+/// `(module (global i32 block end i32.const 0))`
+pub(crate) fn global_of_a_block<'a>(alloc: Global, maker: &mut Maker) -> Seq<ModuleField<'a>> {
+    let mut instrs = Seq::new(alloc);
+    maker.push_block(&mut instrs, BlockKind::Block, labelled(None));
+    close(maker, &mut instrs);
+    maker.push_instruction(&mut instrs, Instruction::i32_const(0));
+    let value = Expression::new(alloc, instrs);
+    let ty = GlobalType::new(ValType::I32, false);
+    let global = wast_tree::Global::new(alloc, at(9), None, ty, value);
+    one(alloc, maker, ModuleField::Global(global))
+}

@@ -1,0 +1,221 @@
+//! Type uses are bound in the constant expressions of tables, globals and segments.
+
+ghost use Rattle.std.specs.Prelude.{option_map};
+ghost use Rattle.wast_tree.specs.Sites.{if_there, in_constant, in_table_kind, in_global, in_global_kind, in_elem, in_elem_kind, in_payload, in_data_kind};
+ghost use Rattle.wast_map.specs.Mapped.{mapped_constant, mapped_table, mapped_table_kind, mapped_global, mapped_global_kind, mapped_elem, mapped_elem_kind, mapped_payload, mapped_data, mapped_data_kind};
+ghost use Rattle.wast_types.specs.NeedingUses.{needed_in};
+ghost use Rattle.wast_types.specs.Expanded.{binding};
+
+use crate::binding::{Bind, bind_each};
+use crate::expanders::Expander;
+use std::alloc;
+use wast_tree::{
+    Data, DataKind, Elem, ElemKind, ElemPayload, Error, Expression, Gensym, Global, GlobalKind,
+    ModuleField, Seq, Table, TableKind,
+};
+
+impl<'a> Bind<'a> for Table<'a> {
+    ghost needed = { λ t. needed_in (in_table_kind t.kind) };
+
+    ghost bound = { λ find. mapped_table (binding find) };
+
+    fn bind(
+        &mut self,
+        alloc: alloc::Global,
+        cx: &mut Expander<'a>,
+        implied: &mut Seq<ModuleField<'a>>,
+        gensym: &mut Gensym,
+    ) -> Result<(), Error<'a>> {
+        self.kind.bind(alloc, cx, implied, gensym)?;
+        Ok(())
+    }
+}
+
+impl<'a> Bind<'a> for TableKind<'a> {
+    ghost needed = { λ k. needed_in (in_table_kind k) };
+
+    ghost bound = { λ find. mapped_table_kind (binding find) };
+
+    fn bind(
+        &mut self,
+        alloc: alloc::Global,
+        cx: &mut Expander<'a>,
+        implied: &mut Seq<ModuleField<'a>>,
+        gensym: &mut Gensym,
+    ) -> Result<(), Error<'a>> {
+        match self {
+            TableKind::Import { .. } => Ok(()),
+            TableKind::Normal { init_expr, .. } => {
+                init_expr.bind(alloc, cx, implied, gensym)?;
+                Ok(())
+            }
+            TableKind::Inline { payload, .. } => {
+                payload.bind(alloc, cx, implied, gensym)?;
+                Ok(())
+            }
+        }
+    }
+}
+
+impl<'a> Bind<'a> for Global<'a> {
+    ghost needed = { λ g. needed_in (in_global g) };
+
+    ghost bound = { λ find. mapped_global (binding find) };
+
+    fn bind(
+        &mut self,
+        alloc: alloc::Global,
+        cx: &mut Expander<'a>,
+        implied: &mut Seq<ModuleField<'a>>,
+        gensym: &mut Gensym,
+    ) -> Result<(), Error<'a>> {
+        self.kind.bind(alloc, cx, implied, gensym)?;
+        Ok(())
+    }
+}
+
+impl<'a> Bind<'a> for GlobalKind<'a> {
+    ghost needed = { λ k. needed_in (in_global_kind k) };
+
+    ghost bound = { λ find. mapped_global_kind (binding find) };
+
+    fn bind(
+        &mut self,
+        alloc: alloc::Global,
+        cx: &mut Expander<'a>,
+        implied: &mut Seq<ModuleField<'a>>,
+        gensym: &mut Gensym,
+    ) -> Result<(), Error<'a>> {
+        match self {
+            GlobalKind::Import(_) => Ok(()),
+            GlobalKind::Inline(value) => {
+                value.bind(alloc, cx, implied, gensym)?;
+                Ok(())
+            }
+        }
+    }
+}
+
+impl<'a> Bind<'a> for Elem<'a> {
+    ghost needed = { λ e. needed_in (in_elem e) };
+
+    ghost bound = { λ find. mapped_elem (binding find) };
+
+    fn bind(
+        &mut self,
+        alloc: alloc::Global,
+        cx: &mut Expander<'a>,
+        implied: &mut Seq<ModuleField<'a>>,
+        gensym: &mut Gensym,
+    ) -> Result<(), Error<'a>> {
+        self.kind.bind(alloc, cx, implied, gensym)?;
+        self.payload.bind(alloc, cx, implied, gensym)?;
+        Ok(())
+    }
+}
+
+impl<'a> Bind<'a> for ElemKind<'a> {
+    ghost needed = { λ k. needed_in (in_elem_kind k) };
+
+    ghost bound = { λ find. mapped_elem_kind (binding find) };
+
+    fn bind(
+        &mut self,
+        alloc: alloc::Global,
+        cx: &mut Expander<'a>,
+        implied: &mut Seq<ModuleField<'a>>,
+        gensym: &mut Gensym,
+    ) -> Result<(), Error<'a>> {
+        match self {
+            ElemKind::Passive => Ok(()),
+            ElemKind::Declared => Ok(()),
+            ElemKind::Active { offset, .. } => {
+                offset.bind(alloc, cx, implied, gensym)?;
+                Ok(())
+            }
+        }
+    }
+}
+
+impl<'a> Bind<'a> for ElemPayload<'a> {
+    ghost needed = { λ p. needed_in (in_payload p) };
+
+    ghost bound = { λ find. mapped_payload (binding find) };
+
+    fn bind(
+        &mut self,
+        alloc: alloc::Global,
+        cx: &mut Expander<'a>,
+        implied: &mut Seq<ModuleField<'a>>,
+        gensym: &mut Gensym,
+    ) -> Result<(), Error<'a>> {
+        match self {
+            ElemPayload::Indices(_) => Ok(()),
+            ElemPayload::Exprs { exprs, .. } => {
+                bind_each(exprs, alloc, cx, implied, gensym)?;
+                Ok(())
+            }
+        }
+    }
+}
+
+impl<'a> Bind<'a> for Data<'a> {
+    ghost needed = { λ d. needed_in (in_data_kind d.kind) };
+
+    ghost bound = { λ find. mapped_data (binding find) };
+
+    fn bind(
+        &mut self,
+        alloc: alloc::Global,
+        cx: &mut Expander<'a>,
+        implied: &mut Seq<ModuleField<'a>>,
+        gensym: &mut Gensym,
+    ) -> Result<(), Error<'a>> {
+        self.kind.bind(alloc, cx, implied, gensym)?;
+        Ok(())
+    }
+}
+
+impl<'a> Bind<'a> for DataKind<'a> {
+    ghost needed = { λ k. needed_in (in_data_kind k) };
+
+    ghost bound = { λ find. mapped_data_kind (binding find) };
+
+    fn bind(
+        &mut self,
+        alloc: alloc::Global,
+        cx: &mut Expander<'a>,
+        implied: &mut Seq<ModuleField<'a>>,
+        gensym: &mut Gensym,
+    ) -> Result<(), Error<'a>> {
+        match self {
+            DataKind::Passive => Ok(()),
+            DataKind::Active { offset, .. } => {
+                offset.bind(alloc, cx, implied, gensym)?;
+                Ok(())
+            }
+        }
+    }
+}
+
+impl<'a> Bind<'a> for Option<Expression<'a>> {
+    ghost needed = { if_there (λ e. needed_in (in_constant e)) };
+
+    ghost bound = { λ find o. option_map (mapped_constant (binding find)) o };
+
+    fn bind(
+        &mut self,
+        alloc: alloc::Global,
+        cx: &mut Expander<'a>,
+        implied: &mut Seq<ModuleField<'a>>,
+        gensym: &mut Gensym,
+    ) -> Result<(), Error<'a>> {
+        match self {
+            None => Ok(()),
+            Some(expression) => {
+                expression.bind(alloc, cx, implied, gensym)?;
+                Ok(())
+            }
+        }
+    }
+}
