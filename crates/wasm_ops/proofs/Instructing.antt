@@ -6,29 +6,37 @@ use Rattle.std.specs.Prelude.{All, nat_lt}
 use Rattle.std.proofs.lemmas.List.{length-map}
 use Rattle.std.proofs.lemmas.List.Elements.{All-nil, All-head}
 use Rattle.std.proofs.lemmas.List.Folds.{flat_map-map}
+use Rattle.wast_base.specs.declared.lane_ops.LaneOp.{LaneOp}
+use Rattle.wast_base.specs.declared.lane_ops.MemLaneOp.{MemLaneOp}
 use Rattle.wast_base.specs.declared.mem_ops.MemOp.{MemOp}
 use Rattle.wast_base.specs.declared.plain.Plain.{Plain}
 use Rattle.wasm_ops.specs.declared.blocks.BlockType.{BlockType}
 use Rattle.wasm_ops.specs.declared.blocks.Catch.{Catch}
+use Rattle.wasm_ops.specs.declared.casts.BrCastOp.{BrCastOp}
+use Rattle.wasm_ops.specs.declared.casts.CastOp.{CastOp}
 use Rattle.wasm_ops.specs.declared.control.BlockOp.{BlockOp}
 use Rattle.wasm_ops.specs.declared.control.Delimiter.{Delimiter}
 use Rattle.wasm_ops.specs.declared.instrs.IndexOp.{IndexOp}
 use Rattle.wasm_ops.specs.declared.instrs.IndexPairOp.{IndexPairOp}
 use Rattle.wasm_ops.specs.declared.opcodes.Opcode.{Opcode}
 use Rattle.wasm_ops.specs.declared.opcodes.Opcode.TheVariants.{Byte, Prefixed}
+use Rattle.wasm_ops.specs.declared.ref_types.RefType.{RefType}
 use Rattle.wasm_ops.specs.declared.sink.Refusal.{Refusal}
 use Rattle.wasm_ops.specs.declared.types.ValType.{ValType}
+use Rattle.wasm_ops.specs.declared.vectors.LanesOp.{LanesOp}
+use Rattle.wasm_ops.specs.CastInstrs.{cast_key, br_cast_key, br_cast_instr, nullables}
 use Rattle.wasm_ops.specs.Control.{InRangeBlockType, catch_clause, InRangeCatch}
 use Rattle.wasm_ops.specs.ControlInstrs.{block_key, delimiter_key, br_table_instr, br_table_bytes, try_table_instr, try_table_bytes}
 use Rattle.wasm_ops.specs.Covered.{is_covered_val_type}
 use Rattle.wasm_ops.specs.Leb128.{unsigned}
 use Rattle.wasm_ops.specs.IndexInstrs.{index_key, index_pair_key}
-use Rattle.wasm_ops.specs.Keys.{plain_key, mem_key}
+use Rattle.wasm_ops.specs.Keys.{plain_key, mem_key, lane_key, mem_lane_key}
 use Rattle.wasm_ops.specs.Opcodes.{opcode_of, opcode_bytes, InRangeOpcode}
 use Rattle.wasm_ops.specs.SelectInstrs.{select_instr, select_bytes}
 use Rattle.wasm_ops.specs.Sinks.{SinkRules, Writes}
-use Rattle.wasm_ops.specs.Spelling.{InRangeU32, vec, InRangeVec, val_type, InRangeValType}
-use Rattle.wasm_ops.specs.Table.{Kind, Index, Signed32, Signed64, Bits32, Bits64, Heap, Memarg, Block, Labels, Catches, Field, field, InRangeField, kinds_of, table, Instr, InRangeInstr, is_covered_instr, HasRow, instr}
+use Rattle.wasm_ops.specs.Spelling.{InRangeU32, vec, InRangeVec, heap_type, InRangeHeapType, val_type, InRangeValType}
+use Rattle.wasm_ops.specs.Table.{Kind, Index, Signed32, Signed64, Bits32, Bits64, Heap, Memarg, Block, Labels, Catches, Lane, Lanes, Nullables, Order, Field, field, InRangeField, kinds_of, table, Instr, InRangeInstr, is_covered_instr, HasRow, instr}
+use Rattle.wasm_ops.specs.VectorInstrs.{lanes_key}
 use Rattle.wasm_ops.proofs.Everywhere.{all_map, all_one, all_unmap}
 use Rattle.wasm_ops.proofs.Sinking.{puts_as, written_as}
 
@@ -49,6 +57,30 @@ index_pair_row op = grind (arith)
 pub mem_row : (op : MemOp) → kinds_of (opcode_of (mem_key op)) table ≡ Some (Memarg ∷ [])
 unfolding kinds_of table
 mem_row op = grind (arith)
+
+pub lane_row : (op : LaneOp) → kinds_of (opcode_of (lane_key op)) table ≡ Some (Lane ∷ [])
+unfolding kinds_of table
+lane_row op = grind (arith)
+
+pub mem_lane_row : (op : MemLaneOp) → kinds_of (opcode_of (mem_lane_key op)) table ≡ Some (Memarg ∷ Lane ∷ [])
+unfolding kinds_of table
+mem_lane_row op = grind (arith)
+
+pub lanes_row : (op : LanesOp) → kinds_of (opcode_of (lanes_key op)) table ≡ Some (Lanes ∷ [])
+unfolding kinds_of table
+lanes_row op = grind (arith)
+
+pub cast_row : (op : CastOp) (nullable : Bool) → kinds_of (opcode_of (cast_key op nullable)) table ≡ Some (Heap ∷ [])
+unfolding kinds_of table
+cast_row op nullable = grind (arith)
+
+pub br_cast_row : (op : BrCastOp) → kinds_of (opcode_of (br_cast_key op)) table ≡ Some (Nullables ∷ Index ∷ Heap ∷ Heap ∷ [])
+unfolding kinds_of table
+br_cast_row op = grind (arith)
+
+pub fence_row : kinds_of (opcode_of 0xfe0003) table ≡ Some (Order ∷ [])
+unfolding kinds_of table
+fence_row = refl
 
 pub i32_const_row : kinds_of (opcode_of 0x41) table ≡ Some (Signed32 ∷ [])
 unfolding kinds_of table
@@ -136,6 +168,17 @@ two_written rules a b key kind other x y InRange r f g p =
     written_as rules InRange (InRangeInstr (two key kind other x y)) a b (opcode_bytes (opcode_of key) ++ (field kind x ++ field other y)) (instr (two key kind other x y)) r
     (λ h. let both = f h in (both.0, (both.1, tt))) (λ i. g (i.0, i.1.0))
     (ap (λ bytes. opcode_bytes (opcode_of key) ++ (field kind x ++ bytes)) (sym (append-nil (field other y)))) p
+
+-- a branch on a cast, by its flags, label and heap types
+pub br_cast_written : {S A : Type 0} (rules : SinkRules S) (a b : S) (op : BrCastOp) (label : ℕ) (from to : RefType) (InRange : Type 0) (r : Result A Refusal)
+    → (InRange → InRangeU32 label × (InRangeHeapType from.heap_type × InRangeHeapType to.heap_type)) → (InRangeU32 label × (InRangeHeapType from.heap_type × InRangeHeapType to.heap_type) → InRange)
+    → Writes rules InRange a b (opcode_bytes (opcode_of (br_cast_key op)) ++ (nullables from.nullable to.nullable ∷ (unsigned label ++ (heap_type from.heap_type ++ heap_type to.heap_type)))) r
+    → Writes rules (InRangeInstr (br_cast_instr op label from to)) a b (instr (br_cast_instr op label from to)) r
+br_cast_written rules a b op label from to InRange r f g p =
+    let front = opcode_bytes (opcode_of (br_cast_key op)) in
+    written_as rules InRange (InRangeInstr (br_cast_instr op label from to)) a b (front ++ (nullables from.nullable to.nullable ∷ (unsigned label ++ (heap_type from.heap_type ++ heap_type to.heap_type)))) (instr (br_cast_instr op label from to)) r
+    (λ h. let is = f h in (tt, (is.0, (is.1.0, (is.1.1, tt))))) (λ i. g (i.1.0, (i.1.1.0, i.1.1.1.0)))
+    (ap (λ bytes. front ++ (nullables from.nullable to.nullable ∷ (unsigned label ++ (heap_type from.heap_type ++ bytes)))) (sym (append-nil (heap_type to.heap_type)))) p
 
 -- ---- branches by a table, with what spells their labels, and blocks, with what spells their clauses
 

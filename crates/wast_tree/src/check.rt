@@ -11,7 +11,7 @@ ghost use Rattle.wast_tree.specs.WellFormed.{is_written_index, is_kept, are_kept
 use crate::bearers::bearer_from;
 use crate::fields::ModuleField;
 use crate::visits::{Visitor, visit_fields};
-use wast_base::{Id, Index, Space};
+use wast_base::{Form, Id, Index, Space};
 
 /// Who tells whether a generated id is that of an item.
 trait Settler {
@@ -97,9 +97,7 @@ impl<S: Settler> Visitor for Keeper<S> {
         self.all = self.all && holds;
     }
 
-    fn supported(&mut self, holds: bool) {
-        self.all = self.all && holds;
-    }
+    fn covered(&mut self, _form: Form, _holds: bool) {}
 }
 
 /// Whether the fields keep to what a well formed list of them asks, by who settles indices.

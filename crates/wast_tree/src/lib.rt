@@ -5,13 +5,16 @@
 #![tactic(auto)]
 
 pub use wast_base::{
-    BareOp, Boxed, Error, F32Op, F64Op, Fault, Form, Gensym, I32Op, I64Op, Id, Index, IntoIter,
-    MemOp, NameAnnotation, Plain, RefOp, Seq, Space, Span,
+    AnyOp, ArrayOp, BareOp, Boxed, Error, ExternOp, F32Op, F32x4Op, F64Op, F64x2Op, Fault, Form,
+    Gensym, I16x8Op, I31Op, I32Op, I32x4Op, I64Op, I64x2Op, I8x16Op, Id, Index, IntoIter, LaneOp,
+    MemLaneOp, MemOp, NameAnnotation, Plain, RefOp, Seq, Space, Span, V128Op,
 };
 
 mod bearers;
 mod check;
 mod clauses;
+mod continuation_visits;
+mod continuations;
 mod entities;
 mod examples;
 mod field_visits;
@@ -22,12 +25,18 @@ mod imports;
 mod instrs;
 mod makers;
 mod moves;
+mod references;
 mod segments;
 mod types;
+mod uncovered;
+mod vectors;
 mod visits;
 mod written_out;
 
 pub use check::well_formed;
+pub use continuations::{
+    ContBind, Handle, Resume, ResumeTable, ResumeThrow, ResumeThrowRef, Switch,
+};
 pub use entities::{GlobalType, Limits, MemoryType, TableType, TagType};
 pub use fields::{
     Export, ExportKind, Func, FuncKind, Global, GlobalKind, InlineExport, InlineImport, Local,
@@ -36,7 +45,7 @@ pub use fields::{
 pub use generations::gensym_bound;
 pub use immediates::{
     BlockType, BrTableIndices, CallIndirect, F32, F64, MemArg, MemArgOrdering, MemArgTarget,
-    MemoryArg, MemoryCopy, MemoryInit, Ordering, SelectTypes, TableArg, TableCopy, TableInit,
+    MemoryArg, MemoryCopy, MemoryInit, Ordered, Ordering, SelectTypes, TableArg, TableCopy, TableInit,
     TryTable, TryTableCatch, TryTableCatchKind,
 };
 pub use imports::{ImportItems, Imports, ItemKind, ItemSig};
@@ -48,10 +57,16 @@ pub use moves::{
     discard_item_kind, discard_said_inline, discard_tag_type, discard_type, discard_type_use,
     fields_with_capacity, push_field, take_field,
 };
+pub use references::{
+    ArrayCopy, ArrayFill, ArrayInit, ArrayNewData, ArrayNewElem, ArrayNewFixed, BrOnCast,
+    BrOnCastDescEq, BrOnCastDescEqFail, BrOnCastFail, RefCast, RefCastDescEq, RefTest, StructAccess,
+};
 pub use segments::{Data, DataKind, DataVal, Elem, ElemKind, ElemPayload};
 pub use types::{
-    AbstractHeapType, ArrayType, FunctionType, HeapType, InnerTypeKind, Rec, RefType, StorageType,
+    AbstractHeapType, ArrayType, ContType, FunctionType, HeapType, InnerTypeKind, Rec, RefType, StorageType,
     StructField, StructType, Type, TypeDef, TypeUse, ValType,
 };
+pub use uncovered::uncovered;
+pub use vectors::{I8x16Shuffle, LaneArg, LoadOrStoreLane, V128Const};
 pub use visits::{ItemVisitor, visit_items};
 pub use written_out::is_written_out;
