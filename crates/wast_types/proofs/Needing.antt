@@ -7,8 +7,10 @@ use Rattle.wast_base.specs.Ids.{Name, Mark, marked, generated}
 use Rattle.wast_base.specs.Spaces.{name_if}
 use Rattle.wast_base.specs.Blocks.{Blocks, is_balanced}
 use Rattle.wast_tree.specs.Instrs.{turns}
-use Rattle.wast_tree.specs.Sites.{Ask, Clause, OfItem, OfBlock, Site, Asked, Begins, Here, start, asking, at_index, at_label, in_caught, in_catch, in_block, in_try_table, in_br_table, in_heap, in_mem_arg, in_select, in_type, in_rec, in_instr, behind, in_instrs, in_expression, in_constant, in_local, param_marks, local_marks, declaring, body_here, in_func_kind, in_use, in_func, in_payload, in_field}
-use Rattle.wast_types.specs.Tree.{Index, BlockType, BrTableIndices, TryTable, TryTableCatch, FunctionType, TypeUse, SelectTypes, Instruction, Expression, Local, FuncKind, Func, Table, Global, ElemPayload, Elem, Data, Rec}
+use Rattle.wast_tree.specs.Sites.{Ask, Clause, OfItem, OfBlock, Site, Asked, Begins, Here, start, asking, at_index, at_label, in_caught, in_catch, in_handle, in_handlers, in_cast, in_ref, uncovered, in_block, in_try_table, in_br_table, in_heap, in_mem_arg, in_select, in_type, in_rec, in_instr, behind, in_instrs, in_expression, in_constant, in_local, param_marks, local_marks, declaring, body_here, in_func_kind, in_use, in_func, in_payload, in_field}
+use Rattle.wast_types.specs.Tree.{Index, RefType, Handle, ResumeTable, BlockType, BrTableIndices, TryTable, TryTableCatch, FunctionType, TypeUse, SelectTypes, Instruction, Expression, Local, FuncKind, Func, Table, Global, ElemPayload, Elem, Data, Rec}
+use Rattle.wast_types.specs.Tree.form
+use Rattle.wast_types.specs.Tree.handle
 use Rattle.wast_types.specs.Tree.space
 use Rattle.wast_types.specs.Tree.ty
 use Rattle.wast_types.specs.Tree.instr
@@ -55,6 +57,18 @@ pub needed_br_table : (blocks : Blocks) (t : BrTableIndices) → needed_in (in_b
 needed_br_table blocks t =
     needed_both (flat_map (at_label blocks) t.labels) (at_label blocks t.default)
     ∙ (append-nil (needed_in (flat_map (at_label blocks) t.labels)) ∙ (needed_each (at_label blocks) t.labels ∙ each_none (needed_label blocks) t.labels))
+
+needed_handle : (blocks : Blocks) (x : Handle) → needed_in (in_handle blocks x) ≡ []
+needed_handle blocks (handle.OnLabel e l) = refl
+needed_handle blocks (handle.OnSwitch e) = refl
+
+pub needed_handlers : (blocks : Blocks) (t : ResumeTable) → needed_in (in_handlers blocks t) ≡ []
+needed_handlers blocks t =
+    needed_both (flat_map (in_handle blocks) t.handlers) (asking (uncovered form.StackSwitching))
+    ∙ (append-nil (needed_in (flat_map (in_handle blocks) t.handlers)) ∙ (needed_each (in_handle blocks) t.handlers ∙ each_none (needed_handle blocks) t.handlers))
+
+pub needed_cast : (blocks : Blocks) (l : Index) (to from : RefType) → needed_in (in_cast blocks l to from) ≡ []
+needed_cast blocks l to from = needed_asking (in_ref to ++ in_ref from)
 
 -- A block needs the type that its type use needs, and one that catches no more.
 pub needed_block : (blocks : Blocks) (b : BlockType) → needed_in (in_block blocks b) ≡ needed_in (in_use OfBlock b.ty)
