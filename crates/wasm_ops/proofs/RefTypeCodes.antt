@@ -51,7 +51,7 @@ index_apart n b r s low high e =
 abstract_apart : (t : AbstractHeapType) (n : ℕ) (r s : List ℕ) → abstract_byte t ∷ r ≡ signed (pos n) ++ s → ⊥
 abstract_apart t n r s e = let h = abstract_range t in index_apart n (abstract_byte t) s r (omega (arith, h.0)) (omega (arith, h.1)) (sym e)
 
-not_true : {A : Type 0} → IsTrue false → A
+pub not_true : {A : Type 0} → IsTrue false → A
 not_true h = absurd cc
 
 heap_begins : (x y : HeapType) (r s : List ℕ) → IsSpellableHeapType x → IsSpellableHeapType y → heap_type x ++ r ≡ heap_type y ++ s → (x ≡ y) × (r ≡ s)

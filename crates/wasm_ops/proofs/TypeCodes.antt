@@ -4,7 +4,7 @@ use Rattle.std.specs.Prelude.{nat_eq, IsTrue, not, is_none}
 use Rattle.std.specs.List.{list_all}
 use Rattle.wasm_ops.specs.Codes.{IsCode}
 use Rattle.wasm_ops.specs.Leb128.{unsigned}
-use Rattle.wasm_ops.specs.Covered.{is_covered_val_type, is_covered_field_type, is_covered_composite_inner_type, is_covered_composite_type, IsSpellableValType, IsSpellableStorageType, IsSpellableFieldType, IsSpellableFuncType, IsSpellableStructType, IsSpellableArrayType, IsSpellableCompositeInnerType, IsSpellableCompositeType, IsSpellableSubType}
+use Rattle.wasm_ops.specs.Covered.{is_covered_val_type, is_covered_field_type, is_covered_composite_inner_type, is_covered_composite_type, is_covered_sub_type, IsSpellableValType, IsSpellableStorageType, IsSpellableFieldType, IsSpellableFuncType, IsSpellableStructType, IsSpellableArrayType, IsSpellableCompositeInnerType, IsSpellableCompositeType, IsSpellableSubType}
 use Rattle.wasm_ops.specs.Spelling.{Any, InRangeU32, vec, InRangeVec, val_type, InRangeValType, storage_type, mutability, field_type, InRangeFieldType, export_kind, func_type, struct_type, array_type, composite_inner_type, composite_type, sub_bytes, sub_type}
 use Rattle.wasm_ops.specs.declared.types.ValType.{ValType}
 use Rattle.wasm_ops.specs.declared.types.ValType.TheVariants as val
@@ -20,7 +20,7 @@ use Rattle.wasm_ops.specs.declared.types.CompositeInnerType.{CompositeInnerType}
 use Rattle.wasm_ops.specs.declared.types.CompositeInnerType.TheVariants as inner
 use Rattle.wasm_ops.specs.declared.types.CompositeType.{CompositeType}
 use Rattle.wasm_ops.specs.declared.types.SubType.{SubType}
-use Rattle.wasm_ops.proofs.RefTypeCodes.{front, ref_type_code, ref_front}
+use Rattle.wasm_ops.proofs.RefTypeCodes.{front, not_true, ref_type_code, ref_front}
 use Rattle.wasm_ops.proofs.Codes.{index_code, byte_code, pair_code, code_by, code_within, after_byte, vec_code, spellable_vec}
 use Rattle.wasm_ops.proofs.Everywhere.{both_true}
 

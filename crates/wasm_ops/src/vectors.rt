@@ -48,7 +48,8 @@ impl Encode for LanesInstr {
     ghost is_ready = { λ _. true };
 
     fn encode<S: Sink>(&self, out: &mut S) -> Result<(), Refusal> {
-        (self.op.opcode(), Raw(&self.lanes)).encode(out)
+        let lanes = self.lanes;
+        (self.op.opcode(), Raw(&lanes)).encode(out)
     }
 }
 
