@@ -36,7 +36,7 @@ fn index_rows(rt: &impl Abort, alloc: Global, rows: &[(IndexOp, u32, &[u8])]) {
 fn access_rows(rt: &impl Abort, alloc: Global, rows: &[(MemOp, MemArg, &[u8])]) {
     for (op, memarg, bytes) in rows {
         let mut out = Vec::new(alloc);
-        assert!(rt; memarg.is_aligned(), "for {bytes:?}");
+        assert!(rt; memarg.is_aligned() && memarg.is_covered(), "for {bytes:?}");
         assert!(rt;
             InstructionSink::new(&mut out).mem(*op, *memarg).is_ok(),
             "for {bytes:?}"
@@ -51,6 +51,7 @@ fn access(align: u32, memory: u32, offset: u64) -> MemArg {
         align,
         target: MemArgTarget::Memory(memory),
         offset,
+        ordering: None,
     }
 }
 

@@ -1,5 +1,5 @@
--- What the encoder may be handed: parts of the tree where each index is a number, each clause holds, each form is supported,
--- and each type use has an index, or is short in a block. Branch hints and inline types are not written, so fields alone ask them to be supported.
+-- What the encoder may be handed: parts of the tree where each index is a number, each clause holds, each form is covered,
+-- and each type use has an index, or is short in a block. Branch hints and inline types are not written, so fields alone ask for them.
 use Rattle.std.specs.Prelude.{Bool, true, false, ◌&&◌, ◌||◌, is_some, List, Option, Some, None}
 use Rattle.std.specs.List.{list_all, flat_map}
 use Rattle.wast_base.specs.Blocks.{is_balanced}
@@ -7,7 +7,7 @@ use Rattle.wast_base.specs.Ids.{is_number}
 use Rattle.wast_tree.specs.Clauses.{suits}
 use Rattle.wast_tree.specs.Instrs.{turns}
 use Rattle.wast_tree.specs.Types.{says_enough}
-use Rattle.wast_tree.specs.Sites.{Ask, Wants, Within, Unasked, Clause, Supported, OfItem, Site, Asked, Used, Declared, LocalAt, LabelAt, Repeated, Begins, Ends, start, in_type, in_ref, in_type_use, in_catch, in_instr, in_instrs, in_local, in_table_type, in_global_type, in_import, in_tag_type, in_field}
+use Rattle.wast_tree.specs.Sites.{Ask, Wants, Within, Unasked, Clause, Covered, OfItem, Site, Asked, Used, Declared, LocalAt, FieldAt, LabelAt, Repeated, Begins, Ends, start, in_type, in_ref, in_type_use, in_catch, in_instr, in_instrs, in_local, in_table_type, in_global_type, in_import, in_tag_type, in_field}
 use Rattle.wast_tree.specs.Resolved.{is_resolved_site}
 use Rattle.wast_tree.specs.WrittenOut.{is_written_memory, is_written_field}
 use Rattle.wast_conv.specs.Tree.{Index, TypeUse, FunctionType, TryTableCatch, Instruction, Expression, FuncKind, Imports, TableKind, Table, Memory, GlobalKind, Global, Tag, ElemKind, ElemPayload, Elem, DataKind, Data, ModuleField}
@@ -19,13 +19,13 @@ use Rattle.wast_conv.specs.Tree.elem
 use Rattle.wast_conv.specs.Tree.payload
 use Rattle.wast_conv.specs.Tree.data_kind
 
--- what is asked in them: an index is a number, a clause holds, and a form is supported
+-- what is asked in them: an index is a number, a clause holds, and a form is covered
 abbrev pub is_encodable_ask : Ask → Bool
 is_encodable_ask (Wants s i) = is_number i
 is_encodable_ask (Within i) = is_number i
 is_encodable_ask (Unasked m) = true
 is_encodable_ask (Clause n holds) = holds
-is_encodable_ask (Supported holds) = holds
+is_encodable_ask (Covered form holds) = holds
 
 -- all that is asked in a part
 abbrev pub are_encodable : List Ask → Bool
@@ -37,6 +37,7 @@ is_encodable_site (Asked a) = is_encodable_ask a
 is_encodable_site (Used w u) = (is_some u.index || says_enough w u.inline) && are_encodable (in_type_use u)
 is_encodable_site (Declared before m) = true
 is_encodable_site (LocalAt locals i) = is_number i
+is_encodable_site (FieldAt owner i) = is_number i
 is_encodable_site (LabelAt blocks i) = is_number i
 is_encodable_site (Repeated blocks m) = true
 is_encodable_site (Begins blocks m) = true
@@ -52,6 +53,7 @@ is_entered_site (Asked a) = is_encodable_ask a
 is_entered_site (Used w u) = is_resolved_site (Used w u)
 is_entered_site (Declared before m) = true
 is_entered_site (LocalAt locals i) = is_number i
+is_entered_site (FieldAt owner i) = is_number i
 is_entered_site (LabelAt blocks i) = is_number i
 is_entered_site (Repeated blocks m) = true
 is_entered_site (Begins blocks m) = true

@@ -11,7 +11,8 @@ use crate::immediates::{
 };
 use crate::references::{
     ArrayCopy, ArrayFill, ArrayInit, ArrayNewData, ArrayNewElem, ArrayNewFixed, BrOnCast,
-    BrOnCastDescEq, BrOnCastDescEqFail, BrOnCastFail, RefCast, RefCastDescEq, RefTest, StructAccess,
+    BrOnCastDescEq, BrOnCastDescEqFail, BrOnCastFail, RefCast, RefCastDescEq, RefTest,
+    StructAccess,
 };
 use crate::types::HeapType;
 use crate::vectors::{I8x16Shuffle, LaneArg, LoadOrStoreLane, V128Const};

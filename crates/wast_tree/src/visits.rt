@@ -22,8 +22,8 @@ use crate::imports::{ImportItems, ItemSig};
 use crate::instrs::{Expression, Instruction};
 use crate::references::StructAccess;
 use crate::types::{
-    ArrayType, ContType, FunctionType, HeapType, InnerTypeKind, Rec, RefType, StorageType, StructField,
-    StructType, Type, TypeDef, TypeUse, ValType,
+    ArrayType, ContType, FunctionType, HeapType, InnerTypeKind, Rec, RefType, StorageType,
+    StructField, StructType, Type, TypeDef, TypeUse, ValType,
 };
 use wast_base::{Form, Id, Index, NameAnnotation, Seq, Space};
 
@@ -502,12 +502,7 @@ fn visit_pair<V: Visitor>(
 }
 
 /// Tells a visitor of an index of a space, in a form that no encoder covers.
-fn visit_uncovered_index<V: Visitor>(
-    space: Space,
-    index: &Index<'_>,
-    form: Form,
-    visitor: &mut V,
-)
+fn visit_uncovered_index<V: Visitor>(space: Space, index: &Index<'_>, form: Form, visitor: &mut V)
     ensures { Visits V.told visitor.old (in_index space index.now ++ uncovered form) visitor.new }
 {
     visitor.index(space, index);
@@ -532,12 +527,7 @@ impl Visit for StructAccess<'_> {
 }
 
 /// Tells a visitor of a branch on a cast.
-fn visit_cast<V: Visitor>(
-    label: &Index<'_>,
-    to: &RefType<'_>,
-    from: &RefType<'_>,
-    visitor: &mut V,
-)
+fn visit_cast<V: Visitor>(label: &Index<'_>, to: &RefType<'_>, from: &RefType<'_>, visitor: &mut V)
     ensures { (blocks : Blocks) → Visits V.told visitor.old (asked (in_cast blocks label.now to.now from.now)) visitor.new }
 {
     visitor.within(label);
@@ -613,7 +603,13 @@ fn visit_instr<V: Visitor>(instr: &Instruction<'_>, visitor: &mut V)
         }
         Instruction::array_fill(arg) => visitor.index(Space::Ty, &arg.array),
         Instruction::array_copy(arg) => {
-            visit_pair(visitor, Space::Ty, &arg.dest_array, Space::Ty, &arg.src_array)
+            visit_pair(
+                visitor,
+                Space::Ty,
+                &arg.dest_array,
+                Space::Ty,
+                &arg.src_array,
+            )
         }
         Instruction::array_init_data(arg) => {
             visit_pair(visitor, Space::Ty, &arg.array, Space::Data, &arg.segment)
