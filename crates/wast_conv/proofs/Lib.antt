@@ -1,3 +1,4 @@
+pub mod Arrays
 pub mod EachPasses
 pub mod Standing
 pub mod Ready

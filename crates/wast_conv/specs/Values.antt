@@ -1,8 +1,8 @@
 -- Parts of the tree as values of the binary format, with their numbers (binary format: types, instructions).
-use Rattle.std.specs.Int.{w8, w16, w32, w64, of_z, to_le_bytes, trailing_zeros}
-use Rattle.std.specs.Prelude.{ℕ, Bool, true, List, [], ◌∷◌, map, flat_map, Option, Some, None, unwrap_or, option_map}
+use Rattle.std.specs.Int.{w8, w16, w32, w64, cast_unsigned, to_le_bytes, trailing_zeros}
+use Rattle.std.specs.Prelude.{ℕ, ℤ, Bool, true, List, [], ◌∷◌, map, flat_map, Option, Some, None, unwrap_or, option_map}
 use Rattle.wast_conv.specs.Tree as tree
-use Rattle.wast_conv.specs.Tree.{Index, StructField, FunctionType, TypeUse, InnerTypeKind, TypeDef, ItemKind, TryTableCatch, TryTableCatchKind, Instruction, Expression, Local, FuncKind}
+use Rattle.wast_conv.specs.Tree.{Index, StructField, FunctionType, TypeUse, InnerTypeKind, TypeDef, ItemKind, F32, F64, TryTableCatch, TryTableCatchKind, Instruction, Expression, Local, FuncKind}
 use Rattle.wast_conv.specs.Tree.index
 use Rattle.wast_conv.specs.Tree.heap
 use Rattle.wast_conv.specs.Tree.abstract
@@ -252,14 +252,33 @@ as_caught caught.CatchAllRef label = out_catch.AllRef label
 abbrev pub as_catch : TryTableCatch → Catch
 as_catch c = as_caught c.kind (number c.label)
 
--- the bytes of the lanes of a vector, the lowest first
+-- the bytes of lanes, one lane after another, the lowest byte of each first
+abbrev pub i8_bytes : List ℤ → List ℕ
+i8_bytes lanes = map (cast_unsigned w8) lanes
+
+abbrev pub i16_bytes : List ℤ → List ℕ
+i16_bytes lanes = flat_map (λ z. to_le_bytes w16 (cast_unsigned w16 z)) lanes
+
+abbrev pub i32_bytes : List ℤ → List ℕ
+i32_bytes lanes = flat_map (λ z. to_le_bytes w32 (cast_unsigned w32 z)) lanes
+
+abbrev pub i64_bytes : List ℤ → List ℕ
+i64_bytes lanes = flat_map (λ z. to_le_bytes w64 (cast_unsigned w64 z)) lanes
+
+abbrev pub f32_bytes : List F32 → List ℕ
+f32_bytes lanes = flat_map (λ x. to_le_bytes w32 x.bits) lanes
+
+abbrev pub f64_bytes : List F64 → List ℕ
+f64_bytes lanes = flat_map (λ x. to_le_bytes w64 x.bits) lanes
+
+-- the bytes of a vector
 abbrev pub lane_bytes : tree.V128Const → List ℕ
-lane_bytes (v128.I8x16 lanes) = flat_map (λ z. to_le_bytes w8 (of_z w8 z)) lanes
-lane_bytes (v128.I16x8 lanes) = flat_map (λ z. to_le_bytes w16 (of_z w16 z)) lanes
-lane_bytes (v128.I32x4 lanes) = flat_map (λ z. to_le_bytes w32 (of_z w32 z)) lanes
-lane_bytes (v128.I64x2 lanes) = flat_map (λ z. to_le_bytes w64 (of_z w64 z)) lanes
-lane_bytes (v128.F32x4 lanes) = flat_map (λ x. to_le_bytes w32 x.bits) lanes
-lane_bytes (v128.F64x2 lanes) = flat_map (λ x. to_le_bytes w64 x.bits) lanes
+lane_bytes (v128.I8x16 lanes) = i8_bytes lanes
+lane_bytes (v128.I16x8 lanes) = i16_bytes lanes
+lane_bytes (v128.I32x4 lanes) = i32_bytes lanes
+lane_bytes (v128.I64x2 lanes) = i64_bytes lanes
+lane_bytes (v128.F32x4 lanes) = f32_bytes lanes
+lane_bytes (v128.F64x2 lanes) = f64_bytes lanes
 
 -- What no encoder covers is no row of the table: no row has this opcode.
 abbrev pub no_row : Instr

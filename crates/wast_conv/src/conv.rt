@@ -94,6 +94,8 @@ fn abstract_type(ty: wast_tree::AbstractHeapType) -> wasm_ops::AbstractHeapType
         wast_tree::AbstractHeapType::NoExtern => wasm_ops::AbstractHeapType::NoExtern,
         wast_tree::AbstractHeapType::None => wasm_ops::AbstractHeapType::None,
         wast_tree::AbstractHeapType::I31 => wasm_ops::AbstractHeapType::I31,
+        wast_tree::AbstractHeapType::Cont => wasm_ops::AbstractHeapType::Cont,
+        wast_tree::AbstractHeapType::NoCont => wasm_ops::AbstractHeapType::NoCont,
     }
 }
 
@@ -108,6 +110,7 @@ pub fn heap_type(ty: &wast_tree::HeapType) -> wasm_ops::HeapType
             ty: abstract_type(*ty),
         },
         wast_tree::HeapType::Concrete(of) => wasm_ops::HeapType::Concrete(index(of)),
+        wast_tree::HeapType::Exact(of) => wasm_ops::HeapType::Exact(index(of)),
     }
 }
 
@@ -234,6 +237,14 @@ pub fn struct_type<'e>(alloc: Global, ty: &wast_tree::StructType) -> Result<Stru
     Ok(StructType { fields })
 }
 
+/// A continuation type: the index of its function type (stack switching). It needs a resolved index.
+pub fn cont_type(ty: &wast_tree::ContType) -> ContType
+    requires { IsTrue (is_number ty.now.0) }
+    ensures { result ≡ meaning.as_cont_type ty.now }
+{
+    ContType(index(&ty.0))
+}
+
 fn inner_type<'e>(alloc: Global, kind: &InnerTypeKind) -> Result<CompositeInnerType, Error<'e>>
     requires { IsTrue (are_numbered (in_inner kind.now)) }
     ensures value { IfOk result (λ made. made ≡ meaning.as_inner_type kind.now) }
@@ -243,6 +254,7 @@ fn inner_type<'e>(alloc: Global, kind: &InnerTypeKind) -> Result<CompositeInnerT
         InnerTypeKind::Func(ty) => Ok(CompositeInnerType::Func(func_type(alloc, ty)?)),
         InnerTypeKind::Struct(ty) => Ok(CompositeInnerType::Struct(struct_type(alloc, ty)?)),
         InnerTypeKind::Array(ty) => Ok(CompositeInnerType::Array(array_type(ty))),
+        InnerTypeKind::Cont(ty) => Ok(CompositeInnerType::Cont(cont_type(ty))),
     }
 }
 

@@ -10,6 +10,7 @@ ghost use Rattle.wast_conv.specs.Encodable.{are_resolved};
 ghost use Rattle.wast_conv.specs.Meaning as meaning;
 
 use crate::conv::{index, val_type};
+use crate::conv_vectors::mem_arg_ordering;
 use wast_tree::{FunctionType, MemoryArg, TableArg, TryTableCatch, TryTableCatchKind, ValType};
 
 /// What a block gives that has no index of a type: nothing, or one value.
@@ -83,13 +84,14 @@ pub fn memory_arg(arg: &MemoryArg) -> u32
     index(&arg.mem)
 }
 
-/// The memory that a memory argument reads or writes (binary format, memory instructions). It needs a resolved index.
+/// The memory that a memory argument reads or writes, or the type of the array (binary format, memory instructions). It needs a resolved index.
 fn mem_arg_target(target: &wast_tree::MemArgTarget) -> wasm_ops::MemArgTarget
     requires { IsTrue (are_numbered (in_target target.now)) }
     ensures { result ≡ meaning.as_mem_arg_target target.now }
 {
     match target {
         wast_tree::MemArgTarget::Memory(memory) => wasm_ops::MemArgTarget::Memory(index(memory)),
+        wast_tree::MemArgTarget::Array(ty) => wasm_ops::MemArgTarget::Array(index(ty)),
     }
 }
 
@@ -112,5 +114,6 @@ pub fn mem_arg(arg: &wast_tree::MemArg) -> wasm_ops::MemArg
         align: logarithm(arg.align),
         target: mem_arg_target(&arg.target),
         offset: arg.offset,
+        ordering: arg.ordering.map(mem_arg_ordering),
     }
 }
