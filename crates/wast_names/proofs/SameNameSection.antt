@@ -5,15 +5,16 @@ use Rattle.std.specs.List.{flat_map}
 use Rattle.std.proofs.lemmas.List.{map-append}
 use Rattle.std.proofs.lemmas.Option.{slice_get-map}
 use mathlib.Core.Path.{fun_ext}
-use Rattle.wast_names.specs.Tree.{Space, Func, FunctionType, TypeUse, TagType, ItemKind, ImportItems, ModuleField}
+use Rattle.wast_tree.specs.Imports.{item_sigs}
+use Rattle.wast_names.specs.Tree.{Space, Func, FunctionType, TypeUse, TagType, ItemKind, ItemSig, ImportItems, ModuleField}
 use Rattle.wast_names.specs.Tree.ty
 use Rattle.wast_names.specs.declared.within.Within.{Within}
 use Rattle.wast_names.specs.declared.within.Within.TheVariants as within
 use Rattle.wast_names.specs.declared.names_payload.NameMap.{NameMap}
 use Rattle.wast_names.specs.declared.names_payload.NameMap.TheVariants as map_of
 use Rattle.wast_names.specs.GivenNames.{named_from}
-use Rattle.wast_names.specs.WithinItems.{arity, arity_of, types_within, locals_of, labels_in, inline_params, tag_params, list_of, lists_in_type, lists_in_func, lists_in_tag, lists_in_imported_func, lists_in_kind, lists_in_import, lists_within}
-use Rattle.wast_names.specs.ModuleNames.{item_names_in, given_name_in, names_given, named_items, direct, named_of, indirect, named_within, map_names, module_name, name_maps, name_subsections}
+use Rattle.wast_names.specs.WithinItems.{arity, arity_of, types_within, locals_of, labels_in, inline_params, tag_params, list_of, lists_in_type, lists_in_func, lists_in_tag, lists_in_imported_func, lists_in_kind, lists_in_sig, lists_in_import, lists_within}
+use Rattle.wast_names.specs.ModuleNames.{sig_name, import_names, item_names_in, given_name_in, names_given, named_items, direct, named_of, indirect, named_within, map_names, module_name, name_maps, name_subsections}
 use Rattle.wast_names.proofs.Each.{each_like}
 
 -- the lists within a field are those within another, each field among the fields of its module
@@ -100,3 +101,15 @@ in_imported_func within.Labels u v is = refl
 in_imported_func within.Fields u v is = refl
 in_imported_func within.Parameters u v is = refl
 in_imported_func within.TagParameters u v is = refl
+
+-- what an import gives, where each of its signatures is changed so that it gives the same
+module _ (f : ItemSig → ItemSig) (i j : ImportItems) (changed : item_sigs j ≡ map f (item_sigs i)) where
+  pub names_imported : ((s : ItemSig) → sig_name (f s) ≡ sig_name s) → import_names j ≡ import_names i
+  names_imported same = ap (map sig_name) changed ∙ map_like (item_sigs i)
+    where
+      map_like : (sigs : List ItemSig) → map sig_name (map f sigs) ≡ map sig_name sigs
+      map_like [] = refl
+      map_like (s ∷ sigs) = λ t. same s t ∷ map_like sigs t
+
+  pub in_import : ((s : ItemSig) → SameInKind (f s).kind s.kind) → SameInImport j i
+  in_import same w = ap (flat_map (lists_in_sig w)) changed ∙ each_like f (lists_in_sig w) (lists_in_sig w) (λ s. same s w) (item_sigs i)

@@ -3,10 +3,10 @@ use Rattle.std.specs.Prelude.{ℕ, List, [], ◌∷◌, ◌++◌, Option, Some, 
 use Rattle.std.specs.List.{flat_map}
 use Rattle.wast_base.specs.Spaces.{same_space}
 use Rattle.wast_tree.specs.Items.{space_of_kind}
-use Rattle.wast_names.specs.Tree.{Space, ImportItems, ModuleField}
+use Rattle.wast_tree.specs.Imports.{item_sigs}
+use Rattle.wast_names.specs.Tree.{Space, ItemSig, ImportItems, ModuleField}
 use Rattle.wast_names.specs.Tree.space
 use Rattle.wast_names.specs.Tree.ty
-use Rattle.wast_names.specs.Tree.import_items
 use Rattle.wast_names.specs.Tree.field
 use Rattle.wast_names.specs.declared.within.Within.{Within}
 use Rattle.wast_names.specs.declared.within.Within.TheVariants as within
@@ -21,9 +21,13 @@ use Rattle.wasm_out.specs.NameSectionBytes as named
 abbrev pub type_name : ty.«Type» → Space × Option (List ℕ)
 type_name t = (space.Ty, given_name t.name t.id)
 
--- what is imported, with its space and its name
+-- an imported item, with its space and its name
+abbrev pub sig_name : ItemSig → Space × Option (List ℕ)
+sig_name sig = (space_of_kind sig.kind, given_name sig.name sig.id)
+
+-- what is imported; items that share a signature have its name each
 abbrev pub import_names : ImportItems → List (Space × Option (List ℕ))
-import_names (import_items.Single source name sig) = (space_of_kind sig.kind, given_name sig.name sig.id) ∷ []
+import_names i = map sig_name (item_sigs i)
 
 -- the names of the items of a field, each with its space
 abbrev pub item_names_in : ModuleField → List (Space × Option (List ℕ))

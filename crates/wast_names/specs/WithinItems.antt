@@ -1,17 +1,17 @@
 -- What stands within items and has names of its own: locals and labels of functions, fields of structs, parameters of function types and of tags (custom sections, name section: indirect name maps).
 use Rattle.std.specs.Prelude.{ℕ, List, [], ◌∷◌, ◌++◌, length, map, replicate, Option, Some, None, option_map, slice_get}
 use Rattle.std.specs.List.{flat_map}
-use Rattle.wast_names.specs.Tree.{Id, Index, NameAnnotation, ValType, StructField, FunctionType, TypeUse, InnerTypeKind, BlockType, Instruction, Local, FuncKind, Func, TagType, ItemKind, ImportItems, ModuleField}
+use Rattle.wast_names.specs.Tree.{Id, Index, NameAnnotation, ValType, StructField, FunctionType, TypeUse, InnerTypeKind, BlockType, Instruction, Local, FuncKind, Func, TagType, ItemKind, ItemSig, ImportItems, ModuleField}
 use Rattle.wast_names.specs.Tree.index
 use Rattle.wast_names.specs.Tree.inner
 use Rattle.wast_names.specs.Tree.ty
 use Rattle.wast_names.specs.Tree.func
 use Rattle.wast_names.specs.Tree.tag
-use Rattle.wast_names.specs.Tree.import_items
 use Rattle.wast_names.specs.Tree.kind
 use Rattle.wast_names.specs.Tree.field
 use Rattle.wast_names.specs.declared.within.Within.{Within}
 use Rattle.wast_names.specs.declared.within.Within.TheVariants as within
+use Rattle.wast_tree.specs.Imports.{item_sigs}
 use Rattle.wast_tree.specs.Instrs.{block_of}
 use Rattle.wast_names.specs.GivenNames.{given_name, named_from}
 
@@ -45,18 +45,21 @@ abbrev pub field_names_of : InnerTypeKind → List (Option (List ℕ))
 field_names_of (inner.Func t) = []
 field_names_of (inner.Struct t) = map field_name t.fields
 field_names_of (inner.Array t) = []
+field_names_of (inner.Cont t) = []
 
 -- the names of the parameters of a function type
 abbrev pub param_names_of : InnerTypeKind → List (Option (List ℕ))
 param_names_of (inner.Func t) = map param_name t.params
 param_names_of (inner.Struct t) = []
 param_names_of (inner.Array t) = []
+param_names_of (inner.Cont t) = []
 
 -- how many parameters a function type has
 abbrev pub arity : InnerTypeKind → Option ℕ
 arity (inner.Func t) = Some (length t.params)
 arity (inner.Struct t) = None
 arity (inner.Array t) = None
+arity (inner.Cont t) = None
 
 -- the same of a type that may be missing
 abbrev pub arity_of : Option ty.«Type» → Option ℕ
@@ -181,14 +184,19 @@ lists_in_imported_tag within.TagParameters = None ∷ []
 -- within what is imported
 abbrev pub lists_in_kind : Within → ItemKind → List (Option (List (ℕ × List ℕ)))
 lists_in_kind w (kind.Func u) = lists_in_imported_func w u
+lists_in_kind w (kind.FuncExact u) = lists_in_imported_func w u
 lists_in_kind w (kind.Table t) = []
 lists_in_kind w (kind.Memory t) = []
 lists_in_kind w (kind.Global t) = []
 lists_in_kind w (kind.Tag t) = lists_in_imported_tag w
 
--- within an import
+-- the same of its signature
+abbrev pub lists_in_sig : Within → ItemSig → List (Option (List (ℕ × List ℕ)))
+lists_in_sig w sig = lists_in_kind w sig.kind
+
+-- within an import, item by item; items that share a signature have its list each
 abbrev pub lists_in_import : Within → ImportItems → List (Option (List (ℕ × List ℕ)))
-lists_in_import w (import_items.Single source name sig) = lists_in_kind w sig.kind
+lists_in_import w i = flat_map (lists_in_sig w) (item_sigs i)
 
 -- in a field, of the list of all fields
 abbrev pub lists_within : List ModuleField → Within → ModuleField → List (Option (List (ℕ × List ℕ)))

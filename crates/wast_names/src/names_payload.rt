@@ -12,14 +12,15 @@ ghost use Rattle.wast_names.specs.NamesPart.{names_part, names_payload_of};
 ghost use Rattle.wast_names.specs.GivenNames.{id_text, given_name, named_from};
 ghost use Rattle.wast_names.specs.FoundNames.{text_seen, items_seen, counted, WritesItems, map_bytes, InRangeMap};
 ghost use Rattle.wast_names.specs.WithinItems.{lists_within};
-ghost use Rattle.wast_names.specs.ModuleNames.{type_name, import_names, item_names_in, given_name_in, names_given, named_of, named_within, map_names, module_name, name_maps, name_subsections, InRangeNames};
+ghost use Rattle.wast_names.specs.ModuleNames.{type_name, sig_name, item_names_in, given_name_in, names_given, named_of, named_within, map_names, module_name, name_maps, name_subsections, InRangeNames};
 
+use crate::imported::{count_imported, put_imported};
 use crate::name_maps::{NameItems, count_each, put_each, put_map, put_name};
 use crate::named_fields::{with_items, with_lists};
 use crate::within::{NamedField, Within, WithinItems};
 use wasm_ops::{Encode, Length, Name, Refusal, Sink, WithLength};
 use wast_reach::Reaches;
-use wast_tree::{Id, ImportItems, ModuleField, NameAnnotation, Space, Type};
+use wast_tree::{Id, ImportItems, ItemSig, ModuleField, NameAnnotation, Space, Type};
 
 fn id_text<'a>(id: &Option<Id<'a>>) -> Option<&'a str>
     ensures { text_seen result ≡ id_text id.now }
@@ -53,17 +54,8 @@ enum Items<'b, 'a> {
     One(Space, Option<&'a str>),
     /// The types of a group.
     Types(&'b [Type<'a>]),
-}
-
-/// Finds the items of an import.
-fn imported<'b, 'a>(items: &'b ImportItems<'a>) -> Items<'b, 'a>
-    ensures { items_seen result ≡ import_names items.now }
-{
-    match items {
-        ImportItems::Single { sig, .. } => {
-            Items::One(sig.kind.space(), given_name(&sig.name, &sig.id))
-        }
-    }
+    /// Those of an import.
+    Imported(&'b ImportItems<'a>),
 }
 
 /// Finds the items of a field.
@@ -73,7 +65,7 @@ fn items_of<'b, 'a>(field: &'b ModuleField<'a>) -> Items<'b, 'a>
     match field {
         ModuleField::Ty(ty) => Items::One(Space::Ty, given_name(&ty.name, &ty.id)),
         ModuleField::Rec(rec) => Items::Types(rec.types.as_slice()),
-        ModuleField::Import(imports) => imported(&imports.items),
+        ModuleField::Import(imports) => Items::Imported(&imports.items),
         ModuleField::Func(func) => Items::One(Space::Func, given_name(&func.name, &func.id)),
         ModuleField::Table(table) => Items::One(Space::Table, given_name(&table.name, &table.id)),
         ModuleField::Memory(memory) => {
@@ -133,6 +125,25 @@ impl<'a> NameItems<Type<'a>> for Space {
     }
 }
 
+impl<'a> NameItems<ItemSig<'a>> for Space {
+    ghost Entry = { List ℕ };
+
+    ghost items = { λ s sig. given_name_in s (sig_name sig) };
+
+    ghost entry = { name_entry };
+
+    ghost in_range = { InRangeNameEntry };
+
+    fn count(&self, part: &ItemSig<'a>) -> u64 {
+        count_item(*self, part.kind.space(), given_name(&part.name, &part.id))
+    }
+
+    fn put<S: Sink>(&self, part: &ItemSig<'a>, position: u64, out: &mut S) -> Result<u64, Refusal> {
+        let name = given_name(&part.name, &part.id);
+        put_item(*self, part.kind.space(), name, position, out)
+    }
+}
+
 impl<'a> NameItems<ModuleField<'a>> for Space {
     ghost Entry = { List ℕ };
 
@@ -147,6 +158,7 @@ impl<'a> NameItems<ModuleField<'a>> for Space {
             Items::Nothing => 0,
             Items::One(own, name) => count_item(*self, own, name),
             Items::Types(types) => count_each(self, types),
+            Items::Imported(items) => count_imported(*self, items),
         }
     }
 
@@ -160,6 +172,7 @@ impl<'a> NameItems<ModuleField<'a>> for Space {
             Items::Nothing => Ok(position),
             Items::One(own, name) => put_item(*self, own, name, position, out),
             Items::Types(types) => put_each(self, types, position, out),
+            Items::Imported(items) => put_imported(*self, items, position, out),
         }
     }
 }

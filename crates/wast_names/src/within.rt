@@ -7,16 +7,17 @@ ghost use Rattle.wasm_out.specs.NameSectionBytes.{map_entry, InRangeMapEntry};
 ghost use Rattle.wast_names.specs.Tree.{ModuleField};
 ghost use Rattle.wast_names.specs.GivenNames.{named_from};
 ghost use Rattle.wast_names.specs.FoundNames.{counted, names_listed, lists_found, lists_seen, WritesItems};
-ghost use Rattle.wast_names.specs.WithinItems.{param_name, local_name, lists_in_type, lists_in_func, lists_in_tag, lists_in_imported_func, lists_in_imported_tag, lists_in_kind, lists_in_import, lists_within, types_within, arity, arity_of, arity_at, behind, params_used, locals_of, locals_in, label_in, labels_in, field_names_of, param_names_of, inline_params, tag_params};
+ghost use Rattle.wast_names.specs.WithinItems.{param_name, local_name, lists_in_type, lists_in_func, lists_in_tag, lists_in_imported_func, lists_in_imported_tag, lists_in_kind, lists_in_sig, lists_within, types_within, arity, arity_of, arity_at, behind, params_used, locals_of, locals_in, label_in, labels_in, field_names_of, param_names_of, inline_params, tag_params};
 
+use crate::imported::{count_imported, put_imported};
 use crate::name_lists::{Listed, count_found, no_names, none, put_found};
 use crate::name_maps::{NameItems, Own, count_each, put_each};
 use std::alloc::AllocError;
 use std::slice;
 use wasm_ops::{Refusal, Sink};
 use wast_tree::{
-    Func, FuncKind, FunctionType, ImportItems, Index, InnerTypeKind, Instruction, ItemKind, Local,
-    ModuleField, TagType, Type, TypeUse,
+    Func, FuncKind, FunctionType, ImportItems, Index, InnerTypeKind, Instruction, ItemKind,
+    ItemSig, Local, ModuleField, TagType, Type, TypeUse,
 };
 
 /// What stands within items and has names.
@@ -51,7 +52,9 @@ fn field_names_of<'b, 'a>(kind: &'b InnerTypeKind<'a>) -> Listed<'b, 'a>
 {
     match kind {
         InnerTypeKind::Struct(ty) => Listed::Fields(ty.fields.as_slice()),
-        InnerTypeKind::Func(_) | InnerTypeKind::Array(_) => Listed::Fields(none()),
+        InnerTypeKind::Func(_) | InnerTypeKind::Array(_) | InnerTypeKind::Cont(_) => {
+            Listed::Fields(none())
+        }
     }
 }
 
@@ -68,7 +71,9 @@ fn param_names_of<'b, 'a>(kind: &'b InnerTypeKind<'a>) -> Listed<'b, 'a>
 {
     match kind {
         InnerTypeKind::Func(ty) => params_in(ty),
-        InnerTypeKind::Struct(_) | InnerTypeKind::Array(_) => Listed::Fields(none()),
+        InnerTypeKind::Struct(_) | InnerTypeKind::Array(_) | InnerTypeKind::Cont(_) => {
+            Listed::Fields(none())
+        }
     }
 }
 
@@ -78,7 +83,7 @@ fn arity(kind: &InnerTypeKind) -> Option<u64>
 {
     match kind {
         InnerTypeKind::Func(ty) => Some(ty.params.len() as u64),
-        InnerTypeKind::Struct(_) | InnerTypeKind::Array(_) => None,
+        InnerTypeKind::Struct(_) | InnerTypeKind::Array(_) | InnerTypeKind::Cont(_) => None,
     }
 }
 
@@ -252,18 +257,9 @@ fn listed_in_kind<'b, 'a>(within: Within, kind: &'b ItemKind<'a>) -> Option<List
     ensures { lists_found result ≡ lists_in_kind within kind.now }
 {
     match kind {
-        ItemKind::Func(ty) => listed_in_imported_func(within, ty),
+        ItemKind::Func(ty) | ItemKind::FuncExact(ty) => listed_in_imported_func(within, ty),
         ItemKind::Tag(_) => listed_in_imported_tag(within),
         ItemKind::Table(_) | ItemKind::Memory(_) | ItemKind::Global(_) => None,
-    }
-}
-
-/// The list that stands within an imported item.
-fn listed_in_import<'b, 'a>(within: Within, items: &'b ImportItems<'a>) -> Option<Listed<'b, 'a>>
-    ensures { lists_found result ≡ lists_in_import within items.now }
-{
-    match items {
-        ImportItems::Single { sig, .. } => listed_in_kind(within, &sig.kind),
     }
 }
 
@@ -274,6 +270,8 @@ enum Lists<'b, 'a> {
     One(Option<Listed<'b, 'a>>),
     /// Those of the types of a group.
     Types(&'b [Type<'a>]),
+    /// Those of the items of an import.
+    Imported(&'b ImportItems<'a>),
 }
 
 /// Finds the lists that stand within a field of this list of fields.
@@ -287,7 +285,7 @@ fn lists_in<'b, 'a, A: Arities>(
     match field {
         ModuleField::Ty(ty) => Lists::One(listed_in_type(within, ty)),
         ModuleField::Rec(rec) => Lists::Types(rec.types.as_slice()),
-        ModuleField::Import(imports) => Lists::One(listed_in_import(within, &imports.items)),
+        ModuleField::Import(imports) => Lists::Imported(&imports.items),
         ModuleField::Func(func) => Lists::One(listed_in_func(within, arities, func)),
         ModuleField::Tag(tag) => Lists::One(listed_in_tag(within, &tag.ty)),
         ModuleField::Table(_)
@@ -316,6 +314,25 @@ impl<'a> NameItems<Type<'a>> for Within {
 
     fn put<S: Sink>(&self, part: &Type<'a>, position: u64, out: &mut S) -> Result<u64, Refusal> {
         put_found(position, listed_in_type(*self, part), out)
+    }
+}
+
+/// The way to see what stands within imported items.
+impl<'a> NameItems<ItemSig<'a>> for Within {
+    ghost Entry = { List (ℕ × List ℕ) };
+
+    ghost items = { lists_in_sig };
+
+    ghost entry = { map_entry };
+
+    ghost in_range = { InRangeMapEntry };
+
+    fn count(&self, part: &ItemSig<'a>) -> u64 {
+        count_found(listed_in_kind(*self, &part.kind))
+    }
+
+    fn put<S: Sink>(&self, part: &ItemSig<'a>, position: u64, out: &mut S) -> Result<u64, Refusal> {
+        put_found(position, listed_in_kind(*self, &part.kind), out)
     }
 }
 
@@ -365,6 +382,7 @@ impl NamedField for ModuleField<'_> {
         match lists_in(within, arities, self) {
             Lists::One(found) => count_found(found),
             Lists::Types(types) => count_each(&within, types),
+            Lists::Imported(items) => count_imported(within, items),
         }
     }
 
@@ -378,6 +396,7 @@ impl NamedField for ModuleField<'_> {
         match lists_in(within, arities, self) {
             Lists::One(found) => put_found(position, found, out),
             Lists::Types(types) => put_each(&within, types, position, out),
+            Lists::Imported(items) => put_imported(within, items, position, out),
         }
     }
 }
