@@ -9,4 +9,4 @@ mod samples;
 
 pub use errors::RunError;
 pub use runs::run;
-pub use samples::sample;
+pub use samples::{form_sample, sample};

@@ -15,7 +15,7 @@ fn one_function_table<'a>() -> TableType<'a> {
 }
 
 /// `(import ..)` at a place, and its item at a place.
-fn import<'a>(
+pub(crate) fn import<'a>(
     offset: usize,
     module: &'a str,
     name: &'a str,
