@@ -5,6 +5,7 @@ pub mod Ready
 pub mod TypesReady
 pub mod EntitiesReady
 pub mod Balanced
+pub mod Rows
 pub mod Expressions
 pub mod MemArgs
 pub mod Spelled

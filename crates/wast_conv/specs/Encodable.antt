@@ -7,9 +7,9 @@ use Rattle.wast_base.specs.Ids.{is_number}
 use Rattle.wast_tree.specs.Clauses.{suits}
 use Rattle.wast_tree.specs.Instrs.{turns}
 use Rattle.wast_tree.specs.Types.{says_enough}
-use Rattle.wast_tree.specs.Sites.{Ask, Wants, Within, Unasked, Clause, Covered, OfItem, Site, Asked, Used, Declared, LocalAt, FieldAt, LabelAt, Repeated, Begins, Ends, start, in_type, in_ref, in_type_use, in_catch, in_instr, in_instrs, in_local, in_table_type, in_global_type, in_import, in_tag_type, in_field}
-use Rattle.wast_tree.specs.Resolved.{is_resolved_site}
-use Rattle.wast_tree.specs.WrittenOut.{is_written_memory, is_written_field}
+use Rattle.wast_tree.specs.Sites.{Ask, Wants, Within, Unasked, Clause, Covered, OfItem, Site, Asked, Used, Declared, LocalAt, FieldAt, LabelAt, Repeated, Begins, Ends, start, in_type, in_ref, in_type_use, in_catch, in_instr, in_instrs, in_local, in_table_type, in_global_type, in_import, in_tag_type, in_field, in_module, asked}
+use Rattle.wast_tree.specs.Resolved.{is_resolved_site, is_resolved}
+use Rattle.wast_tree.specs.WrittenOut.{is_written_memory, is_written_field, is_written_out}
 use Rattle.wast_conv.specs.Tree.{Index, TypeUse, FunctionType, TryTableCatch, Instruction, Expression, FuncKind, Imports, TableKind, Table, Memory, GlobalKind, Global, Tag, ElemKind, ElemPayload, Elem, DataKind, Data, ModuleField}
 use Rattle.wast_conv.specs.Tree.ty
 use Rattle.wast_conv.specs.Tree.func
@@ -37,7 +37,7 @@ is_encodable_site (Asked a) = is_encodable_ask a
 is_encodable_site (Used w u) = (is_some u.index || says_enough w u.inline) && are_encodable (in_type_use u)
 is_encodable_site (Declared before m) = true
 is_encodable_site (LocalAt locals i) = is_number i
-is_encodable_site (FieldAt owner i) = is_number i
+is_encodable_site (FieldAt owner i) = is_number owner && is_number i
 is_encodable_site (LabelAt blocks i) = is_number i
 is_encodable_site (Repeated blocks m) = true
 is_encodable_site (Begins blocks m) = true
@@ -53,7 +53,7 @@ is_entered_site (Asked a) = is_encodable_ask a
 is_entered_site (Used w u) = is_resolved_site (Used w u)
 is_entered_site (Declared before m) = true
 is_entered_site (LocalAt locals i) = is_number i
-is_entered_site (FieldAt owner i) = is_number i
+is_entered_site (FieldAt owner i) = is_number owner && is_number i
 is_entered_site (LabelAt blocks i) = is_number i
 is_entered_site (Repeated blocks m) = true
 is_entered_site (Begins blocks m) = true
@@ -164,6 +164,18 @@ is_encodable_field x = encodable (in_field x) && is_written_field x
 -- a list of fields
 abbrev pub is_encodable : List ModuleField → Bool
 is_encodable fields = list_all is_encodable_field fields
+
+-- Of a list that is at rest each clause holds, whether its forms are covered or not.
+abbrev pub is_met : Ask → Bool
+is_met (Wants s i) = true
+is_met (Within i) = true
+is_met (Unasked m) = true
+is_met (Clause n holds) = holds
+is_met (Covered form holds) = true
+
+-- a list of fields as resolving leaves it: resolved, with nothing in place
+abbrev pub is_at_rest : List ModuleField → Bool
+is_at_rest fields = is_resolved fields && (is_written_out fields && list_all is_met (asked (in_module fields)))
 
 -- What a conversion needs is less: that indices are numbers, and that each type use has one.
 abbrev pub are_resolved : List Site → Bool

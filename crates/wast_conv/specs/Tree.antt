@@ -95,4 +95,5 @@ pub use Rattle.wast_tree.specs.declared.immediates.Ordering.{Ordering}
 pub use Rattle.wast_tree.specs.declared.immediates.Ordering.TheVariants as ordering
 pub use Rattle.wast_tree.specs.declared.immediates.MemArgOrdering.{MemArgOrdering}
 pub use Rattle.wast_tree.specs.declared.immediates.MemArgOrdering.TheVariants as access
+pub use Rattle.wast_base.specs.declared.faults.Form.{Form}
 pub use Rattle.wast_base.specs.declared.faults.Form.TheVariants as form
