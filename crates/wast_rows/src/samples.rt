@@ -1,25 +1,13 @@
-//! The modules of the worked rows, and those of the forms that no encoder covers.
+//! The modules of the worked rows.
 
 ghost use Rattle.std.specs.Prelude.{◌≡◌, is_some, IfSome, IfErr};
 ghost use Rattle.wast_base.specs.Faults.{out_of_memory};
 ghost use Rattle.wast_samples.specs.RowNumbers.{is_row};
-ghost use Rattle.wast_samples.specs.SampledForms.{is_sampled};
 
 use std::alloc::Global;
-use wast_base::{Error, Form, Span};
+use wast_base::{Error, Span};
 use wast_core::{Module, ModuleKind};
-use wast_samples::{form_fields, sample_fields};
-use wast_tree::{ModuleField, Seq};
-
-/// The module of these fields, which has no id and no name, and stands at the offset 1.
-fn module<'a>(fields: Seq<ModuleField<'a>>) -> Module<'a> {
-    Module {
-        span: Span { offset: 1 },
-        id: None,
-        name: None,
-        kind: ModuleKind::Text(fields),
-    }
-}
+use wast_samples::sample_fields;
 
 /// The module of a worked row, or out of memory; `None` where there is no such row.
 ///
@@ -29,19 +17,12 @@ pub fn sample<'a>(alloc: Global, n: u32) -> Option<Result<Module<'a>, Error<'a>>
     ensures refusal { IfSome result (λ made. IfErr made (λ e. e ≡ out_of_memory)) }
 {
     match sample_fields(alloc, n)? {
-        Ok(fields) => Some(Ok(module(fields))),
-        Err(refused) => Some(Err(refused)),
-    }
-}
-
-/// A small module that holds this form and no other that the encoder does not cover, or out of memory; `None` for the target
-/// architecture. Its fields are those of [`form_fields`], and it stands as that of a row does.
-pub fn form_sample<'a>(alloc: Global, form: Form) -> Option<Result<Module<'a>, Error<'a>>>
-    ensures there { is_some result ≡ is_sampled form }
-    ensures refusal { IfSome result (λ made. IfErr made (λ e. e ≡ out_of_memory)) }
-{
-    match form_fields(alloc, form)? {
-        Ok(fields) => Some(Ok(module(fields))),
+        Ok(fields) => Some(Ok(Module {
+            span: Span { offset: 1 },
+            id: None,
+            name: None,
+            kind: ModuleKind::Text(fields),
+        })),
         Err(refused) => Some(Err(refused)),
     }
 }
