@@ -7,9 +7,9 @@ use Rattle.wast_base.specs.Blocks.{Blocks, is_balanced}
 use Rattle.wast_base.specs.Ids.{Name, Mark, marked, is_number}
 use Rattle.wast_base.specs.Spaces.{name_if}
 use Rattle.wast_tree.specs.Instrs.{turns}
-use Rattle.wast_tree.specs.Sites.{Ask, Wants, Clause, OfBlock, Site, Asked, Used, LabelAt, Begins, Here, start, behind, body_here, param_marks, local_marks, declaring, asking, if_there, in_id, in_index, at_index, in_local, at_label, in_use, in_caught, in_catch, in_try_table, in_br_table, in_ref, in_cast, in_handle, in_handlers, uncovered, in_instr, in_instrs, in_expression, in_constant, in_func_kind}
+use Rattle.wast_tree.specs.Sites.{Ask, Wants, Clause, OfBlock, Site, Asked, Used, LabelAt, Begins, Here, start, behind, body_here, param_marks, local_marks, declaring, asking, if_there, in_id, in_index, at_index, in_local, at_label, in_use, in_caught, in_catch, in_try_table, in_br_table, in_ref, in_access, in_cast, in_handle, in_handlers, uncovered, in_instr, in_instrs, in_expression, in_constant, in_func_kind}
 use Rattle.wast_tree.specs.Resolved.{is_numbered, are_numbered}
-use Rattle.wast_conv.specs.Tree.{Id, Index, Space, TypeUse, FunctionType, BrTableIndices, TryTable, TryTableCatch, RefType, ResumeTable, Instruction, Expression, Local}
+use Rattle.wast_conv.specs.Tree.{Id, Index, Space, TypeUse, FunctionType, BrTableIndices, TryTable, TryTableCatch, RefType, StructAccess, ResumeTable, Instruction, Expression, Local}
 use Rattle.wast_conv.specs.Tree.form
 use Rattle.wast_conv.specs.Tree.instr as instruction
 use Rattle.wast_conv.specs.Tree.func
@@ -79,6 +79,10 @@ pub try_table_parts : (t : TryTable) → encodable (in_try_table start.blocks t)
 try_table_parts t e =
     let both = both_pass (is_encodable_site (Used OfBlock t.block.ty)) _ (sym (try_table_tells start.blocks t) ∙ e) in
     (both_true _ true both.0 refl, (both_pass (list_all is_encodable_catch t.catches) true both.1).0)
+
+-- a field of a struct: the type of the struct, and the field
+pub access_parts : (a : StructAccess) → encodable (in_access a) ≡ true → (is_number a.owner ≡ true) × (is_number a.field ≡ true)
+access_parts a e = both_pass (is_number a.owner) (is_number a.field) (both_pass _ true e).0
 
 -- a branch on a cast: its label, and the types that are cast to and from
 pub record CastParts (l : Index) (to from : RefType) : Type 0 where

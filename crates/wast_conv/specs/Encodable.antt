@@ -7,10 +7,10 @@ use Rattle.wast_base.specs.Ids.{is_number}
 use Rattle.wast_tree.specs.Clauses.{suits}
 use Rattle.wast_tree.specs.Instrs.{turns}
 use Rattle.wast_tree.specs.Types.{says_enough}
-use Rattle.wast_tree.specs.Sites.{Ask, Wants, Within, Unasked, Clause, Covered, OfItem, Site, Asked, Used, Declared, LocalAt, FieldAt, LabelAt, Repeated, Begins, Ends, start, in_type, in_ref, in_type_use, in_catch, in_instr, in_instrs, in_local, in_table_type, in_global_type, in_import, in_tag_type, in_field, in_module, asked}
+use Rattle.wast_tree.specs.Sites.{Ask, Wants, Within, Unasked, Clause, Covered, OfItem, Site, Asked, Used, Declared, LocalAt, FieldAt, LabelAt, Repeated, Begins, Ends, start, in_type, in_ref, in_type_use, in_catch, in_handle, in_instr, in_instrs, in_local, in_table_type, in_global_type, in_import, in_tag_type, in_field, in_module, asked}
 use Rattle.wast_tree.specs.Resolved.{is_resolved_site, is_resolved}
 use Rattle.wast_tree.specs.WrittenOut.{is_written_memory, is_written_field, is_written_out}
-use Rattle.wast_conv.specs.Tree.{Index, TypeUse, FunctionType, TryTableCatch, Instruction, Expression, FuncKind, Imports, TableKind, Table, Memory, GlobalKind, Global, Tag, ElemKind, ElemPayload, Elem, DataKind, Data, ModuleField}
+use Rattle.wast_conv.specs.Tree.{Index, TypeUse, FunctionType, TryTableCatch, Handle, Instruction, Expression, FuncKind, Imports, TableKind, Table, Memory, GlobalKind, Global, Tag, ElemKind, ElemPayload, Elem, DataKind, Data, ModuleField}
 use Rattle.wast_conv.specs.Tree.ty
 use Rattle.wast_conv.specs.Tree.func
 use Rattle.wast_conv.specs.Tree.table
@@ -180,3 +180,7 @@ is_at_rest fields = is_resolved fields && (is_written_out fields && list_all is_
 -- What a conversion needs is less: that indices are numbers, and that each type use has one.
 abbrev pub are_resolved : List Site → Bool
 are_resolved sites = list_all is_resolved_site sites
+
+-- a handler of a resumption, the same whichever blocks are open
+abbrev pub is_resolved_handle : Handle → Bool
+is_resolved_handle h = are_resolved (in_handle start.blocks h)

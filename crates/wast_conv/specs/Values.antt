@@ -1,5 +1,5 @@
 -- Parts of the tree as values of the binary format, with their numbers (binary format: types, instructions).
-use Rattle.std.specs.Int.{w8, w16, w32, w64, cast_unsigned, to_le_bytes, trailing_zeros}
+use Rattle.std.specs.Int.{w8, w16, w32, w64, w128, cast_signed, cast_unsigned, from_le_bytes, to_le_bytes, trailing_zeros}
 use Rattle.std.specs.Prelude.{ℕ, ℤ, Bool, true, List, [], ◌∷◌, map, flat_map, Option, Some, None, unwrap_or, option_map}
 use Rattle.wast_conv.specs.Tree as tree
 use Rattle.wast_conv.specs.Tree.{Index, StructField, FunctionType, TypeUse, InnerTypeKind, TypeDef, ItemKind, F32, F64, TryTableCatch, TryTableCatchKind, Instruction, Expression, Local, FuncKind}
@@ -279,6 +279,10 @@ lane_bytes (v128.I32x4 lanes) = i32_bytes lanes
 lane_bytes (v128.I64x2 lanes) = i64_bytes lanes
 lane_bytes (v128.F32x4 lanes) = f32_bytes lanes
 lane_bytes (v128.F64x2 lanes) = f64_bytes lanes
+
+-- a vector, as a number of 128 bits
+abbrev pub as_v128 : tree.V128Const → ℤ
+as_v128 c = cast_signed w128 (from_le_bytes w128 (lane_bytes c))
 
 -- What no encoder covers is no row of the table: no row has this opcode.
 abbrev pub no_row : Instr

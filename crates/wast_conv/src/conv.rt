@@ -13,11 +13,16 @@ ghost use Rattle.wast_conv.specs.Encodable.{is_number_if, is_encodable_instr, is
 ghost use Rattle.wast_conv.specs.Meaning as meaning;
 
 pub use crate::conv_entities::{entity_type, global_type, memory_type, table_type, tag_type};
+pub use crate::conv_handles::{Handles, handle, handles};
 pub use crate::conv_immediates::{block_type, catch, mem_arg, memory_arg, table_arg};
+pub use crate::conv_vectors::{
+    array_fill, lane_arg, mem_arg_ordering, ordering, shuffle, v128_const,
+};
 use crate::values::Resolved;
 use std::alloc::Global;
 use wasm_ops::{
-    CompositeInnerType, CompositeType, ConstExpr, Each, Encode, FuncType, StructType, SubType,
+    CompositeInnerType, CompositeType, ConstExpr, ContType, Each, Encode, FuncType, StructType,
+    SubType,
 };
 use wast_tree::{
     Error, Expression, FunctionType, Id, Index, InnerTypeKind, Instruction, NameAnnotation, Seq,
@@ -328,7 +333,7 @@ fn instrs_bytes<'e>(alloc: Global, instructions: &[Instruction]) -> Result<Vec<u
     Ok(bytes)
 }
 
-/// A constant expression: its instructions as bytes (binary format, expressions). It needs a supported one, with
+/// A constant expression: its instructions as bytes (binary format, expressions). It needs a covered one, with
 /// resolved indices. Sections take the expression that it gives.
 ///
 /// E12 comes where memory is refused. E10 comes only where a number of an instruction is out of range.

@@ -1,10 +1,8 @@
-//! Vectors, lanes, orderings and handlers of a resolved tree, as values of the binary format.
+//! Vectors, lanes and orderings of a resolved tree, as values of the binary format.
 
 ghost use Rattle.std.specs.Int.{w8, w16, w32, w64, cast_unsigned, to_le_bytes};
 ghost use Rattle.std.specs.Prelude.{◌≡◌, ◌<◌, [], ◌∷◌, flat_map, slice_index_or, pos, IsTrue};
 ghost use Rattle.wast_base.specs.Ids.{is_number};
-ghost use Rattle.wast_tree.specs.Sites.{start, in_handle};
-ghost use Rattle.wast_conv.specs.Encodable.{are_resolved};
 ghost use Rattle.wast_conv.specs.Meaning as meaning;
 
 use crate::conv::index;
@@ -143,6 +141,13 @@ pub(crate) fn lane_bytes(value: &V128Const) -> [u8; 16]
     }
 }
 
+/// A vector, as the number of 128 bits that its bytes are (binary format, vector instructions).
+pub fn v128_const(value: &V128Const) -> i128
+    ensures { result ≡ meaning.as_v128 value.now }
+{
+    i128::from_le_bytes(lane_bytes(value))
+}
+
 /// The number of a lane (binary format, vector instructions).
 pub fn lane_arg(arg: &LaneArg) -> u8
     ensures { result ≡ arg.now.lane }
@@ -192,19 +197,5 @@ pub fn mem_arg_ordering(written: wast_tree::MemArgOrdering) -> wasm_ops::MemArgO
     match written {
         wast_tree::MemArgOrdering::Op(own) => wasm_ops::MemArgOrdering::Op(ordering(own)),
         wast_tree::MemArgOrdering::Rmw(own) => wasm_ops::MemArgOrdering::Rmw(ordering(own)),
-    }
-}
-
-/// A handler of a resumption (stack switching). It needs resolved indices.
-pub fn handle(handle: &wast_tree::Handle) -> wasm_ops::Handle
-    requires { IsTrue (are_resolved (in_handle start.blocks handle.now)) }
-    ensures { result ≡ meaning.as_handle handle.now }
-{
-    match handle {
-        wast_tree::Handle::OnLabel { tag, label } => wasm_ops::Handle::OnLabel {
-            tag: index(tag),
-            label: index(label),
-        },
-        wast_tree::Handle::OnSwitch { tag } => wasm_ops::Handle::OnSwitch { tag: index(tag) },
     }
 }

@@ -3,6 +3,7 @@
 
 pub mod conv;
 mod conv_entities;
+mod conv_handles;
 mod conv_immediates;
 mod conv_segments;
 mod conv_vectors;
