@@ -12,7 +12,7 @@ use Rattle.wast_labels.specs.Laws.{KnowsItsLabels, GathersInOrder}
 use Rattle.wast_labels.specs.OpenBlocks.{OpenBlocks}
 use Rattle.wast_labels.specs.Turns.{gathered}
 use Rattle.wast_tree.specs.Instrs.{block_of, is_closer, turn_by, turn_of, turns}
-use Rattle.wast_tree.specs.Sites.{Ask, Site, Asked, Used, Declared, LocalAt, LabelAt, Repeated, Begins, Ends, Here, Locals, after, after_all, asking, at_label, in_br_table, in_catch, in_caught}
+use Rattle.wast_tree.specs.Sites.{Ask, Site, Asked, Used, Declared, LocalAt, FieldAt, LabelAt, Repeated, Begins, Ends, Here, Locals, after, after_all, asking, at_label, in_br_table, in_catch, in_caught}
 use Rattle.wast_tree.proofs.Behind.{after-append}
 use Rattle.wast_resolve.specs.Tree.{Index, BlockType, BrTableIndices, Instruction, TryTableCatch, TryTableCatchKind}
 use Rattle.wast_resolve.specs.Tree.caught
@@ -24,6 +24,7 @@ locals_after h (Asked a) = refl
 locals_after h (Used w u) = refl
 locals_after h (Declared before m) = refl
 locals_after h (LocalAt locals i) = refl
+locals_after h (FieldAt owner i) = refl
 locals_after h (LabelAt blocks i) = refl
 locals_after h (Repeated blocks m) = refl
 locals_after h (Begins blocks m) = refl

@@ -13,6 +13,7 @@ pub mod Openable
 pub mod Resolved
 pub mod Resolvers
 pub mod Scopes
+pub mod Shaping
 pub mod Stripped
 pub mod Tree
 pub mod TwoSteps

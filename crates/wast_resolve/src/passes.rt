@@ -8,8 +8,8 @@ ghost use Rattle.wast_resolve.specs.Resolved.{resolved};
 ghost use Rattle.wast_resolve.specs.Resolvers.{known_of, scope_of};
 ghost use Rattle.wast_resolve.specs.Scopes.{scope};
 
-use crate::func_types::func_types;
 use crate::resolver::Resolver;
+use crate::shapes::type_shapes;
 use crate::spaces::name_spaces;
 use crate::walks::walk_fields;
 use std::alloc::Global;
@@ -59,8 +59,8 @@ fn resolve_fields<'a>(
     ensures scope { IfOk result (λ r. scope_of r ≡ scope fields.old) }
     ensures refusal { IfErr result (IsUnnumbered fields.old) }
 {
-    let types = func_types(alloc, fields.as_slice())?;
     let spaces = name_spaces(alloc, fields.as_slice())?;
+    let types = type_shapes(alloc, fields.as_slice())?;
     let names = spaces.with_types(types);
     walk_fields(alloc, &names, fields)?;
     Ok(names)

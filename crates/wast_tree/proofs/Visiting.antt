@@ -155,3 +155,10 @@ asked_handlers blocks t =
 pub asked_anywhere_handlers : (blocks : Blocks) (t : ResumeTable) (front : List Site) → asked (front ++ in_handlers blocks t) ≡ asked (front ++ in_handlers [] t)
 asked_anywhere_handlers blocks t front =
     asked_both front (in_handlers blocks t) ∙ (ap (λ asks. asked front ++ asks) (asked_handlers blocks t ∙ sym (asked_handlers [] t)) ∙ sym (asked_both front (in_handlers [] t)))
+
+-- parts, and behind them what else is asked
+pub asked_behind : (sites : List Site) (asks : List Ask) → asked (sites ++ asking asks) ≡ asked sites ++ asks
+asked_behind sites asks = asked_both sites (asking asks) ∙ ap (λ more. asked sites ++ more) (asked_asking asks)
+
+pub asked_list : {A : Type 0} (f : A → List Site) (xs : List A) (asks : List Ask) → asked (flat_map f xs ++ asking asks) ≡ flat_map (λ x. asked (f x)) xs ++ asks
+asked_list f xs asks = asked_behind (flat_map f xs) asks ∙ ap (λ more. more ++ asks) (asked_each f xs)

@@ -1,5 +1,5 @@
 -- The signatures of an import, and the fields behind which no import may stand (text format: imports, modules).
-use Rattle.std.specs.Prelude.{List, [], ◌∷◌, length, map, replicate, Option, Some, None}
+use Rattle.std.specs.Prelude.{List, [], ◌∷◌, map, Option, Some, None}
 use Rattle.wast_tree.specs.Tree.{Space, ItemSig, ImportItems, ModuleField}
 use Rattle.wast_tree.specs.Tree.space
 use Rattle.wast_tree.specs.Tree.import_items
@@ -9,7 +9,7 @@ use Rattle.wast_tree.specs.Tree.field
 abbrev pub item_sigs : ImportItems → List ItemSig
 item_sigs (import_items.Single source name sig) = sig ∷ []
 item_sigs (import_items.Group1 source items) = map (λ p. p.1) items
-item_sigs (import_items.Group2 source sig items) = replicate (length items) sig
+item_sigs (import_items.Group2 source sig names) = map (λ name. sig) names
 
 -- the signatures, one for each that is written
 abbrev pub unique_sigs : ImportItems → List ItemSig

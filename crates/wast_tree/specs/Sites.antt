@@ -64,7 +64,7 @@ pub data Site : Type 0 where
   Declared : List (Option Name) → Option Mark → Site
   -- an index of a local, among these
   LocalAt : Locals → Index → Site
-  -- an index of a field, in the struct of this type
+  -- an index of a struct type, and then an index of a field in that struct
   FieldAt : Index → Index → Site
   -- an index of a label, among those of these open blocks
   LabelAt : Blocks → Index → Site
@@ -258,9 +258,9 @@ in_try_table blocks t = in_use OfBlock t.block.ty ++ (flat_map (in_catch blocks)
 abbrev pub in_br_table : Blocks → BrTableIndices → List Site
 in_br_table blocks t = flat_map (at_label blocks) t.labels ++ at_label blocks t.default
 
--- a field of a struct: the type of the struct, and then the field
+-- a field of a struct, with the type of the struct
 abbrev pub in_access : StructAccess → List Site
-in_access a = at_index space.Ty a.owner ++ FieldAt a.owner a.field ∷ []
+in_access a = FieldAt a.owner a.field ∷ []
 
 -- a branch on a cast: its label, the type that is cast to, and the type that is cast from
 abbrev pub in_cast : Blocks → Index → (to from : RefType) → List Site
@@ -541,7 +541,7 @@ asked_in (Asked a) = a ∷ []
 asked_in (Used w u) = in_type_use u
 asked_in (Declared before m) = []
 asked_in (LocalAt locals i) = Within i ∷ []
-asked_in (FieldAt owner i) = Within i ∷ []
+asked_in (FieldAt owner i) = Wants space.Ty owner ∷ Within i ∷ []
 asked_in (LabelAt blocks i) = Within i ∷ []
 asked_in (Repeated blocks m) = mark_asked m
 asked_in (Begins blocks m) = mark_asked m

@@ -1,6 +1,6 @@
 //! Imports.
 
-ghost use Rattle.std.specs.Prelude.{◌≡◌, ◌<◌, ◌++◌, length, map, replicate, slice_index_or, IfOk, IfErr, OnOk};
+ghost use Rattle.std.specs.Prelude.{◌≡◌, ◌<◌, ◌++◌, length, map, slice_index_or, IfOk, IfErr, OnOk};
 ghost use Rattle.wast_base.specs.Faults.{out_of_memory};
 ghost use Rattle.wast_tree.specs.Imports.{item_sigs, unique_sigs};
 ghost use Rattle.wast_tree.specs.Items.{space_of_kind};
@@ -109,16 +109,16 @@ fn push_sigs<'s, 'a, 'e>(
     Ok(())
 }
 
-/// Puts a signature behind those that are there, so many times.
+/// Puts a signature behind those that are there, once for each name.
 fn push_shared<'s, 'a, 'e>(
     sigs: &mut Vec<&'s ItemSig<'a>>,
     sig: &'s ItemSig<'a>,
-    count: usize,
+    names: &[&'a str],
 ) -> Result<(), Error<'e>>
-    ensures pushed { OnOk result (map (λ s. s.now) sigs.new.items ≡ map (λ s. s.now) sigs.old.items ++ replicate count sig.now) }
+    ensures pushed { OnOk result (map (λ s. s.now) sigs.new.items ≡ map (λ s. s.now) sigs.old.items ++ map (λ name. sig.now) names.now) }
     ensures refusal { IfErr result (λ e. e ≡ out_of_memory) }
 {
-    for _n in 0..count {
+    for _name in names {
         sigs.push(sig)?;
     }
     Ok(())
@@ -137,8 +137,7 @@ impl<'a> Imports<'a> {
     }
 
     /// The signatures of the items, one for each item, in order: where items share one, it stands once for each of them (text
-    /// format, imports). It takes memory for a reference to
-    /// each. The only error is E12, where that is refused.
+    /// format, imports). It takes memory for a reference to each. The only error is E12, where that is refused.
     pub fn item_sigs<'s, 'e>(&'s self, alloc: Global) -> Result<Vec<&'s ItemSig<'a>>, Error<'e>>
         ensures sigs { IfOk result (λ v. map (λ s. s.now) v.items ≡ item_sigs self.now.items) }
         ensures refusal { IfErr result (λ e. e ≡ out_of_memory) }
@@ -147,7 +146,9 @@ impl<'a> Imports<'a> {
         match &self.items {
             ImportItems::Single { sig, .. } => sigs.push(sig)?,
             ImportItems::Group1 { items, .. } => push_sigs(&mut sigs, items.as_slice())?,
-            ImportItems::Group2 { sig, items, .. } => push_shared(&mut sigs, sig, items.len())?,
+            ImportItems::Group2 { sig, items, .. } => {
+                push_shared(&mut sigs, sig, items.as_slice())?;
+            }
         }
         Ok(sigs)
     }

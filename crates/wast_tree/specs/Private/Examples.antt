@@ -517,8 +517,8 @@ WellFormedBlocks =
 abbrev pub WellFormedInPlace : Type 0
 WellFormedInPlace = (a : Address) →
     (is_well_formed (table_in_place (record { nullable = true; heap = heap.Abstract false abstract.Extern }) false (payload.Exprs (record { nullable = true; heap = heap.Abstract false abstract.Extern }) []) ∷ []) ≡ true)
-    × (is_well_formed (table_in_place funcref true (payload.Indices []) ∷ []) ≡ false)
-    × (is_well_formed (table_in_place (record { nullable = true; heap = heap.Abstract true abstract.Func }) false (payload.Indices []) ∷ []) ≡ false)
+    × (is_well_formed (table_in_place funcref true (payload.Indices []) ∷ []) ≡ true)
+    × (is_well_formed (table_in_place (record { nullable = true; heap = heap.Abstract true abstract.Func }) false (payload.Indices []) ∷ []) ≡ true)
     × (is_well_formed (table_in_place funcref false (payload.Indices (made_index 1 ∷ [])) ∷ []) ≡ false)
     × (is_well_formed (memory_in_place a None ∷ []) ≡ true)
     × (is_well_formed (memory_in_place a (Some 63) ∷ []) ≡ true)
@@ -556,7 +556,6 @@ abbrev pub StandsInAccess : Type 0
 StandsInAccess = (a : Address) →
     (in_module (func_alone (func_of nothing_used (instr.struct_get (record { owner = by_number 0 20; field = by_id a (codes "x") 30 }) ∷ [])))
     ≡ Used OfItem nothing_used
-    ∷ wanted space.Ty (by_number 0 20)
     ∷ FieldAt (by_number 0 20) (by_id a (codes "x") 30)
     ∷ hintless true
     ∷ [])

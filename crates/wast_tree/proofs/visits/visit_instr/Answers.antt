@@ -32,3 +32,15 @@ returns-in-resume_throw_ref g c = λ h.
     let x = c.in-resume_throw_ref.arg in
     subst (λ asks. Visits g.V.Visitor.told c.args.visitor.now asks c.visit-in-resume_throw_ref.new.visitor)
     (sym (ap (λ i. asked (in_instr h i)) c.in-resume_throw_ref.is ∙ asked_anywhere_handlers h.blocks x.table (at_index space.Ty x.type_index))) c.visit-in-resume_throw_ref.ensures
+
+pub returns-in-br_on_cast : goal.returns-in-br_on_cast
+returns-in-br_on_cast g c = λ h. rw c.in-br_on_cast.is (c.visit_cast.ensures h.blocks)
+
+pub returns-in-br_on_cast_fail : goal.returns-in-br_on_cast_fail
+returns-in-br_on_cast_fail g c = λ h. rw c.in-br_on_cast_fail.is (c.visit_cast-in-br_on_cast_fail.ensures h.blocks)
+
+pub returns-in-br_on_cast_desc_eq : goal.returns-in-br_on_cast_desc_eq
+returns-in-br_on_cast_desc_eq g c = λ h. rw c.in-br_on_cast_desc_eq.is (c.visit_uncovered_cast.ensures h.blocks)
+
+pub returns-in-br_on_cast_desc_eq_fail : goal.returns-in-br_on_cast_desc_eq_fail
+returns-in-br_on_cast_desc_eq_fail g c = λ h. rw c.in-br_on_cast_desc_eq_fail.is (c.visit_uncovered_cast-in-br_on_cast_desc_eq_fail.ensures h.blocks)

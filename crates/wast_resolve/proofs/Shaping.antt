@@ -1,0 +1,64 @@
+-- No two fields of a struct have one name where what the items demand is met; and how many fields there are is counted of items.
+use Rattle.std.proofs.Common.{◌≡◌, ℕ, ◌≤◌, ◌^◌, ◌⊎◌, inl, inr, List, [], ◌∷◌, ◌++◌, None, length, map, refl, sym, ap, ◌∙◌, arith, subst}
+use Rattle.std.specs.Prelude.{Contains}
+use Rattle.std.specs.List.{flat_map}
+use Rattle.std.proofs.lemmas.Grind.{flat_map-append}
+use Rattle.std.proofs.lemmas.List.{map-append}
+use Rattle.std.proofs.lemmas.List.Elements.{Contains-append_left, Contains-append_right, Contains-append_cases}
+use Rattle.wast_tree.specs.Items.{Item, items_of_type, items_in, items}
+use Rattle.wast_resolve.specs.Tree.{ModuleField}
+use Rattle.wast_resolve.specs.Tree.ty
+use Rattle.wast_resolve.specs.Tree.field
+use Rattle.wast_resolve.specs.Demands.{Demand, first_unmet, own_demand, field_demands, item_demand, item_demands, each_after, field_counts, HasMany}
+use Rattle.wast_resolve.specs.Shaping.{type_demands, types_demands, type_fields, types_fields}
+use Rattle.wast_resolve.proofs.Counted.{many_left, many_right}
+use Rattle.wast_resolve.proofs.Unmet.{met_parts, first_unmet-append}
+
+-- what is demanded of the fields of items
+abbrev of_items : List Item → List Demand
+of_items xs = flat_map (λ x. field_demands x.fields) xs
+
+items_met : (before xs : List Item) → first_unmet (each_after item_demand before xs) ≡ None → first_unmet (of_items xs) ≡ None
+items_met before [] h = refl
+items_met before (x ∷ xs) h =
+    let parts = met_parts (item_demand before x) (each_after item_demand (before ++ x ∷ []) xs) h in
+    let own = met_parts (own_demand before x) (field_demands x.fields) parts.0 in
+    first_unmet-append (field_demands x.fields) (of_items xs) own.1 ∙ items_met (before ++ x ∷ []) xs parts.1
+
+group_demands : (ts : List ty.«Type») → of_items (flat_map items_of_type ts) ≡ flat_map type_demands ts
+group_demands [] = refl
+group_demands (t ∷ ts) = ap (λ ds. type_demands t ++ ds) (group_demands ts)
+
+field_met : (x : ModuleField) → first_unmet (of_items (items_in x)) ≡ None → first_unmet (types_demands x) ≡ None
+field_met (field.Ty t) h = h
+field_met (field.Rec r) h = ap first_unmet (sym (group_demands r.types)) ∙ h
+field_met x h = refl
+
+fields_met : (xs : List ModuleField) → first_unmet (of_items (items xs)) ≡ None → first_unmet (flat_map types_demands xs) ≡ None
+fields_met [] h = refl
+fields_met (x ∷ xs) h =
+    let parts = met_parts (of_items (items_in x)) (of_items (items xs)) (ap first_unmet (sym (flat_map-append (λ (y : Item). field_demands y.fields) (items_in x) (items xs))) ∙ h) in
+    first_unmet-append (types_demands x) (flat_map types_demands xs) (field_met x parts.0) ∙ fields_met xs parts.1
+
+pub types_met : (xs : List ModuleField) → first_unmet (item_demands (items xs)) ≡ None → first_unmet (flat_map types_demands xs) ≡ None
+types_met xs h = fields_met xs (items_met [] (items xs) h)
+
+group_fields : (ts : List ty.«Type») → field_counts (flat_map items_of_type ts) ≡ map type_fields ts
+group_fields [] = refl
+group_fields (t ∷ ts) = ap (λ ns. type_fields t ∷ ns) (group_fields ts)
+
+none_many : HasMany [] → ⊥
+none_many (n, ((i, lt, is), le)) = absurd (omega (arith, lt))
+
+field_many : (x : ModuleField) → HasMany (types_fields x) → HasMany (field_counts (items_in x))
+field_many (field.Ty t) h = h
+field_many (field.Rec r) h = subst HasMany (sym (group_fields r.types)) h
+field_many x h = absurd (none_many h)
+
+pub types_many : (xs : List ModuleField) → HasMany (flat_map types_fields xs) → HasMany (field_counts (items xs))
+types_many [] h = h
+types_many (x ∷ xs) h = subst HasMany (sym (map-append (λ (y : Item). length y.fields) (items_in x) (items xs))) (either (Contains-append_cases (types_fields x) (flat_map types_fields xs) h.0 h.1.0))
+  where
+    either : Contains (types_fields x) h.0 ⊎ Contains (flat_map types_fields xs) h.0 → HasMany (field_counts (items_in x) ++ field_counts (items xs))
+    either (inl c) = many_left (field_counts (items_in x)) (field_counts (items xs)) (field_many x (h.0, (c, h.1.1)))
+    either (inr c) = many_right (field_counts (items_in x)) (field_counts (items xs)) (types_many xs (h.0, (c, h.1.1)))
