@@ -1,6 +1,6 @@
 -- Fields that are well formed, resolved and written out are at rest, and may be handed to the encoder where each form is
 -- covered; what may be is resolved; and where a field may be, so may what it puts into the sections.
-use Rattle.std.proofs.Common.{◌≡◌, Bool, true, ◌&&◌, ◌||◌, List, refl, sym, ◌∙◌}
+use Rattle.std.proofs.Common.{◌≡◌, Bool, true, false, ◌&&◌, ◌||◌, List, [], ◌∷◌, refl, sym, ◌∙◌}
 use Rattle.std.specs.Prelude.{is_some, Option, Some, None}
 use Rattle.std.specs.List.{flat_map, list_all}
 use Rattle.wast_base.specs.Ids.{is_number}
@@ -9,7 +9,7 @@ use Rattle.wast_tree.specs.Types.{says_enough}
 use Rattle.wast_tree.specs.Sites.{Ask, Wants, Within, Unasked, Clause, Covered, OfItem, OfCall, Site, Asked, Used, Declared, LocalAt, FieldAt, LabelAt, start, asking, if_there, at_index, in_type, in_rec, in_ref, in_type_use, in_use, in_indirect, in_local, in_func, in_func_kind, in_expression, in_table_type, in_global_type, in_tag_type, in_import, in_constant, in_payload, in_table_kind, in_memory_kind, in_global_kind, in_global, in_elem_kind, in_elem, in_data_kind, in_field, in_module, asked_in, asked}
 use Rattle.wast_tree.specs.Known.{Known}
 use Rattle.wast_tree.specs.WellFormed.{is_kept, are_kept}
-use Rattle.wast_tree.specs.Uncovered.{is_covered_ask, is_covered}
+use Rattle.wast_tree.specs.Uncovered.{is_covered_ask, uncovered_in, uncovered_forms, first}
 use Rattle.wast_tree.specs.Resolved.{is_numbered, are_numbered, is_resolved_site, is_resolved}
 use Rattle.wast_tree.specs.WrittenOut.{exports_nothing, is_written_func, is_written_table, is_written_memory, is_written_global, is_written_field, is_written_out}
 use Rattle.wast_conv.specs.Tree.{Index, Space, CallIndirect, TypeUse, FunctionType, Expression, Rec, Imports, FuncKind, Func, TableKind, Table, Memory, GlobalKind, Global, Export, ElemKind, ElemPayload, Elem, DataKind, Data, Tag, ModuleField}
@@ -68,12 +68,19 @@ sites_ready sites kept resolved =
     each_by (λ s. list_all is_kept_here (asked_in s)) is_resolved_site is_encodable_site site_ready sites
     (sym (each_passes is_kept_here asked_in sites) ∙ kept) resolved
 
-pub fields_ready : (fields : List ModuleField) → is_at_rest fields ≡ true → is_covered fields ≡ true → is_encodable fields ≡ true
-fields_ready fields rest covered =
+-- no form is found that is not covered
+forms_covered : (asks : List Ask) → first (flat_map uncovered_in asks) ≡ None → list_all is_covered_ask asks ≡ true
+forms_covered [] e = refl
+forms_covered (Covered form true ∷ asks) e = forms_covered asks e
+forms_covered (Covered form false ∷ asks) e = absurd cc
+forms_covered (a ∷ asks) e = forms_covered asks e
+
+pub fields_ready : (fields : List ModuleField) → is_at_rest fields ≡ true → first (uncovered_forms fields) ≡ None → is_encodable fields ≡ true
+fields_ready fields rest none =
     let resolved = both_pass (is_resolved fields) _ rest in
     let written = both_pass (is_written_out fields) _ resolved.1 in
     let asks = asked (in_module fields) in
-    let kept = each_by is_met is_covered_ask is_kept_here (λ a. both_true (is_met a) (is_covered_ask a)) asks written.1 covered in
+    let kept = each_by is_met is_covered_ask is_kept_here (λ a. both_true (is_met a) (is_covered_ask a)) asks written.1 (forms_covered asks none) in
     each_by (λ x. encodable (in_field x)) is_written_field is_encodable_field (λ x. both_true (encodable (in_field x)) (is_written_field x)) fields
     (sym (each_passes is_encodable_site in_field fields) ∙ sites_ready (in_module fields) kept resolved.0) written.0
 

@@ -13,8 +13,10 @@ ghost use Rattle.wast_conv.specs.Encodable.{is_number_if, is_encodable_instr, is
 ghost use Rattle.wast_conv.specs.Meaning as meaning;
 
 pub use crate::conv_entities::{entity_type, global_type, memory_type, table_type, tag_type};
-pub use crate::conv_handles::{Handles, handle, handles};
-pub use crate::conv_immediates::{block_type, catch, mem_arg, memory_arg, table_arg};
+pub use crate::conv_handles::Handles;
+pub use crate::conv_immediates::{
+    block_type, catch, handle, handles, mem_arg, memory_arg, table_arg,
+};
 pub use crate::conv_vectors::{
     array_fill, lane_arg, mem_arg_ordering, ordering, shuffle, v128_const,
 };

@@ -1,15 +1,17 @@
 -- The name section tells nothing of generated ids, and of the places of type uses.
-use Rattle.std.proofs.Common.{◌≡◌, List, [], ◌∷◌, ◌++◌, map, Option, Some, None, option_map, refl, ap, arith}
-use Rattle.std.specs.Prelude.{cond}
+use Rattle.std.proofs.Common.{◌≡◌, ℕ, zero, suc, List, [], ◌∷◌, ◌++◌, length, map, Option, Some, None, option_map, refl, ap, arith}
+use Rattle.std.specs.Prelude.{cond, replicate}
+use Rattle.std.specs.Borrow.{Bor}
 use Rattle.std.specs.List.{flat_map}
 use Rattle.std.proofs.lemmas.Grind.{common_steps}
 use Rattle.wast_base.specs.Ids.{Name, Written, Generated, name_of, is_generated}
+use Rattle.wast_tree.specs.Imports.{item_sigs}
 use Rattle.wast_tree.specs.Items.{space_of_kind}
 use Rattle.wast_tree.specs.Sites.{Here, behind, param_marks, local_marks, body_here}
-use Rattle.wast_map.specs.Mapped.{mapped_type, mapped_tag_type, mapped_item_kind, mapped_import_items, mapped_instr, mapped_instrs, mapped_local, mapped_func_kind, mapped_func, mapped}
+use Rattle.wast_map.specs.Mapped.{mapped_type, mapped_tag_type, mapped_item_kind, mapped_sig, mapped_import_items, mapped_instr, mapped_instrs, mapped_local, mapped_func_kind, mapped_func, mapped}
 use Rattle.wast_map.specs.Laws.{all_mapped}
 use Rattle.wast_resolve.specs.Stripped.{written_id, at_start, stripped_use, stripping}
-use Rattle.wast_core.specs.Tree.{Id, Index, NameAnnotation, FunctionType, TypeUse, TagType, ItemKind, ImportItems, Instruction, FuncKind, Func, ModuleField}
+use Rattle.wast_core.specs.Tree.{Id, Index, NameAnnotation, FunctionType, TypeUse, TagType, ItemKind, ItemSig, ImportItems, Instruction, FuncKind, Func, ModuleField}
 use Rattle.wast_core.specs.Tree.index
 use Rattle.wast_core.specs.Tree.space
 use Rattle.wast_core.specs.Tree.ty
@@ -23,7 +25,7 @@ use Rattle.wast_names.specs.WithinItems as within
 use Rattle.wast_names.specs.WithinItems.{arity, types_within, arity_at, params_or, local_name, locals_in, label_in, labels_in, locals_of, tag_params, lists_in_type}
 use Rattle.wast_names.specs.ModuleNames.{type_name, import_names, item_names_in}
 use Rattle.wast_names.proofs.Each.{each_like}
-use Rattle.wast_names.proofs.SameNameSection.{SameLists, SameInKind, SameInImport, KeepsNames, arity_in, same_arity, in_type, in_func, in_tag, in_imported_func}
+use Rattle.wast_names.proofs.SameNameSection.{SameLists, SameInKind, SameInImport, KeepsNames, arity_in, same_arity, in_type, in_func, in_tag, in_imported_func, names_imported, in_import}
 use Rattle.wast_core.proofs.Stripping.{each_alike, def_stays}
 
 -- The names of items.
@@ -42,8 +44,22 @@ same_types ts = each_alike (mapped_type stripping) type_name (λ t i. (space.Ty,
 same_space_of : (k : ItemKind) → space_of_kind (mapped_item_kind stripping k) ≡ space_of_kind k
 same_space_of k = grind (arith, common_steps)
 
+-- the signatures of what is imported are changed one by one
+sigs_changed : (x : ImportItems) → item_sigs (mapped_import_items stripping x) ≡ map (mapped_sig stripping) (item_sigs x)
+sigs_changed (import_items.Single source name sig) = refl
+sigs_changed (import_items.Group1 source items) = pairs items
+  where
+    pairs : (ps : List (Bor (List ℕ) × ItemSig)) → map (λ p. p.1) (map (λ p. (p.0, mapped_sig stripping p.1)) ps) ≡ map (mapped_sig stripping) (map (λ p. p.1) ps)
+    pairs [] = refl
+    pairs (p ∷ ps) = ap (λ sigs. mapped_sig stripping p.1 ∷ sigs) (pairs ps)
+sigs_changed (import_items.Group2 source sig names) = copies (length names)
+  where
+    copies : (n : ℕ) → replicate n (mapped_sig stripping sig) ≡ map (mapped_sig stripping) (replicate n sig)
+    copies zero = refl
+    copies (suc n) = ap (λ sigs. mapped_sig stripping sig ∷ sigs) (copies n)
+
 same_imported : (x : ImportItems) → import_names (mapped_import_items stripping x) ≡ import_names x
-same_imported (import_items.Single source name sig) = λ i. (same_space_of sig.kind i, same_given sig.name sig.id i) ∷ []
+same_imported x = names_imported (mapped_sig stripping) x (mapped_import_items stripping x) (sigs_changed x) (λ s i. (same_space_of s.kind i, same_given s.name s.id i))
 
 same_names : (x : ModuleField) → item_names_in (mapped stripping x) ≡ item_names_in x
 same_names x = grind (arith, common_steps, same_given, same_types, same_imported)
@@ -86,10 +102,11 @@ same_params (tag.Exception u) = refl
 
 same_kind : (k : ItemKind) → SameInKind (mapped_item_kind stripping k) k
 same_kind (kind.Func u) = λ w. in_imported_func w (stripped_use u) u refl
+same_kind (kind.FuncExact u) = λ w. in_imported_func w (stripped_use u) u refl
 same_kind k = λ w. refl
 
-same_import : (i : ImportItems) → SameInImport (mapped_import_items stripping i) i
-same_import (import_items.Single source name sig) = same_kind sig.kind
+same_import : (x : ImportItems) → SameInImport (mapped_import_items stripping x) x
+same_import x = in_import (mapped_sig stripping) x (mapped_import_items stripping x) (sigs_changed x) (λ s. same_kind s.kind)
 
 same_lists : (xs : List ModuleField) (x : ModuleField) → SameLists (all_mapped stripping xs) xs (mapped stripping x) x
 same_lists xs (field.Ty t) = λ w. in_type w (mapped_type stripping t) t (def_stays t)

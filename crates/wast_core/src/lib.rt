@@ -2,7 +2,6 @@
 #![tactic(auto)]
 
 mod counts;
-mod covered;
 mod encode;
 mod entries;
 mod examples;
@@ -10,6 +9,7 @@ mod laws;
 mod module;
 mod sections;
 mod slots;
+mod utf8_names;
 mod wat;
 
 pub use encode::EncodeOptions;
