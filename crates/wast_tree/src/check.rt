@@ -35,7 +35,7 @@ struct Bearers<'f, T> {
 impl<'f, T: HasItems> Bearers<'f, T> {
     /// These fields; each search begins at the first.
     fn new(fields: &'f [T]) -> Self
-        ensures { result.fields ≡ fields }
+        ensures { result.fields.now ≡ fields.now }
     {
         Bearers {
             fields,
