@@ -40,6 +40,10 @@ module _ (k : Known) where
   same_heap_still (heap.Abstract s a) b = refl
   same_heap_still (heap.Concrete i) (heap.Concrete j) = same_index_still i j
   same_heap_still (heap.Concrete i) (heap.Abstract t b) = refl
+  same_heap_still (heap.Concrete i) (heap.Exact j) = refl
+  same_heap_still (heap.Exact i) (heap.Exact j) = same_index_still i j
+  same_heap_still (heap.Exact i) (heap.Abstract t b) = refl
+  same_heap_still (heap.Exact i) (heap.Concrete j) = refl
 
   same_value_still : (a b : ValType) → same_value_by (same_type k) (mapped_val (numbered_at k) a) b ≡ same_value_by (same_type k) a b
   same_value_still (value.Ref r) (value.Ref q) = ap (λ b. beq r.nullable q.nullable && b) (same_heap_still r.heap q.heap)

@@ -1,7 +1,7 @@
 //! Walks over bodies: each instruction by the names of the module and of the function, and by the open blocks.
 #![tactic(auto, using(crate::proofs::Parts::both_met, crate::proofs::Parts::first_fails, crate::proofs::Parts::second_fails))]
 
-ghost use Rattle.std.specs.Prelude.{⊤, ◌≡◌, ◌≤◌, ◌^◌, ◌+◌, ◌++◌, ◌∷◌, [], List, length, map, flat_map, IsTrue, IfOk, OnOk};
+ghost use Rattle.std.specs.Prelude.{◌≡◌, ◌≤◌, ◌^◌, ◌+◌, ◌++◌, ◌∷◌, [], List, length, map, flat_map, IsTrue, IfOk, OnOk};
 ghost use Rattle.wast_base.specs.Blocks.{closed};
 ghost use Rattle.wast_base.specs.Ids.{marked};
 ghost use Rattle.wast_base.specs.Spaces.{name_if};
@@ -264,7 +264,7 @@ fn walk_cast<'a>(
     from: &mut RefType<'a>,
 ) -> Result<(), Error<'a>>
     ensures { let f = numbering (scope_of names.now) in
-        Walks ⊤ (HasMany []) (site_demands (scope_of names.now) (in_cast labels.now.blocks label.old to.old from.old))
+        Walks ⊥ ⊥ (site_demands (scope_of names.now) (in_cast labels.now.blocks label.old to.old from.old))
         (f.label labels.now.blocks label.old, (mapped_ref f.index to.old, mapped_ref f.index from.old)) (label.new, (to.new, from.new)) result }
 {
     walk_label(labels, label)?;

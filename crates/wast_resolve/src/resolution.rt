@@ -18,7 +18,7 @@ use crate::passes;
 use crate::resolver::Resolver;
 use std::alloc::Global;
 use std::marker::Model;
-use wast_deinline::{deinline, written_laws};
+use wast_deinline::deinline;
 use wast_tree::{Error, Gensym, Index, ModuleField, Seq, Space};
 use wast_types::types;
 
@@ -140,8 +140,6 @@ pub fn resolve<'a>(
     ensures counter { OnOk result (gensym.new ≡ gensym.old + ids_filled fields.entry) }
     ensures rising { gensym.old ≤ gensym.new }
 {
-    // of well formed fields none is exact where it is imported in place
-    written_laws();
     let fields = deinline::run(alloc, fields, gensym)?;
     let fields = in_order(fields)?;
     let fields = types::expand(alloc, fields, gensym)?;

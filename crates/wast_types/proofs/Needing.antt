@@ -7,8 +7,8 @@ use Rattle.wast_base.specs.Ids.{Name, Mark, marked, generated}
 use Rattle.wast_base.specs.Spaces.{name_if}
 use Rattle.wast_base.specs.Blocks.{Blocks, is_balanced}
 use Rattle.wast_tree.specs.Instrs.{turns}
-use Rattle.wast_tree.specs.Sites.{Ask, Clause, OfItem, OfBlock, Site, Asked, Begins, Here, start, asking, at_index, at_label, in_caught, in_catch, in_handle, in_handlers, in_cast, in_ref, uncovered, in_block, in_try_table, in_br_table, in_heap, in_mem_arg, in_select, in_type, in_rec, in_instr, behind, in_instrs, in_expression, in_constant, in_local, param_marks, local_marks, declaring, body_here, in_func_kind, in_use, in_func, in_payload, in_field}
-use Rattle.wast_types.specs.Tree.{Index, RefType, Handle, ResumeTable, BlockType, BrTableIndices, TryTable, TryTableCatch, FunctionType, TypeUse, SelectTypes, Instruction, Expression, Local, FuncKind, Func, Table, Global, ElemPayload, Elem, Data, Rec}
+use Rattle.wast_tree.specs.Sites.{Ask, Clause, OfItem, OfBlock, Site, Asked, Begins, Here, start, asking, at_index, at_label, in_caught, in_catch, in_handle, in_handlers, in_cast, in_ref, uncovered, in_block, in_try_table, in_br_table, in_heap, in_mem_arg, in_select, in_type, in_rec, in_instr, behind, in_instrs, in_expression, in_constant, in_local, param_marks, local_marks, declaring, body_here, in_func_kind, in_use, in_func, in_payload, in_sig, in_field}
+use Rattle.wast_types.specs.Tree.{Index, RefType, Handle, ResumeTable, BlockType, BrTableIndices, TryTable, TryTableCatch, FunctionType, TypeUse, SelectTypes, Instruction, Expression, Local, FuncKind, Func, Table, Global, ElemPayload, Elem, Data, Rec, ItemSig}
 use Rattle.wast_types.specs.Tree.form
 use Rattle.wast_types.specs.Tree.handle
 use Rattle.wast_types.specs.Tree.space
@@ -45,6 +45,13 @@ needed_asking (a ∷ asks) = needed_asking asks
 needed_declaring : (before : List (Option Name)) (marks : List (Option Mark)) → needed_in (declaring before marks) ≡ []
 needed_declaring before [] = refl
 needed_declaring before (m ∷ ms) = needed_declaring (before ++ name_if m ∷ []) ms
+
+pub needed_besides : (xs : List Site) (asks : List Ask) → needed_in (xs ++ asking asks) ≡ needed_in xs
+needed_besides xs asks = needed_both xs (asking asks) ∙ (ap (λ ss. needed_in xs ++ ss) (needed_asking asks) ∙ append-nil (needed_in xs))
+
+-- Each item of a group needs what it needs alone.
+pub needed_group : {A : Type 0} (items : List (A × ItemSig)) → needed_in (flat_map (λ p. in_sig p.1) items ++ asking (uncovered form.CompactImports)) ≡ flat_map (λ p. needed_in (in_sig p.1)) items
+needed_group items = needed_besides (flat_map (λ p. in_sig p.1) items) (uncovered form.CompactImports) ∙ needed_each (λ p. in_sig p.1) items
 
 -- No more do labels.
 needed_label : (blocks : Blocks) (l : Index) → needed_in (at_label blocks l) ≡ []
