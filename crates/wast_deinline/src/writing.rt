@@ -16,10 +16,10 @@ use crate::references::{by_id, has_bytes, has_elements, name_items};
 use crate::segments::{at_zero, data_into, elem_into, filled_table_type, filling};
 use std::alloc::Global;
 use wast_tree::{
-    Error, Export, ExportKind, Expression, Func, FuncKind, Gensym, GlobalKind, Id, Imports, Index,
-    InlineExport, InlineImport, ItemKind, ItemSig, Memory, MemoryKind, MemoryType, ModuleField,
-    NameAnnotation, Seq, Span, Table, TableKind, TableType, Tag, TagKind, discard_data,
-    discard_elem_payload, discard_exports, discard_field, discard_fields, fields_with_capacity,
+    Error, Export, ExportKind, Expression, Func, FuncKind, FunctionType, Gensym, GlobalKind, Id,
+    Imports, Index, InlineExport, InlineImport, ItemKind, ItemSig, Memory, MemoryKind, MemoryType,
+    ModuleField, NameAnnotation, Seq, Span, Table, TableKind, TableType, Tag, TagKind, TypeUse,
+    discard_data, discard_elem_payload, discard_exports, discard_field, discard_fields, fields_with_capacity,
     is_written_out, push_field, take_field,
 };
 

@@ -81,7 +81,7 @@ module _ (f : Change) (keeps : KeepsItems f) where
   sig_alone : (s : ItemSig) → item_of_sig (mapped_sig f s) ≡ item_of_sig s
   sig_alone s = λ i. record { space = kind_alone s.kind i; id = keeps s.id i; fields = [] }
 
-  sigs_alone : (ps : List (Bor (List ℕ) × ItemSig)) → flat_map (λ p. item_of_sig p.1 ∷ []) (map (λ p. (p.0, mapped_sig f p.1)) ps) ≡ flat_map (λ p. item_of_sig p.1 ∷ []) ps
+  sigs_alone : (ps : List (Bor (List ℕ) × ItemSig)) → flat_map (λ (p : Bor (List ℕ) × ItemSig). item_of_sig p.1 ∷ []) (map (λ (p : Bor (List ℕ) × ItemSig). (p.0, mapped_sig f p.1)) ps) ≡ flat_map (λ (p : Bor (List ℕ) × ItemSig). item_of_sig p.1 ∷ []) ps
   sigs_alone [] = refl
   sigs_alone (p ∷ ps) = λ i. sig_alone p.1 i ∷ sigs_alone ps i
 

@@ -1,3 +1,4 @@
+pub mod Accesses
 pub mod AlikeScopes
 pub mod AtRest
 pub mod Bodies

@@ -1,15 +1,20 @@
 -- No two fields of a struct have one name where what the items demand is met; and how many fields there are is counted of items.
-use Rattle.std.proofs.Common.{◌≡◌, ℕ, ◌≤◌, ◌^◌, ◌⊎◌, inl, inr, List, [], ◌∷◌, ◌++◌, None, length, map, refl, sym, ap, ◌∙◌, arith, subst}
-use Rattle.std.specs.Prelude.{Contains}
-use Rattle.std.specs.List.{flat_map}
+use Rattle.std.proofs.Common.{◌≡◌, ℕ, ◌≤◌, ◌^◌, ◌⊎◌, inl, inr, List, [], ◌∷◌, ◌++◌, None, length, map, get_or, drop, refl, sym, ap, ◌∙◌, arith, subst}
+use Rattle.std.specs.Prelude.{⊤, ◌+◌, ◌<◌, ◌||◌, Contains, Option, Some, is_some}
+use Rattle.std.specs.List.{flat_map, list_any}
+use Rattle.std.proofs.lemmas.List.{drop_more}
+use Rattle.wast_base.specs.Faults.{Told, At, Nowhere, Memory, TooLarge}
+use Rattle.wast_base.specs.Ids.{marked}
+use Rattle.wast_base.specs.Spaces.{name_if}
 use Rattle.std.proofs.lemmas.Grind.{flat_map-append}
 use Rattle.std.proofs.lemmas.List.{map-append}
 use Rattle.std.proofs.lemmas.List.Elements.{Contains-append_left, Contains-append_right, Contains-append_cases}
-use Rattle.wast_tree.specs.Items.{Item, items_of_type, items_in, items}
-use Rattle.wast_resolve.specs.Tree.{ModuleField}
+use Rattle.wast_tree.specs.Items.{Item, field_ids, items_of_type, items_in, items}
+use Rattle.wast_resolve.specs.Tree.{Id, StructField, ModuleField}
+use Rattle.wast_resolve.specs.Gathers.{Stops}
 use Rattle.wast_resolve.specs.Tree.ty
 use Rattle.wast_resolve.specs.Tree.field
-use Rattle.wast_resolve.specs.Demands.{Demand, first_unmet, own_demand, field_demands, item_demand, item_demands, each_after, field_counts, HasMany}
+use Rattle.wast_resolve.specs.Demands.{Demand, first_unmet, own_demand, field_demands, item_demand, item_demands, each_after, field_counts, HasMany, Answers}
 use Rattle.wast_resolve.specs.Shaping.{type_demands, types_demands, type_fields, types_fields}
 use Rattle.wast_resolve.proofs.Counted.{many_left, many_right}
 use Rattle.wast_resolve.proofs.Unmet.{met_parts, first_unmet-append}
@@ -62,3 +67,21 @@ types_many (x ∷ xs) h = subst HasMany (sym (map-append (λ (y : Item). length 
     either : Contains (types_fields x) h.0 ⊎ Contains (flat_map types_fields xs) h.0 → HasMany (field_counts (items_in x) ++ field_counts (items xs))
     either (inl c) = many_left (field_counts (items_in x)) (field_counts (items xs)) (field_many x (h.0, (c, h.1.1)))
     either (inr c) = many_right (field_counts (items_in x)) (field_counts (items xs)) (types_many xs (h.0, (c, h.1.1)))
+
+-- whether one field or those behind it have an id
+id_named : (id : Option Id) → is_some (name_if (marked id)) ≡ is_some id
+id_named None = refl
+id_named (Some id) = refl
+
+pub some_named : (fs : List StructField) (i : ℕ) (f : StructField) → i < length fs → f ≡ get_or fs i f
+    → list_any is_some (map name_if (field_ids (drop i fs))) ≡ is_some f.id || list_any is_some (map name_if (field_ids (drop (i + 1) fs)))
+some_named fs i f lt is =
+    let rest = list_any is_some (map name_if (field_ids (drop (i + 1) fs))) in
+    ap (λ xs. list_any is_some (map name_if (field_ids xs))) (drop_more fs i f lt ∙ ap (λ x. x ∷ drop (i + 1) fs) (sym is)) ∙ ap (λ b. b || rest) (id_named f.id)
+
+-- why gathering stopped, as a refusal
+pub stops_refused : (t : Told) (b n m : ℕ) → n ≡ m → Stops t b n → Answers ⊤ (2 ^ 32 ≤ m) t None
+stops_refused (Nowhere Memory) b n m is h = tt
+stops_refused (Nowhere TooLarge) b n m is h = subst (λ k. 2 ^ 32 ≤ k) is h
+stops_refused (Nowhere fault) b n m is h = absurd h
+stops_refused (At fault place) b n m is h = absurd h

@@ -20,5 +20,6 @@ pub mod TwoSteps
 pub mod Walking
 pub mod WorkedAnswers
 pub mod WorkedBodies
+pub mod WorkedFields
 pub mod WorkedImports
 pub mod WorkedUnknowns

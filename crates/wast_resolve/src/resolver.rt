@@ -1,6 +1,6 @@
 //! The name spaces of a module.
 
-ghost use Rattle.std.specs.Prelude.{◌≡◌, Some, option_map, IfOk, IfErr, OnOk};
+ghost use Rattle.std.specs.Prelude.{◌≡◌, Some, option_map, IfOk, IfErr};
 ghost use Rattle.wast_base.specs.Ids.{name_of};
 ghost use Rattle.wast_resolve.specs.LookUps.{IsSettledFor, AnswersFor};
 ghost use Rattle.wast_resolve.specs.Resolved.{numbered, numbered_at, numbering};
@@ -12,6 +12,7 @@ ghost use Rattle.wast_resolve.specs.Matches.{same_type};
 ghost use Rattle.wast_resolve.specs.Demands.{first_unmet, match_demands, field_at, access_demand};
 ghost use Rattle.wast_namespace.specs.Outcomes.{Outcome};
 ghost use Rattle.wast_resolve.specs.Resolvers.{space_of, space_in, known_of, scope_of, read_shape, without_types, with_types, IsFieldsOf};
+ghost use Rattle.wast_resolve.specs.Walking.{Walks};
 
 use crate::matches::has_signature;
 use std::alloc::Global;
@@ -220,8 +221,8 @@ impl<'a> Resolver<'a> {
         &self,
         access: &mut StructAccess<'a>,
     ) -> Result<(), Error<'a>>
-        ensures answer { Outcome ⊥ ⊥ (first_unmet (access_demand (scope_of self.now) access.old.owner access.old.field)) result }
-        ensures access { OnOk result (access.new ≡ mapped_access (numbering (scope_of self.now)) access.old) }
+        ensures { Walks ⊥ ⊥ (access_demand (scope_of self.now) access.old.owner access.old.field)
+            (mapped_access (numbering (scope_of self.now)) access.old) access.new result }
     {
         let owner = self.number(&mut access.owner, Space::Ty)?;
         self.number_field(owner, &mut access.field)?;
@@ -231,8 +232,8 @@ impl<'a> Resolver<'a> {
     /// Numbers the index of a field of the struct type of this number: E9 at an id where that is no struct type with a named
     /// field, and else E4 at one that is unknown.
     fn number_field(&self, owner: u32, field: &mut Index<'a>) -> Result<(), Error<'a>>
-        ensures answer { Outcome ⊥ ⊥ (first_unmet (field_at (scope_of self.now).types (Some owner) field.old)) result }
-        ensures index { OnOk result (field.new ≡ numbered (field_in (type_at (scope_of self.now).types (Some owner))) field.old) }
+        ensures { Walks ⊥ ⊥ (field_at (scope_of self.now).types (Some owner) field.old)
+            (numbered (field_in (type_at (scope_of self.now).types (Some owner))) field.old) field.new result }
     {
         let id = match *field {
             Index::Num(_, _) => return Ok(()),

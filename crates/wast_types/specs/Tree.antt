@@ -75,3 +75,4 @@ pub use Rattle.wast_tree.specs.declared.continuations.ResumeTable.{ResumeTable}
 pub use Rattle.wast_tree.specs.declared.continuations.Handle.{Handle}
 pub use Rattle.wast_tree.specs.declared.continuations.Handle.TheVariants as handle
 pub use Rattle.wast_base.specs.declared.faults.Form.TheVariants as form
+pub use Rattle.wast_tree.specs.declared.imports.ItemSig.{ItemSig}

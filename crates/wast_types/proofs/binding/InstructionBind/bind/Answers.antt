@@ -1,6 +1,7 @@
 use Rattle.std.proofs.Common.{◌≡◌, [], ◌++◌, ap, sym, ◌∙◌, subst}
-use Rattle.wast_tree.specs.Sites.{start, asking, at_index, uncovered, in_ref, in_pair, in_cast, in_handlers, in_select, in_instr}
+use Rattle.wast_tree.specs.Sites.{start, uncovered, in_index, in_ref, in_pair, in_cast, in_select, in_instr}
 use Rattle.wast_map.specs.Mapped.{mapped_block, mapped_instr}
+use Rattle.wast_types.specs.Tree.{ResumeTable}
 use Rattle.wast_types.specs.Tree.form
 use Rattle.wast_types.specs.Tree.space
 use Rattle.wast_types.specs.Tree.instr
@@ -9,7 +10,7 @@ use Rattle.wast_types.specs.Expanders.{index_of, with_more}
 use Rattle.wast_types.specs.NeedingUses.{needed_in}
 use Rattle.wast_types.specs.Binding.{state}
 use Rattle.wast_types.proofs.Adding.{adds_nothing}
-use Rattle.wast_types.proofs.Needing.{select_stays, needed_asking, needed_both, needed_besides, needed_cast, needed_handlers, needed_br_table}
+use Rattle.wast_types.proofs.Needing.{select_stays, needed_asking, needed_besides, needed_cast, needed_resume, handlers_stay, needed_br_table}
 use Rattle.wast_types.proofs.binding.InstructionBind.bind.Goals as goal
 
 pub returns-in-select-clause-bound : goal.returns-in-select-clause-bound
@@ -75,15 +76,15 @@ returns-in-br_on_cast_desc_eq_fail-clause-adds c =
 
 pub returns-in-resume-clause-adds : goal.returns-in-resume-clause-adds
 returns-in-resume-clause-adds c =
-    adds_nothing (state c.args.cx.now c.args.implied.now c.args.gensym.now) (ap (λ i. needed_in (in_instr start i)) c.in-resume.is ∙ (needed_both (at_index space.Ty c.in-resume.field-0.type_index) (in_handlers [] c.in-resume.field-0.table) ∙ needed_handlers [] c.in-resume.field-0.table))
+    adds_nothing (state c.args.cx.now c.args.implied.now c.args.gensym.now) (ap (λ i. needed_in (in_instr start i)) c.in-resume.is ∙ needed_resume [] (in_index space.Ty c.in-resume.field-0.type_index) c.in-resume.field-0.table)
 
 pub returns-in-resume_throw_ref-clause-adds : goal.returns-in-resume_throw_ref-clause-adds
 returns-in-resume_throw_ref-clause-adds c =
-    adds_nothing (state c.args.cx.now c.args.implied.now c.args.gensym.now) (ap (λ i. needed_in (in_instr start i)) c.in-resume_throw_ref.is ∙ (needed_both (at_index space.Ty c.in-resume_throw_ref.field-0.type_index) (in_handlers [] c.in-resume_throw_ref.field-0.table) ∙ needed_handlers [] c.in-resume_throw_ref.field-0.table))
+    adds_nothing (state c.args.cx.now c.args.implied.now c.args.gensym.now) (ap (λ i. needed_in (in_instr start i)) c.in-resume_throw_ref.is ∙ needed_resume [] (in_index space.Ty c.in-resume_throw_ref.field-0.type_index) c.in-resume_throw_ref.field-0.table)
 
 pub returns-in-resume_throw-clause-adds : goal.returns-in-resume_throw-clause-adds
 returns-in-resume_throw-clause-adds c =
-    adds_nothing (state c.args.cx.now c.args.implied.now c.args.gensym.now) (ap (λ i. needed_in (in_instr start i)) c.in-resume_throw.is ∙ (needed_both (asking (in_pair space.Ty c.in-resume_throw.field-0.type_index space.Tag c.in-resume_throw.field-0.tag_index)) (in_handlers [] c.in-resume_throw.field-0.table) ∙ needed_handlers [] c.in-resume_throw.field-0.table))
+    adds_nothing (state c.args.cx.now c.args.implied.now c.args.gensym.now) (ap (λ i. needed_in (in_instr start i)) c.in-resume_throw.is ∙ needed_resume [] (in_pair space.Ty c.in-resume_throw.field-0.type_index space.Tag c.in-resume_throw.field-0.tag_index) c.in-resume_throw.field-0.table)
 
 pub returns-in-ref_test-clause-adds : goal.returns-in-ref_test-clause-adds
 returns-in-ref_test-clause-adds c =
@@ -96,3 +97,21 @@ returns-in-ref_cast-clause-adds c =
 pub returns-in-ref_cast_desc_eq-clause-adds : goal.returns-in-ref_cast_desc_eq-clause-adds
 returns-in-ref_cast_desc_eq-clause-adds c =
     adds_nothing (state c.args.cx.now c.args.implied.now c.args.gensym.now) (ap (λ i. needed_in (in_instr start i)) c.in-ref_cast_desc_eq.is ∙ needed_asking (in_ref c.in-ref_cast_desc_eq.field-0.rt ++ uncovered form.Descriptor))
+
+pub returns-in-resume-clause-bound : goal.returns-in-resume-clause-bound
+returns-in-resume-clause-bound c = λ more.
+    let find = with_more (index_of c.args.cx.now) more in
+    let x = c.in-resume.field-0 in
+    subst (λ i. i ≡ mapped_instr (binding find) start i) (sym c.in-resume.is) (ap (λ (t : ResumeTable). instr.resume (record { type_index = x.type_index; table = t })) (sym (handlers_stay find [] x.table)))
+
+pub returns-in-resume_throw-clause-bound : goal.returns-in-resume_throw-clause-bound
+returns-in-resume_throw-clause-bound c = λ more.
+    let find = with_more (index_of c.args.cx.now) more in
+    let x = c.in-resume_throw.field-0 in
+    subst (λ i. i ≡ mapped_instr (binding find) start i) (sym c.in-resume_throw.is) (ap (λ (t : ResumeTable). instr.resume_throw (record { type_index = x.type_index; tag_index = x.tag_index; table = t })) (sym (handlers_stay find [] x.table)))
+
+pub returns-in-resume_throw_ref-clause-bound : goal.returns-in-resume_throw_ref-clause-bound
+returns-in-resume_throw_ref-clause-bound c = λ more.
+    let find = with_more (index_of c.args.cx.now) more in
+    let x = c.in-resume_throw_ref.field-0 in
+    subst (λ i. i ≡ mapped_instr (binding find) start i) (sym c.in-resume_throw_ref.is) (ap (λ (t : ResumeTable). instr.resume_throw_ref (record { type_index = x.type_index; table = t })) (sym (handlers_stay find [] x.table)))
