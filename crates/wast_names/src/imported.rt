@@ -7,6 +7,7 @@ ghost use Rattle.wast_names.specs.GivenNames.{named_from};
 ghost use Rattle.wast_names.specs.FoundNames.{counted, WritesItems};
 
 use crate::name_maps::{NameItems, count_each, put_each};
+use std::slice;
 use wasm_ops::{Refusal, Sink};
 use wast_tree::{ImportItems, ItemSig};
 
@@ -70,7 +71,7 @@ pub(crate) fn count_imported<'a, W: NameItems<ItemSig<'a>> + Copy>(
     ensures { result ≡ counted (length (named_from 0 (flat_map (W.items way) (item_sigs items.now)))) }
 {
     match items {
-        ImportItems::Single { sig, .. } => way.count(sig),
+        ImportItems::Single { sig, .. } => count_each(&way, slice::from_ref(sig)),
         ImportItems::Group1 { items, .. } => count_each(&Named(way), items.as_slice()),
         ImportItems::Group2 { sig, items, .. } => count_each(
             &Shared { way, sig },
@@ -90,7 +91,7 @@ pub(crate) fn put_imported<'a, W: NameItems<ItemSig<'a>> + Copy, S: Sink>(
     ensures next { IfOk result (λ p. p ≡ counted (position + length (flat_map (W.items way) (item_sigs items.now)))) }
 {
     match items {
-        ImportItems::Single { sig, .. } => way.put(sig, position, out),
+        ImportItems::Single { sig, .. } => put_each(&way, slice::from_ref(sig), position, out),
         ImportItems::Group1 { items, .. } => {
             put_each(&Named(way), items.as_slice(), position, out)
         }
