@@ -85,19 +85,19 @@ pub access_parts : (a : StructAccess) → encodable (in_access a) ≡ true → (
 access_parts a e = both_pass (is_number a.owner) (is_number a.field) (both_pass _ true e).0
 
 -- a branch on a cast: its label, and the types that are cast to and from
-pub record CastParts (l : Index) (to from : RefType) : Type 0 where
+pub record CastParts (l : Index) (target source : RefType) : Type 0 where
   pub label : is_number l ≡ true
-  pub to : are_encodable (in_ref to) ≡ true
-  pub from : are_encodable (in_ref from) ≡ true
+  pub to : are_encodable (in_ref target) ≡ true
+  pub from : are_encodable (in_ref source) ≡ true
 
 pub cast_parts : (l : Index) (to from : RefType) → encodable (in_cast start.blocks l to from) ≡ true → CastParts l to from
 cast_parts l to from e =
-    let both = both_pass (is_number l) _ e in
+    let both = both_pass (is_number l) (encodable (asking (in_ref to ++ in_ref from))) e in
     let types = both_lists is_encodable_ask (in_ref to) (in_ref from) (sym (asking_passes (in_ref to ++ in_ref from)) ∙ both.1) in
     record { label = both.0; to = types.0; from = types.1 }
 
 -- no handler is covered, whichever blocks are open
-handlers_tell : (blocks : Blocks) (t : ResumeTable) → encodable (in_handlers blocks t) ≡ false
+pub handlers_tell : (blocks : Blocks) (t : ResumeTable) → encodable (in_handlers blocks t) ≡ false
 handlers_tell blocks t =
     list_all-append is_encodable_site (flat_map (in_handle blocks) t.handlers) (asking (uncovered form.StackSwitching))
     ∙ never_both (encodable (flat_map (in_handle blocks) t.handlers))

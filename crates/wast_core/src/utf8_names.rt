@@ -31,7 +31,10 @@ fn field_law(field: &ModuleField)
     match field {
         ModuleField::Import(imports) => import_law(&imports.items),
         ModuleField::Export(export) => text_law(export.name),
-        _ => {}
+        ModuleField::Ty(_) | ModuleField::Rec(_) | ModuleField::Func(_) => {}
+        ModuleField::Table(_) | ModuleField::Memory(_) | ModuleField::Global(_) => {}
+        ModuleField::Start(_) | ModuleField::Elem(_) | ModuleField::Data(_) => {}
+        ModuleField::Tag(_) => {}
     }
 }
 
