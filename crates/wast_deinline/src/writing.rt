@@ -8,7 +8,7 @@ ghost use Rattle.wast_deinline.specs.Tree.field;
 ghost use Rattle.wast_deinline.specs.Tree.table as table_kind;
 ghost use Rattle.wast_deinline.specs.Tree.memory as memory_kind;
 ghost use Rattle.wast_deinline.specs.Segments.{overflows_kind, overflows};
-ghost use Rattle.wast_deinline.specs.WriteOut.{no_exports, exports_of, import_of, data_in, elem_in, func_alone, table_alone, memory_alone, global_alone, tag_alone, write_out};
+ghost use Rattle.wast_deinline.specs.WriteOut.{imported_func, no_exports, exports_of, import_of, data_in, elem_in, func_alone, table_alone, memory_alone, global_alone, tag_alone, write_out};
 ghost use Rattle.wast_deinline.specs.Referring.{by_id};
 ghost use Rattle.wast_deinline.specs.Written.{written_out_from, references_wanted, IsRefusedWhere, CannotBeWritten};
 

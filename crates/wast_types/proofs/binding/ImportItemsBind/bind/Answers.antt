@@ -18,19 +18,19 @@ pub returns-in_ok-bind-in-Single-clause-bound : goal.returns-in_ok-bind-in-Singl
 returns-in_ok-bind-in-Single-clause-bound c = λ more.
     ap (λ (s : ItemSig). import_items.Single c.in-Single.«module» c.in-Single.name s) (c.in_ok-bind-in-Single.ensures.bound more) ∙ sym (ap (mapped_import_items (binding (with_more (index_of c.bind.new.cx) more))) c.in-Single.is)
 
-pub returns-in_ok-bind_each-clause-bound : goal.returns-in_ok-bind_each-clause-bound
-returns-in_ok-bind_each-clause-bound c = λ more.
-    ap (λ items. import_items.Group1 c.in-Group1.«module» items) (c.in_ok-bind_each.ensures.bound more) ∙ sym (ap (mapped_import_items (binding (with_more (index_of c.bind_each.new.cx) more))) c.in-Group1.is)
+pub returns-in_ok-bind_each-in-Group1-clause-bound : goal.returns-in_ok-bind_each-in-Group1-clause-bound
+returns-in_ok-bind_each-in-Group1-clause-bound c = λ more.
+    ap (λ items. import_items.Group1 c.in-Group1.«module» items) (c.in_ok-bind_each-in-Group1.ensures.bound more) ∙ sym (ap (mapped_import_items (binding (with_more (index_of c.bind_each.new.cx) more))) c.in-Group1.is)
 
-pub returns-in_ok-bind_each-clause-adds : goal.returns-in_ok-bind_each-clause-adds
-returns-in_ok-bind_each-clause-adds c =
-    adds_as (sym (ap (λ i. needed_in (in_import i)) c.in-Group1.is ∙ needed_group c.in-Group1.items)) c.in_ok-bind_each.ensures.adds
+pub returns-in_ok-bind_each-in-Group1-clause-adds : goal.returns-in_ok-bind_each-in-Group1-clause-adds
+returns-in_ok-bind_each-in-Group1-clause-adds c =
+    adds_as (sym (ap (λ i. needed_in (in_import i)) c.in-Group1.is ∙ needed_group c.in-Group1.items)) c.in_ok-bind_each-in-Group1.ensures.adds
 
-pub returns-in_err-bind_each-clause-refusal : goal.returns-in_err-bind_each-clause-refusal
-returns-in_err-bind_each-clause-refusal c =
-    let p = err_from_is_err_and c.from_residual-in_err-bind_each.result c.from_residual-in_err-bind_each.ensures.1 in
-    rw (p.1, p.2) (subst (λ ss. RunsOut (next_after (state c.args.cx.now c.args.implied.now c.args.gensym.now) ss) c.in_err-bind_each.field-0.0)
-    (sym (ap (λ i. needed_in (in_import i)) c.in-Group1.is ∙ needed_group c.in-Group1.items)) c.in_err-bind_each.ensures.refusal)
+pub returns-in_err-bind_each-in-Group1-clause-refusal : goal.returns-in_err-bind_each-in-Group1-clause-refusal
+returns-in_err-bind_each-in-Group1-clause-refusal c =
+    let p = err_from_is_err_and c.from_residual-in_err-bind_each-in-Group1.result c.from_residual-in_err-bind_each-in-Group1.ensures.1 in
+    rw (p.1, p.2) (subst (λ ss. RunsOut (next_after (state c.args.cx.now c.args.implied.now c.args.gensym.now) ss) c.in_err-bind_each-in-Group1.field-0.0)
+    (sym (ap (λ i. needed_in (in_import i)) c.in-Group1.is ∙ needed_group c.in-Group1.items)) c.in_err-bind_each-in-Group1.ensures.refusal)
 
 pub returns-in_ok-bind-in-Group2-clause-bound : goal.returns-in_ok-bind-in-Group2-clause-bound
 returns-in_ok-bind-in-Group2-clause-bound c = λ more.

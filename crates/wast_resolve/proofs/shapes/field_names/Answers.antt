@@ -1,0 +1,21 @@
+use Rattle.std.proofs.Common.{map, length, ap, ◌∙◌, sym, subst}
+use Rattle.std.proofs.lemmas.List.{length-map}
+use Rattle.std.proofs.lemmas.Result.{err_from_is_err_and}
+use Rattle.wast_base.specs.Faults.{told}
+use Rattle.wast_base.specs.Spaces.{name_if, position_of}
+use Rattle.wast_tree.specs.Items.{field_ids}
+use Rattle.wast_namespace.specs.Filling.{FillsSpace, IsFilled, IsFirstClash}
+use Rattle.wast_resolve.proofs.FieldClashes.{no_clash}
+use Rattle.wast_resolve.proofs.Shaping.{stops_refused}
+use Rattle.wast_resolve.proofs.shapes.field_names.Goals as goal
+
+pub returns-in_err-gather_fields-clause-refusal : goal.returns-in_err-gather_fields-clause-refusal
+returns-in_err-gather_fields-clause-refusal c =
+    let ids = field_ids c.args.fields.now in
+    let p = err_from_is_err_and c.from_residual.result c.from_residual.ensures.1 in
+    rw (p.1, p.2) (stops_refused (told c.in_err-gather_fields.field-0.0) 0 (length (map name_if ids)) (length ids) (length-map ids name_if) c.in_err-gather_fields.ensures)
+
+pub returns-in-Ok-clause-names : goal.returns-in-Ok-clause-names
+returns-in-Ok-clause-names c = λ name.
+    let filled : IsFilled c.in_ok-gather_fields.field-0 c.in-Ok.names = subst (FillsSpace c.in_ok-gather_fields.field-0) c.in-Ok.is c.sorted.ensures in
+    filled.number name ∙ ap (position_of name) c.in_ok-gather_fields.ensures
