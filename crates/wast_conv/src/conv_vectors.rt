@@ -48,7 +48,9 @@ fn of_words(a: u32, b: u32, c: u32, d: u32) -> [u8; 16]
     let [b0, b1, b2, b3] = b.to_le_bytes();
     let [c0, c1, c2, c3] = c.to_le_bytes();
     let [d0, d1, d2, d3] = d.to_le_bytes();
-    [a0, a1, a2, a3, b0, b1, b2, b3, c0, c1, c2, c3, d0, d1, d2, d3]
+    [
+        a0, a1, a2, a3, b0, b1, b2, b3, c0, c1, c2, c3, d0, d1, d2, d3,
+    ]
 }
 
 /// The bytes of two numbers of 64 bits, one after the other, the lowest byte of each first.
@@ -57,7 +59,9 @@ fn of_longs(a: u64, b: u64) -> [u8; 16]
 {
     let [a0, a1, a2, a3, a4, a5, a6, a7] = a.to_le_bytes();
     let [b0, b1, b2, b3, b4, b5, b6, b7] = b.to_le_bytes();
-    [a0, a1, a2, a3, a4, a5, a6, a7, b0, b1, b2, b3, b4, b5, b6, b7]
+    [
+        a0, a1, a2, a3, a4, a5, a6, a7, b0, b1, b2, b3, b4, b5, b6, b7,
+    ]
 }
 
 /// The bytes of lanes of 8 bits.
@@ -96,14 +100,21 @@ fn of_i16x8(lanes: &[i16; 8]) -> [u8; 16]
     let [f0, f1] = half_at(lanes, 5).to_le_bytes();
     let [g0, g1] = half_at(lanes, 6).to_le_bytes();
     let [h0, h1] = half_at(lanes, 7).to_le_bytes();
-    [a0, a1, b0, b1, c0, c1, d0, d1, e0, e1, f0, f1, g0, g1, h0, h1]
+    [
+        a0, a1, b0, b1, c0, c1, d0, d1, e0, e1, f0, f1, g0, g1, h0, h1,
+    ]
 }
 
 /// The bytes of lanes of 32 bits.
 fn of_i32x4(lanes: &[i32; 4]) -> [u8; 16]
     ensures { result ≡ meaning.i32_bytes lanes.now }
 {
-    of_words(word_at(lanes, 0), word_at(lanes, 1), word_at(lanes, 2), word_at(lanes, 3))
+    of_words(
+        word_at(lanes, 0),
+        word_at(lanes, 1),
+        word_at(lanes, 2),
+        word_at(lanes, 3),
+    )
 }
 
 /// The bytes of lanes of 64 bits.

@@ -383,14 +383,30 @@ impl Spell<Instruction<'_>> for Resolved {
             Instruction::ref_test(arg) => put_cast(CastOp::Test, &arg.rt, out),
             Instruction::ref_cast(arg) => put_cast(CastOp::Cast, &arg.rt, out),
             Instruction::br_on_cast(arg) => {
-                put_br_cast(BrCastOp::Succeeds, &arg.label, &arg.from_type, &arg.to_type, out)
+                put_br_cast(
+                    BrCastOp::Succeeds,
+                    &arg.label,
+                    &arg.from_type,
+                    &arg.to_type,
+                    out,
+                )
             }
             Instruction::br_on_cast_fail(arg) => {
-                put_br_cast(BrCastOp::Fails, &arg.label, &arg.from_type, &arg.to_type, out)
+                put_br_cast(
+                    BrCastOp::Fails,
+                    &arg.label,
+                    &arg.from_type,
+                    &arg.to_type,
+                    out,
+                )
             }
             Instruction::v128_const(value) => put_v128(value, out),
             Instruction::i8x16_shuffle(arg) => {
-                LanesInstr { op: LanesOp::Shuffle, lanes: arg.lanes }.encode(out)
+                LanesInstr {
+                    op: LanesOp::Shuffle,
+                    lanes: arg.lanes,
+                }
+                .encode(out)
             }
             Instruction::atomic_fence(ordering) => put_fence(*ordering, out),
             Instruction::ref_cast_desc_eq(_)
