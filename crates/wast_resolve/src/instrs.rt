@@ -17,6 +17,7 @@ ghost use Rattle.wast_resolve.specs.Openable.{is_openable, AreOpenable, here, be
 ghost use Rattle.wast_resolve.specs.Resolvers.{Resolution, scope_of};
 ghost use Rattle.wast_resolve.specs.Scopes.{Scope};
 ghost use Rattle.wast_resolve.specs.Tree.space;
+ghost use Rattle.wast_resolve.specs.TwoSteps.{in_handler_tag, in_handler_label, with_handler_tag, with_handler_label};
 ghost use Rattle.wast_resolve.specs.Walking.{Walks, WalksAsks, WalksSites, WalksBodies};
 ghost use Rattle.wast_tree.specs.Instrs.{turn_of, turns};
 ghost use Rattle.wast_tree.specs.Sites.{Begins, Ends, Repeated, LocalAt, Locals, OfBlock, OfCall, asking, at_index, at_label, in_access, in_block, in_br_table, in_cast, in_catch, in_caught, in_expression, in_handle, in_handlers, in_indirect, in_instr, in_instrs, in_pair, in_try_table, in_use};
@@ -273,6 +274,27 @@ fn walk_cast<'a>(
     Ok(())
 }
 
+/// Walks over the tag of a handler of a resumption.
+fn walk_handler_tag<'a>(names: &Resolver<'a>, handle: &mut Handle<'a>) -> Result<(), Error<'a>>
+    ensures { WalksSites names.now in_handler_tag with_handler_tag handle.old handle.new result }
+{
+    match handle {
+        Handle::OnLabel { tag, .. } => walk_outside_index(names, Space::Tag, tag),
+        Handle::OnSwitch { tag } => walk_outside_index(names, Space::Tag, tag),
+    }
+}
+
+/// Walks over the label of a handler of a resumption, if it has one.
+fn walk_handler_label<'a>(labels: &Labels<'a>, handle: &mut Handle<'a>) -> Result<(), Error<'a>>
+    ensures { (names : Resolution) → WalksSites names (in_handler_label labels.now.blocks)
+        (λ f. with_handler_label f labels.now.blocks) handle.old handle.new result }
+{
+    match handle {
+        Handle::OnLabel { label, .. } => walk_label(labels, label),
+        Handle::OnSwitch { .. } => Ok(()),
+    }
+}
+
 /// Walks over a handler of a resumption: its tag, and then its label if it has one.
 fn walk_handle<'a>(
     names: &Resolver<'a>,
@@ -281,14 +303,9 @@ fn walk_handle<'a>(
 ) -> Result<(), Error<'a>>
     ensures { WalksSites names.now (in_handle labels.now.blocks) (λ f. mapped_handle f labels.now.blocks) handle.old handle.new result }
 {
-    match handle {
-        Handle::OnLabel { tag, label } => {
-            walk_outside_index(names, Space::Tag, tag)?;
-            walk_label(labels, label)?;
-            Ok(())
-        }
-        Handle::OnSwitch { tag } => walk_outside_index(names, Space::Tag, tag),
-    }
+    walk_handler_tag(names, handle)?;
+    walk_handler_label(labels, handle)?;
+    Ok(())
 }
 
 /// Walks over handlers, in order.

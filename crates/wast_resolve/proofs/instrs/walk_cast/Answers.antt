@@ -1,5 +1,5 @@
 use Rattle.std.specs.Prelude.{◌++◌}
-use Rattle.std.proofs.Common.{◌≡◌, ap, sym, subst, ◌∙◌, None}
+use Rattle.std.proofs.Common.{List, ◌≡◌, ap, sym, subst, ◌∙◌, None}
 use Rattle.std.proofs.lemmas.Result.{err_from_is_err_and}
 use Rattle.wast_base.specs.Faults.{told}
 use Rattle.wast_tree.specs.Sites.{Site, asking, at_label, in_ref, in_cast}
