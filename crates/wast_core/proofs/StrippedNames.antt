@@ -44,12 +44,22 @@ same_types ts = each_alike (mapped_type stripping) type_name (λ t i. (space.Ty,
 same_space_of : (k : ItemKind) → space_of_kind (mapped_item_kind stripping k) ≡ space_of_kind k
 same_space_of k = grind (arith, common_steps)
 
+-- an item of a group, with its name there
+abbrev Named : Type 0
+Named = Bor (List ℕ) × ItemSig
+
+abbrev sig_of : Named → ItemSig
+sig_of p = p.1
+
+abbrev stripped_item : Named → Named
+stripped_item p = (p.0, mapped_sig stripping p.1)
+
 -- the signatures of what is imported are changed one by one
 sigs_changed : (x : ImportItems) → item_sigs (mapped_import_items stripping x) ≡ map (mapped_sig stripping) (item_sigs x)
 sigs_changed (import_items.Single source name sig) = refl
 sigs_changed (import_items.Group1 source items) = pairs items
   where
-    pairs : (ps : List (Bor (List ℕ) × ItemSig)) → map (λ p. p.1) (map (λ p. (p.0, mapped_sig stripping p.1)) ps) ≡ map (mapped_sig stripping) (map (λ p. p.1) ps)
+    pairs : (ps : List Named) → map sig_of (map stripped_item ps) ≡ map (mapped_sig stripping) (map sig_of ps)
     pairs [] = refl
     pairs (p ∷ ps) = ap (λ sigs. mapped_sig stripping p.1 ∷ sigs) (pairs ps)
 sigs_changed (import_items.Group2 source sig names) = copies (length names)
