@@ -1,6 +1,6 @@
 -- The name section tells nothing of generated ids, and of the places of type uses.
-use Rattle.std.proofs.Common.{◌≡◌, ℕ, zero, suc, List, [], ◌∷◌, ◌++◌, length, map, Option, Some, None, option_map, refl, ap, arith}
-use Rattle.std.specs.Prelude.{cond, replicate}
+use Rattle.std.proofs.Common.{◌≡◌, ℕ, List, [], ◌∷◌, ◌++◌, map, Option, Some, None, option_map, refl, ap, arith}
+use Rattle.std.specs.Prelude.{cond}
 use Rattle.std.specs.Borrow.{Bor}
 use Rattle.std.specs.List.{flat_map}
 use Rattle.std.proofs.lemmas.Grind.{common_steps}
@@ -62,11 +62,11 @@ sigs_changed (import_items.Group1 source items) = pairs items
     pairs : (ps : List Named) → map sig_of (map stripped_item ps) ≡ map (mapped_sig stripping) (map sig_of ps)
     pairs [] = refl
     pairs (p ∷ ps) = ap (λ sigs. mapped_sig stripping p.1 ∷ sigs) (pairs ps)
-sigs_changed (import_items.Group2 source sig names) = copies (length names)
+sigs_changed (import_items.Group2 source sig names) = copies names
   where
-    copies : (n : ℕ) → replicate n (mapped_sig stripping sig) ≡ map (mapped_sig stripping) (replicate n sig)
-    copies zero = refl
-    copies (suc n) = ap (λ sigs. mapped_sig stripping sig ∷ sigs) (copies n)
+    copies : (names : List (Bor (List ℕ))) → map (λ name. mapped_sig stripping sig) names ≡ map (mapped_sig stripping) (map (λ name. sig) names)
+    copies [] = refl
+    copies (name ∷ names) = ap (λ sigs. mapped_sig stripping sig ∷ sigs) (copies names)
 
 same_imported : (x : ImportItems) → import_names (mapped_import_items stripping x) ≡ import_names x
 same_imported x = names_imported (mapped_sig stripping) x (mapped_import_items stripping x) (sigs_changed x) (λ s i. (same_space_of s.kind i, same_given s.name s.id i))
