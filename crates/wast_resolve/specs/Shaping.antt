@@ -1,5 +1,5 @@
 -- How the types of a module are read, where no two fields of a struct have one name. Private functions alone use this.
-use Rattle.std.specs.Prelude.{⊤, ◌≡◌, ℕ, List, length, map, flat_map, None}
+use Rattle.std.specs.Prelude.{⊤, ◌≡◌, ℕ, List, length, map, flat_map, Option, None}
 use Rattle.wast_base.specs.declared.faults.Error.{Error}
 use Rattle.wast_base.specs.Faults.{told}
 use Rattle.wast_base.specs.Ids.{Name, Mark}

@@ -8,8 +8,7 @@ ghost use Rattle.wast_base.specs.Spaces.{name_if};
 ghost use Rattle.wast_labels.specs.Gathered.{knows};
 ghost use Rattle.wast_labels.specs.OpenBlocks.{OpenBlocks};
 ghost use Rattle.wast_labels.specs.Turns.{gathered};
-ghost use Rattle.wast_map.specs.Mapped.{mapped_access, mapped_block, mapped_br_table, mapped_catch, mapped_caught, mapped_expression, mapped_handle, mapped_handlers, mapped_indirect, mapped_instr, mapped_instrs, mapped_ref, mapped_try_table};
-ghost use Rattle.wast_resolve.specs.Resolved.{numbering};
+ghost use Rattle.wast_map.specs.Mapped.{mapped_access, mapped_block, mapped_br_table, mapped_catch, mapped_caught, mapped_expression, mapped_handle, mapped_handlers, mapped_indirect, mapped_instr, mapped_instrs, mapped_try_table};
 ghost use Rattle.wast_namespace.specs.Outcomes.{Outcome};
 ghost use Rattle.wast_resolve.specs.Demands.{first_unmet, site_demands, open_counts_at, HasMany};
 ghost use Rattle.wast_resolve.specs.Locals.{Numbers};
@@ -18,9 +17,9 @@ ghost use Rattle.wast_resolve.specs.Resolvers.{Resolution, scope_of};
 ghost use Rattle.wast_resolve.specs.Scopes.{Scope};
 ghost use Rattle.wast_resolve.specs.Tree.space;
 ghost use Rattle.wast_resolve.specs.TwoSteps.{in_handler_tag, in_handler_label, with_handler_tag, with_handler_label};
-ghost use Rattle.wast_resolve.specs.Walking.{Walks, WalksAsks, WalksSites, WalksBodies};
+ghost use Rattle.wast_resolve.specs.Walking.{WalksAsks, WalksSites, WalksBodies, WalksCast};
 ghost use Rattle.wast_tree.specs.Instrs.{turn_of, turns};
-ghost use Rattle.wast_tree.specs.Sites.{Begins, Ends, Repeated, LocalAt, Locals, OfBlock, OfCall, asking, at_index, at_label, in_access, in_block, in_br_table, in_cast, in_catch, in_caught, in_expression, in_handle, in_handlers, in_indirect, in_instr, in_instrs, in_pair, in_try_table, in_use};
+ghost use Rattle.wast_tree.specs.Sites.{Begins, Ends, Repeated, LocalAt, Locals, OfBlock, OfCall, asking, at_index, at_label, in_access, in_block, in_br_table, in_catch, in_caught, in_expression, in_handle, in_handlers, in_indirect, in_instr, in_instrs, in_pair, in_try_table, in_use};
 
 use crate::apart::{walk_outside, walk_outside_index};
 use crate::local_names::LocalNames;
@@ -245,14 +244,14 @@ fn walk_access<'a>(names: &Resolver<'a>, access: &mut StructAccess<'a>) -> Resul
 /// Walks over an array that is filled from a segment of a space: its type, and then the segment.
 fn walk_array_init<'a>(
     names: &Resolver<'a>,
-    space: Space,
+    segments: Space,
     init: &mut ArrayInit<'a>,
 ) -> Result<(), Error<'a>>
-    ensures { WalksBodies names.now (λ a. asking (in_pair space.Ty a.array space a.segment))
-        (λ f a. record { array = f.index space.Ty a.array; segment = f.index space a.segment }) init.old init.new result }
+    ensures { WalksBodies names.now (λ a. asking (in_pair space.Ty a.array segments a.segment))
+        (λ f a. record { array = f.index space.Ty a.array; segment = f.index segments a.segment }) init.old init.new result }
 {
     walk_outside_index(names, Space::Ty, &mut init.array)?;
-    walk_outside_index(names, space, &mut init.segment)?;
+    walk_outside_index(names, segments, &mut init.segment)?;
     Ok(())
 }
 
@@ -264,9 +263,7 @@ fn walk_cast<'a>(
     to: &mut RefType<'a>,
     from: &mut RefType<'a>,
 ) -> Result<(), Error<'a>>
-    ensures { let f = numbering (scope_of names.now) in
-        Walks ⊥ ⊥ (site_demands (scope_of names.now) (in_cast labels.now.blocks label.old to.old from.old))
-        (f.label labels.now.blocks label.old, (mapped_ref f.index to.old, mapped_ref f.index from.old)) (label.new, (to.new, from.new)) result }
+    ensures { WalksCast names.now labels.now.blocks (label.old, (to.old, from.old)) (label.new, (to.new, from.new)) result }
 {
     walk_label(labels, label)?;
     walk_outside(names, to)?;
