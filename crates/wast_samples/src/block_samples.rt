@@ -1,5 +1,8 @@
 //! The fields of the worked rows about blocks and labels.
 
+ghost use Rattle.std.specs.Prelude.{◌≡◌};
+ghost use Rattle.wast_samples.specs.SampledForms.{plain_func};
+
 use crate::samples::{at, id, one, two};
 use std::alloc::Global;
 use wast_tree::{
@@ -13,7 +16,9 @@ pub(crate) fn func_of<'a>(
     alloc: Global,
     offset: usize,
     instrs: Seq<Instruction<'a>>,
-) -> ModuleField<'a> {
+) -> ModuleField<'a>
+    ensures { result ≡ plain_func (record { offset = offset }) instrs.entry }
+{
     let none = TypeUse::none();
     let func = Func::new(alloc, at(offset), None, none, Seq::new(alloc), instrs);
     ModuleField::Func(func)

@@ -1,8 +1,11 @@
 //! The fields of small modules, each with one form that no encoder covers.
 
-ghost use Rattle.std.specs.Prelude.{◌≡◌, is_some, IfSome, IfErr};
+ghost use Rattle.std.specs.Prelude.{◌≡◌, [], None, is_some, IfSome, IfOk, IfErr};
 ghost use Rattle.wast_base.specs.Faults.{out_of_memory};
-ghost use Rattle.wast_samples.specs.SampledForms.{is_sampled};
+ghost use Rattle.wast_tree.specs.Makers.{Makes};
+ghost use Rattle.wast_base.specs.declared.faults.Form.TheVariants as form;
+ghost use Rattle.wast_tree.specs.declared.fields.ModuleField.TheVariants as field;
+ghost use Rattle.wast_samples.specs.SampledForms.{is_sampled, HoldsAlone};
 
 use crate::block_samples::func_of;
 use crate::field_samples::import;
@@ -22,7 +25,14 @@ fn type_of<'a>(
     offset: usize,
     kind: InnerTypeKind<'a>,
     shared: bool,
-) -> ModuleField<'a> {
+) -> ModuleField<'a>
+    ensures { result ≡ field.Ty (record {
+      span = record { offset = offset };
+      id = id.entry;
+      name = None;
+      def = record { kind = kind.entry; shared = shared; parents = []; descriptor = None; describes = None; final_type = None };
+    }) }
+{
     let def = TypeDef {
         kind,
         shared,
@@ -35,7 +45,9 @@ fn type_of<'a>(
 }
 
 /// `(module (type $f (func)) (type (cont $f)))`
-fn continuation<'a>(alloc: Global, maker: &mut Maker) -> Seq<ModuleField<'a>> {
+fn continuation<'a>(alloc: Global, maker: &mut Maker) -> Seq<ModuleField<'a>>
+    ensures { Makes maker.old maker.new (HoldsAlone form.StackSwitching result) }
+{
     let cont = InnerTypeKind::Cont(ContType(Index::Id(id("f", 37))));
     two(
         alloc,
@@ -46,13 +58,17 @@ fn continuation<'a>(alloc: Global, maker: &mut Maker) -> Seq<ModuleField<'a>> {
 }
 
 /// `(module (type (shared (func))))`
-fn shared_type<'a>(alloc: Global, maker: &mut Maker) -> Seq<ModuleField<'a>> {
+fn shared_type<'a>(alloc: Global, maker: &mut Maker) -> Seq<ModuleField<'a>>
+    ensures { Makes maker.old maker.new (HoldsAlone form.Shared result) }
+{
     let func = InnerTypeKind::Func(FunctionType::empty(alloc));
     one(alloc, maker, type_of(alloc, None, 9, func, true))
 }
 
 /// `(module (func atomic.fence acq_rel))`
-fn ordered_fence<'a>(alloc: Global, maker: &mut Maker) -> Seq<ModuleField<'a>> {
+fn ordered_fence<'a>(alloc: Global, maker: &mut Maker) -> Seq<ModuleField<'a>>
+    ensures { Makes maker.old maker.new (HoldsAlone form.Ordering result) }
+{
     one_instruction(
         alloc,
         maker,
@@ -61,7 +77,9 @@ fn ordered_fence<'a>(alloc: Global, maker: &mut Maker) -> Seq<ModuleField<'a>> {
 }
 
 /// `(module (global $g (mut i32) (i32.const 0)) (func global.atomic.get seq_cst $g))`
-fn atomic_global<'a>(alloc: Global, maker: &mut Maker) -> Seq<ModuleField<'a>> {
+fn atomic_global<'a>(alloc: Global, maker: &mut Maker) -> Seq<ModuleField<'a>>
+    ensures { Makes maker.old maker.new (HoldsAlone form.Atomic result) }
+{
     let value = maker.one_instruction(Instruction::i32_const(0));
     let ty = GlobalType::new(ValType::I32, true);
     let global = wast_tree::Global::new(alloc, at(9), Some(id("g", 16)), ty, value);
@@ -76,7 +94,9 @@ fn atomic_global<'a>(alloc: Global, maker: &mut Maker) -> Seq<ModuleField<'a>> {
 }
 
 /// `(module (type $t (func)) (import "m" "f" (func (exact (type $t)))))`
-fn exact_import<'a>(alloc: Global, maker: &mut Maker) -> Seq<ModuleField<'a>> {
+fn exact_import<'a>(alloc: Global, maker: &mut Maker) -> Seq<ModuleField<'a>>
+    ensures { Makes maker.old maker.new (HoldsAlone form.Descriptor result) }
+{
     let exact = ItemKind::FuncExact(TypeUse::of(Index::Id(id("t", 60))));
     two(
         alloc,
@@ -87,24 +107,29 @@ fn exact_import<'a>(alloc: Global, maker: &mut Maker) -> Seq<ModuleField<'a>> {
 }
 
 /// `(module (import "m" (item "a") (item "b") (func)))`
-fn grouped_import<'a>(alloc: Global, maker: &mut Maker) -> Seq<ModuleField<'a>> {
+fn grouped_import<'a>(alloc: Global, maker: &mut Maker) -> Seq<ModuleField<'a>>
+    ensures { Makes maker.old maker.new (HoldsAlone form.CompactImports result) }
+{
     let sig = ItemSig {
         span: at(43),
         id: None,
         name: None,
         kind: ItemKind::Func(TypeUse::none()),
     };
+    let names: [&'a str; 2] = ["a", "b"];
     let items = ImportItems::Group2 {
         module: "m",
         sig,
-        items: maker.names(&["a", "b"]),
+        items: maker.names(&names),
     };
     let span = at(9);
     one(alloc, maker, ModuleField::Import(Imports { span, items }))
 }
 
 /// An array type `$a`, and a function that loads from an array of it.
-fn array_load<'a>(alloc: Global, maker: &mut Maker) -> Seq<ModuleField<'a>> {
+fn array_load<'a>(alloc: Global, maker: &mut Maker) -> Seq<ModuleField<'a>>
+    ensures { Makes maker.old maker.new (HoldsAlone form.ArrayMemArg result) }
+{
     let array = InnerTypeKind::Array(ArrayType {
         mutable: true,
         ty: StorageType::Val(ValType::I32),
@@ -124,7 +149,8 @@ fn array_load<'a>(alloc: Global, maker: &mut Maker) -> Seq<ModuleField<'a>> {
 
 /// The fields of a module that holds this form, where there is such a module.
 fn fields_of_form<'a>(alloc: Global, maker: &mut Maker, form: Form) -> Option<Seq<ModuleField<'a>>>
-    ensures { is_some result ≡ is_sampled form }
+    ensures there { is_some result ≡ is_sampled form }
+    ensures alone { IfSome result (λ fields. Makes maker.old maker.new (HoldsAlone form fields)) }
 {
     match form {
         Form::StackSwitching => Some(continuation(alloc, maker)),
@@ -143,6 +169,7 @@ fn fields_of_form<'a>(alloc: Global, maker: &mut Maker, form: Form) -> Option<Se
 /// for the target architecture, which stands in custom sections alone.
 pub fn form_fields<'a>(alloc: Global, form: Form) -> Option<Result<Seq<ModuleField<'a>>, Error<'a>>>
     ensures there { is_some result ≡ is_sampled form }
+    ensures alone { IfSome result (λ made. IfOk made (λ fields. HoldsAlone form fields)) }
     ensures refusal { IfSome result (λ made. IfErr made (λ e. e ≡ out_of_memory)) }
 {
     let mut maker = Maker::new(alloc);

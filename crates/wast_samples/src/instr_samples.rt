@@ -1,5 +1,10 @@
 //! The fields of the worked rows about instructions alone.
 
+ghost use Rattle.std.specs.Prelude.{◌≡◌, [], ◌∷◌};
+ghost use Rattle.wast_tree.specs.Makers.{Makes};
+ghost use Rattle.wast_base.specs.declared.faults.Form.TheVariants as form;
+ghost use Rattle.wast_samples.specs.SampledForms.{HoldsAlone, plain_func};
+
 use crate::block_samples::func_of;
 use crate::field_samples::{data, memory};
 use crate::samples::{at, one, three};
@@ -14,7 +19,9 @@ pub(crate) fn one_instruction<'a>(
     alloc: Global,
     maker: &mut Maker,
     instruction: Instruction<'a>,
-) -> Seq<ModuleField<'a>> {
+) -> Seq<ModuleField<'a>>
+    ensures { Makes maker.old maker.new (result ≡ plain_func (record { offset = 9 }) (instruction.entry ∷ []) ∷ []) }
+{
     let mut instrs = Seq::new(alloc);
     maker.push_instruction(&mut instrs, instruction);
     let func = func_of(alloc, 9, instrs);
@@ -22,7 +29,9 @@ pub(crate) fn one_instruction<'a>(
 }
 
 /// `(module (func i64.add128))`
-pub(crate) fn wide_sum<'a>(alloc: Global, maker: &mut Maker) -> Seq<ModuleField<'a>> {
+pub(crate) fn wide_sum<'a>(alloc: Global, maker: &mut Maker) -> Seq<ModuleField<'a>>
+    ensures { Makes maker.old maker.new (HoldsAlone form.Beyond result) }
+{
     one_instruction(alloc, maker, Instruction::Beyond("i64.add128"))
 }
 

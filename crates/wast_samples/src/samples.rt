@@ -1,7 +1,8 @@
 //! The fields of the worked rows.
 
-ghost use Rattle.std.specs.Prelude.{◌≡◌, is_some, IfSome, IfErr};
+ghost use Rattle.std.specs.Prelude.{◌≡◌, [], ◌∷◌, is_some, IfSome, IfErr};
 ghost use Rattle.wast_base.specs.Faults.{out_of_memory};
+ghost use Rattle.wast_tree.specs.Makers.{Makes};
 ghost use Rattle.wast_samples.specs.RowNumbers.{is_row};
 
 use crate::{
@@ -13,7 +14,9 @@ use wast_tree::{
     Maker, ModuleField, Rec, Seq, Span, Type, TypeDef, TypeUse, ValType,
 };
 
-pub(crate) fn at(offset: usize) -> Span {
+pub(crate) fn at(offset: usize) -> Span
+    ensures { result ≡ record { offset = offset } }
+{
     Span { offset }
 }
 
@@ -61,7 +64,9 @@ pub(crate) fn one<'a>(
     alloc: Global,
     maker: &mut Maker,
     field: ModuleField<'a>,
-) -> Seq<ModuleField<'a>> {
+) -> Seq<ModuleField<'a>>
+    ensures { Makes maker.old maker.new (result ≡ field.entry ∷ []) }
+{
     let mut fields = Seq::new(alloc);
     maker.push_field(&mut fields, field);
     fields
@@ -73,7 +78,9 @@ pub(crate) fn two<'a>(
     maker: &mut Maker,
     first: ModuleField<'a>,
     second: ModuleField<'a>,
-) -> Seq<ModuleField<'a>> {
+) -> Seq<ModuleField<'a>>
+    ensures { Makes maker.old maker.new (result ≡ first.entry ∷ second.entry ∷ []) }
+{
     let mut fields = one(alloc, maker, first);
     maker.push_field(&mut fields, second);
     fields
