@@ -1,8 +1,9 @@
 //! The fields of the worked rows.
 
-ghost use Rattle.std.specs.Prelude.{◌≡◌, [], ◌∷◌, is_some, IfSome, IfErr};
+ghost use Rattle.std.specs.Prelude.{◌≡◌, [], ◌∷◌, None, is_some, IfSome, IfErr};
 ghost use Rattle.wast_base.specs.Faults.{out_of_memory};
 ghost use Rattle.wast_tree.specs.Makers.{Makes};
+ghost use Rattle.wast_tree.specs.WorkedModules.{plain_def};
 ghost use Rattle.wast_samples.specs.RowNumbers.{is_row};
 
 use crate::{
@@ -37,7 +38,9 @@ fn sub_type<'a>(alloc: Global, parents: Seq<Index<'a>>, final_type: bool) -> Typ
 }
 
 /// `(type .. (func))` at a place.
-pub(crate) fn empty_type<'a>(alloc: Global, id: Option<Id<'a>>, offset: usize) -> Type<'a> {
+pub(crate) fn empty_type<'a>(alloc: Global, id: Option<Id<'a>>, offset: usize) -> Type<'a>
+    ensures { result ≡ record { span = record { offset = offset }; id = id.entry; name = None; def = plain_def } }
+{
     let def = TypeDef::func(alloc, FunctionType::empty(alloc));
     Type::new(at(offset), id, def)
 }
