@@ -1,7 +1,7 @@
 -- Where two scopes have the same types, and what passes a test denotes the same, sites that pass it demand the same, and as
 -- many parameters and locals are counted.
 use Rattle.std.specs.Prelude.{cond, ◌&&◌}
-use Rattle.std.proofs.Common.{◌≡◌, ℕ, zero, suc, ◌+◌, ◌<◌, length, Bool, true, not, List, [], ◌∷◌, ◌++◌, map, Option, Some, None, is_some, refl, sym, ap, ◌∙◌, append-nil}
+use Rattle.std.proofs.Common.{◌≡◌, ℕ, zero, suc, ◌+◌, ◌<◌, length, Bool, true, not, List, [], ◌∷◌, ◌++◌, map, Option, Some, None, is_some, refl, sym, ap, ◌∙◌, append-nil, false}
 use Rattle.std.specs.Prelude.{codes}
 use Rattle.std.specs.Cmp.{first_so, second_so}
 use Rattle.std.specs.List.{flat_map, list_all, slice_get}

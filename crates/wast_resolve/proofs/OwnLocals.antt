@@ -71,7 +71,7 @@ module _ (o : Option (TypeUse FunctionType)) where
 
   target_fixed : (t : MemArgTarget) (m : MemArg) → Fixed (asking (in_mem_arg (record m { target = t })))
   target_fixed (target.Memory i) m = refl
-target_fixed (target.Array i) m = refl
+  target_fixed (target.Array i) m = refl
 
   labels_fixed : (blocks : Blocks) (is : List Index) → Fixed (flat_map (at_label blocks) is)
   labels_fixed blocks is = fixed_each (at_label blocks) (λ i. refl) is

@@ -6,7 +6,7 @@ use Rattle.std.specs.Option.{option_or}
 use Rattle.wast_base.specs.Ids.{name_of, mark_of}
 use Rattle.wast_base.specs.Faults.{Cause}
 use Rattle.wast_base.specs.Spaces.{word_of}
-use Rattle.wast_tree.specs.Sites.{Wants, Site, Asked, LocalAt, in_module}
+use Rattle.wast_tree.specs.Sites.{Wants, Site, Asked, LocalAt, in_module, FieldAt}
 use Rattle.wast_map.specs.Mapped.{Change, mapped_locals, mapped_site}
 use Rattle.wast_map.specs.Laws.{all_mapped}
 use Rattle.wast_map.proofs.Laws.{stands}
@@ -15,7 +15,7 @@ use Rattle.wast_types.specs.Completed.{completed}
 use Rattle.wast_resolve.specs.Tree.{Index, Space, Span, ModuleField}
 use Rattle.wast_resolve.specs.Tree.index
 use Rattle.wast_resolve.specs.Scopes.{Scope}
-use Rattle.wast_resolve.specs.Demands.{first_unmet, unknown, site_demand, site_demands}
+use Rattle.wast_resolve.specs.Demands.{first_unmet, unknown, site_demand, site_demands, access_demand, field_at}
 use Rattle.wast_resolve.specs.Resolved.{numbered_by, numbered_at}
 use Rattle.wast_resolve.proofs.Nameless.{by_names}
 use Rattle.wast_resolve.proofs.Unmet.{first_unmet-or}

@@ -83,6 +83,16 @@ impl<'a> TypeShape<'a> {
         }
     }
 
+    /// The names of the fields, if it is of a struct type with a named field.
+    fn fields(&self) -> Option<&Namespace<'a>>
+        ensures { IsFieldsOf (Some (read_shape self.now)) (option_map (λ names. names.now) result) }
+    {
+        match &self.signature {
+            Some(_) => None,
+            None => self.fields.as_ref(),
+        }
+    }
+
     /// Of a struct type whose fields have these names.
     pub(crate) fn of_struct(names: Namespace<'a>) -> Self
         ensures { read_shape result ≡ Struct (λ name. number_in names.entry name) }
@@ -253,10 +263,9 @@ impl<'a> Resolver<'a> {
     fn fields_of(&self, owner: u32) -> Option<&Namespace<'a>>
         ensures { IsFieldsOf (type_at (scope_of self.now).types (Some owner)) (option_map (λ names. names.now) result) }
     {
-        let shape = self.types.get(owner as usize)?;
-        match &shape.signature {
-            Some(_) => None,
-            None => shape.fields.as_ref(),
+        match self.types.get(owner as usize) {
+            Some(shape) => shape.fields(),
+            None => None,
         }
     }
 

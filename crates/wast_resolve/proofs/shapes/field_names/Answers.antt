@@ -15,7 +15,11 @@ returns-in_err-gather_fields-clause-refusal c =
     let p = err_from_is_err_and c.from_residual.result c.from_residual.ensures.1 in
     rw (p.1, p.2) (stops_refused (told c.in_err-gather_fields.field-0.0) 0 (length (map name_if ids)) (length ids) (length-map ids name_if) c.in_err-gather_fields.ensures)
 
-pub returns-in-Ok-clause-names : goal.returns-in-Ok-clause-names
-returns-in-Ok-clause-names c = λ name.
+pub returns-clause-names : goal.returns-clause-names
+returns-clause-names c = λ name.
     let filled : IsFilled c.in_ok-gather_fields.field-0 c.in-Ok.names = subst (FillsSpace c.in_ok-gather_fields.field-0) c.in-Ok.is c.sorted.ensures in
     filled.number name ∙ ap (position_of name) c.in_ok-gather_fields.ensures
+
+pub unreachable-requires : goal.unreachable-requires
+unreachable-requires c =
+    no_clash (field_ids c.args.fields.now) c.in_ok-gather_fields.ensures (subst (FillsSpace c.in_ok-gather_fields.field-0) c.in-Err.is c.sorted.ensures) c.requires

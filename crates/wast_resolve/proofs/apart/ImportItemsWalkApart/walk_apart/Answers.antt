@@ -1,4 +1,4 @@
-use Rattle.std.proofs.Common.{List, ap, sym, refl}
+use Rattle.std.proofs.Common.{false, List, ap, sym, refl}
 use Rattle.std.specs.List.{flat_map}
 use Rattle.wast_tree.specs.Sites.{Covered, in_sig}
 use Rattle.wast_map.specs.Mapped.{mapped_sig}
