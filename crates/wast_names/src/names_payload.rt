@@ -17,7 +17,7 @@ ghost use Rattle.wast_names.specs.ModuleNames.{type_name, sig_name, item_names_i
 use crate::imported::{count_imported, put_imported};
 use crate::name_maps::{NameItems, count_each, put_each, put_map, put_name};
 use crate::named_fields::{with_items, with_lists};
-use crate::within::{NamedField, Within, WithinItems};
+use crate::within::{AsFields, NamedFields, Within, WithinItems};
 use wasm_ops::{Encode, Length, Name, Refusal, Sink, WithLength};
 use wast_reach::Reaches;
 use wast_tree::{Id, ImportItems, ItemSig, ModuleField, NameAnnotation, Space, Type};
@@ -216,18 +216,23 @@ pub(crate) enum NameMap {
 }
 
 /// Appends the subsection of the lists of names within items of some of these fields, where there are any.
-fn put_lists<'b, T: NamedField, S: Sink>(
+fn put_lists<'b, T, W: NamedFields<T> + Copy, S: Sink>(
+    way: W,
     within: Within,
     fields: &'b [T],
     there: &'b [T],
     out: &'b mut S,
 ) -> Result<(), Refusal>
-    ensures { Writes S.rules (InRangeMap map_entry InRangeMapEntry (named_from 0 (flat_map (λ t. lists_within (map T.field fields.now) within (T.field t)) there.now)))
-        out.old out.new (map_bytes (subsection_id (named_within within)) map_entry (named_from 0 (flat_map (λ t. lists_within (map T.field fields.now) within (T.field t)) there.now))) result }
+    ensures { Writes S.rules (InRangeMap map_entry InRangeMapEntry (named_from 0 (flat_map (λ t. lists_within (map W.field fields.now) within (W.field t)) there.now)))
+        out.old out.new (map_bytes (subsection_id (named_within within)) map_entry (named_from 0 (flat_map (λ t. lists_within (map W.field fields.now) within (W.field t)) there.now))) result }
 {
     put_map(
         id_within(within),
-        WithinItems { within, fields },
+        WithinItems {
+            way,
+            within,
+            fields,
+        },
         there,
         out,
     )
@@ -251,7 +256,7 @@ fn put_subsection<S: Sink>(
         }
         NameMap::Within(within) => {
             let there = with_lists(*within, fields, reaches);
-            put_lists(*within, fields, there, out)
+            put_lists(AsFields, *within, fields, there, out)
         }
     }
 }

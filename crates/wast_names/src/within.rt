@@ -336,50 +336,55 @@ impl<'a> NameItems<ItemSig<'a>> for Within {
     }
 }
 
-/// A field, as lists of fields are walked for what stands within its items. It is a type parameter of the walk, as
-/// [`Arities`] are of what looks types up.
-pub(crate) trait NamedField {
-    /// What it is.
-    ghost field: { Self → ModuleField };
+/// A way to see fields, as lists of them are walked for what stands within their items. A field is a type parameter of the walk,
+/// as [`Arities`] are of what looks types up.
+pub(crate) trait NamedFields<T> {
+    /// What a field is.
+    ghost field: { T → ModuleField };
 
-    /// How many types it has.
-    fn count_types(&self) -> usize
-        ensures { result ≡ length (types_within (field self.now)) };
+    /// How many types a field has.
+    fn count_types(&self, part: &T) -> usize
+        ensures { result ≡ length (types_within (field part.now)) };
 
-    /// How many parameters a type of it has, where that is a function type. It needs the place of one.
-    fn arity(&self, index: usize) -> Option<u64>
-        requires { index < length (types_within (field self.now)) }
-        ensures { result ≡ arity_of (slice_get (types_within (field self.now)) index) };
+    /// How many parameters a type of a field has, where that is a function type. It needs the place of one.
+    fn arity(&self, part: &T, index: usize) -> Option<u64>
+        requires { index < length (types_within (field part.now)) }
+        ensures { result ≡ arity_of (slice_get (types_within (field part.now)) index) };
 
     /// How many of its items have a list of names, among these fields.
-    fn count_lists<A: Arities>(&self, within: Within, arities: &A) -> u64
-        ensures { result ≡ counted (length (named_from 0 (lists_within (A.fields arities.now) within (field self.now)))) };
+    fn count_lists<A: Arities>(&self, part: &T, within: Within, arities: &A) -> u64
+        ensures { result ≡ counted (length (named_from 0 (lists_within (A.fields arities.now) within (field part.now)))) };
 
     /// Appends those lists, as [`NameItems::put`] does.
     fn put_lists<A: Arities, S: Sink>(
         &self,
+        part: &T,
         within: Within,
         arities: &A,
         position: u64,
         out: &mut S,
     ) -> Result<u64, Refusal>
-        ensures written { WritesItems S.rules map_entry InRangeMapEntry (lists_within (A.fields arities.now) within (field self.now)) position out.old out.new result }
-        ensures next { IfOk result (λ p. p ≡ counted (position + length (lists_within (A.fields arities.now) within (field self.now)))) };
+        ensures written { WritesItems S.rules map_entry InRangeMapEntry (lists_within (A.fields arities.now) within (field part.now)) position out.old out.new result }
+        ensures next { IfOk result (λ p. p ≡ counted (position + length (lists_within (A.fields arities.now) within (field part.now)))) };
 }
 
-impl NamedField for ModuleField<'_> {
+/// The way to see fields as they are.
+#[derive(Clone, Copy)]
+pub(crate) struct AsFields;
+
+impl<'a> NamedFields<ModuleField<'a>> for AsFields {
     ghost field = { λ f. f };
 
-    fn count_types(&self) -> usize {
-        types_within(self).len()
+    fn count_types(&self, part: &ModuleField<'a>) -> usize {
+        types_within(part).len()
     }
 
-    fn arity(&self, index: usize) -> Option<u64> {
-        arity(&types_within(self)[index].def.kind)
+    fn arity(&self, part: &ModuleField<'a>, index: usize) -> Option<u64> {
+        arity(&types_within(part)[index].def.kind)
     }
 
-    fn count_lists<A: Arities>(&self, within: Within, arities: &A) -> u64 {
-        match lists_in(within, arities, self) {
+    fn count_lists<A: Arities>(&self, part: &ModuleField<'a>, within: Within, arities: &A) -> u64 {
+        match lists_in(within, arities, part) {
             Lists::One(found) => count_found(found),
             Lists::Types(types) => count_each(&within, types),
             Lists::Imported(items) => count_imported(within, items),
@@ -388,12 +393,13 @@ impl NamedField for ModuleField<'_> {
 
     fn put_lists<A: Arities, S: Sink>(
         &self,
+        part: &ModuleField<'a>,
         within: Within,
         arities: &A,
         position: u64,
         out: &mut S,
     ) -> Result<u64, Refusal> {
-        match lists_in(within, arities, self) {
+        match lists_in(within, arities, part) {
             Lists::One(found) => put_found(position, found, out),
             Lists::Types(types) => put_each(&within, types, position, out),
             Lists::Imported(items) => put_imported(within, items, position, out),
@@ -402,28 +408,29 @@ impl NamedField for ModuleField<'_> {
 }
 
 /// The way to see what stands within the items of these fields.
-pub(crate) struct WithinItems<'b, T> {
+pub(crate) struct WithinItems<'b, T, W> {
+    pub(crate) way: W,
     pub(crate) within: Within,
     pub(crate) fields: &'b [T],
 }
 
-impl<T> Clone for WithinItems<'_, T> {
+impl<T, W: Copy> Clone for WithinItems<'_, T, W> {
     fn clone(&self) -> Result<Self, AllocError> {
         Ok(*self)
     }
 }
 
-impl<T> Copy for WithinItems<'_, T> {}
+impl<T, W: Copy> Copy for WithinItems<'_, T, W> {}
 
-impl<T: NamedField> Arities for WithinItems<'_, T> {
-    ghost fields = { λ w. map T.field w.fields.now };
+impl<T, W: NamedFields<T>> Arities for WithinItems<'_, T, W> {
+    ghost fields = { λ w. map W.field w.fields.now };
 
     fn arity_of(&self, index: usize) -> Option<u64> {
         let mut left = index;
         for field in self.fields {
-            let types = field.count_types();
+            let types = self.way.count_types(field);
             if left < types {
-                return field.arity(left);
+                return self.way.arity(field, left);
             }
             left -= types;
         }
@@ -431,20 +438,20 @@ impl<T: NamedField> Arities for WithinItems<'_, T> {
     }
 }
 
-impl<T: NamedField> NameItems<T> for WithinItems<'_, T> {
+impl<T, W: NamedFields<T> + Copy> NameItems<T> for WithinItems<'_, T, W> {
     ghost Entry = { List (ℕ × List ℕ) };
 
-    ghost items = { λ w t. lists_within (map T.field w.fields.now) w.within (T.field t) };
+    ghost items = { λ w t. lists_within (map W.field w.fields.now) w.within (W.field t) };
 
     ghost entry = { map_entry };
 
     ghost in_range = { InRangeMapEntry };
 
     fn count(&self, part: &T) -> u64 {
-        part.count_lists(self.within, self)
+        self.way.count_lists(part, self.within, self)
     }
 
     fn put<S: Sink>(&self, part: &T, position: u64, out: &mut S) -> Result<u64, Refusal> {
-        part.put_lists(self.within, self, position, out)
+        self.way.put_lists(part, self.within, self, position, out)
     }
 }

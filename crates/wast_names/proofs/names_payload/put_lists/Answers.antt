@@ -9,5 +9,5 @@ use Rattle.wast_names.proofs.names_payload.put_lists.Goals as goal
 
 pub returns : goal.returns
 returns g c =
-    let lists = named_from 0 (flat_map (λ t. lists_within (map g.T.NamedField.field c.args.fields.now) c.args.within (g.T.NamedField.field t)) c.args.there.now) in
+    let lists = named_from 0 (flat_map (λ t. lists_within (map g.W.NamedFields.field c.args.fields.now) c.args.within (g.W.NamedFields.field t)) c.args.there.now) in
     subst (λ id. Writes g.S.Sink.rules (InRangeMap map_entry InRangeMapEntry lists) c.args.out.now c.put_map.new.out (map_bytes id map_entry lists) c.put_map.result) c.id_within.ensures c.put_map.ensures

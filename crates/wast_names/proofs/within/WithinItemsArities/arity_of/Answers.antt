@@ -8,7 +8,7 @@ use Rattle.wast_names.proofs.within.WithinItemsArities.arity_of.Goals as goal
 
 pub returns-then-left-types : goal.returns-then-left-types
 returns-then-left-types g c =
-    let field = g.T.NamedField.field in
+    let field = g.W.NamedFields.field in
     let xs = c.args.self.now.fields.now in
     let x = c.field-item.result in
     let left = c.loop-field.left in
@@ -19,7 +19,7 @@ returns-then-left-types g c =
 
 pub returns : goal.returns
 returns g c =
-    let field = g.T.NamedField.field in
+    let field = g.W.NamedFields.field in
     let xs = c.args.self.now.fields.now in
     ap arity_of (sym (ap (λ ts. slice_get ts c.args.index) (flat_map-map types_within field xs)
     ∙ found_past (λ t. types_within (field t)) xs c.loop-field.field-index c.loop-field.left c.args.index c.loop-field-test.false c.loop-field.invariant))
