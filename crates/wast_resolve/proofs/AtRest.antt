@@ -43,11 +43,11 @@ met_known number word (index.Id id) h = met_index _ _ id (number (name_of id)) h
 
 known_denotes : (number : Name → Option ℕ) (word : List ℕ) (i : Index) → first_unmet (known_index number word i) ≡ None → is_some (denoted number i) ≡ true
 known_denotes number word (index.Num n span) h = refl
-known_denotes number word (index.Id id) h = by_number (number (name_of id)) h
+known_denotes number word (index.Id id) h = by_number _ _ (number (name_of id)) h
   where
-    by_number : (o : Option ℕ) {f : Cause} {s : Span} → first_unmet (record { fault = f; place = s; met = is_some o } ∷ []) ≡ None → is_some o ≡ true
-    by_number None h = absurd (cc h)
-    by_number (Some n) h = refl
+    by_number : (f : Cause) (s : Span) (o : Option ℕ) → first_unmet (record { fault = f; place = s; met = is_some o } ∷ []) ≡ None → is_some o ≡ true
+    by_number f s None h = absurd (cc h)
+    by_number f s (Some n) h = refl
 
 -- so does that of a field, where that of its type denotes one
 met_field : (types : List Shape) (o : Option ℕ) (i : Index) → is_some o ≡ true → first_unmet (field_at types o i) ≡ None → is_number (numbered (field_in (type_at types o)) i) ≡ true

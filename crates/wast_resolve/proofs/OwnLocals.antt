@@ -1,6 +1,6 @@
 -- An instruction reads the locals of the body that it stands in, and so do all behind it; and beside indices of locals and labels
 -- it asks nothing that stands within a function.
-use Rattle.std.proofs.Common.{◌≡◌, true, ◌==◌, length, List, [], ◌∷◌, ◌++◌, map, Option, None, refl, sym, ap, ◌∙◌, arith}
+use Rattle.std.proofs.Common.{◌≡◌, true, ◌==◌, length, List, [], ◌∷◌, ◌++◌, map, Option, None, refl, sym, ap, ◌∙◌, arith, false}
 use Rattle.std.specs.List.{flat_map}
 use Rattle.std.proofs.lemmas.Grind.{common_steps}
 use Rattle.std.proofs.lemmas.List.{map-append}

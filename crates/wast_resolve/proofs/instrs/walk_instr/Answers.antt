@@ -1,4 +1,4 @@
-use Rattle.std.specs.Prelude.{⊤, [], ◌∷◌, ◌++◌, refl}
+use Rattle.std.specs.Prelude.{⊤, [], ◌∷◌, ◌++◌, refl, false}
 use Rattle.wast_base.specs.Blocks.{closed}
 use Rattle.wast_base.specs.Ids.{marked}
 use Rattle.wast_map.specs.Mapped.{mapped_br_table, mapped_ref}
