@@ -1,6 +1,6 @@
 -- What uses demand in the list that is written out by ids is what they demand in the one by positions, where the ids by which it
 -- refers denote these positions.
-use Rattle.std.proofs.Common.{◌≡◌, ℕ, false, List, [], ◌∷◌, map, Option, Some, None, is_some, refl, sym, ap, ◌∙◌}
+use Rattle.std.proofs.Common.{◌≡◌, ℕ, false, List, [], ◌∷◌, map, Option, Some, None, is_some, refl, sym, ap, ◌∙◌, ◌++◌}
 use Rattle.std.specs.Prelude.{codes}
 use Rattle.std.specs.Option.{option_or}
 use Rattle.wast_base.specs.Ids.{name_of, mark_of}
@@ -12,6 +12,7 @@ use Rattle.wast_map.specs.Laws.{all_mapped}
 use Rattle.wast_map.proofs.Laws.{stands}
 use Rattle.wast_deinline.specs.Written.{written_out_from, written_out}
 use Rattle.wast_types.specs.Completed.{completed}
+use Rattle.wast_resolve.specs.Tree.space
 use Rattle.wast_resolve.specs.Tree.{Index, Space, Span, ModuleField}
 use Rattle.wast_resolve.specs.Tree.index
 use Rattle.wast_resolve.specs.Scopes.{Scope}
