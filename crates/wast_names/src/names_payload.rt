@@ -216,8 +216,8 @@ pub(crate) enum NameMap {
 }
 
 /// Appends the subsection of the lists of names within items of some of these fields, where there are any.
-fn put_lists<'b, T, W: NamedFields<T> + Copy, S: Sink>(
-    way: W,
+fn put_lists<'b, T, W: NamedFields<T>, S: Sink>(
+    way: &'b W,
     within: Within,
     fields: &'b [T],
     there: &'b [T],
@@ -226,16 +226,12 @@ fn put_lists<'b, T, W: NamedFields<T> + Copy, S: Sink>(
     ensures { Writes S.rules (InRangeMap map_entry InRangeMapEntry (named_from 0 (flat_map (λ t. lists_within (map W.field fields.now) within (W.field t)) there.now)))
         out.old out.new (map_bytes (subsection_id (named_within within)) map_entry (named_from 0 (flat_map (λ t. lists_within (map W.field fields.now) within (W.field t)) there.now))) result }
 {
-    put_map(
-        id_within(within),
-        WithinItems {
-            way,
-            within,
-            fields,
-        },
-        there,
-        out,
-    )
+    let within_items = WithinItems {
+        way,
+        within,
+        fields,
+    };
+    put_map(id_within(within), within_items, there, out)
 }
 
 /// Appends the subsection of a map of the names in these fields, where there are any.
@@ -256,7 +252,8 @@ fn put_subsection<S: Sink>(
         }
         NameMap::Within(within) => {
             let there = with_lists(*within, fields, reaches);
-            put_lists(AsFields, *within, fields, there, out)
+            let way = AsFields;
+            put_lists(&way, *within, fields, there, out)
         }
     }
 }

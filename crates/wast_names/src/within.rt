@@ -369,7 +369,6 @@ pub(crate) trait NamedFields<T> {
 }
 
 /// The way to see fields as they are.
-#[derive(Clone, Copy)]
 pub(crate) struct AsFields;
 
 impl<'a> NamedFields<ModuleField<'a>> for AsFields {
@@ -409,18 +408,18 @@ impl<'a> NamedFields<ModuleField<'a>> for AsFields {
 
 /// The way to see what stands within the items of these fields.
 pub(crate) struct WithinItems<'b, T, W> {
-    pub(crate) way: W,
+    pub(crate) way: &'b W,
     pub(crate) within: Within,
     pub(crate) fields: &'b [T],
 }
 
-impl<T, W: Copy> Clone for WithinItems<'_, T, W> {
+impl<T, W> Clone for WithinItems<'_, T, W> {
     fn clone(&self) -> Result<Self, AllocError> {
         Ok(*self)
     }
 }
 
-impl<T, W: Copy> Copy for WithinItems<'_, T, W> {}
+impl<T, W> Copy for WithinItems<'_, T, W> {}
 
 impl<T, W: NamedFields<T>> Arities for WithinItems<'_, T, W> {
     ghost fields = { λ w. map W.field w.fields.now };
@@ -438,7 +437,7 @@ impl<T, W: NamedFields<T>> Arities for WithinItems<'_, T, W> {
     }
 }
 
-impl<T, W: NamedFields<T> + Copy> NameItems<T> for WithinItems<'_, T, W> {
+impl<T, W: NamedFields<T>> NameItems<T> for WithinItems<'_, T, W> {
     ghost Entry = { List (ℕ × List ℕ) };
 
     ghost items = { λ w t. lists_within (map W.field w.fields.now) w.within (W.field t) };
