@@ -369,6 +369,7 @@ pub(crate) trait NamedFields<T> {
 }
 
 /// The way to see fields as they are.
+#[derive(Drop)]
 pub(crate) struct AsFields;
 
 impl<'a> NamedFields<ModuleField<'a>> for AsFields {
