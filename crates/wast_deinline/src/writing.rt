@@ -19,8 +19,8 @@ use wast_tree::{
     Error, Export, ExportKind, Expression, Func, FuncKind, FunctionType, Gensym, GlobalKind, Id,
     Imports, Index, InlineExport, InlineImport, ItemKind, ItemSig, Memory, MemoryKind, MemoryType,
     ModuleField, NameAnnotation, Seq, Span, Table, TableKind, TableType, Tag, TagKind, TypeUse,
-    discard_data, discard_elem_payload, discard_exports, discard_field, discard_fields, fields_with_capacity,
-    is_written_out, push_field, take_field,
+    discard_data, discard_elem_payload, discard_exports, discard_field, discard_fields,
+    fields_with_capacity, is_written_out, push_field, take_field,
 };
 
 /// Writes the abbreviations of fields out (text format: functions, tables, memories, globals, tags; abbreviations).

@@ -9,8 +9,8 @@ ghost use Rattle.wast_resolve.specs.Walking.{WalksSites};
 use crate::resolver::Resolver;
 use crate::walks::{Walk, walk_index, walk_type_use};
 use wast_tree::{
-    Error, FunctionType, ImportItems, Imports, Index, ItemKind, ItemSig, Memory, MemoryKind, Seq, Space,
-    Tag, TagType, TypeUse,
+    Error, FunctionType, ImportItems, Imports, Index, ItemKind, ItemSig, Memory, MemoryKind, Seq,
+    Space, Tag, TagType, TypeUse,
 };
 
 /// Walks over a part of a field in which nothing stands in a body.

@@ -466,16 +466,40 @@ fn walk_instr<'a>(
         Instruction::ref_cast(arg) => walk_part(names, &mut arg.rt),
         Instruction::ref_cast_desc_eq(arg) => walk_part(names, &mut arg.rt),
         Instruction::br_on_cast(arg) => {
-            walk_cast(names, labels, &mut arg.label, &mut arg.to_type, &mut arg.from_type)
+            walk_cast(
+                names,
+                labels,
+                &mut arg.label,
+                &mut arg.to_type,
+                &mut arg.from_type,
+            )
         }
         Instruction::br_on_cast_fail(arg) => {
-            walk_cast(names, labels, &mut arg.label, &mut arg.to_type, &mut arg.from_type)
+            walk_cast(
+                names,
+                labels,
+                &mut arg.label,
+                &mut arg.to_type,
+                &mut arg.from_type,
+            )
         }
         Instruction::br_on_cast_desc_eq(arg) => {
-            walk_cast(names, labels, &mut arg.label, &mut arg.to_type, &mut arg.from_type)
+            walk_cast(
+                names,
+                labels,
+                &mut arg.label,
+                &mut arg.to_type,
+                &mut arg.from_type,
+            )
         }
         Instruction::br_on_cast_desc_eq_fail(arg) => {
-            walk_cast(names, labels, &mut arg.label, &mut arg.to_type, &mut arg.from_type)
+            walk_cast(
+                names,
+                labels,
+                &mut arg.label,
+                &mut arg.to_type,
+                &mut arg.from_type,
+            )
         }
         Instruction::v128_const(_) => Ok(()),
         Instruction::i8x16_shuffle(_) => Ok(()),

@@ -227,10 +227,7 @@ impl<'a> Resolver<'a> {
     ///
     /// An unknown id of a type is E4 at its place. An id of a field is E9 at its place where the type is no struct with a named
     /// field, or where there is none, and else E4 where it is unknown.
-    pub(crate) fn number_access(
-        &self,
-        access: &mut StructAccess<'a>,
-    ) -> Result<(), Error<'a>>
+    pub(crate) fn number_access(&self, access: &mut StructAccess<'a>) -> Result<(), Error<'a>>
         ensures { Walks ⊥ ⊥ (access_demand (scope_of self.now) access.old.owner access.old.field)
             (mapped_access (numbering (scope_of self.now)) access.old) access.new result }
     {

@@ -34,10 +34,7 @@ fn have_ids<'a>(fields: &[StructField<'a>]) -> bool
 /// What the ids of the fields of a struct denote; no two are the same.
 ///
 /// It takes memory for the ids. Where it is refused, that is E12; where there are 2^32 fields or more, E10.
-fn field_names<'a>(
-    alloc: Global,
-    fields: &[StructField<'a>],
-) -> Result<Namespace<'a>, Error<'a>>
+fn field_names<'a>(alloc: Global, fields: &[StructField<'a>]) -> Result<Namespace<'a>, Error<'a>>
     requires { first_unmet (field_demands (field_ids fields.now)) ≡ None }
     ensures names { IfOk result (NamesFields (field_ids fields.now)) }
     ensures refusal { IfErr result (IsRefused (2 ^ 32 ≤ length (field_ids fields.now))) }
@@ -49,10 +46,7 @@ fn field_names<'a>(
 }
 
 /// What is read of a struct type. It takes memory only where some field has an id.
-fn struct_shape<'a>(
-    alloc: Global,
-    fields: &[StructField<'a>],
-) -> Result<TypeShape<'a>, Error<'a>>
+fn struct_shape<'a>(alloc: Global, fields: &[StructField<'a>]) -> Result<TypeShape<'a>, Error<'a>>
     requires { first_unmet (field_demands (field_ids fields.now)) ≡ None }
     ensures shape { IfOk result (λ t. read_shape t ≡ struct_shape (map name_if (field_ids fields.now))) }
     ensures refusal { IfErr result (IsRefused (2 ^ 32 ≤ length (field_ids fields.now))) }
@@ -65,10 +59,7 @@ fn struct_shape<'a>(
 }
 
 /// What is read of a function type.
-fn func_shape<'a>(
-    alloc: Global,
-    ty: &FunctionType<'a>,
-) -> Result<TypeShape<'a>, Error<'a>>
+fn func_shape<'a>(alloc: Global, ty: &FunctionType<'a>) -> Result<TypeShape<'a>, Error<'a>>
     ensures shape { IfOk result (λ t. read_shape t ≡ Function (signature_of ty.now)) }
     ensures refusal { IfErr result (λ e. e ≡ out_of_memory) }
 {
@@ -77,10 +68,7 @@ fn func_shape<'a>(
 }
 
 /// What is read of a composite type.
-fn kind_shape<'a>(
-    alloc: Global,
-    kind: &InnerTypeKind<'a>,
-) -> Result<TypeShape<'a>, Error<'a>>
+fn kind_shape<'a>(alloc: Global, kind: &InnerTypeKind<'a>) -> Result<TypeShape<'a>, Error<'a>>
     requires { first_unmet (field_demands (field_ids (fields_of kind.now))) ≡ None }
     ensures shape { IfOk result (λ t. read_shape t ≡ shape_of kind.now) }
     ensures refusal { IfErr result (IsRefused (2 ^ 32 ≤ length (field_ids (fields_of kind.now)))) }
