@@ -22,7 +22,7 @@ use Rattle.wast_core.specs.Tree.func
 use Rattle.wast_core.specs.Tree.field
 use Rattle.wast_names.specs.GivenNames.{written_text, id_text, given_name}
 use Rattle.wast_names.specs.WithinItems as within
-use Rattle.wast_names.specs.WithinItems.{arity, types_within, arity_at, params_or, local_name, locals_in, label_in, labels_in, locals_of, tag_params, lists_in_type}
+use Rattle.wast_names.specs.WithinItems.{arity, types_within, types_of, arity_at, params_or, local_name, locals_in, label_in, labels_in, locals_of, tag_params, lists_in_type}
 use Rattle.wast_names.specs.ModuleNames.{type_name, import_names, item_names_in}
 use Rattle.wast_names.proofs.Each.{each_like}
 use Rattle.wast_names.proofs.SameNameSection.{SameLists, SameInKind, SameInImport, KeepsNames, arity_in, same_arity, in_type, in_func, in_tag, in_imported_func, names_imported, in_import}
@@ -83,7 +83,7 @@ arities_in (field.Ty t) = ap (λ n. n ∷ []) (same_arity_in t)
 arities_in (field.Rec r) = each_alike (mapped_type stripping) arity_in same_arity_in r.types
 arities_in x = refl
 
-arity_stays : (xs : List ModuleField) (i : Option Index) → arity_at (all_mapped stripping xs) (option_map at_start i) ≡ arity_at xs i
+arity_stays : (xs : List ModuleField) (i : Option Index) → arity_at (types_of (all_mapped stripping xs)) (option_map at_start i) ≡ arity_at (types_of xs) i
 arity_stays xs None = refl
 arity_stays xs (Some (index.Num n span)) = same_arity (mapped stripping) arities_in xs n
 arity_stays xs (Some (index.Id id)) = refl
@@ -93,7 +93,7 @@ names_inside : (u : TypeUse FunctionType) (k : FuncKind) → locals_in (mapped_f
 names_inside u (func.Import import exact) = refl
 names_inside u (func.Inline locals e) = each_alike (mapped_local stripping) local_name (λ l. refl) locals
 
-same_locals : (xs : List ModuleField) (f : Func) → locals_of (all_mapped stripping xs) (mapped_func stripping f) ≡ locals_of xs f
+same_locals : (xs : List ModuleField) (f : Func) → locals_of (types_of (all_mapped stripping xs)) (mapped_func stripping f) ≡ locals_of (types_of xs) f
 same_locals xs f = λ i. within.behind (params_or (arity_stays xs f.ty.index i) f.ty.inline) (names_inside f.ty f.kind i)
 
 same_label : (h : Here) (i : Instruction) → label_in (mapped_instr stripping h i) ≡ label_in i
@@ -122,7 +122,7 @@ same_lists : (xs : List ModuleField) (x : ModuleField) → SameLists (all_mapped
 same_lists xs (field.Ty t) = λ w. in_type w (mapped_type stripping t) t (def_stays t)
 same_lists xs (field.Rec r) = λ w. each_like (mapped_type stripping) (lists_in_type w) (lists_in_type w) (λ t. in_type w (mapped_type stripping t) t (def_stays t)) r.types
 same_lists xs (field.Import i) = same_import i.items
-same_lists xs (field.Func f) = λ w. in_func w (all_mapped stripping xs) xs (mapped_func stripping f) f (same_locals xs f) (same_labels f.ty f.kind)
+same_lists xs (field.Func f) = λ w. in_func w (types_of (all_mapped stripping xs)) (types_of xs) (mapped_func stripping f) f (same_locals xs f) (same_labels f.ty f.kind)
 same_lists xs (field.Tag t) = λ w. in_tag w (mapped_tag_type stripping t.ty) t.ty (same_params t.ty)
 same_lists xs x = λ w. refl
 

@@ -94,24 +94,24 @@ no_lists_imported : (w : Within) → ((k : ItemKind) → lists_in_kind w k ≡ [
 no_lists_imported w none [] = refl
 no_lists_imported w none (sig ∷ sigs) = rw (none sig.kind) (no_lists_imported w none sigs)
 
-pub no_lists_elsewhere : (fields : List ModuleField) (w : Within) (f : ModuleField) → has_lists w f ≡ false → lists_within fields w f ≡ []
-no_lists_elsewhere fields within.Locals (field.Import i) h = cc
-no_lists_elsewhere fields within.Locals (field.Func x) h = cc
-no_lists_elsewhere fields within.Locals (field.Rec r) h = no_locals_in r.types
-no_lists_elsewhere fields within.Locals f h = refl
-no_lists_elsewhere fields within.Labels (field.Import i) h = cc
-no_lists_elsewhere fields within.Labels (field.Func x) h = cc
-no_lists_elsewhere fields within.Labels (field.Rec r) h = no_labels_in r.types
-no_lists_elsewhere fields within.Labels f h = refl
-no_lists_elsewhere fields within.Fields (field.Ty t) h = cc
-no_lists_elsewhere fields within.Fields (field.Rec r) h = cc
-no_lists_elsewhere fields within.Fields (field.Import i) h = no_lists_imported within.Fields no_fields_in (item_sigs i.items)
-no_lists_elsewhere fields within.Fields f h = refl
-no_lists_elsewhere fields within.Parameters (field.Ty t) h = cc
-no_lists_elsewhere fields within.Parameters (field.Rec r) h = cc
-no_lists_elsewhere fields within.Parameters (field.Import i) h = no_lists_imported within.Parameters no_params_in (item_sigs i.items)
-no_lists_elsewhere fields within.Parameters f h = refl
-no_lists_elsewhere fields within.TagParameters (field.Import i) h = cc
-no_lists_elsewhere fields within.TagParameters (field.Tag t) h = cc
-no_lists_elsewhere fields within.TagParameters (field.Rec r) h = no_tag_params_in r.types
-no_lists_elsewhere fields within.TagParameters f h = refl
+pub no_lists_elsewhere : (types : List ty.«Type») (w : Within) (f : ModuleField) → has_lists w f ≡ false → lists_within types w f ≡ []
+no_lists_elsewhere types within.Locals (field.Import i) h = cc
+no_lists_elsewhere types within.Locals (field.Func x) h = cc
+no_lists_elsewhere types within.Locals (field.Rec r) h = no_locals_in r.types
+no_lists_elsewhere types within.Locals f h = refl
+no_lists_elsewhere types within.Labels (field.Import i) h = cc
+no_lists_elsewhere types within.Labels (field.Func x) h = cc
+no_lists_elsewhere types within.Labels (field.Rec r) h = no_labels_in r.types
+no_lists_elsewhere types within.Labels f h = refl
+no_lists_elsewhere types within.Fields (field.Ty t) h = cc
+no_lists_elsewhere types within.Fields (field.Rec r) h = cc
+no_lists_elsewhere types within.Fields (field.Import i) h = no_lists_imported within.Fields no_fields_in (item_sigs i.items)
+no_lists_elsewhere types within.Fields f h = refl
+no_lists_elsewhere types within.Parameters (field.Ty t) h = cc
+no_lists_elsewhere types within.Parameters (field.Rec r) h = cc
+no_lists_elsewhere types within.Parameters (field.Import i) h = no_lists_imported within.Parameters no_params_in (item_sigs i.items)
+no_lists_elsewhere types within.Parameters f h = refl
+no_lists_elsewhere types within.TagParameters (field.Import i) h = cc
+no_lists_elsewhere types within.TagParameters (field.Tag t) h = cc
+no_lists_elsewhere types within.TagParameters (field.Rec r) h = no_tag_params_in r.types
+no_lists_elsewhere types within.TagParameters f h = refl

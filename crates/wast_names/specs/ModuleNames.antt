@@ -13,7 +13,7 @@ use Rattle.wast_names.specs.declared.within.Within.TheVariants as within
 use Rattle.wast_names.specs.declared.names_payload.NameMap.{NameMap}
 use Rattle.wast_names.specs.declared.names_payload.NameMap.TheVariants as map_of
 use Rattle.wast_names.specs.GivenNames.{given_name, named_from}
-use Rattle.wast_names.specs.WithinItems.{lists_within}
+use Rattle.wast_names.specs.WithinItems.{types_of, lists_within}
 use Rattle.wasm_out.specs.NameSectionBytes.{Named, One, Direct, Indirect, NameSubsection, InRangeNameSubsection}
 use Rattle.wasm_out.specs.NameSectionBytes as named
 
@@ -87,7 +87,7 @@ named_within within.TagParameters = named.TagParameters
 
 -- the items that have names within, by their positions
 abbrev pub named_lists : Within → List ModuleField → List (ℕ × List (ℕ × List ℕ))
-named_lists w fields = named_from 0 (flat_map (lists_within fields w) fields)
+named_lists w fields = named_from 0 (flat_map (lists_within (types_of fields) w) fields)
 
 -- the names of the items of a space, or of what stands within items
 abbrev pub map_names : List ModuleField → NameMap → List NameSubsection

@@ -11,7 +11,6 @@ ghost use Rattle.wast_reach.specs.Reaches.{are_reaches};
 ghost use Rattle.wast_names.specs.NamesPart.{names_part, names_payload_of};
 ghost use Rattle.wast_names.specs.GivenNames.{id_text, given_name, named_from};
 ghost use Rattle.wast_names.specs.FoundNames.{text_seen, items_seen, counted, WritesItems, map_bytes, InRangeMap};
-ghost use Rattle.wast_names.specs.WithinItems.{lists_within};
 ghost use Rattle.wast_names.specs.ModuleNames.{type_name, sig_name, item_names_in, given_name_in, names_given, named_of, named_within, map_names, module_name, name_maps, name_subsections, InRangeNames};
 
 use crate::imported::{count_imported, put_imported};
@@ -223,8 +222,8 @@ fn put_lists<'b, T, W: NamedFields<T>, S: Sink>(
     there: &'b [T],
     out: &'b mut S,
 ) -> Result<(), Refusal>
-    ensures { Writes S.rules (InRangeMap map_entry InRangeMapEntry (named_from 0 (flat_map (λ t. lists_within (map W.field fields.now) within (W.field t)) there.now)))
-        out.old out.new (map_bytes (subsection_id (named_within within)) map_entry (named_from 0 (flat_map (λ t. lists_within (map W.field fields.now) within (W.field t)) there.now))) result }
+    ensures { Writes S.rules (InRangeMap map_entry InRangeMapEntry (named_from 0 (flat_map (W.lists (flat_map W.types fields.now) within) there.now)))
+        out.old out.new (map_bytes (subsection_id (named_within within)) map_entry (named_from 0 (flat_map (W.lists (flat_map W.types fields.now) within) there.now))) result }
 {
     let within_items = WithinItems {
         way,
@@ -252,8 +251,7 @@ fn put_subsection<S: Sink>(
         }
         NameMap::Within(within) => {
             let there = with_lists(*within, fields, reaches);
-            let way = AsFields;
-            put_lists(&way, *within, fields, there, out)
+            put_lists(&AsFields, *within, fields, there, out)
         }
     }
 }

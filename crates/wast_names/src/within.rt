@@ -1,10 +1,11 @@
 //! What stands within items and has names of its own: locals and labels of functions, fields of structs, parameters of
 //! types and of tags.
 
-ghost use Rattle.std.specs.Prelude.{◌≡◌, ◌<◌, ◌+◌, ℕ, List, length, map, slice_get, IfOk};
+ghost use Rattle.std.specs.Prelude.{◌≡◌, ◌<◌, ◌+◌, ℕ, List, Option, length, map, slice_get, IfOk};
 ghost use Rattle.std.specs.List.{flat_map};
 ghost use Rattle.wasm_out.specs.NameSectionBytes.{map_entry, InRangeMapEntry};
-ghost use Rattle.wast_names.specs.Tree.{ModuleField};
+ghost use Rattle.wast_names.specs.Tree.ty;
+ghost use Rattle.wast_names.specs.declared.within.Within.{Within};
 ghost use Rattle.wast_names.specs.GivenNames.{named_from};
 ghost use Rattle.wast_names.specs.FoundNames.{counted, names_listed, lists_found, lists_seen, WritesItems};
 ghost use Rattle.wast_names.specs.WithinItems.{param_name, local_name, lists_in_type, lists_in_func, lists_in_tag, lists_in_imported_func, lists_in_imported_tag, lists_in_kind, lists_in_sig, lists_within, types_within, arity, arity_of, arity_at, behind, params_used, locals_of, locals_in, label_in, labels_in, field_names_of, param_names_of, inline_params, tag_params};
@@ -110,17 +111,17 @@ fn types_within<'b, 'a>(field: &'b ModuleField<'a>) -> &'b [Type<'a>]
 /// A list of fields, as types are looked up in it. It is a type parameter of what looks them up: a proof would else compare
 /// the type of the whole list with itself at each call.
 pub(crate) trait Arities {
-    /// These fields.
-    ghost fields: { Self → List ModuleField };
+    /// The types of these fields.
+    ghost types: { Self → List ty.«Type» };
 
     /// How many parameters the function type at an index has, where one stands there. It walks the fields up to that type.
     fn arity_of(&self, index: usize) -> Option<u64>
-        ensures { result ≡ arity_of (slice_get (flat_map types_within (fields self.now)) index) };
+        ensures { result ≡ arity_of (slice_get (types self.now) index) };
 }
 
 /// The same of the index of a type use.
 fn arity_at<A: Arities>(arities: &A, index: &Option<Index>) -> Option<u64>
-    ensures { result ≡ arity_at (A.fields arities.now) index.now }
+    ensures { result ≡ arity_at (A.types arities.now) index.now }
 {
     match index {
         Some(Index::Num(number, _)) => arities.arity_of(*number as usize),
@@ -135,7 +136,7 @@ fn locals_behind<'b, 'a, A: Arities>(
     ty: &'b TypeUse<'a, FunctionType<'a>>,
     locals: &'b [Local<'a>],
 ) -> Listed<'b, 'a>
-    ensures { names_listed result ≡ named_from 0 (behind (params_used (A.fields arities.now) ty.now) (map local_name locals.now)) }
+    ensures { names_listed result ≡ named_from 0 (behind (params_used (A.types arities.now) ty.now) (map local_name locals.now)) }
 {
     if let Some(inline) = &ty.inline {
         let params = inline.params.as_slice();
@@ -162,7 +163,7 @@ fn locals_in<'b, 'a>(kind: &'b FuncKind<'a>) -> &'b [Local<'a>]
 
 /// The parameters and locals of a function.
 fn locals_of<'b, 'a, A: Arities>(arities: &A, func: &'b Func<'a>) -> Listed<'b, 'a>
-    ensures { names_listed result ≡ named_from 0 (locals_of (A.fields arities.now) func.now) }
+    ensures { names_listed result ≡ named_from 0 (locals_of (A.types arities.now) func.now) }
 {
     locals_behind(arities, &func.ty, locals_in(&func.kind))
 }
@@ -190,7 +191,7 @@ fn listed_in_func<'b, 'a, A: Arities>(
     arities: &A,
     func: &'b Func<'a>,
 ) -> Option<Listed<'b, 'a>>
-    ensures { lists_found result ≡ lists_in_func (A.fields arities.now) within func.now }
+    ensures { lists_found result ≡ lists_in_func (A.types arities.now) within func.now }
 {
     match within {
         Within::Locals => Some(locals_of(arities, func)),
@@ -280,7 +281,7 @@ fn lists_in<'b, 'a, A: Arities>(
     arities: &A,
     field: &'b ModuleField<'a>,
 ) -> Lists<'b, 'a>
-    ensures { lists_seen within result ≡ lists_within (A.fields arities.now) within field.now }
+    ensures { lists_seen within result ≡ lists_within (A.types arities.now) within field.now }
 {
     match field {
         ModuleField::Ty(ty) => Lists::One(listed_in_type(within, ty)),
@@ -339,21 +340,24 @@ impl<'a> NameItems<ItemSig<'a>> for Within {
 /// A way to see fields, as lists of them are walked for what stands within their items. A field is a type parameter of the walk,
 /// as [`Arities`] are of what looks types up.
 pub(crate) trait NamedFields<T> {
-    /// What a field is.
-    ghost field: { T → ModuleField };
+    /// The types of a field.
+    ghost types: { T → List ty.«Type» };
+
+    /// The lists of names within its items, where these are the types of its module.
+    ghost lists: { List ty.«Type» → Within → T → List (Option (List (ℕ × List ℕ))) };
 
     /// How many types a field has.
     fn count_types(&self, part: &T) -> usize
-        ensures { result ≡ length (types_within (field part.now)) };
+        ensures { result ≡ length (types part.now) };
 
     /// How many parameters a type of a field has, where that is a function type. It needs the place of one.
     fn arity(&self, part: &T, index: usize) -> Option<u64>
-        requires { index < length (types_within (field part.now)) }
-        ensures { result ≡ arity_of (slice_get (types_within (field part.now)) index) };
+        requires { index < length (types part.now) }
+        ensures { result ≡ arity_of (slice_get (types part.now) index) };
 
     /// How many of its items have a list of names, among these fields.
     fn count_lists<A: Arities>(&self, part: &T, within: Within, arities: &A) -> u64
-        ensures { result ≡ counted (length (named_from 0 (lists_within (A.fields arities.now) within (field part.now)))) };
+        ensures { result ≡ counted (length (named_from 0 (lists (A.types arities.now) within part.now))) };
 
     /// Appends those lists, as [`NameItems::put`] does.
     fn put_lists<A: Arities, S: Sink>(
@@ -364,8 +368,8 @@ pub(crate) trait NamedFields<T> {
         position: u64,
         out: &mut S,
     ) -> Result<u64, Refusal>
-        ensures written { WritesItems S.rules map_entry InRangeMapEntry (lists_within (A.fields arities.now) within (field part.now)) position out.old out.new result }
-        ensures next { IfOk result (λ p. p ≡ counted (position + length (lists_within (A.fields arities.now) within (field part.now)))) };
+        ensures written { WritesItems S.rules map_entry InRangeMapEntry (lists (A.types arities.now) within part.now) position out.old out.new result }
+        ensures next { IfOk result (λ p. p ≡ counted (position + length (lists (A.types arities.now) within part.now))) };
 }
 
 /// The way to see fields as they are.
@@ -373,7 +377,9 @@ pub(crate) trait NamedFields<T> {
 pub(crate) struct AsFields;
 
 impl<'a> NamedFields<ModuleField<'a>> for AsFields {
-    ghost field = { λ f. f };
+    ghost types = { types_within };
+
+    ghost lists = { lists_within };
 
     fn count_types(&self, part: &ModuleField<'a>) -> usize {
         types_within(part).len()
@@ -423,7 +429,7 @@ impl<T, W> Clone for WithinItems<'_, T, W> {
 impl<T, W> Copy for WithinItems<'_, T, W> {}
 
 impl<T, W: NamedFields<T>> Arities for WithinItems<'_, T, W> {
-    ghost fields = { λ w. map W.field w.fields.now };
+    ghost types = { λ w. flat_map W.types w.fields.now };
 
     fn arity_of(&self, index: usize) -> Option<u64> {
         let mut left = index;
@@ -441,7 +447,7 @@ impl<T, W: NamedFields<T>> Arities for WithinItems<'_, T, W> {
 impl<T, W: NamedFields<T>> NameItems<T> for WithinItems<'_, T, W> {
     ghost Entry = { List (ℕ × List ℕ) };
 
-    ghost items = { λ w t. lists_within (map W.field w.fields.now) w.within (W.field t) };
+    ghost items = { λ w t. W.lists (flat_map W.types w.fields.now) w.within t };
 
     ghost entry = { map_entry };
 
