@@ -13,15 +13,26 @@ fn at(offset: usize) -> Span {
     Span { offset }
 }
 
-/// `(import "m" "n" (func))`, whose item stands at 5
-fn import<'a>() -> Imports<'a> {
-    let sig = ItemSig {
-        span: at(5),
+/// `(func)`, as an imported item at a place
+fn sig_at<'a>(offset: usize) -> ItemSig<'a> {
+    ItemSig {
+        span: at(offset),
         id: None,
         name: None,
         kind: ItemKind::Func(TypeUse::none()),
-    };
-    Imports::single(at(0), "m", "n", sig)
+    }
+}
+
+/// An import of these items.
+fn imports_of<'a>(items: ImportItems<'a>) -> Imports<'a> {
+    Imports { span: at(0), items }
+}
+
+/// The place of the signature of each item, where there are two.
+fn places(rt: &impl Abort, alloc: Global, imports: &Imports<'_>) -> (Span, Span) {
+    let sigs = imports.item_sigs(alloc).expect(rt, "memory");
+    assert!(rt; sigs.len() == 2);
+    (sigs[0].span, sigs[1].span)
 }
 
 /// How many signatures there are.
@@ -31,12 +42,42 @@ fn sig_count(rt: &impl Abort, alloc: Global, imports: &Imports<'_>) -> usize {
 
 #[test]
 fn an_import_has_one_signature(rt: HostRuntime) {
-    let mut imports = import();
+    let mut imports = Imports::single(at(0), "m", "n", sig_at(5));
     assert!(rt; sig_count(&rt, rt.alloc(), &imports) == 1);
     assert!(rt; imports.unique_sigs() == 1);
     imports.unique_sig_mut(0).span = at(6);
-    let ImportItems::Single { sig, .. } = &imports.items;
-    assert!(rt; sig.span == at(6));
+    match &imports.items {
+        ImportItems::Single { sig, .. } => assert!(rt; sig.span == at(6)),
+        ImportItems::Group1 { .. } | ImportItems::Group2 { .. } => assert!(rt; false),
+    }
+    discard_field(ModuleField::Import(imports));
+}
+
+#[test]
+fn the_items_of_a_group_share_a_signature_or_have_one_each(rt: HostRuntime) {
+    let alloc = rt.alloc();
+    let mut each = Seq::new(alloc);
+    each.push(("n", sig_at(5))).expect(&rt, "memory");
+    each.push(("o", sig_at(6))).expect(&rt, "memory");
+    let mut imports = imports_of(ImportItems::Group1 {
+        module: "m",
+        items: each,
+    });
+    assert!(rt; imports.unique_sigs() == 2);
+    imports.unique_sig_mut(1).span = at(7);
+    assert!(rt; places(&rt, alloc, &imports) == (at(5), at(7)));
+    discard_field(ModuleField::Import(imports));
+    let mut names = Seq::new(alloc);
+    names.push("n").expect(&rt, "memory");
+    names.push("o").expect(&rt, "memory");
+    let mut imports = imports_of(ImportItems::Group2 {
+        module: "m",
+        sig: sig_at(5),
+        items: names,
+    });
+    assert!(rt; imports.unique_sigs() == 1);
+    imports.unique_sig_mut(0).span = at(8);
+    assert!(rt; places(&rt, alloc, &imports) == (at(8), at(8)));
     discard_field(ModuleField::Import(imports));
 }
 
