@@ -3,13 +3,21 @@
 #![tactic(auto)]
 
 #[cfg(test)]
+mod accesses;
+#[cfg(test)]
+mod around;
+#[cfg(test)]
 mod bodies;
 #[cfg(test)]
 mod control;
 #[cfg(test)]
 mod conversions;
 #[cfg(test)]
+mod immediates;
+#[cfg(test)]
 mod items;
+#[cfg(test)]
+mod lines;
 #[cfg(test)]
 mod made;
 #[cfg(test)]
