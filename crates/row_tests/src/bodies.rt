@@ -252,35 +252,34 @@ fn push_select<'a>(
     maker.push_instruction(instrs, Instruction::select(SelectTypes { tys }));
 }
 
-/// The instruction of a word that holds no list.
-fn small<'a>(word: Word<'a>) -> Option<Instruction<'a>> {
+/// The instruction of a word that holds no list, and `i32.const 0` for another.
+fn small<'a>(word: Word<'a>) -> Instruction<'a> {
     match word {
-        Word::Else(label) => Some(Instruction::else_(id(label))),
-        Word::End(label) => Some(Instruction::end_(id(label))),
-        Word::Delegate(to) => Some(Instruction::delegate(index(to))),
-        Word::Br(to) => Some(Instruction::br(index(to))),
-        Word::Get(to) => Some(Instruction::local_get(index(to))),
-        Word::Zero => Some(Instruction::i32_const(0)),
+        Word::Else(label) => Instruction::else_(id(label)),
+        Word::End(label) => Instruction::end_(id(label)),
+        Word::Delegate(to) => Instruction::delegate(index(to)),
+        Word::Br(to) => Instruction::br(index(to)),
+        Word::Get(to) => Instruction::local_get(index(to)),
         Word::Load(align, offset) => {
             let arg = mem_arg(align, offset, 0);
-            Some(Instruction::Mem(MemOp::i32_load, arg))
+            Instruction::Mem(MemOp::i32_load, arg)
         }
         Word::AtomicLoad(align) => {
             let arg = mem_arg(align, 0, 0);
-            Some(Instruction::Mem(MemOp::i32_atomic_load, arg))
+            Instruction::Mem(MemOp::i32_atomic_load, arg)
         }
-        Word::Fence(ordering) => Some(Instruction::atomic_fence(ordering)),
-        Word::Field(owner, field) => Some(get(owner, field)),
-        Word::Test(rt) => Some(Instruction::ref_test(RefTest { rt })),
-        Word::Cast(rt) => Some(Instruction::ref_cast(RefCast { rt })),
-        Word::OnCast(to, from_type, to_type) => Some(on_cast(to, from_type, to_type)),
-        Word::OnFail(to, from_type, to_type) => Some(on_fail(to, from_type, to_type)),
-        Word::Lane(op, lane) => Some(Instruction::Lane(op, LaneArg { lane })),
-        Word::MemLane(op, memory, lane) => Some(mem_lane(op, memory, lane)),
-        Word::Shuffle(lanes) => Some(Instruction::i8x16_shuffle(I8x16Shuffle { lanes })),
-        Word::Vector(value) => Some(Instruction::v128_const(value)),
-        Word::Beyond(name) => Some(Instruction::Beyond(name)),
-        _ => None,
+        Word::Fence(ordering) => Instruction::atomic_fence(ordering),
+        Word::Field(owner, field) => get(owner, field),
+        Word::Test(rt) => Instruction::ref_test(RefTest { rt }),
+        Word::Cast(rt) => Instruction::ref_cast(RefCast { rt }),
+        Word::OnCast(to, from_type, to_type) => on_cast(to, from_type, to_type),
+        Word::OnFail(to, from_type, to_type) => on_fail(to, from_type, to_type),
+        Word::Lane(op, lane) => Instruction::Lane(op, LaneArg { lane }),
+        Word::MemLane(op, memory, lane) => mem_lane(op, memory, lane),
+        Word::Shuffle(lanes) => Instruction::i8x16_shuffle(I8x16Shuffle { lanes }),
+        Word::Vector(value) => Instruction::v128_const(value),
+        Word::Beyond(name) => Instruction::Beyond(name),
+        _ => Instruction::i32_const(0),
     }
 }
 
@@ -302,11 +301,7 @@ fn push<'a>(alloc: Global, maker: &mut Maker, instrs: &mut Seq<Instruction<'a>>,
         }
         Word::CallOf(to, written) => push_call_of(alloc, maker, instrs, to, written),
         Word::Select(written) => push_select(alloc, maker, instrs, written),
-        word => {
-            if let Some(instruction) = small(word) {
-                maker.push_instruction(instrs, instruction);
-            }
-        }
+        word => maker.push_instruction(instrs, small(word)),
     }
 }
 

@@ -13,6 +13,10 @@ mod control;
 #[cfg(test)]
 mod conversions;
 #[cfg(test)]
+mod forms;
+#[cfg(test)]
+mod holders;
+#[cfg(test)]
 mod immediates;
 #[cfg(test)]
 mod items;
@@ -23,6 +27,10 @@ mod made;
 #[cfg(test)]
 mod modules;
 #[cfg(test)]
+mod parts;
+#[cfg(test)]
 mod refusals;
 #[cfg(test)]
 mod runs;
+#[cfg(test)]
+mod uncovered;
