@@ -4,7 +4,7 @@
 use crate::around::Around::Function;
 use crate::bodies::To::Name;
 use crate::bodies::Word::{Beyond, Br, Fence};
-use crate::holders::{Held, Whole, with_field, with_type};
+use crate::holders::{Held, Whole, with_field, with_group, with_type};
 use crate::lines::has_lines;
 use crate::made::{at, module, ready};
 use crate::parts::global;
@@ -17,7 +17,8 @@ use wast_resolve::discard_names;
 use wast_rows::form_sample;
 use wast_tree::{
     AbstractHeapType, Data, DataKind, DataVal, Error, Fault, Form, Gensym, GlobalKind, HeapType,
-    Index, Instruction, Maker, MemArgOrdering, ModuleField, Ordering, RefType, Seq, ValType,
+    Id, Index, Instruction, Maker, MemArgOrdering, ModuleField, Ordering, RefType, Seq, TypeUse,
+    ValType,
 };
 
 const STACK_SWITCHING: &str = "uncovered form: stack switching";
@@ -251,6 +252,37 @@ fn faults_of_the_text_and_forms_that_stand_first_are_told(rt: HostRuntime) {
             ),
         ],
     );
+}
+
+/// The first answer is this fault at this place.
+fn has_fault(
+    rt: &impl Abort,
+    alloc: Global,
+    made: Result<Module<'_>, Error<'_>>,
+    offset: usize,
+    fault: Fault<'_>,
+) {
+    let mut module = ready(rt, made.expect(rt, "memory"));
+    let error = module.encode(alloc, &mut Gensym::new(1)).err();
+    let error = error.expect(rt, "an error");
+    assert!(rt; error.fault() == fault && error.span() == Some(at(offset)));
+    discard_module(module);
+}
+
+#[test]
+fn groups_are_items_of_one_signature(rt: HostRuntime) {
+    let alloc = rt.alloc();
+    let one = with_group(alloc, &["a"], TypeUse::none(), false);
+    is_refused(&rt, alloc, one, COMPACT_IMPORTS);
+    let two = with_group(alloc, &["a", "b"], TypeUse::none(), false);
+    has_fault(&rt, alloc, two, 46, Fault::Duplicate("func"));
+    let none = with_group(alloc, &[], TypeUse::none(), false);
+    has_fault(&rt, alloc, none, 70, Fault::Unknown("func", "f"));
+    let behind = with_group(alloc, &[], TypeUse::none(), true);
+    has_fault(&rt, alloc, behind, 9, Fault::ImportAfter("function"));
+    let unknown = TypeUse::of(Index::Id(Id::new("t", at(50))));
+    let used = with_group(alloc, &[], unknown, false);
+    has_fault(&rt, alloc, used, 50, Fault::Unknown("type", "t"));
 }
 
 /// `(data "..")`, of a piece so many times, and a global of an instruction.

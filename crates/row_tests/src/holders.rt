@@ -1,14 +1,14 @@
 //! Modules that each hold one type or one field that no encoder covers.
 
-use crate::made::at;
+use crate::made::{at, module};
 use crate::parts::{block, elements, func, global, module_of, table, table_type, zero};
 use std::alloc::Global;
-use wast_core::Module;
+use wast_core::{Module, ModuleKind};
 use wast_tree::{
     BlockKind, ContType, ElemPayload, Error, Func, FuncKind, FunctionType, GlobalKind, GlobalType,
-    ImportItems, Imports, Index, InlineExport, InlineImport, InnerTypeKind, Instruction, ItemKind,
-    ItemSig, Local, Maker, ModuleField, Rec, RefType, SelectTypes, Seq, StorageType, StructField,
-    StructType, Table, TableKind, TagType, Type, TypeDef, TypeUse, ValType,
+    Id, ImportItems, Imports, Index, InlineExport, InlineImport, InnerTypeKind, Instruction,
+    ItemKind, ItemSig, Local, Maker, ModuleField, Rec, RefType, SelectTypes, Seq, StorageType,
+    StructField, StructType, Table, TableKind, TagType, Type, TypeDef, TypeUse, ValType,
 };
 
 /// Where a type of values stands.
@@ -317,4 +317,36 @@ pub(crate) fn with_field<'a>(alloc: Global, whole: Whole) -> Result<Module<'a>, 
     let mut maker = Maker::new(alloc);
     let field = whole_field(alloc, &mut maker, whole);
     module_of(alloc, maker, field)
+}
+
+/// `(import "m" (item ..) (func $f (type ..)))`, behind a function where it is to stand behind one, and `(start $f)`
+pub(crate) fn with_group<'a>(
+    alloc: Global,
+    names: &[&'a str],
+    ty: TypeUse<'a, FunctionType<'a>>,
+    is_behind: bool,
+) -> Result<Module<'a>, Error<'a>> {
+    let mut maker = Maker::new(alloc);
+    let mut fields = Seq::new(alloc);
+    if is_behind {
+        let before = func(alloc, TypeUse::none(), Seq::new(alloc), Seq::new(alloc));
+        maker.push_field(&mut fields, before);
+    }
+    let group = imports(ImportItems::Group2 {
+        module: "m",
+        sig: ItemSig {
+            span: at(40),
+            id: Some(Id::new("f", at(46))),
+            name: None,
+            kind: ItemKind::Func(ty),
+        },
+        items: maker.names(names),
+    });
+    maker.push_field(&mut fields, group);
+    let start = ModuleField::Start(Index::Id(Id::new("f", at(70))));
+    maker.push_field(&mut fields, start);
+    match maker.finish(fields) {
+        Ok(fields) => Ok(module(ModuleKind::Text(fields))),
+        Err(refused) => Err(refused),
+    }
 }
