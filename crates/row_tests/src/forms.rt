@@ -136,7 +136,12 @@ fn instructions_are_refused_in_each_place(rt: HostRuntime) {
             (Uncovered::Load, ARRAY_MEM_ARG),
             (Uncovered::LoadLane, ARRAY_MEM_ARG),
         ] {
-            is_refused(&rt, alloc, with_instruction(alloc, spot, uncovered), text);
+            is_refused(
+                &rt,
+                alloc,
+                with_instruction(&rt, alloc, spot, uncovered),
+                text,
+            );
         }
         for (uncovered, text) in [
             (Uncovered::New, DESCRIPTOR),
@@ -163,7 +168,12 @@ fn instructions_are_refused_in_each_place(rt: HostRuntime) {
             (Uncovered::ResumeThrowRef, STACK_SWITCHING),
             (Uncovered::Switch, STACK_SWITCHING),
         ] {
-            is_refused(&rt, alloc, with_instruction(alloc, spot, uncovered), text);
+            is_refused(
+                &rt,
+                alloc,
+                with_instruction(&rt, alloc, spot, uncovered),
+                text,
+            );
         }
     }
 }

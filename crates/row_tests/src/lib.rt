@@ -27,6 +27,8 @@ mod made;
 #[cfg(test)]
 mod modules;
 #[cfg(test)]
+mod order;
+#[cfg(test)]
 mod parts;
 #[cfg(test)]
 mod refusals;

@@ -1,14 +1,16 @@
 //! Modules that each hold one instruction that no encoder covers.
 
-use crate::parts::{block, elem, elements, func, global, module_of, table, table_type, zero};
+use crate::made::at;
+use crate::parts::{block, elem, elements, func, global, module_of, table, table_type};
 use std::alloc::Global;
+use std::process::Abort;
 use wast_core::Module;
 use wast_tree::{
     BlockKind, BrOnCastDescEq, BrOnCastDescEqFail, ContBind, ElemKind, ElemPayload, Error,
-    GlobalKind, HeapType, Instruction, LaneArg, LoadOrStoreLane, Maker, MemArg, MemArgOrdering,
-    MemArgTarget, MemLaneOp, MemOp, MemoryArg, ModuleField, Ordered, Ordering, RefCastDescEq,
-    RefType, Resume, ResumeTable, ResumeThrow, ResumeThrowRef, Seq, StructAccess, Switch, TableArg,
-    TableKind, TypeUse, ValType,
+    GlobalKind, Handle, HeapType, Index, Instruction, LaneArg, LoadOrStoreLane, Maker, MemArg,
+    MemArgOrdering, MemArgTarget, MemLaneOp, MemOp, MemoryArg, ModuleField, Ordered, Ordering,
+    RefCastDescEq, RefType, Resume, ResumeTable, ResumeThrow, ResumeThrowRef, Seq, StructAccess,
+    Switch, TableArg, TableKind, TypeUse, ValType,
 };
 
 /// An instruction that no encoder covers.
@@ -97,28 +99,23 @@ fn lane_of<'a>(memarg: MemArg<'a>) -> Instruction<'a> {
     Instruction::MemLane(MemLaneOp::v128_load8_lane, LoadOrStoreLane { memarg, lane })
 }
 
-fn struct_access<'a>() -> StructAccess<'a> {
-    StructAccess {
-        owner: zero(),
-        field: zero(),
-    }
-}
+/// The indices that an instruction names, in the order in which they are looked up.
+pub(crate) type Named<'a> = [Index<'a>; 4];
 
-/// A branch on a cast to a type that another value describes.
-fn on_cast<'a>() -> BrOnCastDescEq<'a> {
-    BrOnCastDescEq {
-        label: zero(),
-        from_type: RefType::funcref(),
-        to_type: RefType::funcref(),
+/// A reference to the type at an index.
+pub(crate) fn to<'a>(index: Index<'a>) -> RefType<'a> {
+    RefType {
+        nullable: true,
+        heap: HeapType::Concrete(index),
     }
 }
 
 /// An instruction with a memory argument, a fence, or a null reference.
-fn with_immediate<'a>(uncovered: Uncovered) -> Instruction<'a> {
-    let memory = MemArgTarget::Memory(zero());
-    let array = MemArgTarget::Array(zero());
+fn with_immediate<'a>(uncovered: Uncovered, named: Named<'a>) -> Instruction<'a> {
+    let memory = MemArgTarget::Memory(named[0]);
+    let array = MemArgTarget::Array(named[0]);
     match uncovered {
-        Uncovered::Discard => Instruction::memory_discard(MemoryArg { mem: zero() }),
+        Uncovered::Discard => Instruction::memory_discard(MemoryArg { mem: named[0] }),
         Uncovered::Fence => Instruction::atomic_fence(Some(Ordering::AcqRel)),
         Uncovered::Ordered(ordering) => {
             Instruction::Mem(MemOp::i32_atomic_load, mem_arg(memory, Some(ordering)))
@@ -132,85 +129,105 @@ fn with_immediate<'a>(uncovered: Uncovered) -> Instruction<'a> {
 }
 
 /// An instruction on descriptors, or one of those above.
-fn on_descriptors<'a>(uncovered: Uncovered) -> Instruction<'a> {
-    let rt = RefType::funcref();
+fn on_descriptors<'a>(uncovered: Uncovered, named: Named<'a>) -> Instruction<'a> {
     match uncovered {
-        Uncovered::New => Instruction::struct_new_desc(zero()),
-        Uncovered::NewDefault => Instruction::struct_new_default_desc(zero()),
-        Uncovered::Get => Instruction::ref_get_desc(zero()),
-        Uncovered::Cast => Instruction::ref_cast_desc_eq(RefCastDescEq { rt }),
+        Uncovered::New => Instruction::struct_new_desc(named[0]),
+        Uncovered::NewDefault => Instruction::struct_new_default_desc(named[0]),
+        Uncovered::Get => Instruction::ref_get_desc(named[0]),
+        Uncovered::Cast => Instruction::ref_cast_desc_eq(RefCastDescEq { rt: to(named[0]) }),
         Uncovered::OnCast => Instruction::br_on_cast_desc_eq(BrOnCastDescEq {
-            label: zero(),
-            from_type: rt,
-            to_type: rt,
+            label: named[0],
+            from_type: to(named[2]),
+            to_type: to(named[1]),
         }),
         Uncovered::OnFail => Instruction::br_on_cast_desc_eq_fail(BrOnCastDescEqFail {
-            label: zero(),
-            from_type: rt,
-            to_type: rt,
+            label: named[0],
+            from_type: to(named[2]),
+            to_type: to(named[1]),
         }),
-        _ => with_immediate(uncovered),
+        _ => with_immediate(uncovered, named),
     }
 }
 
-fn no_handlers<'a>(alloc: Global) -> ResumeTable<'a> {
-    let handlers = Seq::new(alloc);
-    ResumeTable { handlers }
+/// A handler that goes to a label, and one that switches.
+fn handlers<'a>(
+    rt: &impl Abort,
+    alloc: Global,
+    tag: Index<'a>,
+    label: Index<'a>,
+    switched: Index<'a>,
+) -> ResumeTable<'a> {
+    let first = Handle::OnLabel { tag, label };
+    let second = Handle::OnSwitch { tag: switched };
+    let handlers = vec![in alloc; first, second].expect(rt, "memory");
+    ResumeTable {
+        handlers: Seq::from_vec(handlers),
+    }
 }
 
 /// An instruction on continuations, or one of those above.
-fn on_continuations<'a>(alloc: Global, uncovered: Uncovered) -> Instruction<'a> {
+fn on_continuations<'a>(
+    rt: &impl Abort,
+    alloc: Global,
+    uncovered: Uncovered,
+    named: Named<'a>,
+) -> Instruction<'a> {
     match uncovered {
-        Uncovered::ContNew => Instruction::cont_new(zero()),
+        Uncovered::ContNew => Instruction::cont_new(named[0]),
         Uncovered::Bind => Instruction::cont_bind(ContBind {
-            argument_index: zero(),
-            result_index: zero(),
+            argument_index: named[0],
+            result_index: named[1],
         }),
-        Uncovered::Suspend => Instruction::suspend(zero()),
+        Uncovered::Suspend => Instruction::suspend(named[0]),
         Uncovered::Resume => Instruction::resume(Resume {
-            type_index: zero(),
-            table: no_handlers(alloc),
+            type_index: named[0],
+            table: handlers(rt, alloc, named[1], named[2], named[3]),
         }),
         Uncovered::ResumeThrow => Instruction::resume_throw(ResumeThrow {
-            type_index: zero(),
-            tag_index: zero(),
-            table: no_handlers(alloc),
+            type_index: named[0],
+            tag_index: named[1],
+            table: handlers(rt, alloc, named[2], named[3], Index::Num(0, at(0))),
         }),
         Uncovered::ResumeThrowRef => Instruction::resume_throw_ref(ResumeThrowRef {
-            type_index: zero(),
-            table: no_handlers(alloc),
+            type_index: named[0],
+            table: handlers(rt, alloc, named[1], named[2], named[3]),
         }),
         Uncovered::Switch => Instruction::switch(Switch {
-            type_index: zero(),
-            tag_index: zero(),
+            type_index: named[0],
+            tag_index: named[1],
         }),
-        _ => on_descriptors(uncovered),
+        _ => on_descriptors(uncovered, named),
     }
 }
 
-/// The instruction, with each index 0.
-fn instruction<'a>(alloc: Global, uncovered: Uncovered) -> Instruction<'a> {
+/// The instruction, with these indices.
+pub(crate) fn instruction<'a>(
+    rt: &impl Abort,
+    alloc: Global,
+    uncovered: Uncovered,
+    named: Named<'a>,
+) -> Instruction<'a> {
     match uncovered {
         Uncovered::OfGlobal(ordering) => Instruction::GlobalAtomic(Ordered {
             ordering,
-            inner: zero(),
+            inner: named[0],
         }),
         Uncovered::OfTable(ordering) => Instruction::TableAtomic(Ordered {
             ordering,
-            inner: TableArg { dst: zero() },
+            inner: TableArg { dst: named[0] },
         }),
         Uncovered::OfStruct(ordering) => Instruction::StructAtomic(Ordered {
             ordering,
             inner: StructAccess {
-                owner: zero(),
-                field: zero(),
+                owner: named[0],
+                field: named[1],
             },
         }),
         Uncovered::OfArray(ordering) => Instruction::ArrayAtomic(Ordered {
             ordering,
-            inner: zero(),
+            inner: named[0],
         }),
-        _ => on_continuations(alloc, uncovered),
+        _ => on_continuations(rt, alloc, uncovered, named),
     }
 }
 
@@ -266,14 +283,16 @@ fn field_of<'a>(
     }
 }
 
-/// A module that holds an instruction alone.
+/// A module that holds an instruction alone, with each index 0.
 pub(crate) fn with_instruction<'a>(
+    rt: &impl Abort,
     alloc: Global,
     spot: Spot,
     uncovered: Uncovered,
 ) -> Result<Module<'a>, Error<'a>> {
     let mut maker = Maker::new(alloc);
-    let instruction = instruction(alloc, uncovered);
+    let zero = Index::Num(0, at(0));
+    let instruction = instruction(rt, alloc, uncovered, [zero; 4]);
     let field = field_of(alloc, &mut maker, spot, instruction);
     module_of(alloc, maker, field)
 }
