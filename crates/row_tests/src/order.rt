@@ -1,4 +1,4 @@
-//! What an instruction names is looked up in one order: of ids that denote nothing, the first is told.
+//! What an instruction names is looked up in one order, in which the first id that denotes nothing is told, and written in one.
 
 use crate::made::{at, ready};
 use crate::parts::{func, module_of};
@@ -158,15 +158,15 @@ fn made<'a>(rt: &impl Abort, alloc: Global, kind: Kind, named: Named<'a>) -> Ins
     }
 }
 
-/// A number where another index is to be told, else an id that denotes nothing.
-fn index<'a>(place: usize, told: usize) -> Index<'a> {
+/// A number before the place that is to be told, and from there on an id that denotes nothing.
+fn index<'a>(number: u32, place: usize, told: usize) -> Index<'a> {
     if place < told {
-        return Index::Num(0, at(place));
+        return Index::Num(number, at(place));
     }
     Index::Id(Id::new("x", at(place)))
 }
 
-/// A function of the instruction, which names ids from that place on.
+/// A function of the instruction, which names ids from that place on, and the numbers of the places before it.
 fn module_from<'a>(
     rt: &impl Abort,
     alloc: Global,
@@ -174,10 +174,10 @@ fn module_from<'a>(
     told: usize,
 ) -> Result<Module<'a>, Error<'a>> {
     let named = [
-        index(1, told),
-        index(2, told),
-        index(3, told),
-        index(4, told),
+        index(1, 1, told),
+        index(2, 2, told),
+        index(3, 3, told),
+        index(4, 4, told),
     ];
     let mut maker = Maker::new(alloc);
     let mut instrs = Seq::new(alloc);
@@ -205,7 +205,7 @@ fn are_asked(rt: &impl Abort, alloc: Global, kind: Kind, words: &[(&'static str,
         let error = refusal(module.resolve(alloc, &mut Gensym::new(1)));
         let error = error.expect(rt, "an error");
         let fault = if *word == "field" {
-            Fault::NoNamedFields("x", 0)
+            Fault::NoNamedFields("x", 1)
         } else {
             Fault::Unknown(*word, "x")
         };
@@ -220,35 +220,99 @@ fn are_asked(rt: &impl Abort, alloc: Global, kind: Kind, words: &[(&'static str,
     discard_module(module);
 }
 
+/// The instruction, of the indices 1, 2 and so on, has these bytes, fewer than a hundred.
+fn is_written(rt: &impl Abort, alloc: Global, kind: Kind, bytes: &[u8]) {
+    let made = module_from(rt, alloc, kind, 5);
+    let mut module = ready(rt, made.expect(rt, "memory"));
+    let answer = module.encode(alloc, &mut Gensym::new(1));
+    let len = bytes.len() as u8;
+    let sizes = [10, len.wrapping_add(4), 1, len.wrapping_add(2), 0];
+    let mut code = Vec::new(alloc);
+    code.extend_from_slice(&sizes).expect(rt, "memory");
+    code.extend_from_slice(bytes).expect(rt, "memory");
+    code.push(0x0b).expect(rt, "memory");
+    let answer = answer.expect(rt, "memory");
+    assert!(rt;
+        answer.as_slice().ends_with(code.as_slice()),
+        "for {bytes:?}"
+    );
+    discard_module(module);
+}
+
 #[test]
-fn indices_are_looked_up_in_one_order(rt: HostRuntime) {
-    let rows: [(Kind, &[(&'static str, usize)]); 23] = [
-        (Kind::MemoryInit, &[("data", 1), ("memory", 2)]),
-        (Kind::MemoryCopy, &[("memory", 1), ("memory", 2)]),
-        (Kind::TableInit, &[("elem", 1), ("table", 2)]),
-        (Kind::TableCopy, &[("table", 1), ("table", 2)]),
-        (Kind::CallIndirect, &[("table", 1), ("type", 2)]),
-        (Kind::StructNew, &[("type", 1)]),
-        (Kind::Get, &[("type", 1), ("field", 2)]),
-        (Kind::GetS, &[("type", 1), ("field", 2)]),
-        (Kind::GetU, &[("type", 1), ("field", 2)]),
-        (Kind::Set, &[("type", 1), ("field", 2)]),
-        (Kind::ArrayNew, &[("type", 1)]),
-        (Kind::NewFixed, &[("type", 1)]),
-        (Kind::NewData, &[("type", 1), ("data", 2)]),
-        (Kind::NewElem, &[("type", 1), ("elem", 2)]),
-        (Kind::Fill, &[("type", 1)]),
-        (Kind::ArrayCopy, &[("type", 1), ("type", 2)]),
-        (Kind::InitData, &[("type", 1), ("data", 2)]),
-        (Kind::InitElem, &[("type", 1), ("elem", 2)]),
-        (Kind::Test, &[("type", 1)]),
-        (Kind::Cast, &[("type", 1)]),
-        (Kind::OnCast, &[("label", 1), ("type", 2), ("type", 3)]),
-        (Kind::OnFail, &[("label", 1), ("type", 2), ("type", 3)]),
-        (Kind::LoadLane, &[("memory", 1)]),
+fn indices_are_looked_up_and_written_in_their_orders(rt: HostRuntime) {
+    let rows: [(Kind, &[(&'static str, usize)], &[u8]); 23] = [
+        (
+            Kind::MemoryInit,
+            &[("data", 1), ("memory", 2)],
+            &[0xfc, 8, 1, 2],
+        ),
+        (
+            Kind::MemoryCopy,
+            &[("memory", 1), ("memory", 2)],
+            &[0xfc, 10, 2, 1],
+        ),
+        (
+            Kind::TableInit,
+            &[("elem", 1), ("table", 2)],
+            &[0xfc, 12, 1, 2],
+        ),
+        (
+            Kind::TableCopy,
+            &[("table", 1), ("table", 2)],
+            &[0xfc, 14, 1, 2],
+        ),
+        (
+            Kind::CallIndirect,
+            &[("table", 1), ("type", 2)],
+            &[0x11, 2, 1],
+        ),
+        (Kind::StructNew, &[("type", 1)], &[0xfb, 0, 1]),
+        (Kind::Get, &[("type", 1), ("field", 2)], &[0xfb, 2, 1, 2]),
+        (Kind::GetS, &[("type", 1), ("field", 2)], &[0xfb, 3, 1, 2]),
+        (Kind::GetU, &[("type", 1), ("field", 2)], &[0xfb, 4, 1, 2]),
+        (Kind::Set, &[("type", 1), ("field", 2)], &[0xfb, 5, 1, 2]),
+        (Kind::ArrayNew, &[("type", 1)], &[0xfb, 6, 1]),
+        (Kind::NewFixed, &[("type", 1)], &[0xfb, 8, 1, 3]),
+        (Kind::NewData, &[("type", 1), ("data", 2)], &[0xfb, 9, 1, 2]),
+        (
+            Kind::NewElem,
+            &[("type", 1), ("elem", 2)],
+            &[0xfb, 10, 1, 2],
+        ),
+        (Kind::Fill, &[("type", 1)], &[0xfb, 16, 1]),
+        (
+            Kind::ArrayCopy,
+            &[("type", 1), ("type", 2)],
+            &[0xfb, 17, 1, 2],
+        ),
+        (
+            Kind::InitData,
+            &[("type", 1), ("data", 2)],
+            &[0xfb, 18, 1, 2],
+        ),
+        (
+            Kind::InitElem,
+            &[("type", 1), ("elem", 2)],
+            &[0xfb, 19, 1, 2],
+        ),
+        (Kind::Test, &[("type", 1)], &[0xfb, 21, 1]),
+        (Kind::Cast, &[("type", 1)], &[0xfb, 23, 1]),
+        (
+            Kind::OnCast,
+            &[("label", 1), ("type", 2), ("type", 3)],
+            &[0xfb, 24, 3, 1, 3, 2],
+        ),
+        (
+            Kind::OnFail,
+            &[("label", 1), ("type", 2), ("type", 3)],
+            &[0xfb, 25, 3, 1, 3, 2],
+        ),
+        (Kind::LoadLane, &[("memory", 1)], &[0xfd, 84, 64, 1, 0, 0]),
     ];
-    for (kind, words) in &rows {
+    for (kind, words, bytes) in &rows {
         are_asked(&rt, rt.alloc(), *kind, *words);
+        is_written(&rt, rt.alloc(), *kind, *bytes);
     }
 }
 
