@@ -13,8 +13,8 @@ fn at(offset: usize) -> Span {
     Span { offset }
 }
 
-/// `(func)`, as an imported item at a place
-fn sig_at<'a>(offset: usize) -> ItemSig<'a> {
+/// `(func)`, at a place
+fn sig<'a>(offset: usize) -> ItemSig<'a> {
     ItemSig {
         span: at(offset),
         id: None,
@@ -23,62 +23,57 @@ fn sig_at<'a>(offset: usize) -> ItemSig<'a> {
     }
 }
 
-/// An import of these items.
-fn imports_of<'a>(items: ImportItems<'a>) -> Imports<'a> {
-    Imports { span: at(0), items }
+/// `(import "m" ..)`
+fn group<'a>(items: ImportItems<'a>) -> Imports<'a> {
+    let span = at(0);
+    Imports { span, items }
 }
 
-/// The place of the signature of each item, where there are two.
-fn places(rt: &impl Abort, alloc: Global, imports: &Imports<'_>) -> (Span, Span) {
+/// The signatures of its items stand at these places.
+fn has_sigs(rt: &impl Abort, alloc: Global, imports: &Imports<'_>, places: &[usize]) {
     let sigs = imports.item_sigs(alloc).expect(rt, "memory");
-    assert!(rt; sigs.len() == 2);
-    (sigs[0].span, sigs[1].span)
-}
-
-/// How many signatures there are.
-fn sig_count(rt: &impl Abort, alloc: Global, imports: &Imports<'_>) -> usize {
-    imports.item_sigs(alloc).expect(rt, "memory").len()
-}
-
-#[test]
-fn an_import_has_one_signature(rt: HostRuntime) {
-    let mut imports = Imports::single(at(0), "m", "n", sig_at(5));
-    assert!(rt; sig_count(&rt, rt.alloc(), &imports) == 1);
-    assert!(rt; imports.unique_sigs() == 1);
-    imports.unique_sig_mut(0).span = at(6);
-    match &imports.items {
-        ImportItems::Single { sig, .. } => assert!(rt; sig.span == at(6)),
-        ImportItems::Group1 { .. } | ImportItems::Group2 { .. } => assert!(rt; false),
+    let mut found = Vec::new(alloc);
+    for sig in &sigs {
+        found.push(sig.span.offset).expect(rt, "memory");
     }
-    discard_field(ModuleField::Import(imports));
+    assert!(rt; found.as_slice() == places);
 }
 
 #[test]
-fn the_items_of_a_group_share_a_signature_or_have_one_each(rt: HostRuntime) {
+fn signatures_of_imports_are_told_and_changed(rt: HostRuntime) {
     let alloc = rt.alloc();
-    let mut each = Seq::new(alloc);
-    each.push(("n", sig_at(5))).expect(&rt, "memory");
-    each.push(("o", sig_at(6))).expect(&rt, "memory");
-    let mut imports = imports_of(ImportItems::Group1 {
+    let mut one = Imports::single(at(0), "m", "n", sig(5));
+    assert!(rt; one.unique_sigs() == 1);
+    one.unique_sig_mut(0).span = at(6);
+    has_sigs(&rt, alloc, &one, &[6]);
+    discard_field(ModuleField::Import(one));
+    let items = vec![in alloc; ("a", sig(5)), ("b", sig(6))].expect(&rt, "memory");
+    let mut own = group(ImportItems::Group1 {
         module: "m",
-        items: each,
+        items: Seq::from_vec(items),
     });
-    assert!(rt; imports.unique_sigs() == 2);
-    imports.unique_sig_mut(1).span = at(7);
-    assert!(rt; places(&rt, alloc, &imports) == (at(5), at(7)));
-    discard_field(ModuleField::Import(imports));
-    let mut names = Seq::new(alloc);
-    names.push("n").expect(&rt, "memory");
-    names.push("o").expect(&rt, "memory");
-    let mut imports = imports_of(ImportItems::Group2 {
+    assert!(rt; own.unique_sigs() == 2);
+    own.unique_sig_mut(1).span = at(7);
+    has_sigs(&rt, alloc, &own, &[5, 7]);
+    discard_field(ModuleField::Import(own));
+    let mut maker = Maker::new(alloc);
+    let mut shared = group(ImportItems::Group2 {
         module: "m",
-        sig: sig_at(5),
-        items: names,
+        sig: sig(5),
+        items: maker.names(&["a", "b", "c"]),
     });
-    assert!(rt; imports.unique_sigs() == 1);
-    imports.unique_sig_mut(0).span = at(8);
-    assert!(rt; places(&rt, alloc, &imports) == (at(8), at(8)));
-    discard_field(ModuleField::Import(imports));
+    assert!(rt; shared.unique_sigs() == 1);
+    shared.unique_sig_mut(0).span = at(8);
+    has_sigs(&rt, alloc, &shared, &[8, 8, 8]);
+    discard_field(ModuleField::Import(shared));
+    let none = group(ImportItems::Group2 {
+        module: "m",
+        sig: sig(5),
+        items: maker.names(&[]),
+    });
+    assert!(rt; none.unique_sigs() == 1 && !maker.is_refused());
+    has_sigs(&rt, alloc, &none, &[]);
+    discard_field(ModuleField::Import(none));
 }
 
 /// `i64.load`, of this offset.
