@@ -23,8 +23,9 @@ use wast_tree::{Error, ModuleField, Seq, discard_fields};
 /// each one an index that wants one). The error is the first demand that is not met: in the order of the fields E2 at the
 /// second bearer of an id in a space, and directly after a type E3 at the second bearer of an id among the fields of its
 /// struct; after all of these, field by field, E4 at an id that denotes nothing, labels and locals of the body in which it
-/// stands among them; E6, E5 or E7 at an index whose type is not the inline type beside it; E2 at the second of two
-/// parameters and locals of one id; and E8 at a label of an `else` or an `end` that is not that of the innermost open block.
+/// stands and fields of a struct among them; E9 where a field is named of a type that is no struct with a named field; E6, E5
+/// or E7 at an index whose type is not the inline type beside it; E2 at the second of two parameters and locals of one id; and
+/// E8 at a label of an `else` or an `end` that is not that of the innermost open block.
 /// It is E12 where memory was refused, and E10 only where some space has 2^32 or more items, or some struct as many fields;
 /// or, where no items clash, where a function has as many parameters and locals, those without names too, or where as many
 /// blocks would be open at once. On an error the fields are dropped.
