@@ -6,7 +6,7 @@ ghost use Rattle.wast_tree.specs.Imports.{item_sigs};
 ghost use Rattle.wast_names.specs.GivenNames.{named_from};
 ghost use Rattle.wast_names.specs.FoundNames.{counted, WritesItems};
 
-use crate::name_maps::{NameItems, count_each, put_each};
+use crate::name_maps::{CountItems, NameItems, count_each, put_each};
 use std::slice;
 use wasm_ops::{Refusal, Sink};
 use wast_tree::{ImportItems, ItemSig};
@@ -24,10 +24,6 @@ impl<'a, W: NameItems<ItemSig<'a>>> NameItems<(&'a str, ItemSig<'a>)> for Named<
 
     ghost in_range = { W.in_range };
 
-    fn count(&self, part: &(&'a str, ItemSig<'a>)) -> u64 {
-        self.0.count(&part.1)
-    }
-
     fn put<S: Sink>(
         &self,
         part: &(&'a str, ItemSig<'a>),
@@ -35,6 +31,12 @@ impl<'a, W: NameItems<ItemSig<'a>>> NameItems<(&'a str, ItemSig<'a>)> for Named<
         out: &mut S,
     ) -> Result<u64, Refusal> {
         self.0.put(&part.1, position, out)
+    }
+}
+
+impl<'a, W: CountItems<ItemSig<'a>>> CountItems<(&'a str, ItemSig<'a>)> for Named<W> {
+    fn count(&self, part: &(&'a str, ItemSig<'a>)) -> u64 {
+        self.0.count(&part.1)
     }
 }
 
@@ -54,17 +56,19 @@ impl<'a, T, W: NameItems<ItemSig<'a>>> NameItems<T> for Shared<'_, 'a, W> {
 
     ghost in_range = { W.in_range };
 
-    fn count(&self, _part: &T) -> u64 {
-        self.way.count(self.sig)
-    }
-
     fn put<S: Sink>(&self, _part: &T, position: u64, out: &mut S) -> Result<u64, Refusal> {
         self.way.put(self.sig, position, out)
     }
 }
 
+impl<'a, T, W: CountItems<ItemSig<'a>>> CountItems<T> for Shared<'_, 'a, W> {
+    fn count(&self, _part: &T) -> u64 {
+        self.way.count(self.sig)
+    }
+}
+
 /// How many items of an import have an entry.
-pub(crate) fn count_imported<'a, W: NameItems<ItemSig<'a>> + Copy>(
+pub(crate) fn count_imported<'a, W: CountItems<ItemSig<'a>> + Copy>(
     way: W,
     items: &ImportItems<'a>,
 ) -> u64

@@ -14,9 +14,11 @@ ghost use Rattle.wast_names.specs.FoundNames.{text_seen, items_seen, counted, Wr
 ghost use Rattle.wast_names.specs.ModuleNames.{type_name, sig_name, item_names_in, given_name_in, names_given, named_of, named_within, map_names, module_name, name_maps, name_subsections, InRangeNames};
 
 use crate::imported::{count_imported, put_imported};
-use crate::name_maps::{NameItems, count_each, put_each, put_map, put_name};
+use crate::name_maps::{
+    CountItems, NameItems, count_each, put_counted, put_each, put_map, put_name,
+};
 use crate::named_fields::{with_items, with_lists};
-use crate::within::{AsFields, NamedFields, Within, WithinItems};
+use crate::within::{FieldTypes, PutLists, Within, WithinItems, count_lists};
 use wasm_ops::{Encode, Length, Name, Refusal, Sink, WithLength};
 use wast_reach::Reaches;
 use wast_tree::{Id, ImportItems, ItemSig, ModuleField, NameAnnotation, Space, Type};
@@ -114,13 +116,15 @@ impl<'a> NameItems<Type<'a>> for Space {
 
     ghost in_range = { InRangeNameEntry };
 
-    fn count(&self, part: &Type<'a>) -> u64 {
-        count_item(*self, Space::Ty, given_name(&part.name, &part.id))
-    }
-
     fn put<S: Sink>(&self, part: &Type<'a>, position: u64, out: &mut S) -> Result<u64, Refusal> {
         let name = given_name(&part.name, &part.id);
         put_item(*self, Space::Ty, name, position, out)
+    }
+}
+
+impl<'a> CountItems<Type<'a>> for Space {
+    fn count(&self, part: &Type<'a>) -> u64 {
+        count_item(*self, Space::Ty, given_name(&part.name, &part.id))
     }
 }
 
@@ -133,13 +137,15 @@ impl<'a> NameItems<ItemSig<'a>> for Space {
 
     ghost in_range = { InRangeNameEntry };
 
-    fn count(&self, part: &ItemSig<'a>) -> u64 {
-        count_item(*self, part.kind.space(), given_name(&part.name, &part.id))
-    }
-
     fn put<S: Sink>(&self, part: &ItemSig<'a>, position: u64, out: &mut S) -> Result<u64, Refusal> {
         let name = given_name(&part.name, &part.id);
         put_item(*self, part.kind.space(), name, position, out)
+    }
+}
+
+impl<'a> CountItems<ItemSig<'a>> for Space {
+    fn count(&self, part: &ItemSig<'a>) -> u64 {
+        count_item(*self, part.kind.space(), given_name(&part.name, &part.id))
     }
 }
 
@@ -152,15 +158,6 @@ impl<'a> NameItems<ModuleField<'a>> for Space {
 
     ghost in_range = { InRangeNameEntry };
 
-    fn count(&self, part: &ModuleField<'a>) -> u64 {
-        match items_of(part) {
-            Items::Nothing => 0,
-            Items::One(own, name) => count_item(*self, own, name),
-            Items::Types(types) => count_each(self, types),
-            Items::Imported(items) => count_imported(*self, items),
-        }
-    }
-
     fn put<S: Sink>(
         &self,
         part: &ModuleField<'a>,
@@ -172,6 +169,17 @@ impl<'a> NameItems<ModuleField<'a>> for Space {
             Items::One(own, name) => put_item(*self, own, name, position, out),
             Items::Types(types) => put_each(self, types, position, out),
             Items::Imported(items) => put_imported(*self, items, position, out),
+        }
+    }
+}
+
+impl<'a> CountItems<ModuleField<'a>> for Space {
+    fn count(&self, part: &ModuleField<'a>) -> u64 {
+        match items_of(part) {
+            Items::Nothing => 0,
+            Items::One(own, name) => count_item(*self, own, name),
+            Items::Types(types) => count_each(self, types),
+            Items::Imported(items) => count_imported(*self, items),
         }
     }
 }
@@ -214,23 +222,22 @@ pub(crate) enum NameMap {
     Within(Within),
 }
 
-/// Appends the subsection of the lists of names within items of some of these fields, where there are any.
-fn put_lists<'b, T, W: NamedFields<T>, S: Sink>(
-    way: &'b W,
-    within: Within,
+/// Appends the subsection of the lists of names within items of some of these fields, where there are any. It needs as many as
+/// there are.
+fn put_lists<'b, T: FieldTypes + PutLists, S: Sink>(
     fields: &'b [T],
     there: &'b [T],
+    within: Within,
+    count: u64,
     out: &'b mut S,
 ) -> Result<(), Refusal>
-    ensures { Writes S.rules (InRangeMap map_entry InRangeMapEntry (named_from 0 (flat_map (W.lists (flat_map W.types fields.now) within) there.now)))
-        out.old out.new (map_bytes (subsection_id (named_within within)) map_entry (named_from 0 (flat_map (W.lists (flat_map W.types fields.now) within) there.now))) result }
+    requires { count ≡ counted (length (named_from 0 (flat_map (T.lists (flat_map T.types fields.now) within) there.now))) }
+    ensures { Writes S.rules (InRangeMap map_entry InRangeMapEntry (named_from 0 (flat_map (T.lists (flat_map T.types fields.now) within) there.now)))
+        out.old out.new (map_bytes (subsection_id (named_within within)) map_entry (named_from 0 (flat_map (T.lists (flat_map T.types fields.now) within) there.now))) result }
 {
-    let within_items = WithinItems {
-        way,
-        within,
-        fields,
-    };
-    put_map(id_within(within), within_items, there, out)
+    let id = id_within(within);
+    let way = WithinItems { fields, within };
+    put_counted(id, count, way, there, out)
 }
 
 /// Appends the subsection of a map of the names in these fields, where there are any.
@@ -251,7 +258,8 @@ fn put_subsection<S: Sink>(
         }
         NameMap::Within(within) => {
             let there = with_lists(*within, fields, reaches);
-            put_lists(&AsFields, *within, fields, there, out)
+            let count = count_lists(fields, there, *within);
+            put_lists(fields, there, *within, count, out)
         }
     }
 }

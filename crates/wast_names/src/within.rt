@@ -1,7 +1,7 @@
 //! What stands within items and has names of its own: locals and labels of functions, fields of structs, parameters of
 //! types and of tags.
 
-ghost use Rattle.std.specs.Prelude.{◌≡◌, ◌<◌, ◌+◌, ℕ, List, Option, length, map, slice_get, IfOk};
+ghost use Rattle.std.specs.Prelude.{◌≡◌, ◌<◌, ◌≤◌, ◌+◌, ℕ, List, Option, length, map, slice_get, IfOk, IfErr};
 ghost use Rattle.std.specs.List.{flat_map};
 ghost use Rattle.wasm_out.specs.NameSectionBytes.{map_entry, InRangeMapEntry};
 ghost use Rattle.wast_names.specs.Tree.ty;
@@ -12,7 +12,7 @@ ghost use Rattle.wast_names.specs.WithinItems.{param_name, local_name, lists_in_
 
 use crate::imported::{count_imported, put_imported};
 use crate::name_lists::{Listed, count_found, no_names, none, put_found};
-use crate::name_maps::{NameItems, Own, count_each, put_each};
+use crate::name_maps::{CountItems, NameItems, Own, count_each, put_each};
 use std::alloc::AllocError;
 use std::slice;
 use wasm_ops::{Refusal, Sink};
@@ -309,12 +309,14 @@ impl<'a> NameItems<Type<'a>> for Within {
 
     ghost in_range = { InRangeMapEntry };
 
-    fn count(&self, part: &Type<'a>) -> u64 {
-        count_found(listed_in_type(*self, part))
-    }
-
     fn put<S: Sink>(&self, part: &Type<'a>, position: u64, out: &mut S) -> Result<u64, Refusal> {
         put_found(position, listed_in_type(*self, part), out)
+    }
+}
+
+impl<'a> CountItems<Type<'a>> for Within {
+    fn count(&self, part: &Type<'a>) -> u64 {
+        count_found(listed_in_type(*self, part))
     }
 }
 
@@ -328,84 +330,93 @@ impl<'a> NameItems<ItemSig<'a>> for Within {
 
     ghost in_range = { InRangeMapEntry };
 
-    fn count(&self, part: &ItemSig<'a>) -> u64 {
-        count_found(listed_in_kind(*self, &part.kind))
-    }
-
     fn put<S: Sink>(&self, part: &ItemSig<'a>, position: u64, out: &mut S) -> Result<u64, Refusal> {
         put_found(position, listed_in_kind(*self, &part.kind), out)
     }
 }
 
-/// A way to see fields, as lists of them are walked for what stands within their items. A field is a type parameter of the walk,
-/// as [`Arities`] are of what looks types up.
-pub(crate) trait NamedFields<T> {
-    /// The types of a field.
-    ghost types: { T → List ty.«Type» };
+impl<'a> CountItems<ItemSig<'a>> for Within {
+    fn count(&self, part: &ItemSig<'a>) -> u64 {
+        count_found(listed_in_kind(*self, &part.kind))
+    }
+}
 
-    /// The lists of names within its items, where these are the types of its module.
-    ghost lists: { List ty.«Type» → Within → T → List (Option (List (ℕ × List ℕ))) };
+/// A field, as its types are looked up. It is a type parameter of what walks over lists of fields, as [`Arities`] are of what
+/// looks types up.
+pub(crate) trait FieldTypes {
+    /// Its types.
+    ghost types: { Self → List ty.«Type» };
 
-    /// How many types a field has.
-    fn count_types(&self, part: &T) -> usize
-        ensures { result ≡ length (types part.now) };
+    /// How many parameters the type at a place in it has, where that is a function type; how many types it has, where none
+    /// stands there.
+    fn arity_in(&self, index: usize) -> Result<Option<u64>, usize>
+        ensures found { IfOk result (λ n. (index < length (types self.now)) × (n ≡ arity_of (slice_get (types self.now) index))) }
+        ensures past { IfErr result (λ n. (n ≡ length (types self.now)) × (n ≤ index)) };
+}
 
-    /// How many parameters a type of a field has, where that is a function type. It needs the place of one.
-    fn arity(&self, part: &T, index: usize) -> Option<u64>
-        requires { index < length (types part.now) }
-        ensures { result ≡ arity_of (slice_get (types part.now) index) };
+/// A field, as the lists of names within its items are counted.
+pub(crate) trait CountLists {
+    /// These lists, where these are the types of the module.
+    ghost lists: { List ty.«Type» → Within → Self → List (Option (List (ℕ × List ℕ))) };
 
-    /// How many of its items have a list of names, among these fields.
-    fn count_lists<A: Arities>(&self, part: &T, within: Within, arities: &A) -> u64
-        ensures { result ≡ counted (length (named_from 0 (lists (A.types arities.now) within part.now))) };
+    /// How many of its items have such a list.
+    fn count_lists<A: Arities>(&self, within: Within, arities: &A) -> u64
+        ensures { result ≡ counted (length (named_from 0 (lists (A.types arities.now) within self.now))) };
+}
 
-    /// Appends those lists, as [`NameItems::put`] does.
+/// A field, as they are written.
+pub(crate) trait PutLists {
+    /// These lists, where these are the types of the module.
+    ghost lists: { List ty.«Type» → Within → Self → List (Option (List (ℕ × List ℕ))) };
+
+    /// Appends them, as [`NameItems::put`] does.
     fn put_lists<A: Arities, S: Sink>(
         &self,
-        part: &T,
         within: Within,
         arities: &A,
         position: u64,
         out: &mut S,
     ) -> Result<u64, Refusal>
-        ensures written { WritesItems S.rules map_entry InRangeMapEntry (lists (A.types arities.now) within part.now) position out.old out.new result }
-        ensures next { IfOk result (λ p. p ≡ counted (position + length (lists (A.types arities.now) within part.now))) };
+        ensures written { WritesItems S.rules map_entry InRangeMapEntry (lists (A.types arities.now) within self.now) position out.old out.new result }
+        ensures next { IfOk result (λ p. p ≡ counted (position + length (lists (A.types arities.now) within self.now))) };
 }
 
-/// The way to see fields as they are.
-#[derive(Drop)]
-pub(crate) struct AsFields;
-
-impl<'a> NamedFields<ModuleField<'a>> for AsFields {
+impl FieldTypes for ModuleField<'_> {
     ghost types = { types_within };
 
+    fn arity_in(&self, index: usize) -> Result<Option<u64>, usize> {
+        let types = types_within(self);
+        if index < types.len() {
+            Ok(arity(&types[index].def.kind))
+        } else {
+            Err(types.len())
+        }
+    }
+}
+
+impl CountLists for ModuleField<'_> {
     ghost lists = { lists_within };
 
-    fn count_types(&self, part: &ModuleField<'a>) -> usize {
-        types_within(part).len()
-    }
-
-    fn arity(&self, part: &ModuleField<'a>, index: usize) -> Option<u64> {
-        arity(&types_within(part)[index].def.kind)
-    }
-
-    fn count_lists<A: Arities>(&self, part: &ModuleField<'a>, within: Within, arities: &A) -> u64 {
-        match lists_in(within, arities, part) {
+    fn count_lists<A: Arities>(&self, within: Within, arities: &A) -> u64 {
+        match lists_in(within, arities, self) {
             Lists::One(found) => count_found(found),
             Lists::Types(types) => count_each(&within, types),
             Lists::Imported(items) => count_imported(within, items),
         }
     }
+}
+
+impl PutLists for ModuleField<'_> {
+    ghost lists = { lists_within };
 
     fn put_lists<A: Arities, S: Sink>(
         &self,
-        part: &ModuleField<'a>,
         within: Within,
         arities: &A,
         position: u64,
         out: &mut S,
     ) -> Result<u64, Refusal> {
-        match lists_in(within, arities, part) {
+        match lists_in(within, arities, self) {
             Lists::One(found) => put_found(position, found, out),
             Lists::Types(types) => put_each(&within, types, position, out),
             Lists::Imported(items) => put_imported(within, items, position, out),
@@ -413,51 +424,66 @@ impl<'a> NamedFields<ModuleField<'a>> for AsFields {
     }
 }
 
-/// The way to see what stands within the items of these fields.
-pub(crate) struct WithinItems<'b, T, W> {
-    pub(crate) way: &'b W,
-    pub(crate) within: Within,
-    pub(crate) fields: &'b [T],
-}
+/// The types of these fields.
+#[derive(Drop)]
+struct TypesOf<'b, T>(&'b [T]);
 
-impl<T, W> Clone for WithinItems<'_, T, W> {
-    fn clone(&self) -> Result<Self, AllocError> {
-        Ok(*self)
-    }
-}
-
-impl<T, W> Copy for WithinItems<'_, T, W> {}
-
-impl<T, W: NamedFields<T>> Arities for WithinItems<'_, T, W> {
-    ghost types = { λ w. flat_map W.types w.fields.now };
+impl<T: FieldTypes> Arities for TypesOf<'_, T> {
+    ghost types = { λ t. flat_map T.types t.0.now };
 
     fn arity_of(&self, index: usize) -> Option<u64> {
         let mut left = index;
-        for field in self.fields {
-            let types = self.way.count_types(field);
-            if left < types {
-                return self.way.arity(field, left);
+        for field in self.0 {
+            match field.arity_in(left) {
+                Ok(arity) => return arity,
+                Err(count) => left -= count,
             }
-            left -= types;
         }
         None
     }
 }
 
-impl<T, W: NamedFields<T>> NameItems<T> for WithinItems<'_, T, W> {
+/// The way to see what stands within the items of these fields.
+pub(crate) struct WithinItems<'b, T> {
+    pub(crate) fields: &'b [T],
+    pub(crate) within: Within,
+}
+
+impl<T> Clone for WithinItems<'_, T> {
+    fn clone(&self) -> Result<Self, AllocError> {
+        Ok(*self)
+    }
+}
+
+impl<T> Copy for WithinItems<'_, T> {}
+
+impl<T: FieldTypes + PutLists> NameItems<T> for WithinItems<'_, T> {
     ghost Entry = { List (ℕ × List ℕ) };
 
-    ghost items = { λ w t. W.lists (flat_map W.types w.fields.now) w.within t };
+    ghost items = { λ w. T.lists (flat_map T.types w.fields.now) w.within };
 
     ghost entry = { map_entry };
 
     ghost in_range = { InRangeMapEntry };
 
-    fn count(&self, part: &T) -> u64 {
-        self.way.count_lists(part, self.within, self)
-    }
-
     fn put<S: Sink>(&self, part: &T, position: u64, out: &mut S) -> Result<u64, Refusal> {
-        self.way.put_lists(part, self.within, self, position, out)
+        let types = TypesOf(self.fields);
+        part.put_lists(self.within, &types, position, out)
     }
+}
+
+/// How many items of some of these fields have a list of names.
+pub(crate) fn count_lists<'b, T: FieldTypes + CountLists>(
+    fields: &'b [T],
+    there: &'b [T],
+    within: Within,
+) -> u64
+    ensures { result ≡ counted (length (named_from 0 (flat_map (T.lists (flat_map T.types fields.now) within) there.now))) }
+{
+    let types = TypesOf(fields);
+    let mut sum = 0u64;
+    for part in there {
+        sum = sum.saturating_add(part.count_lists(within, &types));
+    }
+    sum
 }

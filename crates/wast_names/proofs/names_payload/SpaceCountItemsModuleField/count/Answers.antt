@@ -4,7 +4,7 @@ use Rattle.wast_names.specs.FoundNames.{counted}
 use Rattle.wast_names.specs.ModuleNames.{type_name, sig_name, item_names_in}
 use Rattle.wast_names.specs.GivenNames.{named_from}
 use Rattle.wast_names.proofs.NameMaps.{names_of_each}
-use Rattle.wast_names.proofs.names_payload.SpaceNameItemsModuleField.count.Goals as goal
+use Rattle.wast_names.proofs.names_payload.SpaceCountItemsModuleField.count.Goals as goal
 
 pub returns-in-Types : goal.returns-in-Types
 returns-in-Types c =
