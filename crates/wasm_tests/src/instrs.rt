@@ -1,5 +1,8 @@
 //! The bytes of instructions, by their kinds of immediates.
 
+ghost use Rattle.std.specs.Prelude.{IsTrue};
+ghost use Rattle.wasm_ops.specs.Covered.{is_covered_heap_type, is_covered_ref_type};
+
 use std::alloc::Global;
 use std::process::Abort;
 use wasm_ops::{
@@ -81,7 +84,10 @@ fn write_control<'e>(out: &mut Vec<u8>) -> Result<(), Error<'e>> {
 }
 
 /// A reference to the type at an index, or to an abstract one.
-fn reference(nullable: bool, heap_type: HeapType) -> RefType {
+fn reference(nullable: bool, heap_type: HeapType) -> RefType
+    requires { IsTrue (is_covered_heap_type heap_type) }
+    ensures { IsTrue (is_covered_ref_type result) }
+{
     RefType {
         nullable,
         heap_type,

@@ -1,5 +1,8 @@
 //! Instructions of consecutive numbers, each with its bytes.
 
+ghost use Rattle.std.specs.Prelude.{IsTrue};
+ghost use Rattle.wasm_ops.specs.Memargs.{is_aligned, is_covered_memarg};
+
 use std::alloc::Global;
 use std::process::Abort;
 use wasm_ops::{IndexOp, IndexPairOp, InstructionSink, MemArg, MemArgTarget};
@@ -18,7 +21,10 @@ pub(crate) trait Row {
 }
 
 /// The beginning of a memory.
-fn start() -> MemArg {
+fn start() -> MemArg
+    ensures aligned { IsTrue (is_aligned result) }
+    ensures covered { IsTrue (is_covered_memarg result) }
+{
     MemArg {
         align: 0,
         target: MemArgTarget::Memory(0),
@@ -90,9 +96,9 @@ impl Row for MemLaneOp {
 /// The bytes of an opcode: the number, or the prefix byte and the number, which is below 16384, by seven bits.
 fn opcode(rt: &impl Abort, alloc: Global, prefix: u8, number: u32) -> Vec<u8> {
     let low = (number & 127) as u8;
-    let high = (number >> 7) as u8;
+    let high = ((number >> 7) & 127) as u8;
     if prefix == NONE {
-        return vec![in alloc; number as u8].expect(rt, "memory");
+        return vec![in alloc; (number & 255) as u8].expect(rt, "memory");
     }
     if number < 128 {
         return vec![in alloc; prefix, low].expect(rt, "memory");

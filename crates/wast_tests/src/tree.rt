@@ -33,7 +33,7 @@ fn group<'a>(items: ImportItems<'a>) -> Imports<'a> {
 fn has_sigs(rt: &impl Abort, alloc: Global, imports: &Imports<'_>, places: &[usize]) {
     let sigs = imports.item_sigs(alloc).expect(rt, "memory");
     let mut found = Vec::new(alloc);
-    for sig in &sigs {
+    for sig in sigs {
         found.push(sig.span.offset).expect(rt, "memory");
     }
     assert!(rt; found.as_slice() == places);
@@ -108,6 +108,14 @@ fn a_memory_argument_is_changed_in_its_place(rt: HostRuntime) {
     discard_instruction(constant);
 }
 
+/// A list that a field is put into has one.
+fn has_one<'a>(rt: &impl Abort, alloc: Global, field: ModuleField<'a>) {
+    let mut fields = fields_with_capacity(alloc, 2).expect(rt, "memory");
+    push_field(&mut fields, field).expect(rt, "memory");
+    assert!(rt; fields.len() == 1);
+    discard_fields(fields);
+}
+
 #[test]
 fn lists_of_a_tree_are_made(rt: HostRuntime) {
     let alloc = rt.alloc();
@@ -115,11 +123,7 @@ fn lists_of_a_tree_are_made(rt: HostRuntime) {
     let expression = Expression::one(alloc, call).expect(&rt, "memory");
     assert!(rt; expression.instrs.len() == 1);
     discard_expression(expression);
-    let mut fields = fields_with_capacity(alloc, 2).expect(&rt, "memory");
-    let start = ModuleField::Start(Index::Num(0, at(2)));
-    push_field(&mut fields, start).expect(&rt, "memory");
-    assert!(rt; fields.len() == 1);
-    discard_fields(fields);
+    has_one(&rt, alloc, ModuleField::Start(Index::Num(0, at(2))));
     let mut maker = Maker::new(alloc);
     let mut pieces = Seq::new(alloc);
     maker.push_data(&mut pieces, DataVal::String(b"ab"));
