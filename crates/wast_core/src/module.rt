@@ -6,7 +6,8 @@ ghost use Rattle.wast_core.specs.Headline.{Resolves, ResolvesKind, Counts};
 ghost use Rattle.wast_core.specs.Writing.{IsAtRest};
 
 use std::alloc::Global;
-use std::mem;
+use std::fmt::Debug;
+use std::{fmt, mem};
 use wast_resolve::{Names, resolved_laws};
 use wast_tree::{
     Error, Fault, Gensym, Id, ModuleField, NameAnnotation, Seq, Span, discard_fields, gensym_bound,
@@ -14,7 +15,7 @@ use wast_tree::{
 };
 
 /// What a module holds.
-#[derive(Debug, Drop)]
+#[derive(Drop)]
 pub enum ModuleKind<'a> {
     /// Fields in the text format.
     Text(Seq<ModuleField<'a>>),
@@ -22,6 +23,31 @@ pub enum ModuleKind<'a> {
     Binary(Seq<&'a [u8]>),
     /// Nothing any more: resolving refused the fields, and this is why.
     Refused(Error<'a>),
+}
+
+/// Tells fields, one after another.
+fn tell_fields<W: fmt::Write>(
+    fields: &[ModuleField<'_>],
+    f: &mut fmt::Formatter<W>,
+) -> fmt::Result {
+    f.write_str("Text([")?;
+    for i in 0..fields.len() {
+        if i > 0 {
+            f.write_str(", ")?;
+        }
+        Debug::fmt(&fields[i], f)?;
+    }
+    f.write_str("])")
+}
+
+impl Debug for ModuleKind<'_> {
+    fn fmt<W: fmt::Write>(&self, f: &mut fmt::Formatter<W>) -> fmt::Result {
+        match self {
+            ModuleKind::Text(fields) => tell_fields(fields.as_slice(), f),
+            ModuleKind::Binary(pieces) => Debug::fmt(pieces, f),
+            ModuleKind::Refused(error) => Debug::fmt(error, f),
+        }
+    }
 }
 
 /// A module: `(module $m ..)`.
