@@ -5,6 +5,7 @@ mod counts;
 mod encode;
 mod entries;
 mod examples;
+mod items;
 mod laws;
 mod module;
 mod sections;
