@@ -142,12 +142,12 @@ pub(crate) fn size(fields: &[ModuleField], name: Option<&str>, measures: &Measur
 }
 
 /// Appends what stands in a place.
-fn put_slot<S: Sink>(
+fn put_slot<'b, S: Sink>(
     fields: &[ModuleField],
     name: Option<&str>,
     measures: &Measures,
-    slot: &Slot,
-    out: &mut S,
+    slot: &'b Slot,
+    out: &'b mut S,
 ) -> Result<(), Refusal>
     requires { IsTrue (are_measures (text_seen name) fields.now measures.now) }
     ensures { Writes S.rules (InRangeSlot (text_seen name.entry) fields.now slot.now)
@@ -172,12 +172,12 @@ fn put_slot<S: Sink>(
 }
 
 /// Appends what stands in places, one after another.
-fn put_slots<S: Sink>(
+fn put_slots<'b, S: Sink>(
     fields: &[ModuleField],
     name: Option<&str>,
     measures: &Measures,
-    slots: &[Slot],
-    out: &mut S,
+    slots: &'b [Slot],
+    out: &'b mut S,
 ) -> Result<(), Refusal>
     requires { IsTrue (are_measures (text_seen name) fields.now measures.now) }
     ensures { Writes S.rules (All (InRangeSlot (text_seen name.entry) fields.now) slots.now)

@@ -1,9 +1,8 @@
-use Rattle.std.proofs.Common.{◌≡◌, ◌<◌, ◌++◌, ap, ◌∙◌, arith}
+use Rattle.std.proofs.Common.{◌<◌, ◌++◌, length, ap, ◌∙◌, arith, inl, inr}
 use Rattle.std.specs.Prelude.{All}
 use Rattle.wast_core.specs.Bounded.{bytes_of, InRangeModule}
 use Rattle.wast_names.specs.FoundNames.{text_seen}
 use Rattle.wast_core.proofs.Readings.{reads_module}
-use Rattle.std.proofs.Common.{length, inl, inr}
 use Rattle.std.proofs.lemmas.Result.{err_from_is_err_and}
 use Rattle.wasm_ops.specs.Rooms.{rules}
 use Rattle.wasm_ops.specs.Sinks.{IsRefusal, refused_as}
