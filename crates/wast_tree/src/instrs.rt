@@ -233,6 +233,7 @@ impl<'a> Instruction<'a> {
 
     /// The label and the type of the block that it opens; `None` where it opens none (text format, control instructions).
     /// It takes no memory.
+    #[inline(always)]
     pub fn block_type(&self) -> Option<&BlockType<'a>>
         ensures { option_map (λ b. b.now) result ≡ block_of self.now }
     {
