@@ -22,7 +22,7 @@ const HEAD: [u8; 19] = [
 
 /// A function of these instructions has these bytes, fewer than a hundred, between its locals and its end.
 fn has_bytes(rt: &impl Abort, alloc: Global, words: &[Word<'_>], instrs: &[u8]) {
-    let len = instrs.len() as u8;
+    let len = (instrs.len() & 255) as u8;
     let mut bytes = Vec::new(alloc);
     bytes.extend_from_slice(&HEAD).expect(rt, "memory");
     let sizes = [len.wrapping_add(4), 1, len.wrapping_add(2), 0];

@@ -225,7 +225,7 @@ fn is_written(rt: &impl Abort, alloc: Global, kind: Kind, bytes: &[u8]) {
     let made = module_from(rt, alloc, kind, 5);
     let mut module = ready(rt, made.expect(rt, "memory"));
     let answer = module.encode(alloc, &mut Gensym::new(1));
-    let len = bytes.len() as u8;
+    let len = (bytes.len() & 255) as u8;
     let sizes = [10, len.wrapping_add(4), 1, len.wrapping_add(2), 0];
     let mut code = Vec::new(alloc);
     code.extend_from_slice(&sizes).expect(rt, "memory");
