@@ -1,31 +1,15 @@
-//! Modules of one body, which tests write as words.
+//! Bodies, which tests write as words.
 
-use crate::made::{at, module};
+use crate::around::{Around, made_of};
+use crate::made::at;
 use std::alloc::Global;
-use wast_core::{Module, ModuleKind};
+use wast_core::Module;
 use wast_tree::{
-    BlockKind, BlockType, BrTableIndices, CallIndirect, Error, Expression, Func, FunctionType,
-    GlobalType, Id, Index, InnerTypeKind, Instruction, Local, Maker, MemArg, MemArgTarget, MemOp,
-    ModuleField, SelectTypes, Seq, StructType, TryTableCatch, TryTableCatchKind, Type, TypeDef,
-    TypeUse, ValType,
+    BlockKind, BlockType, BrOnCast, BrOnCastFail, BrTableIndices, CallIndirect, Error,
+    FunctionType, I8x16Shuffle, Id, Index, Instruction, LaneArg, LaneOp, LoadOrStoreLane, Maker,
+    MemArg, MemArgTarget, MemLaneOp, MemOp, Ordering, RefCast, RefTest, RefType, SelectTypes, Seq,
+    StructAccess, TryTableCatch, TryTableCatchKind, TypeUse, V128Const, ValType,
 };
-
-/// What stands around a body.
-#[derive(Clone, Copy)]
-pub(crate) enum Around {
-    /// `(module (func ..))`
-    Function,
-    /// `(module (global i32 ..))`
-    Global,
-    /// `(module (type (struct)) (func ..))`
-    BehindStruct,
-    /// `(module (type (func)) (func ..))`
-    BehindFunc,
-    /// `(module (type $t (func (param $p i32))) (func (type $t) ..))`
-    OfNamedType,
-    /// `(module (type (func (param i32 ..))) (func (type 0) (local $l i32) ..))`, of 300 parameters
-    OfManyParams,
-}
 
 /// A name without its `$`, and its place.
 pub(crate) type Name<'a> = (&'a str, usize);
@@ -77,6 +61,30 @@ pub(crate) enum Word<'a> {
     Zero,
     /// `i32.load`, of this alignment and offset
     Load(u64, u64),
+    /// `i32.atomic.load`, of this alignment
+    AtomicLoad(u64),
+    /// `atomic.fence`, with its ordering where one is written
+    Fence(Option<Ordering>),
+    /// `struct.get 0 $x`
+    Field(To<'a>, To<'a>),
+    /// `ref.test (ref $t)`
+    Test(RefType<'a>),
+    /// `ref.cast (ref $t)`
+    Cast(RefType<'a>),
+    /// `br_on_cast $l (ref $t) (ref $t)`, of the source and the target
+    OnCast(To<'a>, RefType<'a>, RefType<'a>),
+    /// `br_on_cast_fail $l (ref $t) (ref $t)`, of the source and the target
+    OnFail(To<'a>, RefType<'a>, RefType<'a>),
+    /// `i8x16.extract_lane_s 0`
+    Lane(LaneOp, u8),
+    /// `v128.load8_lane 0`, of this memory
+    MemLane(MemLaneOp, u32, u8),
+    /// `i8x16.shuffle 0 ..`
+    Shuffle([u8; 16]),
+    /// `v128.const i8x16 0 ..`
+    Vector(V128Const),
+    /// `i64.add128`, or another that the table lacks
+    Beyond(&'a str),
     /// `select`, and what is written of the results
     Select(Results),
 }
@@ -89,7 +97,7 @@ fn id(name: Option<Name<'_>>) -> Option<Id<'_>> {
     }
 }
 
-fn index(to: To<'_>) -> Index<'_> {
+pub(crate) fn index(to: To<'_>) -> Index<'_> {
     match to {
         To::Name(name, offset) => Index::Id(Id::new(name, at(offset))),
         To::Number(number, offset) => Index::Num(number, at(offset)),
@@ -188,15 +196,49 @@ fn push_call_of<'a>(
     maker.push_instruction(instrs, Instruction::call_indirect(call));
 }
 
-/// `i32.load` at the end of a body.
-fn push_load<'a>(maker: &mut Maker, instrs: &mut Seq<Instruction<'a>>, align: u64, offset: u64) {
-    let arg = MemArg {
+/// A memory argument, of this memory.
+fn mem_arg<'a>(align: u64, offset: u64, memory: u32) -> MemArg<'a> {
+    MemArg {
         align,
         offset,
-        target: MemArgTarget::Memory(Index::Num(0, at(0))),
+        target: MemArgTarget::Memory(Index::Num(memory, at(0))),
         ordering: None,
+    }
+}
+
+/// `struct.get ..`
+fn get<'a>(owner: To<'a>, field: To<'a>) -> Instruction<'a> {
+    Instruction::struct_get(StructAccess {
+        owner: index(owner),
+        field: index(field),
+    })
+}
+
+/// `br_on_cast ..`
+fn on_cast<'a>(to: To<'a>, from_type: RefType<'a>, to_type: RefType<'a>) -> Instruction<'a> {
+    Instruction::br_on_cast(BrOnCast {
+        label: index(to),
+        from_type,
+        to_type,
+    })
+}
+
+/// `br_on_cast_fail ..`
+fn on_fail<'a>(to: To<'a>, from_type: RefType<'a>, to_type: RefType<'a>) -> Instruction<'a> {
+    Instruction::br_on_cast_fail(BrOnCastFail {
+        label: index(to),
+        from_type,
+        to_type,
+    })
+}
+
+/// `v128.load8_lane ..`
+fn mem_lane<'a>(op: MemLaneOp, memory: u32, lane: u8) -> Instruction<'a> {
+    let access = LoadOrStoreLane {
+        memarg: mem_arg(1, 4, memory),
+        lane: LaneArg { lane },
     };
-    maker.push_instruction(instrs, Instruction::Mem(MemOp::i32_load, arg));
+    Instruction::MemLane(op, access)
 }
 
 /// `select (result ..)` at the end of a body.
@@ -210,6 +252,37 @@ fn push_select<'a>(
     maker.push_instruction(instrs, Instruction::select(SelectTypes { tys }));
 }
 
+/// The instruction of a word that holds no list, and `i32.const 0` for another.
+fn small<'a>(word: Word<'a>) -> Instruction<'a> {
+    match word {
+        Word::Else(label) => Instruction::else_(id(label)),
+        Word::End(label) => Instruction::end_(id(label)),
+        Word::Delegate(to) => Instruction::delegate(index(to)),
+        Word::Br(to) => Instruction::br(index(to)),
+        Word::Get(to) => Instruction::local_get(index(to)),
+        Word::Load(align, offset) => {
+            let arg = mem_arg(align, offset, 0);
+            Instruction::Mem(MemOp::i32_load, arg)
+        }
+        Word::AtomicLoad(align) => {
+            let arg = mem_arg(align, 0, 0);
+            Instruction::Mem(MemOp::i32_atomic_load, arg)
+        }
+        Word::Fence(ordering) => Instruction::atomic_fence(ordering),
+        Word::Field(owner, field) => get(owner, field),
+        Word::Test(rt) => Instruction::ref_test(RefTest { rt }),
+        Word::Cast(rt) => Instruction::ref_cast(RefCast { rt }),
+        Word::OnCast(to, from_type, to_type) => on_cast(to, from_type, to_type),
+        Word::OnFail(to, from_type, to_type) => on_fail(to, from_type, to_type),
+        Word::Lane(op, lane) => Instruction::Lane(op, LaneArg { lane }),
+        Word::MemLane(op, memory, lane) => mem_lane(op, memory, lane),
+        Word::Shuffle(lanes) => Instruction::i8x16_shuffle(I8x16Shuffle { lanes }),
+        Word::Vector(value) => Instruction::v128_const(value),
+        Word::Beyond(name) => Instruction::Beyond(name),
+        _ => Instruction::i32_const(0),
+    }
+}
+
 /// The instruction of a word at the end of a body.
 fn push<'a>(alloc: Global, maker: &mut Maker, instrs: &mut Seq<Instruction<'a>>, word: Word<'a>) {
     match word {
@@ -218,10 +291,6 @@ fn push<'a>(alloc: Global, maker: &mut Maker, instrs: &mut Seq<Instruction<'a>>,
         }
         Word::OpenOf(to, written) => push_block_of(alloc, maker, instrs, to, written),
         Word::TryTable(label, to) => push_try_table(maker, instrs, label, to),
-        Word::Else(label) => maker.push_instruction(instrs, Instruction::else_(id(label))),
-        Word::End(label) => maker.push_instruction(instrs, Instruction::end_(id(label))),
-        Word::Delegate(to) => maker.push_instruction(instrs, Instruction::delegate(index(to))),
-        Word::Br(to) => maker.push_instruction(instrs, Instruction::br(index(to))),
         Word::BrTable(first, second, default) => {
             push_br_table(
                 maker,
@@ -231,128 +300,8 @@ fn push<'a>(alloc: Global, maker: &mut Maker, instrs: &mut Seq<Instruction<'a>>,
             );
         }
         Word::CallOf(to, written) => push_call_of(alloc, maker, instrs, to, written),
-        Word::Get(to) => maker.push_instruction(instrs, Instruction::local_get(index(to))),
-        Word::Zero => maker.push_instruction(instrs, Instruction::i32_const(0)),
-        Word::Load(align, offset) => push_load(maker, instrs, align, offset),
         Word::Select(written) => push_select(alloc, maker, instrs, written),
-    }
-}
-
-/// `(type ..)` at the beginning of a module.
-fn type_field<'a>(alloc: Global, id: Option<Id<'a>>, kind: InnerTypeKind<'a>) -> ModuleField<'a> {
-    let def = TypeDef {
-        kind,
-        shared: false,
-        parents: Seq::new(alloc),
-        descriptor: None,
-        describes: None,
-        final_type: None,
-    };
-    ModuleField::Ty(Type::new(at(9), id, def))
-}
-
-/// `(func (param ..))`
-fn taking<'a>(alloc: Global, maker: &mut Maker, id: Option<Id<'a>>) -> InnerTypeKind<'a> {
-    let params = maker.params(&[(id, None, ValType::I32)]);
-    InnerTypeKind::Func(FunctionType::new(params, Seq::new(alloc)))
-}
-
-/// `(func (param i32 ..))`, of 300 parameters
-fn taking_many<'a>(alloc: Global, maker: &mut Maker) -> InnerTypeKind<'a> {
-    let params = maker.params(&[(None, None, ValType::I32); 300]);
-    InnerTypeKind::Func(FunctionType::new(params, Seq::new(alloc)))
-}
-
-/// What stands before the field of the body.
-fn type_before<'a>(alloc: Global, maker: &mut Maker, around: Around) -> Option<ModuleField<'a>> {
-    match around {
-        Around::Function | Around::Global => None,
-        Around::BehindStruct => {
-            let fields = Seq::new(alloc);
-            let kind = InnerTypeKind::Struct(StructType { fields });
-            Some(type_field(alloc, None, kind))
-        }
-        Around::BehindFunc => {
-            let kind = InnerTypeKind::Func(FunctionType::empty(alloc));
-            Some(type_field(alloc, None, kind))
-        }
-        Around::OfNamedType => {
-            let kind = taking(alloc, maker, Some(Id::new("p", at(30))));
-            Some(type_field(alloc, Some(Id::new("t", at(14))), kind))
-        }
-        Around::OfManyParams => {
-            let kind = taking_many(alloc, maker);
-            Some(type_field(alloc, None, kind))
-        }
-    }
-}
-
-/// `(global i32 ..)` of a body.
-fn global_of<'a>(alloc: Global, instrs: Seq<Instruction<'a>>) -> ModuleField<'a> {
-    let value = Expression::new(alloc, instrs);
-    let ty = GlobalType::new(ValType::I32, false);
-    ModuleField::Global(wast_tree::Global::new(alloc, at(9), None, ty, value))
-}
-
-/// `(func ..)` of a body.
-fn func_of<'a>(
-    alloc: Global,
-    ty: TypeUse<'a, FunctionType<'a>>,
-    locals: Seq<Local<'a>>,
-    instrs: Seq<Instruction<'a>>,
-) -> ModuleField<'a> {
-    ModuleField::Func(Func::new(alloc, at(9), None, ty, locals, instrs))
-}
-
-/// `(local $l i32)`
-fn local_l<'a>(maker: &mut Maker) -> Seq<Local<'a>> {
-    maker.locals(&[Local {
-        id: Some(Id::new("l", at(1252))),
-        name: None,
-        ty: ValType::I32,
-    }])
-}
-
-/// The field of a body.
-fn field_of<'a>(
-    alloc: Global,
-    maker: &mut Maker,
-    around: Around,
-    instrs: Seq<Instruction<'a>>,
-) -> ModuleField<'a> {
-    match around {
-        Around::Global => global_of(alloc, instrs),
-        Around::Function | Around::BehindStruct | Around::BehindFunc => {
-            func_of(alloc, TypeUse::none(), Seq::new(alloc), instrs)
-        }
-        Around::OfNamedType => {
-            let ty = TypeUse::of(Index::Id(Id::new("t", at(52))));
-            func_of(alloc, ty, Seq::new(alloc), instrs)
-        }
-        Around::OfManyParams => {
-            let ty = TypeUse::of(Index::Num(0, at(1242)));
-            func_of(alloc, ty, local_l(maker), instrs)
-        }
-    }
-}
-
-/// A module of a body.
-pub(crate) fn made_of<'a>(
-    alloc: Global,
-    maker: Maker,
-    around: Around,
-    instrs: Seq<Instruction<'a>>,
-) -> Result<Module<'a>, Error<'a>> {
-    let mut maker = maker;
-    let mut fields = Seq::new(alloc);
-    if let Some(field) = type_before(alloc, &mut maker, around) {
-        maker.push_field(&mut fields, field);
-    }
-    let field = field_of(alloc, &mut maker, around, instrs);
-    maker.push_field(&mut fields, field);
-    match maker.finish(fields) {
-        Ok(fields) => Ok(module(ModuleKind::Text(fields))),
-        Err(refused) => Err(refused),
+        word => maker.push_instruction(instrs, small(word)),
     }
 }
 

@@ -1,44 +1,21 @@
 //! Bodies with labels, locals, types and immediates that are wrong or at an edge, with the line that answers each.
 
-use crate::bodies::Around::{
+use crate::around::Around::{
     BehindFunc, BehindStruct, Function, Global, OfManyParams, OfNamedType,
 };
+use crate::around::made_of;
 use crate::bodies::Results::{Empty, Left, One, Two};
 use crate::bodies::To::{Name, Number};
 use crate::bodies::Word::{
     Br, BrTable, CallOf, Delegate, Else, End, Get, Load, Open, OpenOf, Select, TryTable, Zero,
 };
-use crate::bodies::{Around, Word, made, made_of};
+use crate::lines::{has_lines, line};
 use crate::made::{at, ready};
 use std::alloc;
 use std::process::Abort;
 use wast_core::{Module, discard_module};
-use wast_rows::run;
 use wast_tree::BlockKind::{Block, If, Try};
 use wast_tree::{BlockType, Gensym, Id, Index, Instruction, Maker, Seq, TypeUse};
-
-/// The line that answers a body.
-fn line(rt: &impl Abort, alloc: alloc::Global, around: Around, words: &[Word<'_>]) -> Vec<u8> {
-    let mut input = &b"0"[..];
-    let mut output = Vec::new(alloc);
-    let result = run(
-        alloc,
-        &mut input,
-        &mut output,
-        |_| Some(made(alloc, around, words)),
-    );
-    assert!(rt; result == Ok(()));
-    assert!(rt; output.pop() == Some(b'\n'));
-    output
-}
-
-/// Each body has its line.
-fn has_lines(rt: &impl Abort, alloc: alloc::Global, rows: &[(Around, &[Word<'_>], &str)]) {
-    for (around, words, want) in rows {
-        let line = line(rt, alloc, *around, words);
-        assert!(rt; line.as_slice() == want.as_bytes(), "for {want}");
-    }
-}
 
 #[test]
 fn labels_denote_open_blocks(rt: HostRuntime) {

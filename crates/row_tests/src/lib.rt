@@ -3,18 +3,36 @@
 #![tactic(auto)]
 
 #[cfg(test)]
+mod accesses;
+#[cfg(test)]
+mod around;
+#[cfg(test)]
 mod bodies;
 #[cfg(test)]
 mod control;
 #[cfg(test)]
 mod conversions;
 #[cfg(test)]
+mod forms;
+#[cfg(test)]
+mod holders;
+#[cfg(test)]
+mod immediates;
+#[cfg(test)]
 mod items;
+#[cfg(test)]
+mod lines;
 #[cfg(test)]
 mod made;
 #[cfg(test)]
 mod modules;
 #[cfg(test)]
+mod order;
+#[cfg(test)]
+mod parts;
+#[cfg(test)]
 mod refusals;
 #[cfg(test)]
 mod runs;
+#[cfg(test)]
+mod uncovered;

@@ -1,6 +1,6 @@
 //! Each call of `wast_core` that takes memory, where there is enough.
 
-ghost use Rattle.wast_core.specs.Writing.{IsEncodable};
+ghost use Rattle.wast_core.specs.Writing.{IsTextAtRest};
 
 use crate::made::{has_bytes, module, ready, row};
 use std::alloc::Global;
@@ -57,7 +57,7 @@ fn a_binary_module_gives_its_pieces(rt: HostRuntime) {
 
 // Row 27, resolved.
 pub(crate) fn resolved_row<'a>(rt: &impl Abort, alloc: Global) -> Module<'a>
-    ensures { IsEncodable result.kind }
+    ensures { IsTextAtRest result.kind }
 {
     let mut module = row(rt, alloc, 27);
     let names = module.resolve(alloc, &mut Gensym::new(1));

@@ -1,6 +1,9 @@
 //! Runs over rows that are no worked ones, from input that ends or fails and to output that takes all or fails. What is told
 //! of the worked rows stands beside the program `wastrow`.
 
+use crate::around::Around::Function;
+use crate::bodies::Word::Load;
+use crate::bodies::made;
 use crate::made::{at, module};
 use std::alloc::Global;
 use std::io;
@@ -8,43 +11,27 @@ use std::io::{Read, Write};
 use std::test::Fail;
 use wast_core::{Module, ModuleKind};
 use wast_rows::{RunError, run};
-use wast_tree::{
-    Error, Fault, FunctionType, Gensym, Id, InnerTypeKind, Maker, ModuleField, Seq, Type, TypeDef,
-};
+use wast_tree::{Error, Fault, FunctionType, Gensym, Maker, ModuleField, Seq, Type, TypeDef};
 
-// A module of one type, which is ill formed where it is shared.
-fn type_module<'a>(
-    alloc: Global,
-    id: Option<Id<'a>>,
-    shared: bool,
-) -> Result<Module<'a>, Error<'a>> {
+// A module of one type that bears a generated id.
+fn generated_module<'a>(alloc: Global) -> Result<Module<'a>, Error<'a>> {
+    let id = Gensym::new(1).generate(at(14))?;
     let mut maker = Maker::new(alloc);
     let mut fields = Seq::new(alloc);
-    let def = TypeDef {
-        kind: InnerTypeKind::Func(FunctionType::empty(alloc)),
-        shared,
-        parents: Seq::new(alloc),
-        descriptor: None,
-        describes: None,
-        final_type: None,
-    };
-    maker.push_field(&mut fields, ModuleField::Ty(Type::new(at(9), id, def)));
+    let def = TypeDef::func(alloc, FunctionType::empty(alloc));
+    let ty = Type::new(at(9), Some(id), def);
+    maker.push_field(&mut fields, ModuleField::Ty(ty));
     match maker.finish(fields) {
         Ok(fields) => Ok(module(ModuleKind::Text(fields))),
         Err(refused) => Err(refused),
     }
 }
 
-fn generated_module<'a>(alloc: Global) -> Result<Module<'a>, Error<'a>> {
-    let id = Gensym::new(1).generate(at(14))?;
-    type_module(alloc, Some(id), false)
-}
-
 // Rows that are no worked ones.
 fn odd_row<'a>(alloc: Global, n: u32) -> Option<Result<Module<'a>, Error<'a>>> {
     match n {
         0 => Some(Err(Error::refusal(Fault::Component))),
-        1 => Some(type_module(alloc, None, true)),
+        1 => Some(made(alloc, Function, &[Load(3, 0)])),
         2 => Some(generated_module(alloc)),
         3 => Some(Ok(module(ModuleKind::Refused(Error::refusal(Fault::Component))))),
         4 => Some(Ok(module(ModuleKind::Refused(Error::refusal(Fault::Memory))))),

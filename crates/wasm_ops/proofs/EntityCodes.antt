@@ -21,11 +21,11 @@ use Rattle.wasm_ops.proofs.TypeCodes.{val_type_code, mutability_code}
 
 -- ---- limits
 
-bit_below : (b : Bool) → bit b ≤ 1
+pub bit_below : (b : Bool) → bit b ≤ 1
 bit_below false = omega arith
 bit_below true = omega arith
 
-bit_is : (a b : Bool) → bit a ≡ bit b → a ≡ b
+pub bit_is : (a b : Bool) → bit a ≡ bit b → a ≡ b
 bit_is false false e = refl
 bit_is true true e = refl
 bit_is false true e = absurd (omega (arith, e))

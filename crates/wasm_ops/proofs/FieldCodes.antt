@@ -1,20 +1,25 @@
--- The spellings of immediates show their value: bits, lists of value types, memory arguments.
-use Rattle.std.proofs.Common.{◌≡◌, ◌<◌, ◌+◌, ℕ, Bool, true, false, List, ◌++◌, length, refl, sym, ap, ◌∙◌, append_assoc, arith}
+-- The spellings of immediates show their value: bits, lists of value types, memory arguments, lanes, flags, orderings.
+use Rattle.std.proofs.Common.{◌≡◌, ◌<◌, ◌≤◌, ◌+◌, ◌*◌, ℕ, Bool, true, false, ◌&&◌, Option, Some, None, List, [], ◌∷◌, ◌++◌, length, refl, sym, ap, ◌∙◌, append_assoc, arith}
 use Rattle.std.proofs.lemmas.Bool.{eqb-true}
 use Rattle.std.proofs.lemmas.Nat.{from_le_bytes-to_le_bytes_4, from_le_bytes-to_le_bytes_8}
 use Rattle.std.specs.Int.{Width, w32, w64, to_le_bytes, from_le_bytes}
 use Rattle.std.specs.List.{list_all}
-use Rattle.std.specs.Prelude.{nat_eq}
+use Rattle.std.specs.Prelude.{nat_eq, is_none}
 use Rattle.wasm_ops.specs.Codes.{IsCode}
 use Rattle.wasm_ops.specs.Covered.{Spellable, is_covered_val_type}
 use Rattle.wasm_ops.specs.Leb128.{unsigned}
-use Rattle.wasm_ops.specs.Memargs.{memory_of, memarg_bytes, memarg, InRangeMemArg}
-use Rattle.wasm_ops.specs.Spelling.{InRangeU32, InRangeU64, vec, InRangeVec, val_type, InRangeValType}
+use Rattle.wasm_ops.specs.Entities.{bit}
+use Rattle.wasm_ops.specs.Memargs.{ordering_byte, index_of, is_covered_target, memarg_bytes, memarg, is_covered_memarg, IsSpellableMemArg}
+use Rattle.wasm_ops.specs.Spelling.{Any, InRangeU32, InRangeU64, vec, InRangeVec, val_type, InRangeValType}
 use Rattle.wasm_ops.specs.declared.memargs.MemArg.{MemArg}
 use Rattle.wasm_ops.specs.declared.memargs.MemArgTarget.{MemArgTarget}
-use Rattle.wasm_ops.specs.declared.memargs.MemArgTarget.TheVariants.{Memory}
+use Rattle.wasm_ops.specs.declared.memargs.MemArgTarget.TheVariants.{Memory, Array}
+use Rattle.wasm_ops.specs.declared.memargs.MemArgOrdering.{MemArgOrdering}
+use Rattle.wasm_ops.specs.declared.memargs.Ordering.{Ordering}
+use Rattle.wasm_ops.specs.declared.memargs.Ordering.TheVariants.{SeqCst, AcqRel}
 use Rattle.wasm_ops.specs.declared.types.ValType.{ValType}
-use Rattle.wasm_ops.proofs.Codes.{code_by, code_within, pair_is, same_front, spellable_vec, vec_code}
+use Rattle.wasm_ops.proofs.Codes.{byte_code, code_within, pair_is, same_front, spellable_vec, vec_code}
+use Rattle.wasm_ops.proofs.EntityCodes.{bit_below, bit_is}
 use Rattle.wasm_ops.proofs.Numbers.{unsigned_begins}
 use Rattle.wasm_ops.proofs.TypeCodes.{val_type_code}
 
@@ -71,12 +76,56 @@ parts_begin false true x y r s f g p q e =
 parts_code : IsCode Parts (λ x. (x.0 < 64) × (InRangeU32 x.1.0 × InRangeU64 x.1.1)) (λ x. memarg_bytes (nat_eq x.1.0 0) x.0 x.1.0 x.1.1)
 parts_code = record { begins = λ x y r s p q e. parts_begin (nat_eq x.1.0 0) (nat_eq y.1.0 0) x y r s refl refl p.0 q.0 e }
 
-abbrev made : ℕ → MemArgTarget → ℕ → MemArg
-made align target offset = record { align = align; target = target; offset = offset }
+-- a memory argument that is covered is of a memory, and has no ordering
+abbrev made : Parts → MemArg
+made x = record { align = x.0; target = Memory x.1.0; offset = x.1.1; ordering = None }
 
-target_is : (t : MemArgTarget) → Memory (memory_of t) ≡ t
-target_is (Memory index) = refl
+abbrev seen : MemArg → Parts
+seen m = (m.align, (index_of m.target, m.offset))
 
-pub memarg_code : IsCode MemArg InRangeMemArg memarg
-memarg_code =
-    code_by (λ (m : MemArg). (m.align, (memory_of m.target, m.offset))) (λ x. made x.0 (Memory x.1.0) x.1.1) (λ m. ap (λ t. made m.align t m.offset) (target_is m.target)) parts_code
+made_by : (align offset : ℕ) (target : MemArgTarget) (ordering : Option MemArgOrdering) → (is_covered_target target && is_none ordering) ≡ true
+    → record { align = align; target = target; offset = offset; ordering = ordering } ≡ made (align, (index_of target, offset))
+made_by align offset (Memory index) None h = refl
+made_by align offset (Memory index) (Some o) h = absurd cc
+made_by align offset (Array index) ordering h = absurd cc
+
+is_made : (m : MemArg) → is_covered_memarg m ≡ true → m ≡ made (seen m)
+is_made m h = made_by m.align m.offset m.target m.ordering h
+
+pub memarg_code : IsCode MemArg IsSpellableMemArg memarg
+memarg_code = record {
+  begins = λ x y r s p q e.
+      let one = parts_code.begins (seen x) (seen y) r s p.1 q.1 e in
+      (is_made x p.0 ∙ ap made one.0 ∙ sym (is_made y q.0), one.1);
+}
+
+-- ---- lanes, flags and orderings
+
+pub lanes_code : IsCode (List ℕ) (λ ls. length ls ≡ 16) (λ ls. ls)
+lanes_code = record { begins = λ x y r s p q e. same_front x y r s (p ∙ sym q) e }
+
+flags_show : (a b k l : Bool) → bit a + 2 * bit b ≡ bit k + 2 * bit l → (a ≡ k) × (b ≡ l)
+flags_show a b k l e =
+    let first : bit a ≡ bit k = omega (arith, e, bit_below a, bit_below k) in
+    (bit_is a k first, bit_is b l (omega (arith, e, first)))
+
+pub nullables_code : IsCode (Bool × Bool) Any (λ p. (bit p.0 + 2 * bit p.1) ∷ [])
+nullables_code = record {
+  begins = λ x y r s p q e.
+      let one = byte_code.begins (bit x.0 + 2 * bit x.1) (bit y.0 + 2 * bit y.1) r s tt tt e in
+      let both = flags_show x.0 x.1 y.0 y.1 one.0 in
+      (pair_is x y both.0 both.1, one.1);
+}
+
+ordering_is : (o p : Ordering) → ordering_byte o ≡ ordering_byte p → o ≡ p
+ordering_is SeqCst SeqCst e = refl
+ordering_is AcqRel AcqRel e = refl
+ordering_is SeqCst AcqRel e = absurd (omega (arith, e))
+ordering_is AcqRel SeqCst e = absurd (omega (arith, e))
+
+pub ordering_code : IsCode Ordering Any (λ o. ordering_byte o ∷ [])
+ordering_code = record {
+  begins = λ x y r s p q e.
+      let one = byte_code.begins (ordering_byte x) (ordering_byte y) r s tt tt e in
+      (ordering_is x y one.0, one.1);
+}

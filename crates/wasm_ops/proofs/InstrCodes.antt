@@ -6,13 +6,13 @@ use Rattle.wasm_ops.specs.Leb128.{unsigned}
 use Rattle.wasm_ops.specs.Opcodes.{opcode_bytes, same_opcode, is_apart}
 use Rattle.wasm_ops.specs.declared.opcodes.Opcode.{Opcode}
 use Rattle.wasm_ops.specs.declared.opcodes.Opcode.TheVariants.{Byte, Prefixed}
-use Rattle.wasm_ops.specs.Table.{Kind, Index, Signed32, Signed64, Bits32, Bits64, Heap, Types, Memarg, Block, Labels, Catches, Row, Field, field, InRangeField, Fields, fields, InRangeFields, is_covered_field, is_covered_fields, Instr, instr, table, kinds_of, ascends, all_apart, IsInstr}
+use Rattle.wasm_ops.specs.Table.{Kind, Index, Signed32, Signed64, Bits32, Bits64, Heap, Types, Memarg, Block, Labels, Catches, Lane, Lanes, Nullables, Order, Row, Field, field, InRangeField, Fields, fields, InRangeFields, is_covered_field, is_covered_fields, Instr, instr, table, kinds_of, ascends, all_apart, IsInstr}
 use Rattle.wasm_ops.proofs.Numbers.{unsigned_begins}
 use Rattle.wasm_ops.specs.Covered.{Spellable}
-use Rattle.wasm_ops.proofs.Codes.{number_code, signed_code, code_within, pair_code}
+use Rattle.wasm_ops.proofs.Codes.{number_code, signed_code, byte_code, code_within, pair_code}
 use Rattle.wasm_ops.proofs.ControlCodes.{block_type_code, labels_code, catches_code}
 use Rattle.wasm_ops.proofs.Everywhere.{both_true}
-use Rattle.wasm_ops.proofs.FieldCodes.{bits32_code, bits64_code, types_code, memarg_code}
+use Rattle.wasm_ops.proofs.FieldCodes.{bits32_code, bits64_code, types_code, memarg_code, lanes_code, nullables_code, ordering_code}
 use Rattle.wasm_ops.proofs.RefTypeCodes.{heap_type_code}
 
 -- ---- the table, computed
@@ -38,10 +38,14 @@ field_code Bits32 = code_within (λ n p. p.1) bits32_code
 field_code Bits64 = code_within (λ n p. p.1) bits64_code
 field_code Heap = heap_type_code
 field_code Types = types_code
-field_code Memarg = code_within (λ m p. p.1) memarg_code
+field_code Memarg = memarg_code
 field_code Block = block_type_code
 field_code Labels = code_within (λ ls p. p.1) labels_code
 field_code Catches = code_within (λ cs p. p.1) catches_code
+field_code Lane = code_within (λ n p. p.1) byte_code
+field_code Lanes = code_within (λ ls p. p.1) lanes_code
+field_code Nullables = code_within (λ x p. p.1) nullables_code
+field_code Order = code_within (λ o p. p.1) ordering_code
 
 abbrev IsSpellableFields : (kinds : List Kind) → Fields kinds → Type 0
 IsSpellableFields kinds x = Spellable (is_covered_fields kinds) (InRangeFields kinds) x

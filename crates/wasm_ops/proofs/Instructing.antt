@@ -6,37 +6,197 @@ use Rattle.std.specs.Prelude.{All, nat_lt}
 use Rattle.std.proofs.lemmas.List.{length-map}
 use Rattle.std.proofs.lemmas.List.Elements.{All-nil, All-head}
 use Rattle.std.proofs.lemmas.List.Folds.{flat_map-map}
+use Rattle.wast_base.specs.declared.plain.BareOp.{BareOp}
+use Rattle.wast_base.specs.declared.plain.BareOp.TheVariants as bare
 use Rattle.wast_base.specs.declared.mem_ops.MemOp.{MemOp}
+use Rattle.wast_base.specs.declared.mem_ops.MemOp.TheVariants as mem
+use Rattle.wast_base.specs.declared.plain.I32Op.{I32Op}
+use Rattle.wast_base.specs.declared.plain.I32Op.TheVariants as i32
+use Rattle.wast_base.specs.declared.plain.I64Op.{I64Op}
+use Rattle.wast_base.specs.declared.plain.I64Op.TheVariants as i64
+use Rattle.wast_base.specs.declared.plain.F32Op.{F32Op}
+use Rattle.wast_base.specs.declared.plain.F32Op.TheVariants as f32
+use Rattle.wast_base.specs.declared.plain.F64Op.{F64Op}
+use Rattle.wast_base.specs.declared.plain.F64Op.TheVariants as f64
+use Rattle.wast_base.specs.declared.plain.RefOp.{RefOp}
+use Rattle.wast_base.specs.declared.plain.RefOp.TheVariants as ref
+use Rattle.wast_base.specs.declared.plain.ArrayOp.{ArrayOp}
+use Rattle.wast_base.specs.declared.plain.ArrayOp.TheVariants as array
+use Rattle.wast_base.specs.declared.plain.AnyOp.{AnyOp}
+use Rattle.wast_base.specs.declared.plain.AnyOp.TheVariants as any
+use Rattle.wast_base.specs.declared.plain.ExternOp.{ExternOp}
+use Rattle.wast_base.specs.declared.plain.ExternOp.TheVariants as extern
+use Rattle.wast_base.specs.declared.plain.I31Op.{I31Op}
+use Rattle.wast_base.specs.declared.plain.I31Op.TheVariants as i31
+use Rattle.wast_base.specs.declared.plain.I8x16Op.{I8x16Op}
+use Rattle.wast_base.specs.declared.plain.I8x16Op.TheVariants as i8x16
+use Rattle.wast_base.specs.declared.plain.I16x8Op.{I16x8Op}
+use Rattle.wast_base.specs.declared.plain.I16x8Op.TheVariants as i16x8
+use Rattle.wast_base.specs.declared.plain.I32x4Op.{I32x4Op}
+use Rattle.wast_base.specs.declared.plain.I32x4Op.TheVariants as i32x4
+use Rattle.wast_base.specs.declared.plain.I64x2Op.{I64x2Op}
+use Rattle.wast_base.specs.declared.plain.I64x2Op.TheVariants as i64x2
+use Rattle.wast_base.specs.declared.plain.F32x4Op.{F32x4Op}
+use Rattle.wast_base.specs.declared.plain.F32x4Op.TheVariants as f32x4
+use Rattle.wast_base.specs.declared.plain.F64x2Op.{F64x2Op}
+use Rattle.wast_base.specs.declared.plain.F64x2Op.TheVariants as f64x2
+use Rattle.wast_base.specs.declared.lane_ops.LaneOp.{LaneOp}
+use Rattle.wast_base.specs.declared.lane_ops.LaneOp.TheVariants as lane
+use Rattle.wast_base.specs.declared.plain.V128Op.{V128Op}
+use Rattle.wast_base.specs.declared.plain.V128Op.TheVariants as v128
+use Rattle.wast_base.specs.declared.lane_ops.MemLaneOp.{MemLaneOp}
+use Rattle.wast_base.specs.declared.lane_ops.MemLaneOp.TheVariants as mem_lane
 use Rattle.wast_base.specs.declared.plain.Plain.{Plain}
+use Rattle.wast_base.specs.declared.plain.Plain.TheVariants as plain
 use Rattle.wasm_ops.specs.declared.blocks.BlockType.{BlockType}
 use Rattle.wasm_ops.specs.declared.blocks.Catch.{Catch}
+use Rattle.wasm_ops.specs.declared.casts.BrCastOp.{BrCastOp}
+use Rattle.wasm_ops.specs.declared.casts.CastOp.{CastOp}
+use Rattle.wasm_ops.specs.declared.casts.CastOp.TheVariants as cast
 use Rattle.wasm_ops.specs.declared.control.BlockOp.{BlockOp}
 use Rattle.wasm_ops.specs.declared.control.Delimiter.{Delimiter}
 use Rattle.wasm_ops.specs.declared.instrs.IndexOp.{IndexOp}
 use Rattle.wasm_ops.specs.declared.instrs.IndexPairOp.{IndexPairOp}
 use Rattle.wasm_ops.specs.declared.opcodes.Opcode.{Opcode}
 use Rattle.wasm_ops.specs.declared.opcodes.Opcode.TheVariants.{Byte, Prefixed}
+use Rattle.wasm_ops.specs.declared.ref_types.RefType.{RefType}
 use Rattle.wasm_ops.specs.declared.sink.Refusal.{Refusal}
 use Rattle.wasm_ops.specs.declared.types.ValType.{ValType}
+use Rattle.wasm_ops.specs.declared.vectors.LanesOp.{LanesOp}
+use Rattle.wasm_ops.specs.CastInstrs.{cast_key, br_cast_key, br_cast_instr, nullables}
 use Rattle.wasm_ops.specs.Control.{InRangeBlockType, catch_clause, InRangeCatch}
 use Rattle.wasm_ops.specs.ControlInstrs.{block_key, delimiter_key, br_table_instr, br_table_bytes, try_table_instr, try_table_bytes}
 use Rattle.wasm_ops.specs.Covered.{is_covered_val_type}
 use Rattle.wasm_ops.specs.Leb128.{unsigned}
 use Rattle.wasm_ops.specs.IndexInstrs.{index_key, index_pair_key}
-use Rattle.wasm_ops.specs.Keys.{plain_key, mem_key}
+use Rattle.wasm_ops.specs.Keys.{bare_key, mem_key, i32_key, i64_key, f32_key, f64_key, ref_key, array_key, any_key, extern_key, i31_key, i8x16_key, i16x8_key, i32x4_key, i64x2_key, f32x4_key, f64x2_key, lane_key, v128_key, mem_lane_key, plain_key}
 use Rattle.wasm_ops.specs.Opcodes.{opcode_of, opcode_bytes, InRangeOpcode}
 use Rattle.wasm_ops.specs.SelectInstrs.{select_instr, select_bytes}
 use Rattle.wasm_ops.specs.Sinks.{SinkRules, Writes}
-use Rattle.wasm_ops.specs.Spelling.{InRangeU32, vec, InRangeVec, val_type, InRangeValType}
-use Rattle.wasm_ops.specs.Table.{Kind, Index, Signed32, Signed64, Bits32, Bits64, Heap, Memarg, Block, Labels, Catches, Field, field, InRangeField, kinds_of, table, Instr, InRangeInstr, is_covered_instr, HasRow, instr}
+use Rattle.wasm_ops.specs.Spelling.{InRangeU32, vec, InRangeVec, heap_type, InRangeHeapType, val_type, InRangeValType}
+use Rattle.wasm_ops.specs.Table.{Kind, Index, Signed32, Signed64, Bits32, Bits64, Heap, Memarg, Block, Labels, Catches, Lane, Lanes, Nullables, Order, Field, field, InRangeField, kinds_of, table, Instr, InRangeInstr, is_covered_instr, HasRow, instr}
+use Rattle.wasm_ops.specs.VectorInstrs.{lanes_key}
 use Rattle.wasm_ops.proofs.Everywhere.{all_map, all_one, all_unmap}
 use Rattle.wasm_ops.proofs.Sinking.{puts_as, written_as}
 
 -- ---- rows
 
-pub plain_row : (p : Plain) → kinds_of (opcode_of (plain_key p)) table ≡ Some []
+-- A variant stands first in each, so that the others are split.
+bare_row : (op : BareOp) → kinds_of (opcode_of (bare_key op)) table ≡ Some []
 unfolding kinds_of table
-plain_row p = grind (arith)
+bare_row bare.unreachable = refl
+bare_row op = refl
+
+pub mem_row : (op : MemOp) → kinds_of (opcode_of (mem_key op)) table ≡ Some (Memarg ∷ [])
+unfolding kinds_of table
+mem_row mem.i32_load = refl
+mem_row op = refl
+
+i32_row : (op : I32Op) → kinds_of (opcode_of (i32_key op)) table ≡ Some []
+unfolding kinds_of table
+i32_row i32.i32_eqz = refl
+i32_row op = refl
+
+i64_row : (op : I64Op) → kinds_of (opcode_of (i64_key op)) table ≡ Some []
+unfolding kinds_of table
+i64_row i64.i64_eqz = refl
+i64_row op = refl
+
+f32_row : (op : F32Op) → kinds_of (opcode_of (f32_key op)) table ≡ Some []
+unfolding kinds_of table
+f32_row f32.f32_eq = refl
+f32_row op = refl
+
+f64_row : (op : F64Op) → kinds_of (opcode_of (f64_key op)) table ≡ Some []
+unfolding kinds_of table
+f64_row f64.f64_eq = refl
+f64_row op = refl
+
+ref_row : (op : RefOp) → kinds_of (opcode_of (ref_key op)) table ≡ Some []
+unfolding kinds_of table
+ref_row ref.ref_is_null = refl
+ref_row op = refl
+
+array_row : (op : ArrayOp) → kinds_of (opcode_of (array_key op)) table ≡ Some []
+unfolding kinds_of table
+array_row array.array_len = refl
+
+any_row : (op : AnyOp) → kinds_of (opcode_of (any_key op)) table ≡ Some []
+unfolding kinds_of table
+any_row any.any_convert_extern = refl
+
+extern_row : (op : ExternOp) → kinds_of (opcode_of (extern_key op)) table ≡ Some []
+unfolding kinds_of table
+extern_row extern.extern_convert_any = refl
+
+i31_row : (op : I31Op) → kinds_of (opcode_of (i31_key op)) table ≡ Some []
+unfolding kinds_of table
+i31_row i31.i31_get_s = refl
+i31_row op = refl
+
+i8x16_row : (op : I8x16Op) → kinds_of (opcode_of (i8x16_key op)) table ≡ Some []
+unfolding kinds_of table
+i8x16_row i8x16.i8x16_swizzle = refl
+i8x16_row op = refl
+
+i16x8_row : (op : I16x8Op) → kinds_of (opcode_of (i16x8_key op)) table ≡ Some []
+unfolding kinds_of table
+i16x8_row i16x8.i16x8_splat = refl
+i16x8_row op = refl
+
+i32x4_row : (op : I32x4Op) → kinds_of (opcode_of (i32x4_key op)) table ≡ Some []
+unfolding kinds_of table
+i32x4_row i32x4.i32x4_splat = refl
+i32x4_row op = refl
+
+i64x2_row : (op : I64x2Op) → kinds_of (opcode_of (i64x2_key op)) table ≡ Some []
+unfolding kinds_of table
+i64x2_row i64x2.i64x2_splat = refl
+i64x2_row op = refl
+
+f32x4_row : (op : F32x4Op) → kinds_of (opcode_of (f32x4_key op)) table ≡ Some []
+unfolding kinds_of table
+f32x4_row f32x4.f32x4_splat = refl
+f32x4_row op = refl
+
+f64x2_row : (op : F64x2Op) → kinds_of (opcode_of (f64x2_key op)) table ≡ Some []
+unfolding kinds_of table
+f64x2_row f64x2.f64x2_splat = refl
+f64x2_row op = refl
+
+pub lane_row : (op : LaneOp) → kinds_of (opcode_of (lane_key op)) table ≡ Some (Lane ∷ [])
+unfolding kinds_of table
+lane_row lane.i8x16_extract_lane_s = refl
+lane_row op = refl
+
+v128_row : (op : V128Op) → kinds_of (opcode_of (v128_key op)) table ≡ Some []
+unfolding kinds_of table
+v128_row v128.v128_not = refl
+v128_row op = refl
+
+pub mem_lane_row : (op : MemLaneOp) → kinds_of (opcode_of (mem_lane_key op)) table ≡ Some (Memarg ∷ Lane ∷ [])
+unfolding kinds_of table
+mem_lane_row mem_lane.v128_load8_lane = refl
+mem_lane_row op = refl
+
+pub plain_row : (p : Plain) → kinds_of (opcode_of (plain_key p)) table ≡ Some []
+plain_row (plain.Bare op) = bare_row op
+plain_row (plain.I32 op) = i32_row op
+plain_row (plain.I64 op) = i64_row op
+plain_row (plain.F32 op) = f32_row op
+plain_row (plain.F64 op) = f64_row op
+plain_row (plain.Ref op) = ref_row op
+plain_row (plain.Array op) = array_row op
+plain_row (plain.Any op) = any_row op
+plain_row (plain.Extern op) = extern_row op
+plain_row (plain.I31 op) = i31_row op
+plain_row (plain.I8x16 op) = i8x16_row op
+plain_row (plain.I16x8 op) = i16x8_row op
+plain_row (plain.I32x4 op) = i32x4_row op
+plain_row (plain.I64x2 op) = i64x2_row op
+plain_row (plain.F32x4 op) = f32x4_row op
+plain_row (plain.F64x2 op) = f64x2_row op
+plain_row (plain.V128 op) = v128_row op
 
 pub index_row : (op : IndexOp) → kinds_of (opcode_of (index_key op)) table ≡ Some (Index ∷ [])
 unfolding kinds_of table
@@ -46,9 +206,24 @@ pub index_pair_row : (op : IndexPairOp) → kinds_of (opcode_of (index_pair_key 
 unfolding kinds_of table
 index_pair_row op = grind (arith)
 
-pub mem_row : (op : MemOp) → kinds_of (opcode_of (mem_key op)) table ≡ Some (Memarg ∷ [])
+pub lanes_row : (op : LanesOp) → kinds_of (opcode_of (lanes_key op)) table ≡ Some (Lanes ∷ [])
 unfolding kinds_of table
-mem_row op = grind (arith)
+lanes_row op = grind (arith)
+
+pub cast_row : (op : CastOp) (nullable : Bool) → kinds_of (opcode_of (cast_key op nullable)) table ≡ Some (Heap ∷ [])
+unfolding kinds_of table
+cast_row cast.Test true = refl
+cast_row cast.Test false = refl
+cast_row cast.Cast true = refl
+cast_row cast.Cast false = refl
+
+pub br_cast_row : (op : BrCastOp) → kinds_of (opcode_of (br_cast_key op)) table ≡ Some (Nullables ∷ Index ∷ Heap ∷ Heap ∷ [])
+unfolding kinds_of table
+br_cast_row op = grind (arith)
+
+pub fence_row : kinds_of (opcode_of 0xfe0003) table ≡ Some (Order ∷ [])
+unfolding kinds_of table
+fence_row = refl
 
 pub i32_const_row : kinds_of (opcode_of 0x41) table ≡ Some (Signed32 ∷ [])
 unfolding kinds_of table
@@ -136,6 +311,17 @@ two_written rules a b key kind other x y InRange r f g p =
     written_as rules InRange (InRangeInstr (two key kind other x y)) a b (opcode_bytes (opcode_of key) ++ (field kind x ++ field other y)) (instr (two key kind other x y)) r
     (λ h. let both = f h in (both.0, (both.1, tt))) (λ i. g (i.0, i.1.0))
     (ap (λ bytes. opcode_bytes (opcode_of key) ++ (field kind x ++ bytes)) (sym (append-nil (field other y)))) p
+
+-- a branch on a cast, by its flags, label and heap types
+pub br_cast_written : {S A : Type 0} (rules : SinkRules S) (a b : S) (op : BrCastOp) (label : ℕ) (from to : RefType) (InRange : Type 0) (r : Result A Refusal)
+    → (InRange → InRangeU32 label × (InRangeHeapType from.heap_type × InRangeHeapType to.heap_type)) → (InRangeU32 label × (InRangeHeapType from.heap_type × InRangeHeapType to.heap_type) → InRange)
+    → Writes rules InRange a b (opcode_bytes (opcode_of (br_cast_key op)) ++ (nullables from.nullable to.nullable ∷ (unsigned label ++ (heap_type from.heap_type ++ heap_type to.heap_type)))) r
+    → Writes rules (InRangeInstr (br_cast_instr op label from to)) a b (instr (br_cast_instr op label from to)) r
+br_cast_written rules a b op label from to InRange r f g p =
+    let front = opcode_bytes (opcode_of (br_cast_key op)) in
+    written_as rules InRange (InRangeInstr (br_cast_instr op label from to)) a b (front ++ (nullables from.nullable to.nullable ∷ (unsigned label ++ (heap_type from.heap_type ++ heap_type to.heap_type)))) (instr (br_cast_instr op label from to)) r
+    (λ h. let is = f h in (tt, (is.0, (is.1.0, (is.1.1, tt))))) (λ i. g (i.1.0, (i.1.1.0, i.1.1.1.0)))
+    (ap (λ bytes. front ++ (nullables from.nullable to.nullable ∷ (unsigned label ++ (heap_type from.heap_type ++ bytes)))) (sym (append-nil (heap_type to.heap_type)))) p
 
 -- ---- branches by a table, with what spells their labels, and blocks, with what spells their clauses
 

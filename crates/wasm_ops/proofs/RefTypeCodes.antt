@@ -21,10 +21,10 @@ front (b ∷ bs) = b
 
 -- ---- heap types
 
--- the abstract heap types in the order of their bytes, from 0x69 on
+-- the abstract heap types in the order of their bytes, from 0x68 on
 abbrev abstract_at : ℕ → AbstractHeapType
 abstract_at byte =
-    get_or (heaps.Exn ∷ heaps.Array ∷ heaps.Struct ∷ heaps.I31 ∷ heaps.Eq ∷ heaps.Any ∷ heaps.Extern ∷ heaps.Func ∷ heaps.None ∷ heaps.NoExtern ∷ heaps.NoFunc ∷ heaps.NoExn ∷ []) (byte - 0x69) heaps.Func
+    get_or (heaps.Cont ∷ heaps.Exn ∷ heaps.Array ∷ heaps.Struct ∷ heaps.I31 ∷ heaps.Eq ∷ heaps.Any ∷ heaps.Extern ∷ heaps.Func ∷ heaps.None ∷ heaps.NoExtern ∷ heaps.NoFunc ∷ heaps.NoExn ∷ heaps.NoCont ∷ []) (byte - 0x68) heaps.Func
 
 abstract_shown : (t : AbstractHeapType) → abstract_at (abstract_byte t) ≡ t
 abstract_shown heaps.Func = refl
@@ -33,7 +33,7 @@ abstract_shown t = refl
 pub abstract_is : (a b : AbstractHeapType) → abstract_byte a ≡ abstract_byte b → a ≡ b
 abstract_is a b e = sym (abstract_shown a) ∙ ap abstract_at e ∙ abstract_shown b
 
-abstract_range : (t : AbstractHeapType) → (0x69 ≤ abstract_byte t) × (abstract_byte t ≤ 0x74)
+abstract_range : (t : AbstractHeapType) → (0x68 ≤ abstract_byte t) × (abstract_byte t ≤ 0x75)
 abstract_range heaps.Func = (omega arith, omega arith)
 abstract_range t = (omega arith, omega arith)
 
@@ -51,7 +51,7 @@ index_apart n b r s low high e =
 abstract_apart : (t : AbstractHeapType) (n : ℕ) (r s : List ℕ) → abstract_byte t ∷ r ≡ signed (pos n) ++ s → ⊥
 abstract_apart t n r s e = let h = abstract_range t in index_apart n (abstract_byte t) s r (omega (arith, h.0)) (omega (arith, h.1)) (sym e)
 
-not_true : {A : Type 0} → IsTrue false → A
+pub not_true : {A : Type 0} → IsTrue false → A
 not_true h = absurd cc
 
 heap_begins : (x y : HeapType) (r s : List ℕ) → IsSpellableHeapType x → IsSpellableHeapType y → heap_type x ++ r ≡ heap_type y ++ s → (x ≡ y) × (r ≡ s)
@@ -76,7 +76,7 @@ heap_type_code = record { begins = heap_begins }
 
 -- ---- reference types
 
-short_front : (h : HeapType) (r : List ℕ) → IsSpellableHeapType h → is_short h ≡ true → (0x69 ≤ front (heap_type h ++ r)) × (front (heap_type h ++ r) ≤ 0x74)
+short_front : (h : HeapType) (r : List ℕ) → IsSpellableHeapType h → is_short h ≡ true → (0x68 ≤ front (heap_type h ++ r)) × (front (heap_type h ++ r) ≤ 0x75)
 short_front (heap.Abstract false ty) r p short = abstract_range ty
 short_front (heap.Abstract true ty) r p short = not_true p.0
 short_front (heap.Concrete n) r p short = not_true short
@@ -103,10 +103,10 @@ ref_type_code = record {
       (ap f one.0 ∙ ap g one.1, one.2);
 }
 
-pub ref_front : (t : RefType) (r : List ℕ) → IsSpellableRefType t → (0x63 ≤ front (ref_type t ++ r)) × (front (ref_type t ++ r) ≤ 0x74)
+pub ref_front : (t : RefType) (r : List ℕ) → IsSpellableRefType t → (0x63 ≤ front (ref_type t ++ r)) × (front (ref_type t ++ r) ≤ 0x75)
 ref_front t r p = by_bytes t.nullable (is_short t.heap_type) t.heap_type r p refl
   where
-    by_bytes : (m a : Bool) (h : HeapType) (r : List ℕ) → IsSpellableHeapType h → is_short h ≡ a → (0x63 ≤ front (ref_bytes m a (heap_type h) ++ r)) × (front (ref_bytes m a (heap_type h) ++ r) ≤ 0x74)
+    by_bytes : (m a : Bool) (h : HeapType) (r : List ℕ) → IsSpellableHeapType h → is_short h ≡ a → (0x63 ≤ front (ref_bytes m a (heap_type h) ++ r)) × (front (ref_bytes m a (heap_type h) ++ r) ≤ 0x75)
     by_bytes true true h r p u = let one = short_front h r p u in (omega (arith, one.0), one.1)
     by_bytes true false h r p u = (omega arith, omega arith)
     by_bytes false a h r p u = (omega arith, omega arith)

@@ -4,7 +4,7 @@ use Rattle.std.specs.Prelude.{nat_eq, IsTrue, not, is_none}
 use Rattle.std.specs.List.{list_all}
 use Rattle.wasm_ops.specs.Codes.{IsCode}
 use Rattle.wasm_ops.specs.Leb128.{unsigned}
-use Rattle.wasm_ops.specs.Covered.{is_covered_val_type, is_covered_field_type, is_covered_composite_inner_type, is_covered_composite_type, IsSpellableValType, IsSpellableStorageType, IsSpellableFieldType, IsSpellableFuncType, IsSpellableStructType, IsSpellableArrayType, IsSpellableCompositeInnerType, IsSpellableCompositeType, IsSpellableSubType}
+use Rattle.wasm_ops.specs.Covered.{is_covered_val_type, is_covered_field_type, is_covered_composite_inner_type, is_covered_composite_type, is_covered_sub_type, IsSpellableValType, IsSpellableStorageType, IsSpellableFieldType, IsSpellableFuncType, IsSpellableStructType, IsSpellableArrayType, IsSpellableCompositeInnerType, IsSpellableCompositeType, IsSpellableSubType}
 use Rattle.wasm_ops.specs.Spelling.{Any, InRangeU32, vec, InRangeVec, val_type, InRangeValType, storage_type, mutability, field_type, InRangeFieldType, export_kind, func_type, struct_type, array_type, composite_inner_type, composite_type, sub_bytes, sub_type}
 use Rattle.wasm_ops.specs.declared.types.ValType.{ValType}
 use Rattle.wasm_ops.specs.declared.types.ValType.TheVariants as val
@@ -20,7 +20,7 @@ use Rattle.wasm_ops.specs.declared.types.CompositeInnerType.{CompositeInnerType}
 use Rattle.wasm_ops.specs.declared.types.CompositeInnerType.TheVariants as inner
 use Rattle.wasm_ops.specs.declared.types.CompositeType.{CompositeType}
 use Rattle.wasm_ops.specs.declared.types.SubType.{SubType}
-use Rattle.wasm_ops.proofs.RefTypeCodes.{front, ref_type_code, ref_front}
+use Rattle.wasm_ops.proofs.RefTypeCodes.{front, not_true, ref_type_code, ref_front}
 use Rattle.wasm_ops.proofs.Codes.{index_code, byte_code, pair_code, code_by, code_within, after_byte, vec_code, spellable_vec}
 use Rattle.wasm_ops.proofs.Everywhere.{both_true}
 
@@ -99,6 +99,8 @@ inner_begins : (x y : CompositeInnerType) (r s : List ℕ) → IsSpellableCompos
 inner_begins (inner.Func x) (inner.Func y) r s p q e = let one = func_type_code.begins x y r s p q e in (ap inner.Func one.0, one.1)
 inner_begins (inner.Struct x) (inner.Struct y) r s p q e = let one = struct_type_code.begins x y r s p q e in (ap inner.Struct one.0, one.1)
 inner_begins (inner.Array x) (inner.Array y) r s p q e = let one = array_type_code.begins x y r s p q e in (ap inner.Array one.0, one.1)
+inner_begins (inner.Cont x) y r s p q e = not_true p.0
+inner_begins x (inner.Cont y) r s p q e = not_true q.0
 inner_begins x y r s p q e = absurd (omega (arith, ap front e))
 
 -- a composite type that is covered is what it is made of
@@ -125,10 +127,11 @@ composite_type_code = record {
       (is_plain x p.0 ∙ ap plain one.0 ∙ sym (is_plain y q.0), one.1);
 }
 
-composite_front : (i : CompositeInnerType) (r : List ℕ) → 0x50 < front (composite_inner_type i ++ r)
-composite_front (inner.Func f) r = omega arith
-composite_front (inner.Struct t) r = omega arith
-composite_front (inner.Array t) r = omega arith
+composite_front : (i : CompositeInnerType) (r : List ℕ) → IsTrue (is_covered_composite_inner_type i) → 0x50 < front (composite_inner_type i ++ r)
+composite_front (inner.Func f) r h = omega arith
+composite_front (inner.Struct t) r h = omega arith
+composite_front (inner.Array t) r h = omega arith
+composite_front (inner.Cont c) r h = not_true h
 
 -- the types above it and the composite type, behind a byte
 abbrev Below : Type 0
@@ -148,17 +151,17 @@ sub_begins true true [] [] c d r s p q e =
     let one = composite_type_code.begins c d r s p.1 q.1 e in
     let f : CompositeType → Below = λ t. ([], t) in
     (refl, ap f one.0, one.1)
-sub_begins true true [] (y ∷ ys) c d r s p q e = absurd (omega (arith, ap front e, composite_front c.inner r))
-sub_begins true true (x ∷ xs) [] c d r s p q e = absurd (omega (arith, ap front e, composite_front d.inner s))
+sub_begins true true [] (y ∷ ys) c d r s p q e = absurd (omega (arith, ap front e, composite_front c.inner r (covered_both c p.1.0).1))
+sub_begins true true (x ∷ xs) [] c d r s p q e = absurd (omega (arith, ap front e, composite_front d.inner s (covered_both d q.1.0).1))
 sub_begins true true (x ∷ xs) (y ∷ ys) c d r s p q e =
     let one = (after_byte 0x4f below_code).begins (x ∷ xs, c) (y ∷ ys, d) r s p q e in
     (refl, one.0, one.1)
 sub_begins false false ps qs c d r s p q e =
     let one = (after_byte 0x50 below_code).begins (ps, c) (qs, d) r s p q e in
     (refl, one.0, one.1)
-sub_begins true false [] qs c d r s p q e = absurd (omega (arith, ap front e, composite_front c.inner r))
+sub_begins true false [] qs c d r s p q e = absurd (omega (arith, ap front e, composite_front c.inner r (covered_both c p.1.0).1))
 sub_begins true false (x ∷ xs) qs c d r s p q e = absurd (omega (arith, ap front e))
-sub_begins false true ps [] c d r s p q e = absurd (omega (arith, ap front e, composite_front d.inner s))
+sub_begins false true ps [] c d r s p q e = absurd (omega (arith, ap front e, composite_front d.inner s (covered_both d q.1.0).1))
 sub_begins false true ps (y ∷ ys) c d r s p q e = absurd (omega (arith, ap front e))
 
 pub sub_type_code : IsCode SubType IsSpellableSubType sub_type
@@ -171,10 +174,10 @@ sub_type_code = record {
 }
 
 -- no type begins with the byte of a group
-pub sub_front : (s : SubType) (r : List ℕ) → 0x4e < front (sub_type s ++ r)
-sub_front s r = sub_bytes_front s.is_final s.supertype_idxs s.composite_type.inner r
+pub sub_front : (s : SubType) (r : List ℕ) → IsTrue (is_covered_sub_type s) → 0x4e < front (sub_type s ++ r)
+sub_front s r h = sub_bytes_front s.is_final s.supertype_idxs s.composite_type.inner r (covered_both s.composite_type h).1
   where
-    sub_bytes_front : (m : Bool) (ps : List ℕ) (i : CompositeInnerType) (r : List ℕ) → 0x4e < front (sub_bytes m ps (composite_inner_type i) ++ r)
-    sub_bytes_front true [] i r = omega (arith, composite_front i r)
-    sub_bytes_front true (p ∷ ps) i r = omega arith
-    sub_bytes_front false ps i r = omega arith
+    sub_bytes_front : (m : Bool) (ps : List ℕ) (i : CompositeInnerType) (r : List ℕ) → IsTrue (is_covered_composite_inner_type i) → 0x4e < front (sub_bytes m ps (composite_inner_type i) ++ r)
+    sub_bytes_front true [] i r h = omega (arith, composite_front i r h)
+    sub_bytes_front true (p ∷ ps) i r h = omega arith
+    sub_bytes_front false ps i r h = omega arith

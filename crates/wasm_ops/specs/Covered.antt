@@ -2,6 +2,8 @@
 use Rattle.std.specs.Prelude.{Bool, true, false, not, ◌&&◌, is_none, IsTrue}
 use Rattle.std.specs.List.{list_all}
 use Rattle.wasm_ops.specs.Spelling.{InRangeHeapType, InRangeRefType, InRangeValType, InRangeStorageType, InRangeFieldType, InRangeFuncType, InRangeStructType, InRangeArrayType, InRangeCompositeInnerType, InRangeCompositeType, InRangeSubType}
+use Rattle.wasm_ops.specs.declared.ref_types.AbstractHeapType.{AbstractHeapType}
+use Rattle.wasm_ops.specs.declared.ref_types.AbstractHeapType.TheVariants as heaps
 use Rattle.wasm_ops.specs.declared.ref_types.HeapType.{HeapType}
 use Rattle.wasm_ops.specs.declared.ref_types.HeapType.TheVariants as heap
 use Rattle.wasm_ops.specs.declared.ref_types.RefType.{RefType}
@@ -18,9 +20,15 @@ use Rattle.wasm_ops.specs.declared.types.CompositeInnerType.TheVariants as inner
 use Rattle.wasm_ops.specs.declared.types.CompositeType.{CompositeType}
 use Rattle.wasm_ops.specs.declared.types.SubType.{SubType}
 
--- a heap type that is not shared and not exact
+-- one that is none of continuations
+abbrev pub is_covered_abstract_heap_type : AbstractHeapType → Bool
+is_covered_abstract_heap_type heaps.Cont = false
+is_covered_abstract_heap_type heaps.NoCont = false
+is_covered_abstract_heap_type ty = true
+
+-- a heap type that is not shared, not exact, and none of continuations
 abbrev pub is_covered_heap_type : HeapType → Bool
-is_covered_heap_type (heap.Abstract shared ty) = not shared
+is_covered_heap_type (heap.Abstract shared ty) = not shared && is_covered_abstract_heap_type ty
 is_covered_heap_type (heap.Concrete index) = true
 is_covered_heap_type (heap.Exact index) = false
 
@@ -56,6 +64,7 @@ abbrev pub is_covered_composite_inner_type : CompositeInnerType → Bool
 is_covered_composite_inner_type (inner.Func f) = is_covered_func_type f
 is_covered_composite_inner_type (inner.Struct s) = is_covered_struct_type s
 is_covered_composite_inner_type (inner.Array a) = is_covered_array_type a
+is_covered_composite_inner_type (inner.Cont c) = false
 
 -- a composite type that is not shared, has no descriptor and describes nothing, and is made of what is covered
 abbrev pub is_covered_composite_type : CompositeType → Bool

@@ -1,4 +1,4 @@
--- Instructions with one index or two: the row of the table that each of the code stands for (binary format, instructions).
+-- Instructions with one index or two numbers: the row of the table that each of the code stands for (binary format, instructions).
 use Rattle.std.specs.Prelude.{ℕ, [], ◌∷◌}
 use Rattle.wasm_ops.specs.Opcodes.{opcode_of}
 use Rattle.wasm_ops.specs.Table.{Index, Instr}
@@ -31,6 +31,15 @@ index_key ops.MemoryGrow = 0x40
 index_key ops.RefFunc = 0xd2
 index_key ops.BrOnNull = 0xd5
 index_key ops.BrOnNonNull = 0xd6
+index_key ops.StructNew = 0xfb0000
+index_key ops.StructNewDefault = 0xfb0001
+index_key ops.ArrayNew = 0xfb0006
+index_key ops.ArrayNewDefault = 0xfb0007
+index_key ops.ArrayGet = 0xfb000b
+index_key ops.ArrayGetS = 0xfb000c
+index_key ops.ArrayGetU = 0xfb000d
+index_key ops.ArraySet = 0xfb000e
+index_key ops.ArrayFill = 0xfb0010
 index_key ops.DataDrop = 0xfc0009
 index_key ops.MemoryFill = 0xfc000b
 index_key ops.ElemDrop = 0xfc000d
@@ -46,11 +55,21 @@ index_instr op index = record { row = record { opcode = opcode_of (index_key op)
 abbrev pub index_pair_key : IndexPairOp → ℕ
 index_pair_key pairs.CallIndirect = 0x11
 index_pair_key pairs.ReturnCallIndirect = 0x13
+index_pair_key pairs.StructGet = 0xfb0002
+index_pair_key pairs.StructGetS = 0xfb0003
+index_pair_key pairs.StructGetU = 0xfb0004
+index_pair_key pairs.StructSet = 0xfb0005
+index_pair_key pairs.ArrayNewFixed = 0xfb0008
+index_pair_key pairs.ArrayNewData = 0xfb0009
+index_pair_key pairs.ArrayNewElem = 0xfb000a
+index_pair_key pairs.ArrayCopy = 0xfb0011
+index_pair_key pairs.ArrayInitData = 0xfb0012
+index_pair_key pairs.ArrayInitElem = 0xfb0013
 index_pair_key pairs.MemoryInit = 0xfc0008
 index_pair_key pairs.MemoryCopy = 0xfc000a
 index_pair_key pairs.TableInit = 0xfc000c
 index_pair_key pairs.TableCopy = 0xfc000e
 
--- an instruction with two indices, in the order in which they are written
+-- an instruction with two indices, or with an index and a length, in the order in which they are written
 abbrev pub index_pair_instr : IndexPairOp → ℕ → ℕ → Instr
 index_pair_instr op first second = record { row = record { opcode = opcode_of (index_pair_key op); kinds = Index ∷ Index ∷ [] }; numbers = (first, (second, tt)) }

@@ -14,6 +14,32 @@ use Rattle.wast_base.specs.declared.plain.F64Op.{F64Op}
 use Rattle.wast_base.specs.declared.plain.F64Op.TheVariants as f64
 use Rattle.wast_base.specs.declared.plain.RefOp.{RefOp}
 use Rattle.wast_base.specs.declared.plain.RefOp.TheVariants as ref
+use Rattle.wast_base.specs.declared.plain.ArrayOp.{ArrayOp}
+use Rattle.wast_base.specs.declared.plain.ArrayOp.TheVariants as array
+use Rattle.wast_base.specs.declared.plain.AnyOp.{AnyOp}
+use Rattle.wast_base.specs.declared.plain.AnyOp.TheVariants as any
+use Rattle.wast_base.specs.declared.plain.ExternOp.{ExternOp}
+use Rattle.wast_base.specs.declared.plain.ExternOp.TheVariants as extern
+use Rattle.wast_base.specs.declared.plain.I31Op.{I31Op}
+use Rattle.wast_base.specs.declared.plain.I31Op.TheVariants as i31
+use Rattle.wast_base.specs.declared.plain.I8x16Op.{I8x16Op}
+use Rattle.wast_base.specs.declared.plain.I8x16Op.TheVariants as i8x16
+use Rattle.wast_base.specs.declared.plain.I16x8Op.{I16x8Op}
+use Rattle.wast_base.specs.declared.plain.I16x8Op.TheVariants as i16x8
+use Rattle.wast_base.specs.declared.plain.I32x4Op.{I32x4Op}
+use Rattle.wast_base.specs.declared.plain.I32x4Op.TheVariants as i32x4
+use Rattle.wast_base.specs.declared.plain.I64x2Op.{I64x2Op}
+use Rattle.wast_base.specs.declared.plain.I64x2Op.TheVariants as i64x2
+use Rattle.wast_base.specs.declared.plain.F32x4Op.{F32x4Op}
+use Rattle.wast_base.specs.declared.plain.F32x4Op.TheVariants as f32x4
+use Rattle.wast_base.specs.declared.plain.F64x2Op.{F64x2Op}
+use Rattle.wast_base.specs.declared.plain.F64x2Op.TheVariants as f64x2
+use Rattle.wast_base.specs.declared.lane_ops.LaneOp.{LaneOp}
+use Rattle.wast_base.specs.declared.lane_ops.LaneOp.TheVariants as lane
+use Rattle.wast_base.specs.declared.plain.V128Op.{V128Op}
+use Rattle.wast_base.specs.declared.plain.V128Op.TheVariants as v128
+use Rattle.wast_base.specs.declared.lane_ops.MemLaneOp.{MemLaneOp}
+use Rattle.wast_base.specs.declared.lane_ops.MemLaneOp.TheVariants as mem_lane
 use Rattle.wast_base.specs.declared.plain.Plain.{Plain}
 use Rattle.wast_base.specs.declared.plain.Plain.TheVariants as plain
 
@@ -26,7 +52,7 @@ bare_key bare.return_ = 0x0f
 bare_key bare.catch_all = 0x19
 bare_key bare.drop = 0x1a
 
--- the key of a load or a store
+-- the key of an instruction with a memory argument
 abbrev pub mem_key : MemOp → ℕ
 mem_key mem.i32_load = 0x28
 mem_key mem.i64_load = 0x29
@@ -51,6 +77,86 @@ mem_key mem.i32_store16 = 0x3b
 mem_key mem.i64_store8 = 0x3c
 mem_key mem.i64_store16 = 0x3d
 mem_key mem.i64_store32 = 0x3e
+mem_key mem.v128_load = 0xfd0000
+mem_key mem.v128_load8x8_s = 0xfd0001
+mem_key mem.v128_load8x8_u = 0xfd0002
+mem_key mem.v128_load16x4_s = 0xfd0003
+mem_key mem.v128_load16x4_u = 0xfd0004
+mem_key mem.v128_load32x2_s = 0xfd0005
+mem_key mem.v128_load32x2_u = 0xfd0006
+mem_key mem.v128_load8_splat = 0xfd0007
+mem_key mem.v128_load16_splat = 0xfd0008
+mem_key mem.v128_load32_splat = 0xfd0009
+mem_key mem.v128_load64_splat = 0xfd000a
+mem_key mem.v128_store = 0xfd000b
+mem_key mem.v128_load32_zero = 0xfd005c
+mem_key mem.v128_load64_zero = 0xfd005d
+mem_key mem.memory_atomic_notify = 0xfe0000
+mem_key mem.memory_atomic_wait32 = 0xfe0001
+mem_key mem.memory_atomic_wait64 = 0xfe0002
+mem_key mem.i32_atomic_load = 0xfe0010
+mem_key mem.i64_atomic_load = 0xfe0011
+mem_key mem.i32_atomic_load8_u = 0xfe0012
+mem_key mem.i32_atomic_load16_u = 0xfe0013
+mem_key mem.i64_atomic_load8_u = 0xfe0014
+mem_key mem.i64_atomic_load16_u = 0xfe0015
+mem_key mem.i64_atomic_load32_u = 0xfe0016
+mem_key mem.i32_atomic_store = 0xfe0017
+mem_key mem.i64_atomic_store = 0xfe0018
+mem_key mem.i32_atomic_store8 = 0xfe0019
+mem_key mem.i32_atomic_store16 = 0xfe001a
+mem_key mem.i64_atomic_store8 = 0xfe001b
+mem_key mem.i64_atomic_store16 = 0xfe001c
+mem_key mem.i64_atomic_store32 = 0xfe001d
+mem_key mem.i32_atomic_rmw_add = 0xfe001e
+mem_key mem.i64_atomic_rmw_add = 0xfe001f
+mem_key mem.i32_atomic_rmw8_add_u = 0xfe0020
+mem_key mem.i32_atomic_rmw16_add_u = 0xfe0021
+mem_key mem.i64_atomic_rmw8_add_u = 0xfe0022
+mem_key mem.i64_atomic_rmw16_add_u = 0xfe0023
+mem_key mem.i64_atomic_rmw32_add_u = 0xfe0024
+mem_key mem.i32_atomic_rmw_sub = 0xfe0025
+mem_key mem.i64_atomic_rmw_sub = 0xfe0026
+mem_key mem.i32_atomic_rmw8_sub_u = 0xfe0027
+mem_key mem.i32_atomic_rmw16_sub_u = 0xfe0028
+mem_key mem.i64_atomic_rmw8_sub_u = 0xfe0029
+mem_key mem.i64_atomic_rmw16_sub_u = 0xfe002a
+mem_key mem.i64_atomic_rmw32_sub_u = 0xfe002b
+mem_key mem.i32_atomic_rmw_and = 0xfe002c
+mem_key mem.i64_atomic_rmw_and = 0xfe002d
+mem_key mem.i32_atomic_rmw8_and_u = 0xfe002e
+mem_key mem.i32_atomic_rmw16_and_u = 0xfe002f
+mem_key mem.i64_atomic_rmw8_and_u = 0xfe0030
+mem_key mem.i64_atomic_rmw16_and_u = 0xfe0031
+mem_key mem.i64_atomic_rmw32_and_u = 0xfe0032
+mem_key mem.i32_atomic_rmw_or = 0xfe0033
+mem_key mem.i64_atomic_rmw_or = 0xfe0034
+mem_key mem.i32_atomic_rmw8_or_u = 0xfe0035
+mem_key mem.i32_atomic_rmw16_or_u = 0xfe0036
+mem_key mem.i64_atomic_rmw8_or_u = 0xfe0037
+mem_key mem.i64_atomic_rmw16_or_u = 0xfe0038
+mem_key mem.i64_atomic_rmw32_or_u = 0xfe0039
+mem_key mem.i32_atomic_rmw_xor = 0xfe003a
+mem_key mem.i64_atomic_rmw_xor = 0xfe003b
+mem_key mem.i32_atomic_rmw8_xor_u = 0xfe003c
+mem_key mem.i32_atomic_rmw16_xor_u = 0xfe003d
+mem_key mem.i64_atomic_rmw8_xor_u = 0xfe003e
+mem_key mem.i64_atomic_rmw16_xor_u = 0xfe003f
+mem_key mem.i64_atomic_rmw32_xor_u = 0xfe0040
+mem_key mem.i32_atomic_rmw_xchg = 0xfe0041
+mem_key mem.i64_atomic_rmw_xchg = 0xfe0042
+mem_key mem.i32_atomic_rmw8_xchg_u = 0xfe0043
+mem_key mem.i32_atomic_rmw16_xchg_u = 0xfe0044
+mem_key mem.i64_atomic_rmw8_xchg_u = 0xfe0045
+mem_key mem.i64_atomic_rmw16_xchg_u = 0xfe0046
+mem_key mem.i64_atomic_rmw32_xchg_u = 0xfe0047
+mem_key mem.i32_atomic_rmw_cmpxchg = 0xfe0048
+mem_key mem.i64_atomic_rmw_cmpxchg = 0xfe0049
+mem_key mem.i32_atomic_rmw8_cmpxchg_u = 0xfe004a
+mem_key mem.i32_atomic_rmw16_cmpxchg_u = 0xfe004b
+mem_key mem.i64_atomic_rmw8_cmpxchg_u = 0xfe004c
+mem_key mem.i64_atomic_rmw16_cmpxchg_u = 0xfe004d
+mem_key mem.i64_atomic_rmw32_cmpxchg_u = 0xfe004e
 
 -- of one whose text begins with i32
 abbrev pub i32_key : I32Op → ℕ
@@ -205,6 +311,291 @@ abbrev pub ref_key : RefOp → ℕ
 ref_key ref.ref_is_null = 0xd1
 ref_key ref.ref_eq = 0xd3
 ref_key ref.ref_as_non_null = 0xd4
+ref_key ref.ref_i31 = 0xfb001c
+
+-- of one whose text begins with array
+abbrev pub array_key : ArrayOp → ℕ
+array_key array.array_len = 0xfb000f
+
+-- of one whose text begins with any
+abbrev pub any_key : AnyOp → ℕ
+any_key any.any_convert_extern = 0xfb001a
+
+-- of one whose text begins with extern
+abbrev pub extern_key : ExternOp → ℕ
+extern_key extern.extern_convert_any = 0xfb001b
+
+-- of one whose text begins with i31
+abbrev pub i31_key : I31Op → ℕ
+i31_key i31.i31_get_s = 0xfb001d
+i31_key i31.i31_get_u = 0xfb001e
+
+-- of one whose text begins with i8x16
+abbrev pub i8x16_key : I8x16Op → ℕ
+i8x16_key i8x16.i8x16_swizzle = 0xfd000e
+i8x16_key i8x16.i8x16_splat = 0xfd000f
+i8x16_key i8x16.i8x16_eq = 0xfd0023
+i8x16_key i8x16.i8x16_ne = 0xfd0024
+i8x16_key i8x16.i8x16_lt_s = 0xfd0025
+i8x16_key i8x16.i8x16_lt_u = 0xfd0026
+i8x16_key i8x16.i8x16_gt_s = 0xfd0027
+i8x16_key i8x16.i8x16_gt_u = 0xfd0028
+i8x16_key i8x16.i8x16_le_s = 0xfd0029
+i8x16_key i8x16.i8x16_le_u = 0xfd002a
+i8x16_key i8x16.i8x16_ge_s = 0xfd002b
+i8x16_key i8x16.i8x16_ge_u = 0xfd002c
+i8x16_key i8x16.i8x16_abs = 0xfd0060
+i8x16_key i8x16.i8x16_neg = 0xfd0061
+i8x16_key i8x16.i8x16_popcnt = 0xfd0062
+i8x16_key i8x16.i8x16_all_true = 0xfd0063
+i8x16_key i8x16.i8x16_bitmask = 0xfd0064
+i8x16_key i8x16.i8x16_narrow_i16x8_s = 0xfd0065
+i8x16_key i8x16.i8x16_narrow_i16x8_u = 0xfd0066
+i8x16_key i8x16.i8x16_shl = 0xfd006b
+i8x16_key i8x16.i8x16_shr_s = 0xfd006c
+i8x16_key i8x16.i8x16_shr_u = 0xfd006d
+i8x16_key i8x16.i8x16_add = 0xfd006e
+i8x16_key i8x16.i8x16_add_sat_s = 0xfd006f
+i8x16_key i8x16.i8x16_add_sat_u = 0xfd0070
+i8x16_key i8x16.i8x16_sub = 0xfd0071
+i8x16_key i8x16.i8x16_sub_sat_s = 0xfd0072
+i8x16_key i8x16.i8x16_sub_sat_u = 0xfd0073
+i8x16_key i8x16.i8x16_min_s = 0xfd0076
+i8x16_key i8x16.i8x16_min_u = 0xfd0077
+i8x16_key i8x16.i8x16_max_s = 0xfd0078
+i8x16_key i8x16.i8x16_max_u = 0xfd0079
+i8x16_key i8x16.i8x16_avgr_u = 0xfd007b
+i8x16_key i8x16.i8x16_relaxed_swizzle = 0xfd0100
+i8x16_key i8x16.i8x16_relaxed_laneselect = 0xfd0109
+
+-- of one whose text begins with i16x8
+abbrev pub i16x8_key : I16x8Op → ℕ
+i16x8_key i16x8.i16x8_splat = 0xfd0010
+i16x8_key i16x8.i16x8_eq = 0xfd002d
+i16x8_key i16x8.i16x8_ne = 0xfd002e
+i16x8_key i16x8.i16x8_lt_s = 0xfd002f
+i16x8_key i16x8.i16x8_lt_u = 0xfd0030
+i16x8_key i16x8.i16x8_gt_s = 0xfd0031
+i16x8_key i16x8.i16x8_gt_u = 0xfd0032
+i16x8_key i16x8.i16x8_le_s = 0xfd0033
+i16x8_key i16x8.i16x8_le_u = 0xfd0034
+i16x8_key i16x8.i16x8_ge_s = 0xfd0035
+i16x8_key i16x8.i16x8_ge_u = 0xfd0036
+i16x8_key i16x8.i16x8_extadd_pairwise_i8x16_s = 0xfd007c
+i16x8_key i16x8.i16x8_extadd_pairwise_i8x16_u = 0xfd007d
+i16x8_key i16x8.i16x8_abs = 0xfd0080
+i16x8_key i16x8.i16x8_neg = 0xfd0081
+i16x8_key i16x8.i16x8_q15mulr_sat_s = 0xfd0082
+i16x8_key i16x8.i16x8_all_true = 0xfd0083
+i16x8_key i16x8.i16x8_bitmask = 0xfd0084
+i16x8_key i16x8.i16x8_narrow_i32x4_s = 0xfd0085
+i16x8_key i16x8.i16x8_narrow_i32x4_u = 0xfd0086
+i16x8_key i16x8.i16x8_extend_low_i8x16_s = 0xfd0087
+i16x8_key i16x8.i16x8_extend_high_i8x16_s = 0xfd0088
+i16x8_key i16x8.i16x8_extend_low_i8x16_u = 0xfd0089
+i16x8_key i16x8.i16x8_extend_high_i8x16_u = 0xfd008a
+i16x8_key i16x8.i16x8_shl = 0xfd008b
+i16x8_key i16x8.i16x8_shr_s = 0xfd008c
+i16x8_key i16x8.i16x8_shr_u = 0xfd008d
+i16x8_key i16x8.i16x8_add = 0xfd008e
+i16x8_key i16x8.i16x8_add_sat_s = 0xfd008f
+i16x8_key i16x8.i16x8_add_sat_u = 0xfd0090
+i16x8_key i16x8.i16x8_sub = 0xfd0091
+i16x8_key i16x8.i16x8_sub_sat_s = 0xfd0092
+i16x8_key i16x8.i16x8_sub_sat_u = 0xfd0093
+i16x8_key i16x8.i16x8_mul = 0xfd0095
+i16x8_key i16x8.i16x8_min_s = 0xfd0096
+i16x8_key i16x8.i16x8_min_u = 0xfd0097
+i16x8_key i16x8.i16x8_max_s = 0xfd0098
+i16x8_key i16x8.i16x8_max_u = 0xfd0099
+i16x8_key i16x8.i16x8_avgr_u = 0xfd009b
+i16x8_key i16x8.i16x8_extmul_low_i8x16_s = 0xfd009c
+i16x8_key i16x8.i16x8_extmul_high_i8x16_s = 0xfd009d
+i16x8_key i16x8.i16x8_extmul_low_i8x16_u = 0xfd009e
+i16x8_key i16x8.i16x8_extmul_high_i8x16_u = 0xfd009f
+i16x8_key i16x8.i16x8_relaxed_laneselect = 0xfd010a
+i16x8_key i16x8.i16x8_relaxed_q15mulr_s = 0xfd0111
+i16x8_key i16x8.i16x8_relaxed_dot_i8x16_i7x16_s = 0xfd0112
+
+-- of one whose text begins with i32x4
+abbrev pub i32x4_key : I32x4Op → ℕ
+i32x4_key i32x4.i32x4_splat = 0xfd0011
+i32x4_key i32x4.i32x4_eq = 0xfd0037
+i32x4_key i32x4.i32x4_ne = 0xfd0038
+i32x4_key i32x4.i32x4_lt_s = 0xfd0039
+i32x4_key i32x4.i32x4_lt_u = 0xfd003a
+i32x4_key i32x4.i32x4_gt_s = 0xfd003b
+i32x4_key i32x4.i32x4_gt_u = 0xfd003c
+i32x4_key i32x4.i32x4_le_s = 0xfd003d
+i32x4_key i32x4.i32x4_le_u = 0xfd003e
+i32x4_key i32x4.i32x4_ge_s = 0xfd003f
+i32x4_key i32x4.i32x4_ge_u = 0xfd0040
+i32x4_key i32x4.i32x4_extadd_pairwise_i16x8_s = 0xfd007e
+i32x4_key i32x4.i32x4_extadd_pairwise_i16x8_u = 0xfd007f
+i32x4_key i32x4.i32x4_abs = 0xfd00a0
+i32x4_key i32x4.i32x4_neg = 0xfd00a1
+i32x4_key i32x4.i32x4_all_true = 0xfd00a3
+i32x4_key i32x4.i32x4_bitmask = 0xfd00a4
+i32x4_key i32x4.i32x4_extend_low_i16x8_s = 0xfd00a7
+i32x4_key i32x4.i32x4_extend_high_i16x8_s = 0xfd00a8
+i32x4_key i32x4.i32x4_extend_low_i16x8_u = 0xfd00a9
+i32x4_key i32x4.i32x4_extend_high_i16x8_u = 0xfd00aa
+i32x4_key i32x4.i32x4_shl = 0xfd00ab
+i32x4_key i32x4.i32x4_shr_s = 0xfd00ac
+i32x4_key i32x4.i32x4_shr_u = 0xfd00ad
+i32x4_key i32x4.i32x4_add = 0xfd00ae
+i32x4_key i32x4.i32x4_sub = 0xfd00b1
+i32x4_key i32x4.i32x4_mul = 0xfd00b5
+i32x4_key i32x4.i32x4_min_s = 0xfd00b6
+i32x4_key i32x4.i32x4_min_u = 0xfd00b7
+i32x4_key i32x4.i32x4_max_s = 0xfd00b8
+i32x4_key i32x4.i32x4_max_u = 0xfd00b9
+i32x4_key i32x4.i32x4_dot_i16x8_s = 0xfd00ba
+i32x4_key i32x4.i32x4_extmul_low_i16x8_s = 0xfd00bc
+i32x4_key i32x4.i32x4_extmul_high_i16x8_s = 0xfd00bd
+i32x4_key i32x4.i32x4_extmul_low_i16x8_u = 0xfd00be
+i32x4_key i32x4.i32x4_extmul_high_i16x8_u = 0xfd00bf
+i32x4_key i32x4.i32x4_trunc_sat_f32x4_s = 0xfd00f8
+i32x4_key i32x4.i32x4_trunc_sat_f32x4_u = 0xfd00f9
+i32x4_key i32x4.i32x4_trunc_sat_f64x2_s_zero = 0xfd00fc
+i32x4_key i32x4.i32x4_trunc_sat_f64x2_u_zero = 0xfd00fd
+i32x4_key i32x4.i32x4_relaxed_trunc_f32x4_s = 0xfd0101
+i32x4_key i32x4.i32x4_relaxed_trunc_f32x4_u = 0xfd0102
+i32x4_key i32x4.i32x4_relaxed_trunc_f64x2_s_zero = 0xfd0103
+i32x4_key i32x4.i32x4_relaxed_trunc_f64x2_u_zero = 0xfd0104
+i32x4_key i32x4.i32x4_relaxed_laneselect = 0xfd010b
+i32x4_key i32x4.i32x4_relaxed_dot_i8x16_i7x16_add_s = 0xfd0113
+
+-- of one whose text begins with i64x2
+abbrev pub i64x2_key : I64x2Op → ℕ
+i64x2_key i64x2.i64x2_splat = 0xfd0012
+i64x2_key i64x2.i64x2_abs = 0xfd00c0
+i64x2_key i64x2.i64x2_neg = 0xfd00c1
+i64x2_key i64x2.i64x2_all_true = 0xfd00c3
+i64x2_key i64x2.i64x2_bitmask = 0xfd00c4
+i64x2_key i64x2.i64x2_extend_low_i32x4_s = 0xfd00c7
+i64x2_key i64x2.i64x2_extend_high_i32x4_s = 0xfd00c8
+i64x2_key i64x2.i64x2_extend_low_i32x4_u = 0xfd00c9
+i64x2_key i64x2.i64x2_extend_high_i32x4_u = 0xfd00ca
+i64x2_key i64x2.i64x2_shl = 0xfd00cb
+i64x2_key i64x2.i64x2_shr_s = 0xfd00cc
+i64x2_key i64x2.i64x2_shr_u = 0xfd00cd
+i64x2_key i64x2.i64x2_add = 0xfd00ce
+i64x2_key i64x2.i64x2_sub = 0xfd00d1
+i64x2_key i64x2.i64x2_mul = 0xfd00d5
+i64x2_key i64x2.i64x2_eq = 0xfd00d6
+i64x2_key i64x2.i64x2_ne = 0xfd00d7
+i64x2_key i64x2.i64x2_lt_s = 0xfd00d8
+i64x2_key i64x2.i64x2_gt_s = 0xfd00d9
+i64x2_key i64x2.i64x2_le_s = 0xfd00da
+i64x2_key i64x2.i64x2_ge_s = 0xfd00db
+i64x2_key i64x2.i64x2_extmul_low_i32x4_s = 0xfd00dc
+i64x2_key i64x2.i64x2_extmul_high_i32x4_s = 0xfd00dd
+i64x2_key i64x2.i64x2_extmul_low_i32x4_u = 0xfd00de
+i64x2_key i64x2.i64x2_extmul_high_i32x4_u = 0xfd00df
+i64x2_key i64x2.i64x2_relaxed_laneselect = 0xfd010c
+
+-- of one whose text begins with f32x4
+abbrev pub f32x4_key : F32x4Op → ℕ
+f32x4_key f32x4.f32x4_splat = 0xfd0013
+f32x4_key f32x4.f32x4_eq = 0xfd0041
+f32x4_key f32x4.f32x4_ne = 0xfd0042
+f32x4_key f32x4.f32x4_lt = 0xfd0043
+f32x4_key f32x4.f32x4_gt = 0xfd0044
+f32x4_key f32x4.f32x4_le = 0xfd0045
+f32x4_key f32x4.f32x4_ge = 0xfd0046
+f32x4_key f32x4.f32x4_demote_f64x2_zero = 0xfd005e
+f32x4_key f32x4.f32x4_ceil = 0xfd0067
+f32x4_key f32x4.f32x4_floor = 0xfd0068
+f32x4_key f32x4.f32x4_trunc = 0xfd0069
+f32x4_key f32x4.f32x4_nearest = 0xfd006a
+f32x4_key f32x4.f32x4_abs = 0xfd00e0
+f32x4_key f32x4.f32x4_neg = 0xfd00e1
+f32x4_key f32x4.f32x4_sqrt = 0xfd00e3
+f32x4_key f32x4.f32x4_add = 0xfd00e4
+f32x4_key f32x4.f32x4_sub = 0xfd00e5
+f32x4_key f32x4.f32x4_mul = 0xfd00e6
+f32x4_key f32x4.f32x4_div = 0xfd00e7
+f32x4_key f32x4.f32x4_min = 0xfd00e8
+f32x4_key f32x4.f32x4_max = 0xfd00e9
+f32x4_key f32x4.f32x4_pmin = 0xfd00ea
+f32x4_key f32x4.f32x4_pmax = 0xfd00eb
+f32x4_key f32x4.f32x4_convert_i32x4_s = 0xfd00fa
+f32x4_key f32x4.f32x4_convert_i32x4_u = 0xfd00fb
+f32x4_key f32x4.f32x4_relaxed_madd = 0xfd0105
+f32x4_key f32x4.f32x4_relaxed_nmadd = 0xfd0106
+f32x4_key f32x4.f32x4_relaxed_min = 0xfd010d
+f32x4_key f32x4.f32x4_relaxed_max = 0xfd010e
+
+-- of one whose text begins with f64x2
+abbrev pub f64x2_key : F64x2Op → ℕ
+f64x2_key f64x2.f64x2_splat = 0xfd0014
+f64x2_key f64x2.f64x2_eq = 0xfd0047
+f64x2_key f64x2.f64x2_ne = 0xfd0048
+f64x2_key f64x2.f64x2_lt = 0xfd0049
+f64x2_key f64x2.f64x2_gt = 0xfd004a
+f64x2_key f64x2.f64x2_le = 0xfd004b
+f64x2_key f64x2.f64x2_ge = 0xfd004c
+f64x2_key f64x2.f64x2_promote_low_f32x4 = 0xfd005f
+f64x2_key f64x2.f64x2_ceil = 0xfd0074
+f64x2_key f64x2.f64x2_floor = 0xfd0075
+f64x2_key f64x2.f64x2_trunc = 0xfd007a
+f64x2_key f64x2.f64x2_nearest = 0xfd0094
+f64x2_key f64x2.f64x2_abs = 0xfd00ec
+f64x2_key f64x2.f64x2_neg = 0xfd00ed
+f64x2_key f64x2.f64x2_sqrt = 0xfd00ef
+f64x2_key f64x2.f64x2_add = 0xfd00f0
+f64x2_key f64x2.f64x2_sub = 0xfd00f1
+f64x2_key f64x2.f64x2_mul = 0xfd00f2
+f64x2_key f64x2.f64x2_div = 0xfd00f3
+f64x2_key f64x2.f64x2_min = 0xfd00f4
+f64x2_key f64x2.f64x2_max = 0xfd00f5
+f64x2_key f64x2.f64x2_pmin = 0xfd00f6
+f64x2_key f64x2.f64x2_pmax = 0xfd00f7
+f64x2_key f64x2.f64x2_convert_low_i32x4_s = 0xfd00fe
+f64x2_key f64x2.f64x2_convert_low_i32x4_u = 0xfd00ff
+f64x2_key f64x2.f64x2_relaxed_madd = 0xfd0107
+f64x2_key f64x2.f64x2_relaxed_nmadd = 0xfd0108
+f64x2_key f64x2.f64x2_relaxed_min = 0xfd010f
+f64x2_key f64x2.f64x2_relaxed_max = 0xfd0110
+
+-- the key of an instruction on a lane
+abbrev pub lane_key : LaneOp → ℕ
+lane_key lane.i8x16_extract_lane_s = 0xfd0015
+lane_key lane.i8x16_extract_lane_u = 0xfd0016
+lane_key lane.i8x16_replace_lane = 0xfd0017
+lane_key lane.i16x8_extract_lane_s = 0xfd0018
+lane_key lane.i16x8_extract_lane_u = 0xfd0019
+lane_key lane.i16x8_replace_lane = 0xfd001a
+lane_key lane.i32x4_extract_lane = 0xfd001b
+lane_key lane.i32x4_replace_lane = 0xfd001c
+lane_key lane.i64x2_extract_lane = 0xfd001d
+lane_key lane.i64x2_replace_lane = 0xfd001e
+lane_key lane.f32x4_extract_lane = 0xfd001f
+lane_key lane.f32x4_replace_lane = 0xfd0020
+lane_key lane.f64x2_extract_lane = 0xfd0021
+lane_key lane.f64x2_replace_lane = 0xfd0022
+
+-- of one whose text begins with v128
+abbrev pub v128_key : V128Op → ℕ
+v128_key v128.v128_not = 0xfd004d
+v128_key v128.v128_and = 0xfd004e
+v128_key v128.v128_andnot = 0xfd004f
+v128_key v128.v128_or = 0xfd0050
+v128_key v128.v128_xor = 0xfd0051
+v128_key v128.v128_bitselect = 0xfd0052
+v128_key v128.v128_any_true = 0xfd0053
+
+-- the key of a load or a store of a lane
+abbrev pub mem_lane_key : MemLaneOp → ℕ
+mem_lane_key mem_lane.v128_load8_lane = 0xfd0054
+mem_lane_key mem_lane.v128_load16_lane = 0xfd0055
+mem_lane_key mem_lane.v128_load32_lane = 0xfd0056
+mem_lane_key mem_lane.v128_load64_lane = 0xfd0057
+mem_lane_key mem_lane.v128_store8_lane = 0xfd0058
+mem_lane_key mem_lane.v128_store16_lane = 0xfd0059
+mem_lane_key mem_lane.v128_store32_lane = 0xfd005a
+mem_lane_key mem_lane.v128_store64_lane = 0xfd005b
 
 -- the key of an instruction without immediates
 abbrev pub plain_key : Plain → ℕ
@@ -214,3 +605,14 @@ plain_key (plain.I64 op) = i64_key op
 plain_key (plain.F32 op) = f32_key op
 plain_key (plain.F64 op) = f64_key op
 plain_key (plain.Ref op) = ref_key op
+plain_key (plain.Array op) = array_key op
+plain_key (plain.Any op) = any_key op
+plain_key (plain.Extern op) = extern_key op
+plain_key (plain.I31 op) = i31_key op
+plain_key (plain.I8x16 op) = i8x16_key op
+plain_key (plain.I16x8 op) = i16x8_key op
+plain_key (plain.I32x4 op) = i32x4_key op
+plain_key (plain.I64x2 op) = i64x2_key op
+plain_key (plain.F32x4 op) = f32x4_key op
+plain_key (plain.F64x2 op) = f64x2_key op
+plain_key (plain.V128 op) = v128_key op

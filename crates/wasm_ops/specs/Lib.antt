@@ -1,3 +1,4 @@
+pub mod CastInstrs
 pub mod Codes
 pub mod ConstExprs
 pub mod ConstantInstrs
@@ -19,3 +20,4 @@ pub mod Sinks
 pub mod Spelling
 pub mod Table
 pub mod Turns
+pub mod VectorInstrs

@@ -1,14 +1,36 @@
--- Memory arguments: an alignment, which memory, and an offset (binary format, memory instructions).
-use Rattle.std.specs.Prelude.{ℕ, ◌+◌, ◌<◌, Bool, true, false, nat_eq, nat_lt, List, ◌++◌}
+-- Memory arguments: an alignment, which memory, and an offset; and orderings (binary format, memory instructions).
+use Rattle.std.specs.Prelude.{ℕ, ◌+◌, ◌<◌, Bool, true, false, ◌&&◌, nat_eq, nat_lt, is_none, List, ◌++◌}
+use Rattle.wasm_ops.specs.Covered.{Spellable}
 use Rattle.wasm_ops.specs.Leb128.{unsigned}
 use Rattle.wasm_ops.specs.Spelling.{InRangeU32, InRangeU64}
+use Rattle.wasm_ops.specs.declared.memargs.Ordering.{Ordering}
+use Rattle.wasm_ops.specs.declared.memargs.Ordering.TheVariants.{SeqCst, AcqRel}
+use Rattle.wasm_ops.specs.declared.memargs.MemArgOrdering.{MemArgOrdering}
 use Rattle.wasm_ops.specs.declared.memargs.MemArg.{MemArg}
 use Rattle.wasm_ops.specs.declared.memargs.MemArgTarget.{MemArgTarget}
-use Rattle.wasm_ops.specs.declared.memargs.MemArgTarget.TheVariants.{Memory}
+use Rattle.wasm_ops.specs.declared.memargs.MemArgTarget.TheVariants.{Memory, Array}
 
--- the index of the memory that is meant
-abbrev pub memory_of : MemArgTarget → ℕ
-memory_of (Memory index) = index
+-- a byte, of which the first alone is covered
+abbrev pub ordering_byte : Ordering → ℕ
+ordering_byte SeqCst = 0x00
+ordering_byte AcqRel = 0x01
+
+abbrev pub is_covered_ordering : Ordering → Bool
+is_covered_ordering SeqCst = true
+is_covered_ordering AcqRel = false
+
+-- none that is written on a memory argument is covered
+abbrev pub is_covered_memarg_ordering : MemArgOrdering → Bool
+is_covered_memarg_ordering o = false
+
+-- the index of the memory that is meant, or of the type of an array, which is not covered
+abbrev pub index_of : MemArgTarget → ℕ
+index_of (Memory index) = index
+index_of (Array index) = index
+
+abbrev pub is_covered_target : MemArgTarget → Bool
+is_covered_target (Memory index) = true
+is_covered_target (Array index) = false
 
 -- of the first memory the logarithm of the alignment and the offset; of another 64 more, then its index, then the offset
 abbrev pub memarg_bytes : Bool → ℕ → ℕ → ℕ → List ℕ
@@ -17,12 +39,20 @@ memarg_bytes false align memory offset = unsigned (align + 64) ++ (unsigned memo
 
 -- the bytes of a memory argument
 abbrev pub memarg : MemArg → List ℕ
-memarg m = memarg_bytes (nat_eq (memory_of m.target) 0) m.align (memory_of m.target) m.offset
+memarg m = memarg_bytes (nat_eq (index_of m.target) 0) m.align (index_of m.target) m.offset
 
 -- the logarithm of an alignment is below 64
 abbrev pub is_aligned : MemArg → Bool
 is_aligned m = nat_lt m.align 64
 
+-- it is of a memory, and no ordering is written on it
+abbrev pub is_covered_memarg : MemArg → Bool
+is_covered_memarg m = is_covered_target m.target && is_none m.ordering
+
 -- its numbers are in range
 abbrev pub InRangeMemArg : MemArg → Type 0
-InRangeMemArg m = (m.align < 64) × (InRangeU32 (memory_of m.target) × InRangeU64 m.offset)
+InRangeMemArg m = (m.align < 64) × (InRangeU32 (index_of m.target) × InRangeU64 m.offset)
+
+-- it has one spelling
+abbrev pub IsSpellableMemArg : MemArg → Type 0
+IsSpellableMemArg m = Spellable is_covered_memarg InRangeMemArg m

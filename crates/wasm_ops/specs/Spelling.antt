@@ -76,6 +76,8 @@ abstract_byte heaps.NoFunc = 0x73
 abstract_byte heaps.NoExtern = 0x72
 abstract_byte heaps.None = 0x71
 abstract_byte heaps.I31 = 0x6c
+abstract_byte heaps.Cont = 0x68
+abstract_byte heaps.NoCont = 0x75
 
 -- an index is a signed number; what is shared or exact is not covered, and has no bytes
 abbrev pub heap_type : HeapType → List ℕ
@@ -171,15 +173,18 @@ array_type a = 0x5e ∷ field_type a.0
 abbrev pub InRangeArrayType : ArrayType → Type 0
 InRangeArrayType a = InRangeFieldType a.0
 
+-- a continuation is not covered, and has no bytes
 abbrev pub composite_inner_type : CompositeInnerType → List ℕ
 composite_inner_type (inner.Func f) = func_type f
 composite_inner_type (inner.Struct s) = struct_type s
 composite_inner_type (inner.Array a) = array_type a
+composite_inner_type (inner.Cont c) = []
 
 abbrev pub InRangeCompositeInnerType : CompositeInnerType → Type 0
 InRangeCompositeInnerType (inner.Func f) = InRangeFuncType f
 InRangeCompositeInnerType (inner.Struct s) = InRangeStructType s
 InRangeCompositeInnerType (inner.Array a) = InRangeArrayType a
+InRangeCompositeInnerType (inner.Cont c) = InRangeU32 c.0
 
 abbrev pub composite_type : CompositeType → List ℕ
 composite_type c = composite_inner_type c.inner

@@ -1,21 +1,23 @@
 -- Instructions: rows of one table, each with its numbers (binary format, instructions).
-use Rattle.std.specs.Prelude.{◌≡◌, ℕ, zero, suc, ◌+◌, ℤ, Bool, true, false, ◌&&◌, nat_lt, Option, Some, None, List, [], ◌∷◌, ◌++◌, All, IsTrue}
+use Rattle.std.specs.Prelude.{◌≡◌, ℕ, zero, suc, ◌+◌, ◌*◌, ℤ, Bool, true, false, ◌&&◌, nat_lt, Option, Some, None, List, [], ◌∷◌, ◌++◌, length, All, IsTrue}
 use Rattle.std.specs.Int.{w32, w64, to_le_bytes}
 use Rattle.std.specs.List.{flat_map, list_all}
 use Rattle.wasm_ops.specs.Control.{block_type, InRangeBlockType, is_covered_block_type, catch_clause, InRangeCatch}
 use Rattle.wasm_ops.specs.Covered.{is_covered_heap_type, is_covered_val_type}
+use Rattle.wasm_ops.specs.Entities.{bit}
 use Rattle.wasm_ops.specs.Leb128.{unsigned, signed}
-use Rattle.wasm_ops.specs.Memargs.{memarg, InRangeMemArg}
+use Rattle.wasm_ops.specs.Memargs.{ordering_byte, is_covered_ordering, memarg, InRangeMemArg, is_covered_memarg}
 use Rattle.wasm_ops.specs.Opcodes.{opcode_of, opcode_order, opcode_bytes, same_opcode, is_apart}
 use Rattle.wasm_ops.specs.Spelling.{InRangeU32, InRangeU64, InRangeS32, InRangeS64, vec, InRangeVec, heap_type, InRangeHeapType, val_type, InRangeValType}
 use Rattle.wasm_ops.specs.declared.blocks.BlockType.{BlockType}
 use Rattle.wasm_ops.specs.declared.blocks.Catch.{Catch}
 use Rattle.wasm_ops.specs.declared.memargs.MemArg.{MemArg}
+use Rattle.wasm_ops.specs.declared.memargs.Ordering.{Ordering}
 use Rattle.wasm_ops.specs.declared.opcodes.Opcode.{Opcode}
 use Rattle.wasm_ops.specs.declared.ref_types.HeapType.{HeapType}
 use Rattle.wasm_ops.specs.declared.types.ValType.{ValType}
 
--- the kinds of immediates: an index, an integer of 32 or 64 bits, 32 or 64 bits as they are, a heap type, value types, a memory argument, a block type, labels, catch clauses
+-- the kinds of immediates: an index, an integer of 32 or 64 bits, 32 or 64 bits as they are, a heap type, value types, a memory argument, a block type, labels, catch clauses, the number of a lane, sixteen lanes or bytes, whether each of two types is nullable, an ordering
 pub data Kind : Type 0 where
   Index : Kind
   Signed32 : Kind
@@ -28,6 +30,10 @@ pub data Kind : Type 0 where
   Block : Kind
   Labels : Kind
   Catches : Kind
+  Lane : Kind
+  Lanes : Kind
+  Nullables : Kind
+  Order : Kind
 
 -- a row: an opcode, and the kinds of immediates behind it
 pub record Row : Type 0 where
@@ -47,6 +53,10 @@ Field Memarg = MemArg
 Field Block = BlockType
 Field Labels = List ℕ
 Field Catches = List Catch
+Field Lane = ℕ
+Field Lanes = List ℕ
+Field Nullables = Bool × Bool
+Field Order = Ordering
 
 abbrev pub field : (kind : Kind) → Field kind → List ℕ
 field Index n = unsigned n
@@ -60,6 +70,10 @@ field Memarg m = memarg m
 field Block b = block_type b
 field Labels ls = vec unsigned ls
 field Catches cs = vec catch_clause cs
+field Lane n = n ∷ []
+field Lanes ls = ls
+field Nullables p = (bit p.0 + 2 * bit p.1) ∷ []
+field Order o = ordering_byte o ∷ []
 
 abbrev pub InRangeField : (kind : Kind) → Field kind → Type 0
 InRangeField Index n = InRangeU32 n
@@ -73,6 +87,10 @@ InRangeField Memarg m = InRangeMemArg m
 InRangeField Block b = InRangeBlockType b
 InRangeField Labels ls = InRangeVec InRangeU32 ls
 InRangeField Catches cs = InRangeVec InRangeCatch cs
+InRangeField Lane n = Unit {0}
+InRangeField Lanes ls = length ls ≡ 16
+InRangeField Nullables p = Unit {0}
+InRangeField Order o = Unit {0}
 
 abbrev pub is_covered_field : (kind : Kind) → Field kind → Bool
 is_covered_field Index n = true
@@ -82,10 +100,14 @@ is_covered_field Bits32 n = true
 is_covered_field Bits64 n = true
 is_covered_field Heap h = is_covered_heap_type h
 is_covered_field Types ts = list_all is_covered_val_type ts
-is_covered_field Memarg m = true
+is_covered_field Memarg m = is_covered_memarg m
 is_covered_field Block b = is_covered_block_type b
 is_covered_field Labels ls = true
 is_covered_field Catches cs = true
+is_covered_field Lane n = true
+is_covered_field Lanes ls = true
+is_covered_field Nullables p = true
+is_covered_field Order o = is_covered_ordering o
 
 -- immediates of several kinds
 abbrev pub Fields : List Kind → Type 0
@@ -162,6 +184,17 @@ table = rows_of (
     ∷ (0xd2, 1, Index ∷ [])  -- ref.func
     ∷ (0xd3, 2, [])  -- ref.eq, ref.as_non_null
     ∷ (0xd5, 2, Index ∷ [])  -- br_on_null, br_on_non_null
+    ∷ (0xfb0000, 2, Index ∷ [])  -- struct.new, struct.new_default
+    ∷ (0xfb0002, 4, Index ∷ Index ∷ [])  -- struct.get, struct.get_s, struct.get_u, struct.set
+    ∷ (0xfb0006, 2, Index ∷ [])  -- array.new, array.new_default
+    ∷ (0xfb0008, 3, Index ∷ Index ∷ [])  -- array.new_fixed, array.new_data, array.new_elem
+    ∷ (0xfb000b, 4, Index ∷ [])  -- array.get, array.get_s, array.get_u, array.set
+    ∷ (0xfb000f, 1, [])  -- array.len
+    ∷ (0xfb0010, 1, Index ∷ [])  -- array.fill
+    ∷ (0xfb0011, 3, Index ∷ Index ∷ [])  -- array.copy, array.init_data, array.init_elem
+    ∷ (0xfb0014, 4, Heap ∷ [])  -- ref.test and ref.cast, of references that are not null and of others
+    ∷ (0xfb0018, 2, Nullables ∷ Index ∷ Heap ∷ Heap ∷ [])  -- br_on_cast, br_on_cast_fail
+    ∷ (0xfb001a, 5, [])  -- any.convert_extern, extern.convert_any, ref.i31, i31.get_s, i31.get_u
     ∷ (0xfc0000, 8, [])  -- i32.trunc_sat_f32_s to i64.trunc_sat_f64_u
     ∷ (0xfc0008, 1, Index ∷ Index ∷ [])  -- memory.init
     ∷ (0xfc0009, 1, Index ∷ [])  -- data.drop
@@ -171,6 +204,29 @@ table = rows_of (
     ∷ (0xfc000d, 1, Index ∷ [])  -- elem.drop
     ∷ (0xfc000e, 1, Index ∷ Index ∷ [])  -- table.copy
     ∷ (0xfc000f, 3, Index ∷ [])  -- table.grow, table.size, table.fill
+    ∷ (0xfd0000, 12, Memarg ∷ [])  -- from v128.load to v128.store
+    ∷ (0xfd000c, 2, Lanes ∷ [])  -- v128.const, i8x16.shuffle
+    ∷ (0xfd000e, 7, [])  -- from i8x16.swizzle to f64x2.splat
+    ∷ (0xfd0015, 14, Lane ∷ [])  -- from i8x16.extract_lane_s to f64x2.replace_lane
+    ∷ (0xfd0023, 49, [])  -- from i8x16.eq to v128.any_true
+    ∷ (0xfd0054, 8, Memarg ∷ Lane ∷ [])  -- from v128.load8_lane to v128.store64_lane
+    ∷ (0xfd005c, 2, Memarg ∷ [])  -- v128.load32_zero, v128.load64_zero
+    ∷ (0xfd005e, 60, [])  -- from f32x4.demote_f64x2_zero to i16x8.max_u
+    ∷ (0xfd009b, 7, [])  -- from i16x8.avgr_u to i32x4.neg
+    ∷ (0xfd00a3, 2, [])  -- i32x4.all_true, i32x4.bitmask
+    ∷ (0xfd00a7, 8, [])  -- from i32x4.extend_low_i16x8_s to i32x4.add
+    ∷ (0xfd00b1, 1, [])  -- i32x4.sub
+    ∷ (0xfd00b5, 6, [])  -- from i32x4.mul to i32x4.dot_i16x8_s
+    ∷ (0xfd00bc, 6, [])  -- from i32x4.extmul_low_i16x8_s to i64x2.neg
+    ∷ (0xfd00c3, 2, [])  -- i64x2.all_true, i64x2.bitmask
+    ∷ (0xfd00c7, 8, [])  -- from i64x2.extend_low_i32x4_s to i64x2.add
+    ∷ (0xfd00d1, 1, [])  -- i64x2.sub
+    ∷ (0xfd00d5, 13, [])  -- from i64x2.mul to f32x4.neg
+    ∷ (0xfd00e3, 11, [])  -- from f32x4.sqrt to f64x2.neg
+    ∷ (0xfd00ef, 37, [])  -- from f64x2.sqrt to i32x4.relaxed_dot_i8x16_i7x16_add_s
+    ∷ (0xfe0000, 3, Memarg ∷ [])  -- from memory.atomic.notify to memory.atomic.wait64
+    ∷ (0xfe0003, 1, Order ∷ [])  -- atomic.fence
+    ∷ (0xfe0010, 63, Memarg ∷ [])  -- from i32.atomic.load to i64.atomic.rmw32.cmpxchg_u
     ∷ []
     )
 

@@ -1,6 +1,6 @@
 //! Block types, and the clauses of a block that catches exceptions.
 
-ghost use Rattle.std.specs.Prelude.{◌≡◌, true};
+ghost use Rattle.std.specs.Prelude.{◌≡◌, true, false};
 ghost use Rattle.wasm_ops.specs.Control.{block_type, InRangeBlockType, is_covered_block_type, catch_clause, InRangeCatch};
 
 use crate::encode::Encode;
@@ -79,6 +79,15 @@ pub enum Catch {
     },
 }
 
+impl Catch {
+    /// Whether the encoder covers it. It covers each one.
+    pub fn is_covered(&self) -> bool
+        ensures { result ≡ true }
+    {
+        true // since no clause is a form that is not covered
+    }
+}
+
 /// A byte for each of the four forms, the tag where there is one, and the label.
 impl Encode for Catch {
     ghost spelling = { catch_clause };
@@ -94,5 +103,31 @@ impl Encode for Catch {
             Catch::All { label } => (0x02u8, label).encode(out),
             Catch::AllRef { label } => (0x03u8, label).encode(out),
         }
+    }
+}
+
+/// What a handler of a resumption does with what is suspended (binary format, control instructions).
+#[derive(Clone, Copy, Debug, PartialEq, Eq)]
+pub enum Handle {
+    /// It branches to a label.
+    OnLabel {
+        /// The index of the tag.
+        tag: u32,
+        /// The label.
+        label: u32,
+    },
+    /// It switches to another continuation.
+    OnSwitch {
+        /// The index of the tag.
+        tag: u32,
+    },
+}
+
+impl Handle {
+    /// Whether the encoder covers it. It covers none.
+    pub fn is_covered(&self) -> bool
+        ensures { result ≡ false }
+    {
+        false // since each is a form that is not covered
     }
 }

@@ -3,30 +3,34 @@
 ghost use Rattle.std.specs.List.{list_all};
 ghost use Rattle.std.specs.Option.{option_map, option_to_list};
 ghost use Rattle.std.specs.Prelude.{◌≡◌, true, IsTrue};
+ghost use Rattle.wasm_ops.specs.CastInstrs.{cast_instr, br_cast_instr, fence_instr};
 ghost use Rattle.wasm_ops.specs.ConstantInstrs.{i32_const_instr, i64_const_instr, f32_const_instr, f64_const_instr, ref_null_instr};
 ghost use Rattle.wasm_ops.specs.Control.{is_covered_block_type};
 ghost use Rattle.wasm_ops.specs.ControlInstrs.{block_instr, delimiter_instr, br_table_instr, try_table_instr};
-ghost use Rattle.wasm_ops.specs.Covered.{is_covered_heap_type, is_covered_val_type};
+ghost use Rattle.wasm_ops.specs.Covered.{is_covered_heap_type, is_covered_ref_type, is_covered_val_type};
 ghost use Rattle.wasm_ops.specs.IndexInstrs.{index_instr, index_pair_instr};
-ghost use Rattle.wasm_ops.specs.Memargs.{is_aligned};
+ghost use Rattle.wasm_ops.specs.Memargs.{is_aligned, is_covered_memarg, is_covered_ordering};
 ghost use Rattle.wasm_ops.specs.MemoryInstrs.{mem_instr};
 ghost use Rattle.wasm_ops.specs.PlainInstrs.{plain_instr};
 ghost use Rattle.wasm_ops.specs.SelectInstrs.{select_instr};
 ghost use Rattle.wasm_ops.specs.Sinks.{Puts};
 ghost use Rattle.wasm_ops.specs.Table.{instr, InRangeInstr, IsInstr};
+ghost use Rattle.wasm_ops.specs.VectorInstrs.{lanes_instr, lane_instr, mem_lane_instr};
 
 use crate::blocks::{BlockType, Catch};
+use crate::casts::{BrCastInstr, BrCastOp, CastInstr, CastOp, Fence};
 use crate::control::{BlockInstr, BlockOp, BrTable, Delimiter, TryTable};
 use crate::encode::{Counted, Encode, Itself};
 use crate::instrs::{
     F32Const, F64Const, I32Const, I64Const, IndexInstr, IndexOp, IndexPair, IndexPairOp, MemInstr,
     RefNull, Select,
 };
-use crate::memargs::MemArg;
-use crate::ref_types::HeapType;
+use crate::memargs::{MemArg, Ordering};
+use crate::ref_types::{HeapType, RefType};
 use crate::sink::{Refusal, Sink};
 use crate::types::ValType;
-use wast_base::{Error, MemOp, Plain};
+use crate::vectors::{LaneInstr, LanesInstr, LanesOp, MemLaneInstr};
+use wast_base::{Error, LaneOp, MemLaneOp, MemOp, Plain};
 
 /// The choice between two operands, with value types or without (binary format, parametric instructions).
 #[derive(Clone, Copy)]
@@ -182,13 +186,14 @@ impl<'s, S: Sink> InstructionSink<'s, S> {
         Ok(IndexPair { op, first, second }.encode(self.out)?)
     }
 
-    /// Appends a load or a store: `i32.load offset=4` (binary format, memory instructions). It needs an alignment whose
-    /// logarithm is below 64.
+    /// Appends an instruction with a memory argument: `i32.load offset=4` (binary format, memory instructions). It needs
+    /// an alignment whose logarithm is below 64, and a memory argument that is covered.
     ///
     /// It appends the spelling of that row of the table. The only error is the sink's refusal; then nothing was
     /// appended.
     pub fn mem<'e>(&mut self, op: MemOp, memarg: MemArg) -> Result<(), Error<'e>>
-        requires { IsTrue (is_aligned memarg) }
+        requires aligned { IsTrue (is_aligned memarg) }
+        requires covered { IsTrue (is_covered_memarg memarg) }
         ensures appended { Puts S.rules (IsInstr (mem_instr op memarg)) self.old.out.now self.new.out.now
             (instr (mem_instr op memarg)) result }
         ensures same { self.new.out.ghost_name ≡ self.old.out.ghost_name }
@@ -235,6 +240,7 @@ impl<'s, S: Sink> InstructionSink<'s, S> {
     {
         Ok(TypedSelect(types).encode(self.out)?)
     }
+
     /// Appends an instruction that opens a block: `block (result i32)` (binary format, control instructions). It needs
     /// a covered type.
     ///
@@ -287,5 +293,99 @@ impl<'s, S: Sink> InstructionSink<'s, S> {
         ensures same { self.new.out.ghost_name ≡ self.old.out.ghost_name }
     {
         Ok(CatchTable(ty, catches).encode(self.out)?)
+    }
+
+    /// Appends an instruction with sixteen bytes: those of a vector, the lowest first, of `v128.const`, and the numbers of
+    /// lanes of `i8x16.shuffle` (binary format, vector instructions).
+    ///
+    /// It appends the spelling of that row of the table. The only error is the sink's refusal; then nothing was
+    /// appended.
+    pub fn lanes<'e>(&mut self, op: LanesOp, lanes: [u8; 16]) -> Result<(), Error<'e>>
+        ensures appended { Puts S.rules (IsInstr (lanes_instr op lanes)) self.old.out.now self.new.out.now
+            (instr (lanes_instr op lanes)) result }
+        ensures same { self.new.out.ghost_name ≡ self.old.out.ghost_name }
+    {
+        Ok(LanesInstr { op, lanes }.encode(self.out)?)
+    }
+
+    /// Appends an instruction with the number of a lane: `i8x16.extract_lane_s 3` (binary format, vector instructions).
+    ///
+    /// It appends the spelling of that row of the table. The only error is the sink's refusal; then nothing was
+    /// appended.
+    pub fn lane<'e>(&mut self, op: LaneOp, lane: u8) -> Result<(), Error<'e>>
+        ensures appended { Puts S.rules (IsInstr (lane_instr op lane)) self.old.out.now self.new.out.now
+            (instr (lane_instr op lane)) result }
+        ensures same { self.new.out.ghost_name ≡ self.old.out.ghost_name }
+    {
+        Ok(LaneInstr { op, lane }.encode(self.out)?)
+    }
+
+    /// Appends a load or a store of a lane: `v128.load8_lane offset=4 3` (binary format, vector instructions). It needs an
+    /// alignment whose logarithm is below 64, and a memory argument that is covered.
+    ///
+    /// It appends the spelling of that row of the table. The only error is the sink's refusal; then nothing was
+    /// appended.
+    pub fn mem_lane<'e>(&mut self, op: MemLaneOp, memarg: MemArg, lane: u8) -> Result<(), Error<'e>>
+        requires aligned { IsTrue (is_aligned memarg) }
+        requires covered { IsTrue (is_covered_memarg memarg) }
+        ensures appended { Puts S.rules (IsInstr (mem_lane_instr op memarg lane)) self.old.out.now self.new.out.now
+            (instr (mem_lane_instr op memarg lane)) result }
+        ensures same { self.new.out.ghost_name ≡ self.old.out.ghost_name }
+    {
+        Ok(MemLaneInstr { op, memarg, lane }.encode(self.out)?)
+    }
+
+    /// Appends a test or a cast of a reference: `ref.test (ref i31)` (binary format, reference instructions). It needs a
+    /// covered type.
+    ///
+    /// It appends the spelling of that row of the table. The only error is the sink's refusal; then nothing was
+    /// appended.
+    pub fn cast<'e>(&mut self, op: CastOp, ty: RefType) -> Result<(), Error<'e>>
+        requires { IsTrue (is_covered_ref_type ty) }
+        ensures appended { Puts S.rules (IsInstr (cast_instr op ty)) self.old.out.now self.new.out.now
+            (instr (cast_instr op ty)) result }
+        ensures same { self.new.out.ghost_name ≡ self.old.out.ghost_name }
+    {
+        Ok(CastInstr { op, ty }.encode(self.out)?)
+    }
+
+    /// Appends a branch on a cast from one type to another: `br_on_cast 0 anyref (ref i31)` (binary format, control
+    /// instructions). It needs covered types.
+    ///
+    /// It appends the spelling of that row of the table. The only error is the sink's refusal; then nothing was
+    /// appended.
+    pub fn br_cast<'e>(
+        &mut self,
+        op: BrCastOp,
+        label: u32,
+        from: RefType,
+        to: RefType,
+    ) -> Result<(), Error<'e>>
+        requires from { IsTrue (is_covered_ref_type from) }
+        requires to { IsTrue (is_covered_ref_type to) }
+        ensures appended { Puts S.rules (IsInstr (br_cast_instr op label from to)) self.old.out.now self.new.out.now
+            (instr (br_cast_instr op label from to)) result }
+        ensures same { self.new.out.ghost_name ≡ self.old.out.ghost_name }
+    {
+        Ok(BrCastInstr {
+            op,
+            label,
+            from,
+            to,
+        }
+        .encode(self.out)?)
+    }
+
+    /// Appends a fence: `atomic.fence` (binary format, atomic memory instructions). It needs an ordering that is covered.
+    ///
+    /// It appends the spelling of that row of the table. The only error is the sink's refusal; then nothing was
+    /// appended.
+    pub fn fence<'e>(&mut self, ordering: Ordering) -> Result<(), Error<'e>>
+        requires { IsTrue (is_covered_ordering ordering) }
+        ensures appended { Puts S.rules (IsInstr (fence_instr ordering)) self.old.out.now self.new.out.now
+            (instr (fence_instr ordering)) result }
+        ensures same { self.new.out.ghost_name ≡ self.old.out.ghost_name }
+    {
+        Ok(Fence(ordering).encode(self.out)?)
     }
 }

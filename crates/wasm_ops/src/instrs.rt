@@ -2,11 +2,11 @@
 
 ghost use Rattle.std.specs.List.{All, list_all};
 ghost use Rattle.std.specs.Option.{option_map, option_to_list};
-ghost use Rattle.std.specs.Prelude.{◌≡◌, true};
+ghost use Rattle.std.specs.Prelude.{◌≡◌, ◌&&◌, true};
 ghost use Rattle.wasm_ops.specs.ConstantInstrs.{i32_const_instr, i64_const_instr, f32_const_instr, f64_const_instr, ref_null_instr};
 ghost use Rattle.wasm_ops.specs.Covered.{is_covered_heap_type};
 ghost use Rattle.wasm_ops.specs.IndexInstrs.{index_key, index_instr, index_pair_key, index_pair_instr};
-ghost use Rattle.wasm_ops.specs.Memargs.{is_aligned};
+ghost use Rattle.wasm_ops.specs.Memargs.{is_aligned, is_covered_memarg};
 ghost use Rattle.wasm_ops.specs.MemoryInstrs.{mem_instr};
 ghost use Rattle.wasm_ops.specs.Opcodes.{opcode_of};
 ghost use Rattle.wasm_ops.specs.PlainInstrs.{plain_instr};
@@ -68,6 +68,24 @@ pub enum IndexOp {
     BrOnNull = 0xd5,
     /// `br_on_non_null`, to a label
     BrOnNonNull = 0xd6,
+    /// `struct.new`, of a type
+    StructNew = 0xfb0000,
+    /// `struct.new_default`, of a type
+    StructNewDefault,
+    /// `array.new`, of a type
+    ArrayNew = 0xfb0006,
+    /// `array.new_default`, of a type
+    ArrayNewDefault,
+    /// `array.get`, of a type
+    ArrayGet = 0xfb000b,
+    /// `array.get_s`, of a type
+    ArrayGetS,
+    /// `array.get_u`, of a type
+    ArrayGetU,
+    /// `array.set`, of a type
+    ArraySet,
+    /// `array.fill`, of a type
+    ArrayFill = 0xfb0010,
     /// `data.drop`
     DataDrop = 0xfc0009,
     /// `memory.fill`
@@ -112,13 +130,33 @@ impl Encode for IndexInstr {
     }
 }
 
-/// An instruction whose immediates are two indices (binary format, instructions). The number of a variant is its key.
+/// An instruction whose immediates are two indices, or an index and a length (binary format, instructions). The number of a variant is its key.
 #[derive(Clone, Copy, Debug, PartialEq, Eq)]
 pub enum IndexPairOp {
     /// `call_indirect`, of a type and a table
     CallIndirect = 0x11,
     /// `return_call_indirect`, of a type and a table
     ReturnCallIndirect = 0x13,
+    /// `struct.get`, of a type and a field
+    StructGet = 0xfb0002,
+    /// `struct.get_s`, of a type and a field
+    StructGetS,
+    /// `struct.get_u`, of a type and a field
+    StructGetU,
+    /// `struct.set`, of a type and a field
+    StructSet,
+    /// `array.new_fixed`, of a type and a length
+    ArrayNewFixed = 0xfb0008,
+    /// `array.new_data`, of a type and a data segment
+    ArrayNewData,
+    /// `array.new_elem`, of a type and an element segment
+    ArrayNewElem,
+    /// `array.copy`, of the type of the array that is written and that of the one that is read
+    ArrayCopy = 0xfb0011,
+    /// `array.init_data`, of a type and a data segment
+    ArrayInitData,
+    /// `array.init_elem`, of a type and an element segment
+    ArrayInitElem,
     /// `memory.init`, of a data segment and a memory
     MemoryInit = 0xfc0008,
     /// `memory.copy`, of the memory that is written and the one that is read
@@ -130,7 +168,7 @@ pub enum IndexPairOp {
 }
 
 impl IndexPairOp {
-    /// The opcode that stands before the indices (binary format, instructions).
+    /// The opcode that stands before the two (binary format, instructions).
     pub fn opcode(self) -> Opcode
         ensures { result ≡ opcode_of (index_pair_key self) }
     {
@@ -145,7 +183,7 @@ pub struct IndexPair {
     pub op: IndexPairOp,
     /// The index that is written first.
     pub first: u32,
-    /// The index behind it.
+    /// The index behind it, or the length.
     pub second: u32,
 }
 
@@ -244,7 +282,7 @@ impl Encode for F64Const {
     }
 }
 
-/// A load or a store: `i32.load offset=4` (binary format, memory instructions).
+/// An instruction with a memory argument: `i32.load offset=4` (binary format, memory instructions).
 #[derive(Clone, Copy, Debug, PartialEq, Eq)]
 pub struct MemInstr {
     /// Which instruction it is.
@@ -258,7 +296,7 @@ impl Encode for MemInstr {
 
     ghost in_range = { λ i. InRangeInstr (mem_instr i.op i.memarg) };
 
-    ghost is_ready = { λ i. is_aligned i.memarg };
+    ghost is_ready = { λ i. is_aligned i.memarg && is_covered_memarg i.memarg };
 
     fn encode<S: Sink>(&self, out: &mut S) -> Result<(), Refusal> {
         (mem_opcode(self.op), self.memarg).encode(out)

@@ -2,6 +2,7 @@
 #![tactic(auto)]
 
 mod blocks;
+mod casts;
 mod const_exprs;
 mod control;
 mod encode;
@@ -16,8 +17,10 @@ mod ref_types;
 mod room;
 mod sink;
 mod types;
+mod vectors;
 
-pub use blocks::{BlockType, Catch};
+pub use blocks::{BlockType, Catch, Handle};
+pub use casts::{BrCastInstr, BrCastOp, CastInstr, CastOp, Fence};
 pub use const_exprs::ConstExpr;
 pub use control::{BlockInstr, BlockOp, BrTable, Delimiter, TryTable};
 pub use encode::{
@@ -31,12 +34,13 @@ pub use instrs::{
 };
 pub use laws::{instruction_law, signed_law, type_spelling_law, unsigned_law};
 pub use leb128::{width, write_s32, write_s33, write_s64, write_u32, write_u64};
-pub use memargs::{MemArg, MemArgTarget};
+pub use memargs::{MemArg, MemArgOrdering, MemArgTarget, Ordering};
 pub use opcodes::Opcode;
 pub use ref_types::{AbstractHeapType, HeapType, RefType};
 pub use room::Room;
 pub use sink::{Length, Refusal, Sink};
 pub use types::{
-    ArrayType, CompositeInnerType, CompositeType, ExportKind, FieldType, FuncType, StorageType,
-    StructType, SubType, ValType,
+    ArrayType, CompositeInnerType, CompositeType, ContType, ExportKind, FieldType, FuncType,
+    StorageType, StructType, SubType, ValType,
 };
+pub use vectors::{LaneInstr, LanesInstr, LanesOp, MemLaneInstr};

@@ -1,25 +1,92 @@
-//! Memory arguments.
+//! Memory arguments, and the orders in which memory is accessed.
 
-ghost use Rattle.std.specs.Prelude.{◌≡◌};
-ghost use Rattle.wasm_ops.specs.Memargs.{memory_of, memarg, is_aligned, InRangeMemArg};
+ghost use Rattle.std.specs.Prelude.{◌≡◌, ◌&&◌, ◌∷◌, []};
+ghost use Rattle.wasm_ops.specs.Spelling.{Any};
+ghost use Rattle.wasm_ops.specs.Memargs.{ordering_byte, is_covered_ordering, is_covered_memarg_ordering, index_of, is_covered_target, memarg, is_aligned, is_covered_memarg, InRangeMemArg};
 
 use crate::encode::Encode;
 use crate::sink::{Refusal, Sink};
+
+/// In which order accesses to memory are seen (binary format, atomic memory instructions).
+#[derive(Clone, Copy, Debug, PartialEq, Eq)]
+pub enum Ordering {
+    /// All see one order.
+    SeqCst,
+    /// What was written before a write is seen after a read of it.
+    AcqRel,
+}
+
+impl Ordering {
+    /// Whether the encoder covers it: it is sequentially consistent.
+    pub fn is_covered(self) -> bool
+        ensures { result ≡ is_covered_ordering self }
+    {
+        match self {
+            Ordering::SeqCst => true,
+            Ordering::AcqRel => false,
+        }
+    }
+}
+
+/// A byte.
+impl Encode for Ordering {
+    ghost spelling = { λ o. ordering_byte o ∷ [] };
+
+    ghost in_range = { Any };
+
+    ghost is_ready = { is_covered_ordering };
+
+    fn encode<S: Sink>(&self, out: &mut S) -> Result<(), Refusal> {
+        (*self as u8).encode(out)
+    }
+}
+
+/// An ordering that is written on a memory argument (binary format, atomic memory instructions).
+#[derive(Clone, Copy, Debug, PartialEq, Eq)]
+pub enum MemArgOrdering {
+    /// Of a load or a store.
+    Op(Ordering),
+    /// Of what reads and writes at once.
+    Rmw(Ordering),
+}
+
+impl MemArgOrdering {
+    /// Whether the encoder covers it. It covers none.
+    pub fn is_covered(self) -> bool
+        ensures { result ≡ is_covered_memarg_ordering self }
+    {
+        false // since each is a form that is not covered
+    }
+}
 
 /// Where an access goes (binary format, memory instructions).
 #[derive(Clone, Copy, Debug, PartialEq, Eq)]
 pub enum MemArgTarget {
     /// The memory at an index.
     Memory(u32),
+    /// An array of the type at an index.
+    Array(u32),
 }
 
 impl MemArgTarget {
-    /// The index of the memory.
-    fn memory(self) -> u32
-        ensures { result ≡ memory_of self }
+    /// Whether the encoder covers it: it is a memory.
+    pub fn is_covered(self) -> bool
+        ensures { result ≡ is_covered_target self }
     {
-        let MemArgTarget::Memory(index) = self;
-        index
+        match self {
+            MemArgTarget::Memory(_) => true,
+            MemArgTarget::Array(_) => false,
+        }
+    }
+
+    /// The index of the memory, or that of the type.
+    fn index(self) -> u32
+        ensures { result ≡ index_of self }
+    {
+        match self {
+            MemArgTarget::Memory(index) => index,
+            MemArgTarget::Array(index) => index,
+        }
     }
 }
 
@@ -32,6 +99,8 @@ pub struct MemArg {
     pub target: MemArgTarget,
     /// What is added to the address.
     pub offset: u64,
+    /// The ordering that is written on it.
+    pub ordering: Option<MemArgOrdering>,
 }
 
 impl MemArg {
@@ -41,6 +110,13 @@ impl MemArg {
     {
         self.align < 64
     }
+
+    /// Whether the encoder covers it: it is of a memory, and no ordering is written on it.
+    pub fn is_covered(&self) -> bool
+        ensures { result ≡ is_covered_memarg self.now }
+    {
+        self.target.is_covered() && self.ordering.is_none()
+    }
 }
 
 /// The first memory is not named; the index of another is told by 64 more than the logarithm of the alignment.
@@ -49,10 +125,10 @@ impl Encode for MemArg {
 
     ghost in_range = { InRangeMemArg };
 
-    ghost is_ready = { is_aligned };
+    ghost is_ready = { λ m. is_aligned m && is_covered_memarg m };
 
     fn encode<S: Sink>(&self, out: &mut S) -> Result<(), Refusal> {
-        let memory = self.target.memory();
+        let memory = self.target.index();
         if memory == 0 {
             return (self.align, self.offset).encode(out);
         }

@@ -1,12 +1,12 @@
 //! What stands before the immediates of an instruction.
 
 ghost use Rattle.std.specs.Prelude.{◌≡◌, ◌<◌, true};
-ghost use Rattle.wasm_ops.specs.Keys.{plain_key, mem_key};
+ghost use Rattle.wasm_ops.specs.Keys.{plain_key, mem_key, lane_key, mem_lane_key};
 ghost use Rattle.wasm_ops.specs.Opcodes.{opcode_of, opcode_bytes, InRangeOpcode};
 
 use crate::encode::Encode;
 use crate::sink::{Refusal, Sink};
-use wast_base::{MemOp, Plain};
+use wast_base::{LaneOp, MemLaneOp, MemOp, Plain};
 
 /// What tells which instruction follows (binary format, instructions).
 #[derive(Clone, Copy, Debug, PartialEq, Eq)]
@@ -57,6 +57,17 @@ fn plain_key(op: &Plain) -> u32
         Plain::F32(op) => *op as u32,
         Plain::F64(op) => *op as u32,
         Plain::Ref(op) => *op as u32,
+        Plain::Array(op) => *op as u32,
+        Plain::Any(op) => *op as u32,
+        Plain::Extern(op) => *op as u32,
+        Plain::I31(op) => *op as u32,
+        Plain::I8x16(op) => *op as u32,
+        Plain::I16x8(op) => *op as u32,
+        Plain::I32x4(op) => *op as u32,
+        Plain::I64x2(op) => *op as u32,
+        Plain::F32x4(op) => *op as u32,
+        Plain::F64x2(op) => *op as u32,
+        Plain::V128(op) => *op as u32,
     }
 }
 
@@ -67,9 +78,23 @@ pub(crate) fn plain_opcode(op: &Plain) -> Opcode
     Opcode::of(plain_key(op))
 }
 
-/// The opcode of a load or a store.
+/// The opcode of an instruction with a memory argument.
 pub(crate) fn mem_opcode(op: MemOp) -> Opcode
     ensures { result ≡ opcode_of (mem_key op) }
+{
+    Opcode::of(op as u32)
+}
+
+/// The opcode of an instruction on a lane.
+pub(crate) fn lane_opcode(op: LaneOp) -> Opcode
+    ensures { result ≡ opcode_of (lane_key op) }
+{
+    Opcode::of(op as u32)
+}
+
+/// The opcode of a load or a store of a lane.
+pub(crate) fn mem_lane_opcode(op: MemLaneOp) -> Opcode
+    ensures { result ≡ opcode_of (mem_lane_key op) }
 {
     Opcode::of(op as u32)
 }

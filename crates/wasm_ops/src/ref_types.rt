@@ -1,7 +1,7 @@
 //! Reference types, and the heap types that they refer to.
 
 ghost use Rattle.std.specs.Prelude.{◌≡◌, true};
-ghost use Rattle.wasm_ops.specs.Covered.{is_covered_heap_type, is_covered_ref_type};
+ghost use Rattle.wasm_ops.specs.Covered.{is_covered_abstract_heap_type, is_covered_heap_type, is_covered_ref_type};
 ghost use Rattle.wasm_ops.specs.Spelling.{heap_type, InRangeHeapType, is_short, ref_type, InRangeRefType};
 
 use crate::encode::Encode;
@@ -35,14 +35,21 @@ pub enum AbstractHeapType {
     None = 0x71,
     /// `i31`
     I31 = 0x6c,
+    /// `cont`
+    Cont = 0x68,
+    /// `nocont`
+    NoCont = 0x75,
 }
 
 impl AbstractHeapType {
-    /// Whether the encoder covers it. It covers each one.
+    /// Whether the encoder covers it: it is not `cont` or `nocont`.
     pub fn is_covered(self) -> bool
-        ensures { result ≡ true }
+        ensures { result ≡ is_covered_abstract_heap_type self }
     {
-        true // since no abstract heap type is a form that is not covered
+        match self {
+            AbstractHeapType::Cont | AbstractHeapType::NoCont => false,
+            _ => true,
+        }
     }
 }
 
@@ -63,12 +70,12 @@ pub enum HeapType {
 }
 
 impl HeapType {
-    /// Whether the encoder covers it: it is not shared and not exact.
+    /// Whether the encoder covers it: it is not shared, not exact, and none of continuations.
     pub fn is_covered(&self) -> bool
         ensures { result ≡ is_covered_heap_type self.now }
     {
         match self {
-            HeapType::Abstract { shared, .. } => !*shared,
+            HeapType::Abstract { shared, ty } => !*shared && ty.is_covered(),
             HeapType::Concrete(_) => true,
             HeapType::Exact(_) => false,
         }
@@ -117,7 +124,7 @@ pub struct RefType {
 }
 
 impl RefType {
-    /// Whether the encoder covers it: its heap type is not shared and not exact.
+    /// Whether the encoder covers it: it covers its heap type.
     pub fn is_covered(&self) -> bool
         ensures { result ≡ is_covered_ref_type self.now }
     {

@@ -1,6 +1,6 @@
 //! Types of the binary format, and the kinds of what a module exports.
 
-ghost use Rattle.std.specs.Prelude.{◌≡◌, true};
+ghost use Rattle.std.specs.Prelude.{◌≡◌, true, false};
 ghost use Rattle.std.specs.List.{list_all};
 ghost use Rattle.wasm_ops.specs.Covered.{is_covered_val_type, is_covered_storage_type, is_covered_field_type, is_covered_func_type, is_covered_struct_type, is_covered_array_type, is_covered_composite_inner_type, is_covered_composite_type, is_covered_sub_type};
 ghost use Rattle.wasm_ops.specs.Spelling.{Any, val_type, InRangeValType, storage_type, InRangeStorageType, field_type, InRangeFieldType, export_kind, func_type, InRangeFuncType, struct_type, InRangeStructType, array_type, InRangeArrayType, composite_inner_type, InRangeCompositeInnerType, composite_type, InRangeCompositeType, sub_type, InRangeSubType};
@@ -28,8 +28,7 @@ pub enum ValType {
 }
 
 impl ValType {
-    /// Whether the encoder covers it: it is a number, a vector, or a reference whose heap type is not shared and not
-    /// exact.
+    /// Whether the encoder covers it: it is a number, a vector, or a reference whose heap type it covers.
     pub fn is_covered(&self) -> bool
         ensures { result ≡ is_covered_val_type self.now }
     {
@@ -260,6 +259,19 @@ impl Encode for ArrayType {
     }
 }
 
+/// A continuation type, by the index of its function type (binary format, composite types).
+#[derive(Clone, Copy, Debug, PartialEq, Eq, Hash)]
+pub struct ContType(pub u32);
+
+impl ContType {
+    /// Whether the encoder covers it. It covers none.
+    pub fn is_covered(&self) -> bool
+        ensures { result ≡ false }
+    {
+        false // since each is a form that is not covered
+    }
+}
+
 /// What a composite type is made of (binary format, composite types).
 #[derive(Debug, Drop)]
 pub enum CompositeInnerType {
@@ -269,6 +281,8 @@ pub enum CompositeInnerType {
     Struct(StructType),
     /// An array type.
     Array(ArrayType),
+    /// A continuation type.
+    Cont(ContType),
 }
 
 impl CompositeInnerType {
@@ -280,6 +294,7 @@ impl CompositeInnerType {
             CompositeInnerType::Func(ty) => ty.is_covered(),
             CompositeInnerType::Struct(ty) => ty.is_covered(),
             CompositeInnerType::Array(ty) => ty.is_covered(),
+            CompositeInnerType::Cont(ty) => ty.is_covered(),
         }
     }
 }
@@ -296,6 +311,7 @@ impl Encode for CompositeInnerType {
             CompositeInnerType::Func(ty) => ty.encode(out),
             CompositeInnerType::Struct(ty) => ty.encode(out),
             CompositeInnerType::Array(ty) => ty.encode(out),
+            CompositeInnerType::Cont(_) => unreachable!(),
         }
     }
 }

@@ -50,8 +50,8 @@ type_entry_code = record { begins = type_begins }
     type_begins (Group x) (Group y) r s p q e =
         let one = (after_byte 0x4e types_code).begins x y r s (spellable_vec is_covered_sub_type InRangeSubType x p.covered p.in_range) (spellable_vec is_covered_sub_type InRangeSubType y q.covered q.in_range) e in
         (ap Group one.0, one.1)
-    type_begins (Single x) (Group y) r s p q e = absurd (omega (arith, sub_front x r, ap front e))
-    type_begins (Group x) (Single y) r s p q e = absurd (omega (arith, sub_front y s, ap front e))
+    type_begins (Single x) (Group y) r s p q e = absurd (omega (arith, sub_front x r p.covered, ap front e))
+    type_begins (Group x) (Single y) r s p q e = absurd (omega (arith, sub_front y s q.covered, ap front e))
 
 import_entry_code : IsCode ImportEntry (IsSpellable Imports) import_entry
 import_entry_code = code_within (λ i p. (p.in_range.0, (p.in_range.1.0, (p.covered, p.in_range.1.1)))) (code_by (λ (i : ImportEntry). (i.«module», (i.name, i.entity))) (λ p. record { «module» = p.0; name = p.1.0; entity = p.1.1 }) (λ i. refl) (pair_code name_code (pair_code name_code entity_type_code)))

@@ -26,7 +26,7 @@ use Rattle.wasm_ops.specs.Turns.{are_balanced}
 use Rattle.wasm_out.specs.Bodies.{Body, content}
 
 abbrev accessed : ℕ → ℕ → ℕ → MemArg
-accessed align memory offset = record { align = align; target = Memory memory; offset = offset }
+accessed align memory offset = record { align = align; target = Memory memory; offset = offset; ordering = None }
 
 -- i32.add, i64.trunc_sat_f64_u; global.set 1, table.grow 2; memory.copy 1 2; (i64.const -1); (f32.const 1), (f64.const 1); select, (select (result i32)); (i32.load 1 offset=4 align=4), (i64.store8 offset=300); local.tee 128, br_on_non_null 3; block (result i32), loop (type 64); else, delegate 0; br_table 1 2 0; try_table (catch 1 2) (catch_ref 3 4) (catch_all 5) (catch_all_ref 6)
 abbrev pub worked_instrs : List Instr

@@ -1,24 +1,16 @@
 //! The bytes of instructions, by their kinds of immediates.
 
+ghost use Rattle.std.specs.Prelude.{IsTrue};
+ghost use Rattle.wasm_ops.specs.Covered.{is_covered_heap_type, is_covered_ref_type};
+
 use std::alloc::Global;
 use std::process::Abort;
 use wasm_ops::{
-    BlockOp, BlockType, Catch, Delimiter, IndexOp, IndexPairOp, InstructionSink, MemArg,
-    MemArgTarget, Room, Sink, ValType,
+    AbstractHeapType, BlockOp, BlockType, BrCastOp, CastOp, Catch, Delimiter, HeapType, IndexOp,
+    IndexPairOp, InstructionSink, LanesOp, MemArg, MemArgTarget, Ordering, RefType, Room, Sink,
+    ValType,
 };
-use wast_base::{BareOp, Error, F32Op, F64Op, I32Op, I64Op, MemOp, Plain, RefOp};
-
-/// Each instruction without immediates has its bytes.
-fn plain_rows(rt: &impl Abort, alloc: Global, rows: &[(Plain, &[u8])]) {
-    for (op, bytes) in rows {
-        let mut out = Vec::new(alloc);
-        assert!(rt;
-            InstructionSink::new(&mut out).plain(*op).is_ok(),
-            "for {bytes:?}"
-        );
-        assert!(rt; out.as_slice() == *bytes, "for {bytes:?}");
-    }
-}
+use wast_base::{Error, MemOp};
 
 /// Each instruction with an index has its bytes.
 fn index_rows(rt: &impl Abort, alloc: Global, rows: &[(IndexOp, u32, &[u8])]) {
@@ -36,7 +28,7 @@ fn index_rows(rt: &impl Abort, alloc: Global, rows: &[(IndexOp, u32, &[u8])]) {
 fn access_rows(rt: &impl Abort, alloc: Global, rows: &[(MemOp, MemArg, &[u8])]) {
     for (op, memarg, bytes) in rows {
         let mut out = Vec::new(alloc);
-        assert!(rt; memarg.is_aligned(), "for {bytes:?}");
+        assert!(rt; memarg.is_aligned() && memarg.is_covered(), "for {bytes:?}");
         assert!(rt;
             InstructionSink::new(&mut out).mem(*op, *memarg).is_ok(),
             "for {bytes:?}"
@@ -51,6 +43,7 @@ fn access(align: u32, memory: u32, offset: u64) -> MemArg {
         align,
         target: MemArgTarget::Memory(memory),
         offset,
+        ordering: None,
     }
 }
 
@@ -90,63 +83,35 @@ fn write_control<'e>(out: &mut Vec<u8>) -> Result<(), Error<'e>> {
     sink.delimiter(Delimiter::End)
 }
 
-#[test]
-fn plain_instructions_have_their_bytes(rt: HostRuntime) {
-    plain_rows(
-        &rt,
-        rt.alloc(),
-        &[
-            (Plain::Bare(BareOp::unreachable), &[0x00]),
-            (Plain::Bare(BareOp::nop), &[0x01]),
-            (Plain::Bare(BareOp::throw_ref), &[0x0a]),
-            (Plain::Bare(BareOp::return_), &[0x0f]),
-            (Plain::Bare(BareOp::catch_all), &[0x19]),
-            (Plain::Bare(BareOp::drop), &[0x1a]),
-            (Plain::I32(I32Op::i32_eqz), &[0x45]),
-            (Plain::I32(I32Op::i32_ge_u), &[0x4f]),
-            (Plain::I32(I32Op::i32_clz), &[0x67]),
-            (Plain::I32(I32Op::i32_rotr), &[0x78]),
-            (Plain::I32(I32Op::i32_wrap_i64), &[0xa7]),
-            (Plain::I32(I32Op::i32_trunc_f64_u), &[0xab]),
-            (Plain::I32(I32Op::i32_reinterpret_f32), &[0xbc]),
-            (Plain::I32(I32Op::i32_extend16_s), &[0xc1]),
-            (Plain::Ref(RefOp::ref_is_null), &[0xd1]),
-            (Plain::Ref(RefOp::ref_eq), &[0xd3]),
-            (Plain::Ref(RefOp::ref_as_non_null), &[0xd4]),
-            (Plain::I32(I32Op::i32_trunc_sat_f32_s), &[0xfc, 0]),
-            (Plain::I32(I32Op::i32_trunc_sat_f64_u), &[0xfc, 3]),
-        ],
-    );
-    plain_rows(
-        &rt,
-        rt.alloc(),
-        &[
-            (Plain::I64(I64Op::i64_eqz), &[0x50]),
-            (Plain::I64(I64Op::i64_ge_u), &[0x5a]),
-            (Plain::F32(F32Op::f32_eq), &[0x5b]),
-            (Plain::F32(F32Op::f32_ge), &[0x60]),
-            (Plain::F64(F64Op::f64_eq), &[0x61]),
-            (Plain::F64(F64Op::f64_ge), &[0x66]),
-            (Plain::I64(I64Op::i64_clz), &[0x79]),
-            (Plain::I64(I64Op::i64_rotr), &[0x8a]),
-            (Plain::F32(F32Op::f32_abs), &[0x8b]),
-            (Plain::F32(F32Op::f32_copysign), &[0x98]),
-            (Plain::F64(F64Op::f64_abs), &[0x99]),
-            (Plain::F64(F64Op::f64_copysign), &[0xa6]),
-            (Plain::I64(I64Op::i64_extend_i32_s), &[0xac]),
-            (Plain::I64(I64Op::i64_trunc_f64_u), &[0xb1]),
-            (Plain::F32(F32Op::f32_convert_i32_s), &[0xb2]),
-            (Plain::F32(F32Op::f32_demote_f64), &[0xb6]),
-            (Plain::F64(F64Op::f64_convert_i32_s), &[0xb7]),
-            (Plain::F64(F64Op::f64_promote_f32), &[0xbb]),
-            (Plain::I64(I64Op::i64_reinterpret_f64), &[0xbd]),
-            (Plain::F32(F32Op::f32_reinterpret_i32), &[0xbe]),
-            (Plain::F64(F64Op::f64_reinterpret_i64), &[0xbf]),
-            (Plain::I64(I64Op::i64_extend32_s), &[0xc4]),
-            (Plain::I64(I64Op::i64_trunc_sat_f32_s), &[0xfc, 4]),
-            (Plain::I64(I64Op::i64_trunc_sat_f64_u), &[0xfc, 7]),
-        ],
-    );
+/// A reference to the type at an index, or to an abstract one.
+fn reference(nullable: bool, heap_type: HeapType) -> RefType
+    requires { IsTrue (is_covered_heap_type heap_type) }
+    ensures { IsTrue (is_covered_ref_type result) }
+{
+    RefType {
+        nullable,
+        heap_type,
+    }
+}
+
+/// Sixteen lanes, casts, branches on casts and a fence, one after another.
+fn write_lanes_and_casts<'e>(out: &mut Vec<u8>) -> Result<(), Error<'e>> {
+    let i31 = HeapType::Abstract {
+        shared: false,
+        ty: AbstractHeapType::I31,
+    };
+    let lanes = [0, 1, 2, 3, 4, 5, 6, 7, 8, 9, 10, 11, 12, 13, 14, 255];
+    let mut sink = InstructionSink::new(out);
+    sink.lanes(LanesOp::Const, lanes)?;
+    sink.lanes(LanesOp::Shuffle, lanes)?;
+    sink.cast(CastOp::Test, reference(false, i31))?;
+    sink.cast(CastOp::Test, reference(true, i31))?;
+    sink.cast(CastOp::Cast, reference(false, i31))?;
+    sink.cast(CastOp::Cast, reference(true, HeapType::Concrete(64)))?;
+    let target = reference(true, HeapType::Concrete(3));
+    sink.br_cast(BrCastOp::Succeeds, 128, reference(false, i31), target)?;
+    sink.br_cast(BrCastOp::Fails, 1, target, reference(false, i31))?;
+    sink.fence(Ordering::SeqCst)
 }
 
 #[test]
@@ -232,6 +197,15 @@ fn instructions_with_immediates_have_their_bytes(rt: HostRuntime) {
         0x40, 4, 0, 1, 2, 1, 3, 4, 2, 5, 3, 6, 0x0b,
     ];
     assert!(rt; control.as_slice() == expected.as_slice());
+    let mut casts = Vec::new(rt.alloc());
+    assert!(rt; write_lanes_and_casts(&mut casts).is_ok());
+    let expected = [
+        0xfd, 12, 0, 1, 2, 3, 4, 5, 6, 7, 8, 9, 10, 11, 12, 13, 14, 255, 0xfd, 13, 0, 1, 2, 3, 4,
+        5, 6, 7, 8, 9, 10, 11, 12, 13, 14, 255, 0xfb, 20, 0x6c, 0xfb, 21, 0x6c, 0xfb, 22, 0x6c,
+        0xfb, 23, 0xc0, 0x00, 0xfb, 24, 2, 0x80, 0x01, 0x6c, 3, 0xfb, 25, 1, 1, 3, 0x6c, 0xfe, 3,
+        0,
+    ];
+    assert!(rt; casts.as_slice() == expected.as_slice());
     let mut room = Room::reserve(rt.alloc(), 3).expect(&rt, "memory");
     assert!(rt;
         InstructionSink::new(&mut room)

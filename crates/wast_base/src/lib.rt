@@ -8,6 +8,7 @@ mod boxed;
 mod faults;
 mod gensym;
 mod ids;
+mod lane_ops;
 mod mem_ops;
 mod plain;
 mod seq;
@@ -17,8 +18,12 @@ pub use boxed::Boxed;
 pub use faults::{Error, Fault, Form};
 pub use gensym::Gensym;
 pub use ids::{Id, Index, NameAnnotation, Span};
+pub use lane_ops::{LaneOp, MemLaneOp};
 pub use mem_ops::MemOp;
-pub use plain::{BareOp, F32Op, F64Op, I32Op, I64Op, Plain, RefOp};
+pub use plain::{
+    AnyOp, ArrayOp, BareOp, ExternOp, F32Op, F32x4Op, F64Op, F64x2Op, I8x16Op, I16x8Op, I31Op,
+    I32Op, I32x4Op, I64Op, I64x2Op, Plain, RefOp, V128Op,
+};
 pub use seq::{IntoIter, Seq};
 pub use spaces::Space;
 

@@ -336,6 +336,542 @@ pub enum RefOp {
     ref_eq = 0xd3,
     /// `ref.as_non_null`
     ref_as_non_null,
+    /// `ref.i31`
+    ref_i31 = 0xfb001c,
+}
+
+/// An instruction without immediates whose text begins with `array` (text format, instructions).
+///
+/// The number of a variant is its key: its opcode, or 65536 times its prefix byte and the number behind that.
+#[allow(non_camel_case_types)]
+#[derive(Clone, Copy, Debug, PartialEq, Eq)]
+pub enum ArrayOp {
+    /// `array.len`
+    array_len = 0xfb000f,
+}
+
+/// An instruction without immediates whose text begins with `any` (text format, instructions).
+///
+/// The number of a variant is its key: its opcode, or 65536 times its prefix byte and the number behind that.
+#[allow(non_camel_case_types)]
+#[derive(Clone, Copy, Debug, PartialEq, Eq)]
+pub enum AnyOp {
+    /// `any.convert_extern`
+    any_convert_extern = 0xfb001a,
+}
+
+/// An instruction without immediates whose text begins with `extern` (text format, instructions).
+///
+/// The number of a variant is its key: its opcode, or 65536 times its prefix byte and the number behind that.
+#[allow(non_camel_case_types)]
+#[derive(Clone, Copy, Debug, PartialEq, Eq)]
+pub enum ExternOp {
+    /// `extern.convert_any`
+    extern_convert_any = 0xfb001b,
+}
+
+/// An instruction without immediates whose text begins with `i31` (text format, instructions).
+///
+/// The number of a variant is its key: its opcode, or 65536 times its prefix byte and the number behind that.
+#[allow(non_camel_case_types)]
+#[derive(Clone, Copy, Debug, PartialEq, Eq)]
+pub enum I31Op {
+    /// `i31.get_s`
+    i31_get_s = 0xfb001d,
+    /// `i31.get_u`
+    i31_get_u,
+}
+
+/// An instruction without immediates whose text begins with `i8x16` (text format, instructions).
+///
+/// The number of a variant is its key: its opcode, or 65536 times its prefix byte and the number behind that.
+#[allow(non_camel_case_types)]
+#[derive(Clone, Copy, Debug, PartialEq, Eq)]
+pub enum I8x16Op {
+    /// `i8x16.swizzle`
+    i8x16_swizzle = 0xfd000e,
+    /// `i8x16.splat`
+    i8x16_splat,
+    /// `i8x16.eq`
+    i8x16_eq = 0xfd0023,
+    /// `i8x16.ne`
+    i8x16_ne,
+    /// `i8x16.lt_s`
+    i8x16_lt_s,
+    /// `i8x16.lt_u`
+    i8x16_lt_u,
+    /// `i8x16.gt_s`
+    i8x16_gt_s,
+    /// `i8x16.gt_u`
+    i8x16_gt_u,
+    /// `i8x16.le_s`
+    i8x16_le_s,
+    /// `i8x16.le_u`
+    i8x16_le_u,
+    /// `i8x16.ge_s`
+    i8x16_ge_s,
+    /// `i8x16.ge_u`
+    i8x16_ge_u,
+    /// `i8x16.abs`
+    i8x16_abs = 0xfd0060,
+    /// `i8x16.neg`
+    i8x16_neg,
+    /// `i8x16.popcnt`
+    i8x16_popcnt,
+    /// `i8x16.all_true`
+    i8x16_all_true,
+    /// `i8x16.bitmask`
+    i8x16_bitmask,
+    /// `i8x16.narrow_i16x8_s`
+    i8x16_narrow_i16x8_s,
+    /// `i8x16.narrow_i16x8_u`
+    i8x16_narrow_i16x8_u,
+    /// `i8x16.shl`
+    i8x16_shl = 0xfd006b,
+    /// `i8x16.shr_s`
+    i8x16_shr_s,
+    /// `i8x16.shr_u`
+    i8x16_shr_u,
+    /// `i8x16.add`
+    i8x16_add,
+    /// `i8x16.add_sat_s`
+    i8x16_add_sat_s,
+    /// `i8x16.add_sat_u`
+    i8x16_add_sat_u,
+    /// `i8x16.sub`
+    i8x16_sub,
+    /// `i8x16.sub_sat_s`
+    i8x16_sub_sat_s,
+    /// `i8x16.sub_sat_u`
+    i8x16_sub_sat_u,
+    /// `i8x16.min_s`
+    i8x16_min_s = 0xfd0076,
+    /// `i8x16.min_u`
+    i8x16_min_u,
+    /// `i8x16.max_s`
+    i8x16_max_s,
+    /// `i8x16.max_u`
+    i8x16_max_u,
+    /// `i8x16.avgr_u`
+    i8x16_avgr_u = 0xfd007b,
+    /// `i8x16.relaxed_swizzle`
+    i8x16_relaxed_swizzle = 0xfd0100,
+    /// `i8x16.relaxed_laneselect`
+    i8x16_relaxed_laneselect = 0xfd0109,
+}
+
+/// An instruction without immediates whose text begins with `i16x8` (text format, instructions).
+///
+/// The number of a variant is its key: its opcode, or 65536 times its prefix byte and the number behind that.
+#[allow(non_camel_case_types)]
+#[derive(Clone, Copy, Debug, PartialEq, Eq)]
+pub enum I16x8Op {
+    /// `i16x8.splat`
+    i16x8_splat = 0xfd0010,
+    /// `i16x8.eq`
+    i16x8_eq = 0xfd002d,
+    /// `i16x8.ne`
+    i16x8_ne,
+    /// `i16x8.lt_s`
+    i16x8_lt_s,
+    /// `i16x8.lt_u`
+    i16x8_lt_u,
+    /// `i16x8.gt_s`
+    i16x8_gt_s,
+    /// `i16x8.gt_u`
+    i16x8_gt_u,
+    /// `i16x8.le_s`
+    i16x8_le_s,
+    /// `i16x8.le_u`
+    i16x8_le_u,
+    /// `i16x8.ge_s`
+    i16x8_ge_s,
+    /// `i16x8.ge_u`
+    i16x8_ge_u,
+    /// `i16x8.extadd_pairwise_i8x16_s`
+    i16x8_extadd_pairwise_i8x16_s = 0xfd007c,
+    /// `i16x8.extadd_pairwise_i8x16_u`
+    i16x8_extadd_pairwise_i8x16_u,
+    /// `i16x8.abs`
+    i16x8_abs = 0xfd0080,
+    /// `i16x8.neg`
+    i16x8_neg,
+    /// `i16x8.q15mulr_sat_s`
+    i16x8_q15mulr_sat_s,
+    /// `i16x8.all_true`
+    i16x8_all_true,
+    /// `i16x8.bitmask`
+    i16x8_bitmask,
+    /// `i16x8.narrow_i32x4_s`
+    i16x8_narrow_i32x4_s,
+    /// `i16x8.narrow_i32x4_u`
+    i16x8_narrow_i32x4_u,
+    /// `i16x8.extend_low_i8x16_s`
+    i16x8_extend_low_i8x16_s,
+    /// `i16x8.extend_high_i8x16_s`
+    i16x8_extend_high_i8x16_s,
+    /// `i16x8.extend_low_i8x16_u`
+    i16x8_extend_low_i8x16_u,
+    /// `i16x8.extend_high_i8x16_u`
+    i16x8_extend_high_i8x16_u,
+    /// `i16x8.shl`
+    i16x8_shl,
+    /// `i16x8.shr_s`
+    i16x8_shr_s,
+    /// `i16x8.shr_u`
+    i16x8_shr_u,
+    /// `i16x8.add`
+    i16x8_add,
+    /// `i16x8.add_sat_s`
+    i16x8_add_sat_s,
+    /// `i16x8.add_sat_u`
+    i16x8_add_sat_u,
+    /// `i16x8.sub`
+    i16x8_sub,
+    /// `i16x8.sub_sat_s`
+    i16x8_sub_sat_s,
+    /// `i16x8.sub_sat_u`
+    i16x8_sub_sat_u,
+    /// `i16x8.mul`
+    i16x8_mul = 0xfd0095,
+    /// `i16x8.min_s`
+    i16x8_min_s,
+    /// `i16x8.min_u`
+    i16x8_min_u,
+    /// `i16x8.max_s`
+    i16x8_max_s,
+    /// `i16x8.max_u`
+    i16x8_max_u,
+    /// `i16x8.avgr_u`
+    i16x8_avgr_u = 0xfd009b,
+    /// `i16x8.extmul_low_i8x16_s`
+    i16x8_extmul_low_i8x16_s,
+    /// `i16x8.extmul_high_i8x16_s`
+    i16x8_extmul_high_i8x16_s,
+    /// `i16x8.extmul_low_i8x16_u`
+    i16x8_extmul_low_i8x16_u,
+    /// `i16x8.extmul_high_i8x16_u`
+    i16x8_extmul_high_i8x16_u,
+    /// `i16x8.relaxed_laneselect`
+    i16x8_relaxed_laneselect = 0xfd010a,
+    /// `i16x8.relaxed_q15mulr_s`
+    i16x8_relaxed_q15mulr_s = 0xfd0111,
+    /// `i16x8.relaxed_dot_i8x16_i7x16_s`
+    i16x8_relaxed_dot_i8x16_i7x16_s,
+}
+
+/// An instruction without immediates whose text begins with `i32x4` (text format, instructions).
+///
+/// The number of a variant is its key: its opcode, or 65536 times its prefix byte and the number behind that.
+#[allow(non_camel_case_types)]
+#[derive(Clone, Copy, Debug, PartialEq, Eq)]
+pub enum I32x4Op {
+    /// `i32x4.splat`
+    i32x4_splat = 0xfd0011,
+    /// `i32x4.eq`
+    i32x4_eq = 0xfd0037,
+    /// `i32x4.ne`
+    i32x4_ne,
+    /// `i32x4.lt_s`
+    i32x4_lt_s,
+    /// `i32x4.lt_u`
+    i32x4_lt_u,
+    /// `i32x4.gt_s`
+    i32x4_gt_s,
+    /// `i32x4.gt_u`
+    i32x4_gt_u,
+    /// `i32x4.le_s`
+    i32x4_le_s,
+    /// `i32x4.le_u`
+    i32x4_le_u,
+    /// `i32x4.ge_s`
+    i32x4_ge_s,
+    /// `i32x4.ge_u`
+    i32x4_ge_u,
+    /// `i32x4.extadd_pairwise_i16x8_s`
+    i32x4_extadd_pairwise_i16x8_s = 0xfd007e,
+    /// `i32x4.extadd_pairwise_i16x8_u`
+    i32x4_extadd_pairwise_i16x8_u,
+    /// `i32x4.abs`
+    i32x4_abs = 0xfd00a0,
+    /// `i32x4.neg`
+    i32x4_neg,
+    /// `i32x4.all_true`
+    i32x4_all_true = 0xfd00a3,
+    /// `i32x4.bitmask`
+    i32x4_bitmask,
+    /// `i32x4.extend_low_i16x8_s`
+    i32x4_extend_low_i16x8_s = 0xfd00a7,
+    /// `i32x4.extend_high_i16x8_s`
+    i32x4_extend_high_i16x8_s,
+    /// `i32x4.extend_low_i16x8_u`
+    i32x4_extend_low_i16x8_u,
+    /// `i32x4.extend_high_i16x8_u`
+    i32x4_extend_high_i16x8_u,
+    /// `i32x4.shl`
+    i32x4_shl,
+    /// `i32x4.shr_s`
+    i32x4_shr_s,
+    /// `i32x4.shr_u`
+    i32x4_shr_u,
+    /// `i32x4.add`
+    i32x4_add,
+    /// `i32x4.sub`
+    i32x4_sub = 0xfd00b1,
+    /// `i32x4.mul`
+    i32x4_mul = 0xfd00b5,
+    /// `i32x4.min_s`
+    i32x4_min_s,
+    /// `i32x4.min_u`
+    i32x4_min_u,
+    /// `i32x4.max_s`
+    i32x4_max_s,
+    /// `i32x4.max_u`
+    i32x4_max_u,
+    /// `i32x4.dot_i16x8_s`
+    i32x4_dot_i16x8_s,
+    /// `i32x4.extmul_low_i16x8_s`
+    i32x4_extmul_low_i16x8_s = 0xfd00bc,
+    /// `i32x4.extmul_high_i16x8_s`
+    i32x4_extmul_high_i16x8_s,
+    /// `i32x4.extmul_low_i16x8_u`
+    i32x4_extmul_low_i16x8_u,
+    /// `i32x4.extmul_high_i16x8_u`
+    i32x4_extmul_high_i16x8_u,
+    /// `i32x4.trunc_sat_f32x4_s`
+    i32x4_trunc_sat_f32x4_s = 0xfd00f8,
+    /// `i32x4.trunc_sat_f32x4_u`
+    i32x4_trunc_sat_f32x4_u,
+    /// `i32x4.trunc_sat_f64x2_s_zero`
+    i32x4_trunc_sat_f64x2_s_zero = 0xfd00fc,
+    /// `i32x4.trunc_sat_f64x2_u_zero`
+    i32x4_trunc_sat_f64x2_u_zero,
+    /// `i32x4.relaxed_trunc_f32x4_s`
+    i32x4_relaxed_trunc_f32x4_s = 0xfd0101,
+    /// `i32x4.relaxed_trunc_f32x4_u`
+    i32x4_relaxed_trunc_f32x4_u,
+    /// `i32x4.relaxed_trunc_f64x2_s_zero`
+    i32x4_relaxed_trunc_f64x2_s_zero,
+    /// `i32x4.relaxed_trunc_f64x2_u_zero`
+    i32x4_relaxed_trunc_f64x2_u_zero,
+    /// `i32x4.relaxed_laneselect`
+    i32x4_relaxed_laneselect = 0xfd010b,
+    /// `i32x4.relaxed_dot_i8x16_i7x16_add_s`
+    i32x4_relaxed_dot_i8x16_i7x16_add_s = 0xfd0113,
+}
+
+/// An instruction without immediates whose text begins with `i64x2` (text format, instructions).
+///
+/// The number of a variant is its key: its opcode, or 65536 times its prefix byte and the number behind that.
+#[allow(non_camel_case_types)]
+#[derive(Clone, Copy, Debug, PartialEq, Eq)]
+pub enum I64x2Op {
+    /// `i64x2.splat`
+    i64x2_splat = 0xfd0012,
+    /// `i64x2.abs`
+    i64x2_abs = 0xfd00c0,
+    /// `i64x2.neg`
+    i64x2_neg,
+    /// `i64x2.all_true`
+    i64x2_all_true = 0xfd00c3,
+    /// `i64x2.bitmask`
+    i64x2_bitmask,
+    /// `i64x2.extend_low_i32x4_s`
+    i64x2_extend_low_i32x4_s = 0xfd00c7,
+    /// `i64x2.extend_high_i32x4_s`
+    i64x2_extend_high_i32x4_s,
+    /// `i64x2.extend_low_i32x4_u`
+    i64x2_extend_low_i32x4_u,
+    /// `i64x2.extend_high_i32x4_u`
+    i64x2_extend_high_i32x4_u,
+    /// `i64x2.shl`
+    i64x2_shl,
+    /// `i64x2.shr_s`
+    i64x2_shr_s,
+    /// `i64x2.shr_u`
+    i64x2_shr_u,
+    /// `i64x2.add`
+    i64x2_add,
+    /// `i64x2.sub`
+    i64x2_sub = 0xfd00d1,
+    /// `i64x2.mul`
+    i64x2_mul = 0xfd00d5,
+    /// `i64x2.eq`
+    i64x2_eq,
+    /// `i64x2.ne`
+    i64x2_ne,
+    /// `i64x2.lt_s`
+    i64x2_lt_s,
+    /// `i64x2.gt_s`
+    i64x2_gt_s,
+    /// `i64x2.le_s`
+    i64x2_le_s,
+    /// `i64x2.ge_s`
+    i64x2_ge_s,
+    /// `i64x2.extmul_low_i32x4_s`
+    i64x2_extmul_low_i32x4_s,
+    /// `i64x2.extmul_high_i32x4_s`
+    i64x2_extmul_high_i32x4_s,
+    /// `i64x2.extmul_low_i32x4_u`
+    i64x2_extmul_low_i32x4_u,
+    /// `i64x2.extmul_high_i32x4_u`
+    i64x2_extmul_high_i32x4_u,
+    /// `i64x2.relaxed_laneselect`
+    i64x2_relaxed_laneselect = 0xfd010c,
+}
+
+/// An instruction without immediates whose text begins with `f32x4` (text format, instructions).
+///
+/// The number of a variant is its key: its opcode, or 65536 times its prefix byte and the number behind that.
+#[allow(non_camel_case_types)]
+#[derive(Clone, Copy, Debug, PartialEq, Eq)]
+pub enum F32x4Op {
+    /// `f32x4.splat`
+    f32x4_splat = 0xfd0013,
+    /// `f32x4.eq`
+    f32x4_eq = 0xfd0041,
+    /// `f32x4.ne`
+    f32x4_ne,
+    /// `f32x4.lt`
+    f32x4_lt,
+    /// `f32x4.gt`
+    f32x4_gt,
+    /// `f32x4.le`
+    f32x4_le,
+    /// `f32x4.ge`
+    f32x4_ge,
+    /// `f32x4.demote_f64x2_zero`
+    f32x4_demote_f64x2_zero = 0xfd005e,
+    /// `f32x4.ceil`
+    f32x4_ceil = 0xfd0067,
+    /// `f32x4.floor`
+    f32x4_floor,
+    /// `f32x4.trunc`
+    f32x4_trunc,
+    /// `f32x4.nearest`
+    f32x4_nearest,
+    /// `f32x4.abs`
+    f32x4_abs = 0xfd00e0,
+    /// `f32x4.neg`
+    f32x4_neg,
+    /// `f32x4.sqrt`
+    f32x4_sqrt = 0xfd00e3,
+    /// `f32x4.add`
+    f32x4_add,
+    /// `f32x4.sub`
+    f32x4_sub,
+    /// `f32x4.mul`
+    f32x4_mul,
+    /// `f32x4.div`
+    f32x4_div,
+    /// `f32x4.min`
+    f32x4_min,
+    /// `f32x4.max`
+    f32x4_max,
+    /// `f32x4.pmin`
+    f32x4_pmin,
+    /// `f32x4.pmax`
+    f32x4_pmax,
+    /// `f32x4.convert_i32x4_s`
+    f32x4_convert_i32x4_s = 0xfd00fa,
+    /// `f32x4.convert_i32x4_u`
+    f32x4_convert_i32x4_u,
+    /// `f32x4.relaxed_madd`
+    f32x4_relaxed_madd = 0xfd0105,
+    /// `f32x4.relaxed_nmadd`
+    f32x4_relaxed_nmadd,
+    /// `f32x4.relaxed_min`
+    f32x4_relaxed_min = 0xfd010d,
+    /// `f32x4.relaxed_max`
+    f32x4_relaxed_max,
+}
+
+/// An instruction without immediates whose text begins with `f64x2` (text format, instructions).
+///
+/// The number of a variant is its key: its opcode, or 65536 times its prefix byte and the number behind that.
+#[allow(non_camel_case_types)]
+#[derive(Clone, Copy, Debug, PartialEq, Eq)]
+pub enum F64x2Op {
+    /// `f64x2.splat`
+    f64x2_splat = 0xfd0014,
+    /// `f64x2.eq`
+    f64x2_eq = 0xfd0047,
+    /// `f64x2.ne`
+    f64x2_ne,
+    /// `f64x2.lt`
+    f64x2_lt,
+    /// `f64x2.gt`
+    f64x2_gt,
+    /// `f64x2.le`
+    f64x2_le,
+    /// `f64x2.ge`
+    f64x2_ge,
+    /// `f64x2.promote_low_f32x4`
+    f64x2_promote_low_f32x4 = 0xfd005f,
+    /// `f64x2.ceil`
+    f64x2_ceil = 0xfd0074,
+    /// `f64x2.floor`
+    f64x2_floor,
+    /// `f64x2.trunc`
+    f64x2_trunc = 0xfd007a,
+    /// `f64x2.nearest`
+    f64x2_nearest = 0xfd0094,
+    /// `f64x2.abs`
+    f64x2_abs = 0xfd00ec,
+    /// `f64x2.neg`
+    f64x2_neg,
+    /// `f64x2.sqrt`
+    f64x2_sqrt = 0xfd00ef,
+    /// `f64x2.add`
+    f64x2_add,
+    /// `f64x2.sub`
+    f64x2_sub,
+    /// `f64x2.mul`
+    f64x2_mul,
+    /// `f64x2.div`
+    f64x2_div,
+    /// `f64x2.min`
+    f64x2_min,
+    /// `f64x2.max`
+    f64x2_max,
+    /// `f64x2.pmin`
+    f64x2_pmin,
+    /// `f64x2.pmax`
+    f64x2_pmax,
+    /// `f64x2.convert_low_i32x4_s`
+    f64x2_convert_low_i32x4_s = 0xfd00fe,
+    /// `f64x2.convert_low_i32x4_u`
+    f64x2_convert_low_i32x4_u,
+    /// `f64x2.relaxed_madd`
+    f64x2_relaxed_madd = 0xfd0107,
+    /// `f64x2.relaxed_nmadd`
+    f64x2_relaxed_nmadd,
+    /// `f64x2.relaxed_min`
+    f64x2_relaxed_min = 0xfd010f,
+    /// `f64x2.relaxed_max`
+    f64x2_relaxed_max,
+}
+
+/// An instruction without immediates whose text begins with `v128` (text format, instructions).
+///
+/// The number of a variant is its key: its opcode, or 65536 times its prefix byte and the number behind that.
+#[allow(non_camel_case_types)]
+#[derive(Clone, Copy, Debug, PartialEq, Eq)]
+pub enum V128Op {
+    /// `v128.not`
+    v128_not = 0xfd004d,
+    /// `v128.and`
+    v128_and,
+    /// `v128.andnot`
+    v128_andnot,
+    /// `v128.or`
+    v128_or,
+    /// `v128.xor`
+    v128_xor,
+    /// `v128.bitselect`
+    v128_bitselect,
+    /// `v128.any_true`
+    v128_any_true,
 }
 
 /// An instruction that has no immediate, by the first word of its text (text format, instructions).
@@ -353,4 +889,26 @@ pub enum Plain {
     F64(F64Op),
     /// One whose text begins with `ref`.
     Ref(RefOp),
+    /// One whose text begins with `array`.
+    Array(ArrayOp),
+    /// One whose text begins with `any`.
+    Any(AnyOp),
+    /// One whose text begins with `extern`.
+    Extern(ExternOp),
+    /// One whose text begins with `i31`.
+    I31(I31Op),
+    /// One whose text begins with `i8x16`.
+    I8x16(I8x16Op),
+    /// One whose text begins with `i16x8`.
+    I16x8(I16x8Op),
+    /// One whose text begins with `i32x4`.
+    I32x4(I32x4Op),
+    /// One whose text begins with `i64x2`.
+    I64x2(I64x2Op),
+    /// One whose text begins with `f32x4`.
+    F32x4(F32x4Op),
+    /// One whose text begins with `f64x2`.
+    F64x2(F64x2Op),
+    /// One whose text begins with `v128`.
+    V128(V128Op),
 }

@@ -1,17 +1,25 @@
 -- Instructions open and close blocks as the rows do that they become; and what is balanced does not depend on labels.
 use native.Mathlib.Omega.{arith}
-use Rattle.std.proofs.Common.{◌≡◌, ◌+◌, ◌==◌, ℕ, zero, suc, true, ◌&&◌, length, take, map, List, [], ◌∷◌, Option, refl, ap, ◌∙◌}
+use Rattle.std.proofs.Common.{◌≡◌, ◌+◌, ◌==◌, ℕ, zero, suc, Bool, true, false, ◌&&◌, length, take, map, List, [], ◌∷◌, Option, refl, ap, ◌∙◌}
 use Rattle.std.specs.Prelude.{nat_le, None, Some, option_map}
 use Rattle.std.proofs.lemmas.List.{length-map, take-map}
 use Rattle.wast_base.specs.Blocks.{Turn, Opens, Closes, Stays, openers, closers, never_closed, stays_open, is_balanced}
 use Rattle.wast_base.specs.declared.mem_ops.MemOp.{MemOp}
 use Rattle.wast_base.specs.declared.plain.Plain.{Plain}
+use Rattle.wast_base.specs.declared.lane_ops.LaneOp.{LaneOp}
+use Rattle.wast_base.specs.declared.lane_ops.MemLaneOp.{MemLaneOp}
 use Rattle.wast_tree.specs.Instrs as tree
 use Rattle.wast_tree.specs.Instrs.{turns}
+use Rattle.wasm_ops.specs.CastInstrs.{cast_key, cast_instr}
 use Rattle.wasm_ops.specs.MemoryInstrs.{mem_instr}
+use Rattle.wasm_ops.specs.Opcodes.{opcode_of}
 use Rattle.wasm_ops.specs.PlainInstrs.{plain_instr}
 use Rattle.wasm_ops.specs.SelectInstrs.{select_instr}
-use Rattle.wasm_ops.specs.Turns.{turn_of, are_balanced}
+use Rattle.wasm_ops.specs.Turns.{opcode_turn, turn_of, are_balanced}
+use Rattle.wasm_ops.specs.VectorInstrs.{lane_instr, mem_lane_instr}
+use Rattle.wasm_ops.specs.declared.casts.CastOp.{CastOp}
+use Rattle.wasm_ops.specs.declared.casts.CastOp.TheVariants as cast
+use Rattle.wasm_ops.specs.declared.ref_types.RefType.{RefType}
 use Rattle.wasm_ops.specs.declared.memargs.MemArg.{MemArg}
 use Rattle.wasm_ops.specs.declared.types.ValType.{ValType}
 use Rattle.wast_conv.specs.Tree.{Instruction}
@@ -69,6 +77,21 @@ plain_turn op = grind (arith)
 mem_turn : (op : MemOp) (m : MemArg) → turn_of (mem_instr op m) ≡ Stays
 mem_turn op m = grind (arith)
 
+lane_turn : (op : LaneOp) (lane : ℕ) → turn_of (lane_instr op lane) ≡ Stays
+lane_turn op lane = grind (arith)
+
+mem_lane_turn : (op : MemLaneOp) (m : MemArg) (lane : ℕ) → turn_of (mem_lane_instr op m lane) ≡ Stays
+mem_lane_turn op m lane = grind (arith)
+
+cast_turn : (op : CastOp) (ty : RefType) → turn_of (cast_instr op ty) ≡ Stays
+cast_turn op ty = by_nullable op ty.nullable
+  where
+    by_nullable : (op : CastOp) (nullable : Bool) → opcode_turn (opcode_of (cast_key op nullable)) ≡ Stays
+    by_nullable cast.Test true = refl
+    by_nullable cast.Test false = refl
+    by_nullable cast.Cast true = refl
+    by_nullable cast.Cast false = refl
+
 select_turn : (o : Option (List ValType)) → turn_of (select_instr o) ≡ Stays
 select_turn None = refl
 select_turn (Some ts) = refl
@@ -76,6 +99,10 @@ select_turn (Some ts) = refl
 turn_as : (i : Instruction) → turn_of (meaning.as_instr i) ≡ bare (tree.turn_of i)
 turn_as (instruction.Plain op) = plain_turn op
 turn_as (instruction.Mem op m) = mem_turn op (meaning.as_mem_arg m)
+turn_as (instruction.Lane op a) = lane_turn op a.lane
+turn_as (instruction.MemLane op a) = mem_lane_turn op (meaning.as_mem_arg a.memarg) a.lane.lane
+turn_as (instruction.ref_test a) = cast_turn cast.Test (meaning.as_ref_type a.rt)
+turn_as (instruction.ref_cast a) = cast_turn cast.Cast (meaning.as_ref_type a.rt)
 turn_as (instruction.select t) = select_turn (option_map (map meaning.as_val_type) t.tys)
 turn_as i = refl
 

@@ -1,6 +1,8 @@
 -- A test that each item of a list passes.
 use Rattle.std.proofs.Common.{◌≡◌, ℕ, ◌<◌, Bool, true, false, ◌&&◌, List, [], ◌∷◌, ◌++◌, map, length, get_or, take, drop, take-append-drop, refl, sym, ap, ◌∙◌}
+use Rattle.std.specs.Prelude.{All}
 use Rattle.std.specs.List.{list_all, flat_map}
+use Rattle.std.proofs.lemmas.List.Elements.{All-nil, All-cons}
 use Rattle.std.proofs.lemmas.List.Folds.{list_all_at, list_all-append}
 
 pub both_pass : (a b : Bool) → (a && b) ≡ true → (a ≡ true) × (b ≡ true)
@@ -55,6 +57,10 @@ each_by p q r h (x ∷ xs) a b =
 
 pub each_then : {A : Type 0} (p r : A → Bool) → ((x : A) → p x ≡ true → r x ≡ true) → (xs : List A) → list_all p xs ≡ true → list_all r xs ≡ true
 each_then p r h xs a = each_by p p r (λ x e f. h x e) xs a a
+
+pub each_has : {A : Type 0} (p : A → Bool) (P : A → Type 0) → ((x : A) → p x ≡ true → P x) → (xs : List A) → list_all p xs ≡ true → All P xs
+each_has p P h [] e = All-nil P
+each_has p P h (x ∷ xs) e = let c = both_pass (p x) (list_all p xs) e in All-cons P x xs (h x c.0) (each_has p P h xs c.1)
 
 -- what the items become passes
 pub each_becomes : {A B : Type 0} (p : A → Bool) (f : A → B) (q : B → Bool) → ((x : A) → p x ≡ true → q (f x) ≡ true)

@@ -1,7 +1,8 @@
 -- What types of tables, globals and imports the encoder takes: they become covered values.
-use Rattle.std.proofs.Common.{◌≡◌, true, refl, sym, ◌∙◌}
+use Rattle.std.proofs.Common.{◌≡◌, true, false, refl, sym, ◌∙◌}
 use Rattle.std.specs.Prelude.{not}
-use Rattle.wast_tree.specs.Sites.{in_ref, in_val, in_table_type, in_global_type, in_item_kind}
+use Rattle.wast_tree.specs.Resolved.{is_resolved_site}
+use Rattle.wast_tree.specs.Sites.{OfItem, Used, in_ref, in_val, in_table_type, in_global_type, in_item_kind}
 use Rattle.wasm_ops.specs.Entities.{is_covered_table_type, is_covered_global_type, is_covered_entity_type}
 use Rattle.wast_conv.specs.Tree.{TableType, GlobalType, ItemKind}
 use Rattle.wast_conv.specs.Tree.kind
@@ -23,6 +24,7 @@ global_covered t e =
 
 pub kind_covered : (k : ItemKind) → are_entered (in_item_kind k) ≡ true → is_covered_entity_type (meaning.as_entity_type k) ≡ true
 kind_covered (kind.Func u) e = refl
+kind_covered (kind.FuncExact u) e = (both_pass (is_resolved_site (Used OfItem u)) false e).1
 kind_covered (kind.Table t) e = table_covered t (sym (asking_entered (in_table_type t)) ∙ e)
 kind_covered (kind.Memory t) e = refl
 kind_covered (kind.Global t) e = global_covered t (sym (asking_entered (in_global_type t)) ∙ e)

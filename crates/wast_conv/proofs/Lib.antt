@@ -1,9 +1,11 @@
+pub mod Arrays
 pub mod EachPasses
 pub mod Standing
 pub mod Ready
 pub mod TypesReady
 pub mod EntitiesReady
 pub mod Balanced
+pub mod Rows
 pub mod Expressions
 pub mod MemArgs
 pub mod Spelled

@@ -1,14 +1,15 @@
--- Fields that are well formed, resolved and written out may be handed to the encoder; what may be is resolved; and where a
--- field may be, so may what it puts into the sections.
-use Rattle.std.proofs.Common.{◌≡◌, Bool, true, ◌&&◌, ◌||◌, List, refl, sym, ◌∙◌}
+-- Fields that are well formed, resolved and written out are at rest, and may be handed to the encoder where each form is
+-- covered; what may be is resolved; and where a field may be, so may what it puts into the sections.
+use Rattle.std.proofs.Common.{◌≡◌, Bool, true, false, ◌&&◌, ◌||◌, List, [], ◌∷◌, refl, sym, ◌∙◌}
 use Rattle.std.specs.Prelude.{is_some, Option, Some, None}
 use Rattle.std.specs.List.{flat_map, list_all}
 use Rattle.wast_base.specs.Ids.{is_number}
 use Rattle.wast_tree.specs.Clauses.{suits}
 use Rattle.wast_tree.specs.Types.{says_enough}
-use Rattle.wast_tree.specs.Sites.{Ask, Wants, Within, Unasked, Clause, Supported, OfItem, OfCall, Site, Asked, Used, Declared, LocalAt, LabelAt, start, asking, if_there, at_index, in_type, in_rec, in_ref, in_type_use, in_use, in_indirect, in_local, in_func, in_func_kind, in_expression, in_table_type, in_global_type, in_tag_type, in_import, in_constant, in_payload, in_table_kind, in_memory_kind, in_global_kind, in_global, in_elem_kind, in_elem, in_data_kind, in_field, in_module, asked_in, asked}
+use Rattle.wast_tree.specs.Sites.{Ask, Wants, Within, Unasked, Clause, Covered, OfItem, OfCall, Site, Asked, Used, Declared, LocalAt, FieldAt, LabelAt, start, asking, if_there, at_index, in_type, in_rec, in_ref, in_type_use, in_use, in_indirect, in_local, in_func, in_func_kind, in_expression, in_table_type, in_global_type, in_tag_type, in_import, in_constant, in_payload, in_table_kind, in_memory_kind, in_global_kind, in_global, in_elem_kind, in_elem, in_data_kind, in_field, in_module, asked_in, asked}
 use Rattle.wast_tree.specs.Known.{Known}
 use Rattle.wast_tree.specs.WellFormed.{is_kept, are_kept}
+use Rattle.wast_tree.specs.Uncovered.{is_covered_ask, uncovered_in, uncovered_forms, first}
 use Rattle.wast_tree.specs.Resolved.{is_numbered, are_numbered, is_resolved_site, is_resolved}
 use Rattle.wast_tree.specs.WrittenOut.{exports_nothing, is_written_func, is_written_table, is_written_memory, is_written_global, is_written_field, is_written_out}
 use Rattle.wast_conv.specs.Tree.{Index, Space, CallIndirect, TypeUse, FunctionType, Expression, Rec, Imports, FuncKind, Func, TableKind, Table, Memory, GlobalKind, Global, Export, ElemKind, ElemPayload, Elem, DataKind, Data, Tag, ModuleField}
@@ -21,40 +22,67 @@ use Rattle.wast_conv.specs.Tree.elem
 use Rattle.wast_conv.specs.Tree.payload
 use Rattle.wast_conv.specs.Tree.data_kind
 use Rattle.wast_conv.specs.Tree.field
-use Rattle.wast_conv.specs.Encodable.{is_encodable_ask, are_encodable, is_encodable_site, encodable, is_entered_site, are_entered, is_number_if, is_encodable_code, is_encodable_expression, is_encodable_type, is_encodable_type_use, is_encodable_kind, is_encodable_import, is_encodable_init, is_encodable_table_kind, is_encodable_table, is_encodable_memory, is_encodable_global_kind, is_encodable_global, is_encodable_tag, is_encodable_elem_kind, is_encodable_payload, is_encodable_elem, is_encodable_data_kind, is_encodable_data, is_encodable_field, is_encodable, are_resolved}
+use Rattle.wast_conv.specs.Encodable.{is_encodable_ask, are_encodable, is_encodable_site, encodable, is_entered_site, are_entered, is_number_if, is_encodable_code, is_encodable_expression, is_encodable_type, is_encodable_type_use, is_encodable_kind, is_encodable_import, is_encodable_init, is_encodable_table_kind, is_encodable_table, is_encodable_memory, is_encodable_global_kind, is_encodable_global, is_encodable_tag, is_encodable_elem_kind, is_encodable_payload, is_encodable_elem, is_encodable_data_kind, is_encodable_data, is_encodable_field, is_encodable, is_met, is_at_rest, are_resolved}
 use Rattle.wast_conv.proofs.EachPasses.{both_pass, both_true, both_lists, each_passes, each_by, each_then}
 use Rattle.wast_conv.proofs.Standing.{asking_passes, asked_then, encodable_at, code_ready, constant_ready, body_tells}
 
--- ---- well formed and resolved
+-- ---- well formed, resolved and written out
 
-ask_ready : (k : Known) (a : Ask) → is_kept k a ≡ true → is_numbered a ≡ true → is_encodable_ask a ≡ true
-ask_ready k (Wants s i) kept numbered = numbered
-ask_ready k (Within i) kept numbered = numbered
-ask_ready k (Unasked m) kept numbered = refl
-ask_ready k (Clause n holds) kept numbered = kept
-ask_ready k (Supported holds) kept numbered = kept
+ask_met : (k : Known) (a : Ask) → is_kept k a ≡ true → is_met a ≡ true
+ask_met k (Clause n holds) kept = kept
+ask_met k a kept = refl
 
-site_ready : (k : Known) (s : Site) → are_kept k (asked_in s) ≡ true → is_resolved_site s ≡ true → is_encodable_site s ≡ true
-site_ready k (Asked a) kept resolved = ask_ready k a (both_pass (is_kept k a) true kept).0 resolved
-site_ready k (Used w u) kept resolved =
+pub fields_at_rest : (k : Known) (fields : List ModuleField)
+    → are_kept k (asked (in_module fields)) ≡ true → is_resolved fields ≡ true → is_written_out fields ≡ true → is_at_rest fields ≡ true
+fields_at_rest k fields kept resolved written =
+    both_true (is_resolved fields) _ resolved
+    (both_true (is_written_out fields) _ written (each_then (is_kept k) is_met (ask_met k) (asked (in_module fields)) kept))
+
+-- ---- at rest and covered
+
+ask_ready : (a : Ask) → (is_met a && is_covered_ask a) ≡ true → is_numbered a ≡ true → is_encodable_ask a ≡ true
+ask_ready (Wants s i) kept numbered = numbered
+ask_ready (Within i) kept numbered = numbered
+ask_ready (Unasked m) kept numbered = refl
+ask_ready (Clause n holds) kept numbered = (both_pass holds true kept).0
+ask_ready (Covered form holds) kept numbered = kept
+
+-- a clause holds, and a form is covered
+abbrev is_kept_here : Ask → Bool
+is_kept_here a = is_met a && is_covered_ask a
+
+site_ready : (s : Site) → list_all is_kept_here (asked_in s) ≡ true → is_resolved_site s ≡ true → is_encodable_site s ≡ true
+site_ready (Asked a) kept resolved = ask_ready a (both_pass (is_kept_here a) true kept).0 resolved
+site_ready (Used w u) kept resolved =
     let said = is_some u.index || says_enough w u.inline in
     let both = both_pass said (are_numbered (in_type_use u)) resolved in
     both_true said (are_encodable (in_type_use u)) both.0
-    (each_by (is_kept k) is_numbered is_encodable_ask (ask_ready k) (in_type_use u) kept both.1)
-site_ready k (LocalAt locals i) kept resolved = resolved
-site_ready k (LabelAt blocks i) kept resolved = resolved
-site_ready k s kept resolved = refl
+    (each_by is_kept_here is_numbered is_encodable_ask ask_ready (in_type_use u) kept both.1)
+site_ready (LocalAt locals i) kept resolved = resolved
+site_ready (FieldAt owner i) kept resolved = resolved
+site_ready (LabelAt blocks i) kept resolved = resolved
+site_ready s kept resolved = refl
 
-pub sites_ready : (k : Known) (sites : List Site) → are_kept k (asked sites) ≡ true → are_resolved sites ≡ true → encodable sites ≡ true
-sites_ready k sites kept resolved =
-    each_by (λ s. are_kept k (asked_in s)) is_resolved_site is_encodable_site (site_ready k) sites
-    (sym (each_passes (is_kept k) asked_in sites) ∙ kept) resolved
+sites_ready : (sites : List Site) → list_all is_kept_here (asked sites) ≡ true → are_resolved sites ≡ true → encodable sites ≡ true
+sites_ready sites kept resolved =
+    each_by (λ s. list_all is_kept_here (asked_in s)) is_resolved_site is_encodable_site site_ready sites
+    (sym (each_passes is_kept_here asked_in sites) ∙ kept) resolved
 
-pub fields_ready : (k : Known) (fields : List ModuleField)
-    → are_kept k (asked (in_module fields)) ≡ true → is_resolved fields ≡ true → is_written_out fields ≡ true → is_encodable fields ≡ true
-fields_ready k fields kept resolved written =
+-- no form is found that is not covered
+forms_covered : (asks : List Ask) → first (flat_map uncovered_in asks) ≡ None → list_all is_covered_ask asks ≡ true
+forms_covered [] e = refl
+forms_covered (Covered form true ∷ asks) e = forms_covered asks e
+forms_covered (Covered form false ∷ asks) e = absurd cc
+forms_covered (a ∷ asks) e = forms_covered asks e
+
+pub fields_ready : (fields : List ModuleField) → is_at_rest fields ≡ true → first (uncovered_forms fields) ≡ None → is_encodable fields ≡ true
+fields_ready fields rest none =
+    let resolved = both_pass (is_resolved fields) _ rest in
+    let written = both_pass (is_written_out fields) _ resolved.1 in
+    let asks = asked (in_module fields) in
+    let kept = each_by is_met is_covered_ask is_kept_here (λ a. both_true (is_met a) (is_covered_ask a)) asks written.1 (forms_covered asks none) in
     each_by (λ x. encodable (in_field x)) is_written_field is_encodable_field (λ x. both_true (encodable (in_field x)) (is_written_field x)) fields
-    (sym (each_passes is_encodable_site in_field fields) ∙ sites_ready k (in_module fields) kept resolved) written
+    (sym (each_passes is_encodable_site in_field fields) ∙ sites_ready (in_module fields) kept resolved.0) written.0
 
 -- ---- what the encoder takes is resolved
 
@@ -63,7 +91,7 @@ ask_numbered (Wants s i) h = h
 ask_numbered (Within i) h = h
 ask_numbered (Unasked m) h = refl
 ask_numbered (Clause n holds) h = refl
-ask_numbered (Supported holds) h = refl
+ask_numbered (Covered form holds) h = refl
 
 pub asks_numbered : (asks : List Ask) → are_encodable asks ≡ true → are_numbered asks ≡ true
 asks_numbered asks h = each_then is_encodable_ask is_numbered ask_numbered asks h
@@ -75,6 +103,7 @@ site_resolved (Used w u) h =
     let both = both_pass said (are_encodable (in_type_use u)) h in
     both_true said (are_numbered (in_type_use u)) both.0 (asks_numbered (in_type_use u) both.1)
 site_resolved (LocalAt locals i) h = h
+site_resolved (FieldAt owner i) h = h
 site_resolved (LabelAt blocks i) h = h
 site_resolved s h = refl
 
@@ -94,6 +123,7 @@ site_entered : (s : Site) → is_encodable_site s ≡ true → is_entered_site s
 site_entered (Asked a) h = h
 site_entered (Used w u) h = site_resolved (Used w u) h
 site_entered (LocalAt locals i) h = h
+site_entered (FieldAt owner i) h = h
 site_entered (LabelAt blocks i) h = h
 site_entered s h = refl
 
@@ -105,6 +135,7 @@ entry_resolved : (s : Site) → is_entered_site s ≡ true → is_resolved_site 
 entry_resolved (Asked a) h = ask_numbered a h
 entry_resolved (Used w u) h = h
 entry_resolved (LocalAt locals i) h = h
+entry_resolved (FieldAt owner i) h = h
 entry_resolved (LabelAt blocks i) h = h
 entry_resolved s h = refl
 

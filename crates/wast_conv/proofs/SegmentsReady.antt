@@ -7,7 +7,6 @@ use Rattle.wast_tree.specs.Sites.{in_ref}
 use Rattle.wast_tree.specs.Clauses.{suits}
 use Rattle.wasm_ops.specs.ConstExprs.{is_covered_expression, HasRowsExpression}
 use Rattle.wasm_ops.specs.Turns.{are_balanced}
-use Rattle.wasm_ops.proofs.Everywhere.{all_each}
 use Rattle.wasm_out.specs.DataSegments.{is_covered_data_mode, HasRowsDataMode, is_balanced_data_mode}
 use Rattle.wasm_out.specs.ElementSegments.{kind_of, is_covered_element_mode, is_covered_element_kind, is_covered_listed, is_covered_element_entry, HasRowsElementMode, HasRowsListed, is_balanced_element_mode, is_balanced_listed, is_balanced_element_entry}
 use Rattle.wast_conv.specs.Tree.{RefType, Expression, ElemKind, ElemPayload, Elem, DataKind}
@@ -17,8 +16,9 @@ use Rattle.wast_conv.specs.Tree.data_kind
 use Rattle.wast_conv.specs.Encodable.{is_number_if, are_encodable, is_encodable_expression, is_encodable_elem_kind, is_encodable_payload, is_encodable_elem, is_encodable_data_kind}
 use Rattle.wast_conv.specs.FieldEntries.{as_element_mode, as_element_items, as_data_mode}
 use Rattle.wast_conv.specs.Meaning as meaning
-use Rattle.wast_conv.proofs.EachPasses.{both_pass, both_true, each_becomes}
-use Rattle.wast_conv.proofs.Expressions.{instrs_rows, expression_covered, expression_balanced}
+use Rattle.wast_conv.proofs.EachPasses.{both_pass, both_true, each_becomes, each_has}
+use Rattle.wast_conv.proofs.Expressions.{expression_covered, expression_balanced}
+use Rattle.wast_conv.proofs.Rows.{expression_rows}
 use Rattle.wast_conv.proofs.Segmented.{suits_form}
 use Rattle.wast_conv.proofs.TypesReady.{heap_covered}
 
@@ -58,14 +58,18 @@ elem_covered x e =
     both_true _ _ (suits_form x.kind x.payload parts.fits)
     (both_true _ _ (mode_covered x.kind parts.stands) (both_true _ _ (kind_covered x.payload parts.holds) (items_covered x.payload parts.holds)))
 
-pub mode_rows : (k : ElemKind) → HasRowsElementMode (as_element_mode k)
-mode_rows elem.Passive = tt
-mode_rows elem.Declared = tt
-mode_rows (elem.Active table offset) = instrs_rows offset.instrs
+mode_rows : (k : ElemKind) → is_encodable_elem_kind k ≡ true → HasRowsElementMode (as_element_mode k)
+mode_rows elem.Passive e = tt
+mode_rows elem.Declared e = tt
+mode_rows (elem.Active table offset) e = expression_rows offset (both_pass (is_number_if table) (is_encodable_expression offset) e).1
 
-pub items_rows : (q : ElemPayload) → HasRowsListed (as_element_items q)
-items_rows (payload.Indices is) = tt
-items_rows (payload.Exprs ty es) = All-map HasRowsExpression meaning.as_expression es (all_each (λ x. HasRowsExpression (meaning.as_expression x)) (λ x. instrs_rows x.instrs) es)
+items_rows : (q : ElemPayload) → is_encodable_payload q ≡ true → HasRowsListed (as_element_items q)
+items_rows (payload.Indices is) e = tt
+items_rows (payload.Exprs ty es) e =
+    All-map HasRowsExpression meaning.as_expression es (each_has is_encodable_expression (λ x. HasRowsExpression (meaning.as_expression x)) expression_rows es (exprs_parts ty es e).1)
+
+pub elem_rows : (x : Elem) → is_encodable_elem x ≡ true → HasRowsElementMode (as_element_mode x.kind) × HasRowsListed (as_element_items x.payload)
+elem_rows x e = let parts = elem_parts x e in (mode_rows x.kind parts.stands, items_rows x.payload parts.holds)
 
 mode_balanced : (k : ElemKind) → is_encodable_elem_kind k ≡ true → is_balanced_element_mode (as_element_mode k) ≡ true
 mode_balanced elem.Passive e = refl
@@ -87,9 +91,9 @@ pub place_covered : (k : DataKind) → is_encodable_data_kind k ≡ true → is_
 place_covered data_kind.Passive e = refl
 place_covered (data_kind.Active memory offset) e = expression_covered offset (both_pass (is_number memory) (is_encodable_expression offset) e).1
 
-pub place_rows : (k : DataKind) → HasRowsDataMode (as_data_mode k)
-place_rows data_kind.Passive = tt
-place_rows (data_kind.Active memory offset) = instrs_rows offset.instrs
+pub place_rows : (k : DataKind) → is_encodable_data_kind k ≡ true → HasRowsDataMode (as_data_mode k)
+place_rows data_kind.Passive e = tt
+place_rows (data_kind.Active memory offset) e = expression_rows offset (both_pass (is_number memory) (is_encodable_expression offset) e).1
 
 pub place_balanced : (k : DataKind) → is_encodable_data_kind k ≡ true → is_balanced_data_mode (as_data_mode k) ≡ true
 place_balanced data_kind.Passive e = refl

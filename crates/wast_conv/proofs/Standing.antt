@@ -1,5 +1,5 @@
 -- What the encoder takes of lists of what stands in a part: of what is asked alone, of indices, of instructions and bodies.
-use Rattle.std.proofs.Common.{◌≡◌, true, ◌&&◌, ◌==◌, length, List, [], ◌∷◌, ◌++◌, refl, sym, ap, ◌∙◌}
+use Rattle.std.proofs.Common.{◌≡◌, Bool, true, false, ◌&&◌, ◌==◌, length, List, [], ◌∷◌, ◌++◌, refl, sym, ap, ◌∙◌}
 use Rattle.std.specs.Prelude.{Option, Some, None}
 use Rattle.std.specs.List.{flat_map, list_all}
 use Rattle.std.proofs.lemmas.List.Folds.{list_all-append}
@@ -7,9 +7,10 @@ use Rattle.wast_base.specs.Blocks.{Blocks, is_balanced}
 use Rattle.wast_base.specs.Ids.{Name, Mark, marked, is_number}
 use Rattle.wast_base.specs.Spaces.{name_if}
 use Rattle.wast_tree.specs.Instrs.{turns}
-use Rattle.wast_tree.specs.Sites.{Ask, Wants, Supported, OfBlock, Site, Asked, Used, LabelAt, Begins, Here, start, behind, body_here, param_marks, local_marks, declaring, asking, if_there, in_id, in_index, at_index, in_local, at_label, in_use, in_caught, in_catch, in_try_table, in_br_table, in_instr, in_instrs, in_expression, in_constant, in_func_kind}
+use Rattle.wast_tree.specs.Sites.{Ask, Wants, Clause, OfBlock, Site, Asked, Used, LabelAt, Begins, Here, start, behind, body_here, param_marks, local_marks, declaring, asking, if_there, in_id, in_index, at_index, in_local, at_label, in_use, in_caught, in_catch, in_try_table, in_br_table, in_ref, in_access, in_cast, in_handle, in_handlers, uncovered, in_instr, in_instrs, in_expression, in_constant, in_func_kind}
 use Rattle.wast_tree.specs.Resolved.{is_numbered, are_numbered}
-use Rattle.wast_conv.specs.Tree.{Id, Index, Space, TypeUse, FunctionType, BrTableIndices, TryTable, TryTableCatch, Instruction, Expression, Local}
+use Rattle.wast_conv.specs.Tree.{Id, Index, Space, TypeUse, FunctionType, BrTableIndices, TryTable, TryTableCatch, RefType, StructAccess, ResumeTable, Instruction, Expression, Local}
+use Rattle.wast_conv.specs.Tree.form
 use Rattle.wast_conv.specs.Tree.instr as instruction
 use Rattle.wast_conv.specs.Tree.func
 use Rattle.wast_conv.specs.Encodable.{is_encodable_ask, are_encodable, is_encodable_site, encodable, are_entered, is_encodable_catch, is_encodable_instr, is_encodable_code, is_encodable_expression, is_encodable_kind}
@@ -79,11 +80,43 @@ try_table_parts t e =
     let both = both_pass (is_encodable_site (Used OfBlock t.block.ty)) _ (sym (try_table_tells start.blocks t) ∙ e) in
     (both_true _ true both.0 refl, (both_pass (list_all is_encodable_catch t.catches) true both.1).0)
 
+-- a field of a struct: the type of the struct, and the field
+pub access_parts : (a : StructAccess) → encodable (in_access a) ≡ true → (is_number a.owner ≡ true) × (is_number a.field ≡ true)
+access_parts a e = both_pass (is_number a.owner) (is_number a.field) (both_pass _ true e).0
+
+-- a branch on a cast: its label, and the types that are cast to and from
+pub record CastParts (l : Index) (target source : RefType) : Type 0 where
+  pub label : is_number l ≡ true
+  pub to : are_encodable (in_ref target) ≡ true
+  pub from : are_encodable (in_ref source) ≡ true
+
+pub cast_parts : (l : Index) (to from : RefType) → encodable (in_cast start.blocks l to from) ≡ true → CastParts l to from
+cast_parts l to from e =
+    let both = both_pass (is_number l) (encodable (asking (in_ref to ++ in_ref from))) e in
+    let types = both_lists is_encodable_ask (in_ref to) (in_ref from) (sym (asking_passes (in_ref to ++ in_ref from)) ∙ both.1) in
+    record { label = both.0; to = types.0; from = types.1 }
+
+-- no handler is covered, whichever blocks are open
+pub handlers_tell : (blocks : Blocks) (t : ResumeTable) → encodable (in_handlers blocks t) ≡ false
+handlers_tell blocks t =
+    list_all-append is_encodable_site (flat_map (in_handle blocks) t.handlers) (asking (uncovered form.StackSwitching))
+    ∙ never_both (encodable (flat_map (in_handle blocks) t.handlers))
+  where
+    never_both : (b : Bool) → (b && false) ≡ false
+    never_both true = refl
+    never_both false = refl
+
+handlers_anywhere : (h g : Here) (t : ResumeTable) → encodable (in_handlers h.blocks t) ≡ encodable (in_handlers g.blocks t)
+handlers_anywhere h g t = handlers_tell h.blocks t ∙ sym (handlers_tell g.blocks t)
+
 -- An instruction, wherever it stands.
 pub anywhere : (h g : Here) (i : Instruction) → encodable (in_instr h i) ≡ encodable (in_instr g i)
 anywhere h g (instruction.Plain op) = refl
 anywhere h g (instruction.br_table t) = br_table_tells h.blocks t ∙ sym (br_table_tells g.blocks t)
 anywhere h g (instruction.try_table t) = try_table_tells h.blocks t ∙ sym (try_table_tells g.blocks t)
+anywhere h g (instruction.resume a) = ap (λ b. is_number a.type_index && b) (handlers_anywhere h g a.table)
+anywhere h g (instruction.resume_throw a) = ap (λ b. is_number a.type_index && (is_number a.tag_index && b)) (handlers_anywhere h g a.table)
+anywhere h g (instruction.resume_throw_ref a) = ap (λ b. is_number a.type_index && b) (handlers_anywhere h g a.table)
 anywhere h g i = refl
 
 pub instrs_pass : (h : Here) (is : List Instruction) → encodable (in_instrs h is) ≡ list_all is_encodable_instr is
@@ -95,9 +128,9 @@ instrs_pass h (i ∷ is) =
 
 -- An expression: its instructions, and that it is without branch hints.
 expression_tells : (h : Here) (e : Expression)
-    → encodable (in_expression h e) ≡ (list_all is_encodable_instr e.instrs && encodable (Asked (Supported (length e.branch_hints == 0)) ∷ []))
+    → encodable (in_expression h e) ≡ (list_all is_encodable_instr e.instrs && encodable (Asked (Clause 2 (length e.branch_hints == 0)) ∷ []))
 expression_tells h e =
-    let hints = Asked (Supported (length e.branch_hints == 0)) ∷ [] in
+    let hints = Asked (Clause 2 (length e.branch_hints == 0)) ∷ [] in
     list_all-append is_encodable_site (in_instrs h e.instrs) hints ∙ ap (λ b. b && encodable hints) (instrs_pass h e.instrs)
 
 -- An expression as the encoder takes it: its instructions alone; of a constant expression, they are balanced.

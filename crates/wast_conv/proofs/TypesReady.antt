@@ -5,14 +5,19 @@ use Rattle.std.specs.Prelude.{not, is_none, Option, Some, None, option_map}
 use Rattle.std.specs.List.{flat_map, list_all}
 use Rattle.std.proofs.lemmas.Grind.{common_steps}
 use Rattle.wast_base.specs.Ids.{is_number}
-use Rattle.wast_tree.specs.Sites.{Ask, Supported, if_there, in_index, in_heap, in_val, in_select, in_storage, in_param, in_signature, OfBlock, Used, in_type_use, in_use, in_struct_field, in_descriptor, in_inner, in_def, in_type, in_rec, in_local}
+use Rattle.wast_tree.specs.Sites.{Ask, Covered, is_continuation, is_sequential, asking, if_there, in_index, in_heap, in_val, in_select, in_storage, in_param, in_signature, OfBlock, Used, in_type_use, in_use, in_struct_field, in_descriptor, in_inner, in_def, in_type, in_rec, in_local}
 use Rattle.wast_tree.specs.Resolved.{are_numbered}
+use Rattle.wasm_ops.specs.CastInstrs.{fence_instr}
 use Rattle.wasm_ops.specs.Control.{is_covered_block_type}
+use Rattle.wasm_ops.specs.Memargs.{is_covered_ordering}
 use Rattle.wasm_ops.specs.SelectInstrs.{select_instr}
 use Rattle.wasm_ops.specs.Table.{is_covered_instr}
-use Rattle.wasm_ops.specs.Covered.{is_covered_heap_type, is_covered_val_type, is_covered_storage_type, is_covered_field_type, is_covered_composite_inner_type, is_covered_sub_type}
-use Rattle.wast_conv.specs.Tree.{Id, Index, NameAnnotation, HeapType, ValType, StorageType, StructField, FunctionType, BlockType, InnerTypeKind, TypeDef, Rec, SelectTypes, Local}
+use Rattle.wasm_ops.specs.Covered.{is_covered_abstract_heap_type, is_covered_heap_type, is_covered_val_type, is_covered_storage_type, is_covered_field_type, is_covered_composite_inner_type, is_covered_sub_type}
+use Rattle.wast_conv.specs.Tree.{Id, Index, NameAnnotation, AbstractHeapType, HeapType, ValType, StorageType, StructField, FunctionType, BlockType, InnerTypeKind, TypeDef, Rec, Ordering, SelectTypes, Local}
+use Rattle.wast_conv.specs.Tree.abstract
+use Rattle.wast_conv.specs.Tree.form
 use Rattle.wast_conv.specs.Tree.heap
+use Rattle.wast_conv.specs.Tree.ordering
 use Rattle.wast_conv.specs.Tree.inner
 use Rattle.wast_conv.specs.Tree.space
 use Rattle.wast_conv.specs.Encodable.{is_number_if, is_encodable_ask, are_encodable, is_encodable_site, encodable, is_encodable_type}
@@ -34,7 +39,7 @@ pub record DefParts (p : Ask → Bool) (d : TypeDef) : Type 0 where
   pub descriptor : list_all p (if_there in_descriptor d.descriptor) ≡ true
   pub describes : list_all p (if_there in_descriptor d.describes) ≡ true
   pub kind : list_all p (in_inner d.kind) ≡ true
-  pub shared : list_all p (Supported (not d.shared) ∷ []) ≡ true
+  pub shared : list_all p (Covered form.Shared (not d.shared) ∷ []) ≡ true
 
 pub def_parts : (p : Ask → Bool) (d : TypeDef) → list_all p (in_def d) ≡ true → DefParts p d
 def_parts p d h =
@@ -51,9 +56,17 @@ number_of (Some i) h = (both_pass (is_number i) _ h).0
 
 -- ---- what the encoder takes becomes a covered value
 
+abstract_covered : (ty : AbstractHeapType) → not (is_continuation ty) ≡ true → is_covered_abstract_heap_type (meaning.as_abstract_type ty) ≡ true
+abstract_covered abstract.Cont e = e
+abstract_covered abstract.NoCont e = e
+abstract_covered ty e = refl
+
 pub heap_covered : (h : HeapType) → are_encodable (in_heap h) ≡ true → is_covered_heap_type (meaning.as_heap_type h) ≡ true
-heap_covered (heap.Abstract shared ty) e = (both_pass (not shared) true e).0
+heap_covered (heap.Abstract shared ty) e =
+    let both = both_pass (not shared) _ e in
+    both_true (not shared) _ both.0 (abstract_covered ty (both_pass (not (is_continuation ty)) true both.1).0)
 heap_covered (heap.Concrete i) e = refl
+heap_covered (heap.Exact i) e = (both_pass (is_number i) false e).1
 
 pub val_covered : (t : ValType) → are_encodable (in_val t) ≡ true → is_covered_val_type (meaning.as_val_type t) ≡ true
 val_covered t e = grind (arith, common_steps, heap_covered)
@@ -68,6 +81,15 @@ select_covered t e = of_types t.tys e
     of_types : (o : Option (List ValType)) → are_encodable (if_there (flat_map in_val) o) ≡ true → is_covered_instr (select_instr (option_map (map meaning.as_val_type) o)) ≡ true
     of_types None e = refl
     of_types (Some ts) e = both_true _ true (select_all ts e) refl
+
+-- the ordering of a fence
+pub sequential_covered : (o : Option Ordering) → is_sequential o ≡ true → is_covered_ordering (meaning.fence_ordering o) ≡ true
+sequential_covered None e = refl
+sequential_covered (Some ordering.SeqCst) e = refl
+sequential_covered (Some ordering.AcqRel) e = e
+
+pub fence_covered : (o : Option Ordering) → encodable (asking (Covered form.Ordering (is_sequential o) ∷ [])) ≡ true → is_covered_instr (fence_instr (meaning.fence_ordering o)) ≡ true
+fence_covered o e = both_true _ true (sequential_covered o (both_pass (is_sequential o) true e).0) refl
 
 -- the type of a block: the index of a type, or at most one result
 given_covered : (ts : List ValType) → list_all (λ v. are_encodable (in_val v)) ts ≡ true → is_covered_block_type (given ts) ≡ true
@@ -106,6 +128,7 @@ inner_covered (inner.Struct t) e =
     each_becomes (λ f. are_encodable (in_struct_field f)) meaning.as_field_type is_covered_field_type field_covered t.fields
     (sym (each_passes is_encodable_ask in_struct_field t.fields) ∙ e)
 inner_covered (inner.Array t) e = storage_covered t.ty e
+inner_covered (inner.Cont t) e = (both_pass (is_number t.0) false e).1
 
 no_descriptor : (o : Option Index) → are_encodable (if_there in_descriptor o) ≡ true → is_none (option_map meaning.number o) ≡ true
 no_descriptor None e = refl

@@ -1,5 +1,5 @@
--- What the encoder may be handed: parts of the tree where each index is a number, each clause holds, each form is supported,
--- and each type use has an index, or is short in a block. Branch hints and inline types are not written, so fields alone ask them to be supported.
+-- What the encoder may be handed: parts of the tree where each index is a number, each clause holds, each form is covered,
+-- and each type use has an index, or is short in a block. Branch hints and inline types are not written, so fields alone ask for them.
 use Rattle.std.specs.Prelude.{Bool, true, false, ◌&&◌, ◌||◌, is_some, List, Option, Some, None}
 use Rattle.std.specs.List.{list_all, flat_map}
 use Rattle.wast_base.specs.Blocks.{is_balanced}
@@ -7,10 +7,10 @@ use Rattle.wast_base.specs.Ids.{is_number}
 use Rattle.wast_tree.specs.Clauses.{suits}
 use Rattle.wast_tree.specs.Instrs.{turns}
 use Rattle.wast_tree.specs.Types.{says_enough}
-use Rattle.wast_tree.specs.Sites.{Ask, Wants, Within, Unasked, Clause, Supported, OfItem, Site, Asked, Used, Declared, LocalAt, LabelAt, Repeated, Begins, Ends, start, in_type, in_ref, in_type_use, in_catch, in_instr, in_instrs, in_local, in_table_type, in_global_type, in_import, in_tag_type, in_field}
-use Rattle.wast_tree.specs.Resolved.{is_resolved_site}
-use Rattle.wast_tree.specs.WrittenOut.{is_written_memory, is_written_field}
-use Rattle.wast_conv.specs.Tree.{Index, TypeUse, FunctionType, TryTableCatch, Instruction, Expression, FuncKind, Imports, TableKind, Table, Memory, GlobalKind, Global, Tag, ElemKind, ElemPayload, Elem, DataKind, Data, ModuleField}
+use Rattle.wast_tree.specs.Sites.{Ask, Wants, Within, Unasked, Clause, Covered, OfItem, Site, Asked, Used, Declared, LocalAt, FieldAt, LabelAt, Repeated, Begins, Ends, start, in_type, in_ref, in_type_use, in_catch, in_handle, in_instr, in_instrs, in_local, in_table_type, in_global_type, in_import, in_tag_type, in_field, in_module, asked}
+use Rattle.wast_tree.specs.Resolved.{is_resolved_site, is_resolved}
+use Rattle.wast_tree.specs.WrittenOut.{is_written_memory, is_written_field, is_written_out}
+use Rattle.wast_conv.specs.Tree.{Index, TypeUse, FunctionType, TryTableCatch, Handle, Instruction, Expression, FuncKind, Imports, TableKind, Table, Memory, GlobalKind, Global, Tag, ElemKind, ElemPayload, Elem, DataKind, Data, ModuleField}
 use Rattle.wast_conv.specs.Tree.ty
 use Rattle.wast_conv.specs.Tree.func
 use Rattle.wast_conv.specs.Tree.table
@@ -19,13 +19,13 @@ use Rattle.wast_conv.specs.Tree.elem
 use Rattle.wast_conv.specs.Tree.payload
 use Rattle.wast_conv.specs.Tree.data_kind
 
--- what is asked in them: an index is a number, a clause holds, and a form is supported
+-- what is asked in them: an index is a number, a clause holds, and a form is covered
 abbrev pub is_encodable_ask : Ask → Bool
 is_encodable_ask (Wants s i) = is_number i
 is_encodable_ask (Within i) = is_number i
 is_encodable_ask (Unasked m) = true
 is_encodable_ask (Clause n holds) = holds
-is_encodable_ask (Supported holds) = holds
+is_encodable_ask (Covered form holds) = holds
 
 -- all that is asked in a part
 abbrev pub are_encodable : List Ask → Bool
@@ -37,6 +37,7 @@ is_encodable_site (Asked a) = is_encodable_ask a
 is_encodable_site (Used w u) = (is_some u.index || says_enough w u.inline) && are_encodable (in_type_use u)
 is_encodable_site (Declared before m) = true
 is_encodable_site (LocalAt locals i) = is_number i
+is_encodable_site (FieldAt owner i) = is_number owner && is_number i
 is_encodable_site (LabelAt blocks i) = is_number i
 is_encodable_site (Repeated blocks m) = true
 is_encodable_site (Begins blocks m) = true
@@ -52,6 +53,7 @@ is_entered_site (Asked a) = is_encodable_ask a
 is_entered_site (Used w u) = is_resolved_site (Used w u)
 is_entered_site (Declared before m) = true
 is_entered_site (LocalAt locals i) = is_number i
+is_entered_site (FieldAt owner i) = is_number owner && is_number i
 is_entered_site (LabelAt blocks i) = is_number i
 is_entered_site (Repeated blocks m) = true
 is_entered_site (Begins blocks m) = true
@@ -163,6 +165,22 @@ is_encodable_field x = encodable (in_field x) && is_written_field x
 abbrev pub is_encodable : List ModuleField → Bool
 is_encodable fields = list_all is_encodable_field fields
 
+-- Of a list that is at rest each clause holds, whether its forms are covered or not.
+abbrev pub is_met : Ask → Bool
+is_met (Wants s i) = true
+is_met (Within i) = true
+is_met (Unasked m) = true
+is_met (Clause n holds) = holds
+is_met (Covered form holds) = true
+
+-- a list of fields as resolving leaves it: resolved, with nothing in place
+abbrev pub is_at_rest : List ModuleField → Bool
+is_at_rest fields = is_resolved fields && (is_written_out fields && list_all is_met (asked (in_module fields)))
+
 -- What a conversion needs is less: that indices are numbers, and that each type use has one.
 abbrev pub are_resolved : List Site → Bool
 are_resolved sites = list_all is_resolved_site sites
+
+-- a handler of a resumption, the same whichever blocks are open
+abbrev pub is_resolved_handle : Handle → Bool
+is_resolved_handle h = are_resolved (in_handle start.blocks h)

@@ -4,6 +4,7 @@ use Rattle.wast_tree.specs.DataBytes.{all_bytes}
 use Rattle.wasm_ops.specs.Table.{Instr}
 use Rattle.wasm_ops.specs.declared.entities.MemoryType.{MemoryType}
 use Rattle.wasm_ops.specs.declared.entities.TagType.{TagType}
+use Rattle.wasm_ops.specs.declared.entities.EntityType.TheVariants as entity
 use Rattle.wasm_out.specs.Parts.{TypeEntry, Group, ImportEntry, TableEntry, GlobalEntry, ExportEntry}
 use Rattle.wasm_out.specs.ElementSegments.{ElementMode, Passive, Declared, Active, ElementItems, Indices, Expressions, ElementEntry}
 use Rattle.wasm_out.specs.DataSegments.{DataMode, Kept, Placed, DataEntry}
@@ -22,9 +23,15 @@ use Rattle.wast_conv.specs.Values.{number, as_ref_type, as_sub_type, as_table_ty
 abbrev pub as_group : Rec → TypeEntry
 as_group r = Group (map (λ t. as_sub_type t.def) r.types)
 
+-- A group of imports is not covered, and stands for no entry.
+abbrev pub no_entry : ImportEntry
+no_entry = record { «module» = []; name = []; entity = entity.FunctionExact 0 }
+
 -- what is imported: the module, the name, and the type
 abbrev pub imported : ImportItems → ImportEntry
 imported (import_items.Single source name sig) = record { «module» = source.now; name = name.now; entity = as_entity_type sig.kind }
+imported (import_items.Group1 source items) = no_entry
+imported (import_items.Group2 source sig names) = no_entry
 
 -- an import
 abbrev pub as_import : Imports → ImportEntry

@@ -84,3 +84,16 @@ pub use Rattle.wast_tree.specs.declared.fields.ExportKind.TheVariants as export
 pub use Rattle.wast_tree.specs.declared.fields.Export.{Export}
 pub use Rattle.wast_tree.specs.declared.fields.ModuleField.{ModuleField}
 pub use Rattle.wast_tree.specs.declared.fields.ModuleField.TheVariants as field
+pub use Rattle.wast_tree.specs.declared.references.StructAccess.{StructAccess}
+pub use Rattle.wast_tree.specs.declared.types.ContType.{ContType}
+pub use Rattle.wast_tree.specs.declared.vectors.V128Const.{V128Const}
+pub use Rattle.wast_tree.specs.declared.vectors.V128Const.TheVariants as v128
+pub use Rattle.wast_tree.specs.declared.continuations.ResumeTable.{ResumeTable}
+pub use Rattle.wast_tree.specs.declared.continuations.Handle.{Handle}
+pub use Rattle.wast_tree.specs.declared.continuations.Handle.TheVariants as handle
+pub use Rattle.wast_tree.specs.declared.immediates.Ordering.{Ordering}
+pub use Rattle.wast_tree.specs.declared.immediates.Ordering.TheVariants as ordering
+pub use Rattle.wast_tree.specs.declared.immediates.MemArgOrdering.{MemArgOrdering}
+pub use Rattle.wast_tree.specs.declared.immediates.MemArgOrdering.TheVariants as access
+pub use Rattle.wast_base.specs.declared.faults.Form.{Form}
+pub use Rattle.wast_base.specs.declared.faults.Form.TheVariants as form

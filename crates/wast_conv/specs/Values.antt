@@ -1,8 +1,8 @@
 -- Parts of the tree as values of the binary format, with their numbers (binary format: types, instructions).
-use Rattle.std.specs.Int.{w64, trailing_zeros}
-use Rattle.std.specs.Prelude.{ℕ, Bool, true, List, [], ◌∷◌, map, Option, Some, None, unwrap_or, option_map}
+use Rattle.std.specs.Int.{w8, w16, w32, w64, w128, cast_signed, cast_unsigned, from_le_bytes, to_le_bytes, trailing_zeros}
+use Rattle.std.specs.Prelude.{ℕ, ℤ, Bool, true, List, [], ◌∷◌, map, flat_map, Option, Some, None, unwrap_or, option_map}
 use Rattle.wast_conv.specs.Tree as tree
-use Rattle.wast_conv.specs.Tree.{Index, StructField, FunctionType, TypeUse, InnerTypeKind, TypeDef, ItemKind, TryTableCatch, TryTableCatchKind, Instruction, Expression, Local, FuncKind}
+use Rattle.wast_conv.specs.Tree.{Index, StructField, FunctionType, TypeUse, InnerTypeKind, TypeDef, ItemKind, F32, F64, TryTableCatch, TryTableCatchKind, Instruction, Expression, Local, FuncKind}
 use Rattle.wast_conv.specs.Tree.index
 use Rattle.wast_conv.specs.Tree.heap
 use Rattle.wast_conv.specs.Tree.abstract
@@ -13,6 +13,10 @@ use Rattle.wast_conv.specs.Tree.tag
 use Rattle.wast_conv.specs.Tree.kind as item
 use Rattle.wast_conv.specs.Tree.target
 use Rattle.wast_conv.specs.Tree.caught
+use Rattle.wast_conv.specs.Tree.ordering
+use Rattle.wast_conv.specs.Tree.access
+use Rattle.wast_conv.specs.Tree.handle
+use Rattle.wast_conv.specs.Tree.v128
 use Rattle.wast_conv.specs.Tree.instr as instruction
 use Rattle.wast_conv.specs.Tree.func
 use Rattle.wast_conv.specs.Tree.export
@@ -29,6 +33,7 @@ use Rattle.wasm_ops.specs.declared.types.FieldType.{FieldType}
 use Rattle.wasm_ops.specs.declared.types.StructType.{StructType}
 use Rattle.wasm_ops.specs.declared.types.ArrayType.{ArrayType}
 use Rattle.wasm_ops.specs.declared.types.FuncType.{FuncType}
+use Rattle.wasm_ops.specs.declared.types.ContType.{ContType}
 use Rattle.wasm_ops.specs.declared.types.CompositeInnerType.{CompositeInnerType}
 use Rattle.wasm_ops.specs.declared.types.CompositeInnerType.TheVariants as composite
 use Rattle.wasm_ops.specs.declared.types.SubType.{SubType}
@@ -47,10 +52,21 @@ use Rattle.wasm_ops.specs.declared.blocks.BlockType.{BlockType}
 use Rattle.wasm_ops.specs.declared.blocks.BlockType.TheVariants as out_block
 use Rattle.wasm_ops.specs.declared.blocks.Catch.{Catch}
 use Rattle.wasm_ops.specs.declared.blocks.Catch.TheVariants as out_catch
+use Rattle.wasm_ops.specs.declared.blocks.Handle.{Handle}
+use Rattle.wasm_ops.specs.declared.blocks.Handle.TheVariants as out_handle
+use Rattle.wasm_ops.specs.declared.casts.CastOp.TheVariants as cast
+use Rattle.wasm_ops.specs.declared.casts.BrCastOp.TheVariants as branch
+use Rattle.wasm_ops.specs.declared.memargs.Ordering.{Ordering}
+use Rattle.wasm_ops.specs.declared.memargs.Ordering.TheVariants as out_ordering
+use Rattle.wasm_ops.specs.declared.memargs.MemArgOrdering.{MemArgOrdering}
+use Rattle.wasm_ops.specs.declared.memargs.MemArgOrdering.TheVariants as out_access
+use Rattle.wasm_ops.specs.declared.opcodes.Opcode.TheVariants.{Byte}
+use Rattle.wasm_ops.specs.declared.vectors.LanesOp.TheVariants as lanes
 use Rattle.wasm_ops.specs.declared.control.BlockOp.TheVariants as opener
 use Rattle.wasm_ops.specs.declared.control.Delimiter.TheVariants as delimiter
 use Rattle.wasm_ops.specs.declared.instrs.IndexOp.TheVariants as op
 use Rattle.wasm_ops.specs.declared.instrs.IndexPairOp.TheVariants as pair
+use Rattle.wasm_ops.specs.CastInstrs.{cast_instr, br_cast_instr, fence_instr}
 use Rattle.wasm_ops.specs.ConstantInstrs.{i32_const_instr, i64_const_instr, f32_const_instr, f64_const_instr, ref_null_instr}
 use Rattle.wasm_ops.specs.ControlInstrs.{block_instr, delimiter_instr, br_table_instr, try_table_instr}
 use Rattle.wasm_ops.specs.IndexInstrs.{index_instr, index_pair_instr}
@@ -58,6 +74,7 @@ use Rattle.wasm_ops.specs.MemoryInstrs.{mem_instr}
 use Rattle.wasm_ops.specs.PlainInstrs.{plain_instr}
 use Rattle.wasm_ops.specs.SelectInstrs.{select_instr}
 use Rattle.wasm_ops.specs.Table.{Instr}
+use Rattle.wasm_ops.specs.VectorInstrs.{lanes_instr, lane_instr, mem_lane_instr}
 use Rattle.wasm_out.specs.Bodies.{Body}
 
 -- the number of an index; a resolved list has no ids left, and one would read 0
@@ -79,11 +96,14 @@ as_abstract_type abstract.NoFunc = heaps.NoFunc
 as_abstract_type abstract.NoExtern = heaps.NoExtern
 as_abstract_type abstract.None = heaps.None
 as_abstract_type abstract.I31 = heaps.I31
+as_abstract_type abstract.Cont = heaps.Cont
+as_abstract_type abstract.NoCont = heaps.NoCont
 
 -- a heap type
 abbrev pub as_heap_type : tree.HeapType → HeapType
 as_heap_type (heap.Abstract shared ty) = out_heap.Abstract shared (as_abstract_type ty)
 as_heap_type (heap.Concrete i) = out_heap.Concrete (number i)
+as_heap_type (heap.Exact i) = out_heap.Exact (number i)
 
 -- a reference type
 abbrev pub as_ref_type : tree.RefType → RefType
@@ -120,11 +140,16 @@ as_array_type t = record { 0 = record { element_type = as_storage_type t.ty; mut
 abbrev pub as_func_type : FunctionType → FuncType
 as_func_type t = record { params = map (λ p. as_val_type p.2) t.params; results = map as_val_type t.results }
 
+-- a continuation type, by the index of its function type
+abbrev pub as_cont_type : tree.ContType → ContType
+as_cont_type t = record { 0 = number t.0 }
+
 -- a composite type
 abbrev pub as_inner_type : InnerTypeKind → CompositeInnerType
 as_inner_type (inner.Func t) = composite.Func (as_func_type t)
 as_inner_type (inner.Struct t) = composite.Struct (as_struct_type t)
 as_inner_type (inner.Array t) = composite.Array (as_array_type t)
+as_inner_type (inner.Cont t) = composite.Cont (as_cont_type t)
 
 -- a type is final where it says nothing
 abbrev pub is_final : Option Bool → Bool
@@ -162,18 +187,40 @@ as_tag_type (tag.Exception u) = record { func_type_idx = type_index u }
 -- the type of an imported item
 abbrev pub as_entity_type : ItemKind → EntityType
 as_entity_type (item.Func u) = entity.Function (type_index u)
+as_entity_type (item.FuncExact u) = entity.FunctionExact (type_index u)
 as_entity_type (item.Table t) = entity.Table (as_table_type t)
 as_entity_type (item.Memory t) = entity.Memory (as_memory_type t)
 as_entity_type (item.Global t) = entity.Global (as_global_type t)
 as_entity_type (item.Tag t) = entity.Tag (as_tag_type t)
 
--- the memory that a memory argument reads or writes
+-- an ordering
+abbrev pub as_ordering : tree.Ordering → Ordering
+as_ordering ordering.SeqCst = out_ordering.SeqCst
+as_ordering ordering.AcqRel = out_ordering.AcqRel
+
+-- one that is written on a memory argument
+abbrev pub as_mem_arg_ordering : tree.MemArgOrdering → MemArgOrdering
+as_mem_arg_ordering (access.Op o) = out_access.Op (as_ordering o)
+as_mem_arg_ordering (access.Rmw o) = out_access.Rmw (as_ordering o)
+
+-- a fence is sequentially consistent where no ordering is written
+abbrev pub fence_ordering : Option tree.Ordering → Ordering
+fence_ordering None = out_ordering.SeqCst
+fence_ordering (Some o) = as_ordering o
+
+-- a handler of a resumption
+abbrev pub as_handle : tree.Handle → Handle
+as_handle (handle.OnLabel e l) = out_handle.OnLabel (number e) (number l)
+as_handle (handle.OnSwitch e) = out_handle.OnSwitch (number e)
+
+-- the memory that a memory argument reads or writes, or the type of the array
 abbrev pub as_mem_arg_target : tree.MemArgTarget → MemArgTarget
 as_mem_arg_target (target.Memory i) = out_target.Memory (number i)
+as_mem_arg_target (target.Array i) = out_target.Array (number i)
 
 -- a memory argument: its alignment is 2 to what is written
 abbrev pub as_mem_arg : tree.MemArg → MemArg
-as_mem_arg m = record { align = trailing_zeros w64 m.align; target = as_mem_arg_target m.target; offset = m.offset }
+as_mem_arg m = record { align = trailing_zeros w64 m.align; target = as_mem_arg_target m.target; offset = m.offset; ordering = option_map as_mem_arg_ordering m.ordering }
 
 -- what a short inline type gives: nothing, or one value
 abbrev pub given : List tree.ValType → BlockType
@@ -205,10 +252,48 @@ as_caught caught.CatchAllRef label = out_catch.AllRef label
 abbrev pub as_catch : TryTableCatch → Catch
 as_catch c = as_caught c.kind (number c.label)
 
+-- the bytes of lanes, one lane after another, the lowest byte of each first
+abbrev pub i8_bytes : List ℤ → List ℕ
+i8_bytes lanes = map (cast_unsigned w8) lanes
+
+abbrev pub i16_bytes : List ℤ → List ℕ
+i16_bytes lanes = flat_map (λ z. to_le_bytes w16 (cast_unsigned w16 z)) lanes
+
+abbrev pub i32_bytes : List ℤ → List ℕ
+i32_bytes lanes = flat_map (λ z. to_le_bytes w32 (cast_unsigned w32 z)) lanes
+
+abbrev pub i64_bytes : List ℤ → List ℕ
+i64_bytes lanes = flat_map (λ z. to_le_bytes w64 (cast_unsigned w64 z)) lanes
+
+abbrev pub f32_bytes : List F32 → List ℕ
+f32_bytes lanes = flat_map (λ x. to_le_bytes w32 x.bits) lanes
+
+abbrev pub f64_bytes : List F64 → List ℕ
+f64_bytes lanes = flat_map (λ x. to_le_bytes w64 x.bits) lanes
+
+-- the bytes of a vector
+abbrev pub lane_bytes : tree.V128Const → List ℕ
+lane_bytes (v128.I8x16 lanes) = i8_bytes lanes
+lane_bytes (v128.I16x8 lanes) = i16_bytes lanes
+lane_bytes (v128.I32x4 lanes) = i32_bytes lanes
+lane_bytes (v128.I64x2 lanes) = i64_bytes lanes
+lane_bytes (v128.F32x4 lanes) = f32_bytes lanes
+lane_bytes (v128.F64x2 lanes) = f64_bytes lanes
+
+-- a vector, as a number of 128 bits
+abbrev pub as_v128 : tree.V128Const → ℤ
+as_v128 c = cast_signed w128 (from_le_bytes w128 (lane_bytes c))
+
+-- What no encoder covers is no row of the table: no row has this opcode.
+abbrev pub no_row : Instr
+no_row = record { row = record { opcode = Byte 0xff; kinds = [] }; numbers = tt }
+
 -- an instruction, as a row of the table with its numbers
 abbrev pub as_instr : Instruction → Instr
 as_instr (instruction.Plain o) = plain_instr o
 as_instr (instruction.Mem o m) = mem_instr o (as_mem_arg m)
+as_instr (instruction.Lane o a) = lane_instr o a.lane
+as_instr (instruction.MemLane o a) = mem_lane_instr o (as_mem_arg a.memarg) a.lane.lane
 as_instr (instruction.block b) = block_instr opener.Block (as_block_type b)
 as_instr (instruction.loop_ b) = block_instr opener.Loop (as_block_type b)
 as_instr (instruction.if_ b) = block_instr opener.If (as_block_type b)
@@ -257,6 +342,51 @@ as_instr (instruction.f32_const n) = f32_const_instr n.bits
 as_instr (instruction.f64_const n) = f64_const_instr n.bits
 as_instr (instruction.ref_null h) = ref_null_instr (as_heap_type h)
 as_instr (instruction.ref_func i) = index_instr op.RefFunc (number i)
+as_instr (instruction.struct_new i) = index_instr op.StructNew (number i)
+as_instr (instruction.struct_new_default i) = index_instr op.StructNewDefault (number i)
+as_instr (instruction.struct_get a) = index_pair_instr pair.StructGet (number a.owner) (number a.field)
+as_instr (instruction.struct_get_s a) = index_pair_instr pair.StructGetS (number a.owner) (number a.field)
+as_instr (instruction.struct_get_u a) = index_pair_instr pair.StructGetU (number a.owner) (number a.field)
+as_instr (instruction.struct_set a) = index_pair_instr pair.StructSet (number a.owner) (number a.field)
+as_instr (instruction.array_new i) = index_instr op.ArrayNew (number i)
+as_instr (instruction.array_new_default i) = index_instr op.ArrayNewDefault (number i)
+as_instr (instruction.array_new_fixed a) = index_pair_instr pair.ArrayNewFixed (number a.array) a.length
+as_instr (instruction.array_new_data a) = index_pair_instr pair.ArrayNewData (number a.array) (number a.data_idx)
+as_instr (instruction.array_new_elem a) = index_pair_instr pair.ArrayNewElem (number a.array) (number a.elem_idx)
+as_instr (instruction.array_get i) = index_instr op.ArrayGet (number i)
+as_instr (instruction.array_get_s i) = index_instr op.ArrayGetS (number i)
+as_instr (instruction.array_get_u i) = index_instr op.ArrayGetU (number i)
+as_instr (instruction.array_set i) = index_instr op.ArraySet (number i)
+as_instr (instruction.array_fill a) = index_instr op.ArrayFill (number a.array)
+as_instr (instruction.array_copy a) = index_pair_instr pair.ArrayCopy (number a.dest_array) (number a.src_array)
+as_instr (instruction.array_init_data a) = index_pair_instr pair.ArrayInitData (number a.array) (number a.segment)
+as_instr (instruction.array_init_elem a) = index_pair_instr pair.ArrayInitElem (number a.array) (number a.segment)
+as_instr (instruction.ref_test a) = cast_instr cast.Test (as_ref_type a.rt)
+as_instr (instruction.ref_cast a) = cast_instr cast.Cast (as_ref_type a.rt)
+as_instr (instruction.br_on_cast a) = br_cast_instr branch.Succeeds (number a.label) (as_ref_type a.from_type) (as_ref_type a.to_type)
+as_instr (instruction.br_on_cast_fail a) = br_cast_instr branch.Fails (number a.label) (as_ref_type a.from_type) (as_ref_type a.to_type)
+as_instr (instruction.v128_const c) = lanes_instr lanes.Const (lane_bytes c)
+as_instr (instruction.i8x16_shuffle s) = lanes_instr lanes.Shuffle s.lanes
+as_instr (instruction.atomic_fence o) = fence_instr (fence_ordering o)
+as_instr (instruction.ref_cast_desc_eq a) = no_row
+as_instr (instruction.br_on_cast_desc_eq a) = no_row
+as_instr (instruction.br_on_cast_desc_eq_fail a) = no_row
+as_instr (instruction.GlobalAtomic a) = no_row
+as_instr (instruction.TableAtomic a) = no_row
+as_instr (instruction.StructAtomic a) = no_row
+as_instr (instruction.ArrayAtomic a) = no_row
+as_instr (instruction.struct_new_desc i) = no_row
+as_instr (instruction.struct_new_default_desc i) = no_row
+as_instr (instruction.ref_get_desc i) = no_row
+as_instr (instruction.cont_new i) = no_row
+as_instr (instruction.cont_bind a) = no_row
+as_instr (instruction.suspend i) = no_row
+as_instr (instruction.resume a) = no_row
+as_instr (instruction.resume_throw a) = no_row
+as_instr (instruction.resume_throw_ref a) = no_row
+as_instr (instruction.switch a) = no_row
+as_instr (instruction.memory_discard a) = no_row
+as_instr (instruction.Beyond name) = no_row
 
 -- the instructions of a constant expression
 abbrev pub as_expression : Expression → List Instr

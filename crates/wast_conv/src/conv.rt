@@ -13,11 +13,18 @@ ghost use Rattle.wast_conv.specs.Encodable.{is_number_if, is_encodable_instr, is
 ghost use Rattle.wast_conv.specs.Meaning as meaning;
 
 pub use crate::conv_entities::{entity_type, global_type, memory_type, table_type, tag_type};
-pub use crate::conv_immediates::{block_type, catch, mem_arg, memory_arg, table_arg};
+pub use crate::conv_handles::Handles;
+pub use crate::conv_immediates::{
+    block_type, catch, handle, handles, mem_arg, memory_arg, table_arg,
+};
+pub use crate::conv_vectors::{
+    array_fill, lane_arg, mem_arg_ordering, ordering, shuffle, v128_const,
+};
 use crate::values::Resolved;
 use std::alloc::Global;
 use wasm_ops::{
-    CompositeInnerType, CompositeType, ConstExpr, Each, Encode, FuncType, StructType, SubType,
+    CompositeInnerType, CompositeType, ConstExpr, ContType, Each, Encode, FuncType, StructType,
+    SubType,
 };
 use wast_tree::{
     Error, Expression, FunctionType, Id, Index, InnerTypeKind, Instruction, NameAnnotation, Seq,
@@ -94,6 +101,8 @@ fn abstract_type(ty: wast_tree::AbstractHeapType) -> wasm_ops::AbstractHeapType
         wast_tree::AbstractHeapType::NoExtern => wasm_ops::AbstractHeapType::NoExtern,
         wast_tree::AbstractHeapType::None => wasm_ops::AbstractHeapType::None,
         wast_tree::AbstractHeapType::I31 => wasm_ops::AbstractHeapType::I31,
+        wast_tree::AbstractHeapType::Cont => wasm_ops::AbstractHeapType::Cont,
+        wast_tree::AbstractHeapType::NoCont => wasm_ops::AbstractHeapType::NoCont,
     }
 }
 
@@ -108,6 +117,7 @@ pub fn heap_type(ty: &wast_tree::HeapType) -> wasm_ops::HeapType
             ty: abstract_type(*ty),
         },
         wast_tree::HeapType::Concrete(of) => wasm_ops::HeapType::Concrete(index(of)),
+        wast_tree::HeapType::Exact(of) => wasm_ops::HeapType::Exact(index(of)),
     }
 }
 
@@ -234,6 +244,14 @@ pub fn struct_type<'e>(alloc: Global, ty: &wast_tree::StructType) -> Result<Stru
     Ok(StructType { fields })
 }
 
+/// A continuation type: the index of its function type (stack switching). It needs a resolved index.
+pub fn cont_type(ty: &wast_tree::ContType) -> ContType
+    requires { IsTrue (is_number ty.now.0) }
+    ensures { result ≡ meaning.as_cont_type ty.now }
+{
+    ContType(index(&ty.0))
+}
+
 fn inner_type<'e>(alloc: Global, kind: &InnerTypeKind) -> Result<CompositeInnerType, Error<'e>>
     requires { IsTrue (are_numbered (in_inner kind.now)) }
     ensures value { IfOk result (λ made. made ≡ meaning.as_inner_type kind.now) }
@@ -243,6 +261,7 @@ fn inner_type<'e>(alloc: Global, kind: &InnerTypeKind) -> Result<CompositeInnerT
         InnerTypeKind::Func(ty) => Ok(CompositeInnerType::Func(func_type(alloc, ty)?)),
         InnerTypeKind::Struct(ty) => Ok(CompositeInnerType::Struct(struct_type(alloc, ty)?)),
         InnerTypeKind::Array(ty) => Ok(CompositeInnerType::Array(array_type(ty))),
+        InnerTypeKind::Cont(ty) => Ok(CompositeInnerType::Cont(cont_type(ty))),
     }
 }
 
@@ -316,7 +335,7 @@ fn instrs_bytes<'e>(alloc: Global, instructions: &[Instruction]) -> Result<Vec<u
     Ok(bytes)
 }
 
-/// A constant expression: its instructions as bytes (binary format, expressions). It needs a supported one, with
+/// A constant expression: its instructions as bytes (binary format, expressions). It needs a covered one, with
 /// resolved indices. Sections take the expression that it gives.
 ///
 /// E12 comes where memory is refused. E10 comes only where a number of an instruction is out of range.

@@ -79,6 +79,7 @@ pub fn entity_type(kind: &ItemKind) -> EntityType
 {
     match kind {
         ItemKind::Func(type_use) => EntityType::Function(type_index(type_use)),
+        ItemKind::FuncExact(type_use) => EntityType::FunctionExact(type_index(type_use)),
         ItemKind::Table(ty) => EntityType::Table(table_type(ty)),
         ItemKind::Memory(ty) => EntityType::Memory(memory_type(ty)),
         ItemKind::Global(ty) => EntityType::Global(global_type(ty)),

@@ -1,16 +1,20 @@
 //! Immediates of instructions as values of the binary format.
 
 ghost use Rattle.std.specs.Int.{w64, is_power_of_two, trailing_zeros};
-ghost use Rattle.std.specs.Prelude.{◌≡◌, ◌<◌, IsTrue};
+ghost use Rattle.std.specs.Prelude.{◌≡◌, ◌<◌, map, IsTrue};
 ghost use Rattle.std.specs.List.{list_all};
 ghost use Rattle.wast_base.specs.Ids.{is_number};
 ghost use Rattle.wast_tree.specs.Sites.{OfBlock, start, if_there, in_val, in_signature, in_use, in_catch, in_target};
 ghost use Rattle.wast_tree.specs.Resolved.{are_numbered};
-ghost use Rattle.wast_conv.specs.Encodable.{are_resolved};
+ghost use Rattle.wast_conv.specs.Encodable.{are_resolved, is_resolved_handle};
 ghost use Rattle.wast_conv.specs.Meaning as meaning;
 
 use crate::conv::{index, val_type};
-use wast_tree::{FunctionType, MemoryArg, TableArg, TryTableCatch, TryTableCatchKind, ValType};
+use crate::conv_handles::Handles;
+use crate::conv_vectors::mem_arg_ordering;
+use wast_tree::{
+    FunctionType, MemoryArg, ResumeTable, TableArg, TryTableCatch, TryTableCatchKind, ValType,
+};
 
 /// What a block gives that has no index of a type: nothing, or one value.
 fn given(results: &[ValType]) -> wasm_ops::BlockType
@@ -83,13 +87,14 @@ pub fn memory_arg(arg: &MemoryArg) -> u32
     index(&arg.mem)
 }
 
-/// The memory that a memory argument reads or writes (binary format, memory instructions). It needs a resolved index.
+/// The memory that a memory argument reads or writes, or the type of the array (binary format, memory instructions). It needs a resolved index.
 fn mem_arg_target(target: &wast_tree::MemArgTarget) -> wasm_ops::MemArgTarget
     requires { IsTrue (are_numbered (in_target target.now)) }
     ensures { result ≡ meaning.as_mem_arg_target target.now }
 {
     match target {
         wast_tree::MemArgTarget::Memory(memory) => wasm_ops::MemArgTarget::Memory(index(memory)),
+        wast_tree::MemArgTarget::Array(ty) => wasm_ops::MemArgTarget::Array(index(ty)),
     }
 }
 
@@ -112,5 +117,28 @@ pub fn mem_arg(arg: &wast_tree::MemArg) -> wasm_ops::MemArg
         align: logarithm(arg.align),
         target: mem_arg_target(&arg.target),
         offset: arg.offset,
+        ordering: arg.ordering.map(mem_arg_ordering),
     }
+}
+
+/// A handler of a resumption (stack switching). It needs resolved indices.
+pub fn handle(handle: &wast_tree::Handle) -> wasm_ops::Handle
+    requires { IsTrue (is_resolved_handle handle.now) }
+    ensures { result ≡ meaning.as_handle handle.now }
+{
+    match handle {
+        wast_tree::Handle::OnLabel { tag, label } => wasm_ops::Handle::OnLabel {
+            tag: index(tag),
+            label: index(label),
+        },
+        wast_tree::Handle::OnSwitch { tag } => wasm_ops::Handle::OnSwitch { tag: index(tag) },
+    }
+}
+
+/// The handlers of a resumption, in the order of the text (stack switching). It needs resolved indices.
+pub fn handles<'b, 'a>(table: &'b ResumeTable<'a>) -> Handles<'b, 'a>
+    requires { IsTrue (list_all is_resolved_handle table.now.handlers) }
+    ensures { result ≡ map meaning.as_handle table.now.handlers }
+{
+    Handles::of(table)
 }

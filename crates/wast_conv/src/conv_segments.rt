@@ -30,7 +30,7 @@ fn const_exprs<'e>(alloc: Global, expressions: &[Expression]) -> Result<Seq<Cons
     Ok(made)
 }
 
-/// The elements of a segment. It needs supported forms, with resolved indices.
+/// The elements of a segment. It needs covered forms, with resolved indices.
 ///
 /// E12 comes where memory is refused. E10 comes only where a number of an instruction is out of range.
 pub(crate) fn elements<'e>(alloc: Global, payload: &ElemPayload) -> Result<Elements, Error<'e>>

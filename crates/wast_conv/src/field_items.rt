@@ -36,6 +36,7 @@ impl SectionItem for Imports<'_> {
             ImportItems::Single { module, name, sig } => {
                 section.import(module, name, &conv::entity_type(&sig.kind))
             }
+            ImportItems::Group1 { .. } | ImportItems::Group2 { .. } => unreachable!(),
         }
     }
 

@@ -59,6 +59,7 @@ impl Spell<Imports<'_>> for Resolved {
     fn spell<S: Sink>(&self, imports: &Imports, out: &mut S) -> Result<(), Refusal> {
         match &imports.items {
             ImportItems::Single { module, name, sig } => put_import(module, name, &sig.kind, out),
+            ImportItems::Group1 { .. } | ImportItems::Group2 { .. } => unreachable!(),
         }
     }
 }

@@ -2,7 +2,8 @@
 
 ghost use Rattle.std.specs.Prelude.{◌≡◌, true, map, option_map, IsTrue};
 ghost use Rattle.wast_base.specs.Ids.{is_number};
-ghost use Rattle.wast_tree.specs.Sites.{OfBlock, start, in_heap, in_mem_arg, in_select, in_indirect, in_use, in_br_table, in_try_table};
+ghost use Rattle.wast_tree.specs.Sites.{OfBlock, start, is_sequential, in_heap, in_ref, in_access, in_cast, in_mem_arg, in_select, in_indirect, in_use, in_br_table, in_try_table};
+ghost use Rattle.wasm_ops.specs.CastInstrs.{cast_instr, br_cast_instr, fence_instr};
 ghost use Rattle.wasm_ops.specs.ConstantInstrs.{ref_null_instr};
 ghost use Rattle.wasm_ops.specs.Control.{catch_clause, InRangeCatch};
 ghost use Rattle.wasm_ops.specs.ControlInstrs.{block_instr, br_table_instr, try_table_instr};
@@ -11,19 +12,26 @@ ghost use Rattle.wasm_ops.specs.MemoryInstrs.{mem_instr};
 ghost use Rattle.wasm_ops.specs.SelectInstrs.{select_instr};
 ghost use Rattle.wasm_ops.specs.Sinks.{Writes};
 ghost use Rattle.wasm_ops.specs.Table.{instr, InRangeInstr};
+ghost use Rattle.wasm_ops.specs.VectorInstrs.{lanes_instr, lane_instr, mem_lane_instr};
+ghost use Rattle.wasm_ops.specs.declared.instrs.IndexPairOp.TheVariants as pair;
+ghost use Rattle.wasm_ops.specs.declared.vectors.LanesOp.TheVariants as lanes;
 ghost use Rattle.wast_conv.specs.Encodable.{are_encodable, encodable, is_encodable_catch, is_encodable_instr};
 ghost use Rattle.wast_conv.specs.Meaning as meaning;
 
 use crate::conv;
 use crate::conv_entities::type_index;
+use crate::conv_vectors::{fence_ordering, lane_bytes};
 use crate::values::Resolved;
 use wasm_ops::{
-    BlockInstr, BlockOp, BrTable, Counted, Delimiter, Encode, F32Const, F64Const, I32Const,
-    I64Const, IndexInstr, IndexOp, IndexPair, IndexPairOp, MemInstr, RefNull, Refusal, Sink, Spell,
+    BlockInstr, BlockOp, BrCastInstr, BrCastOp, BrTable, CastInstr, CastOp, Counted, Delimiter,
+    Encode, F32Const, F64Const, Fence, I32Const, I64Const, IndexInstr, IndexOp, IndexPair,
+    IndexPairOp, LaneInstr, LanesInstr, LanesOp, MemInstr, MemLaneInstr, RefNull, Refusal, Sink,
+    Spell,
 };
 use wast_tree::{
-    BlockType, Boxed, BrTableIndices, CallIndirect, HeapType, Index, Instruction, MemArg, MemOp,
-    SelectTypes, TryTable, TryTableCatch,
+    ArrayNewFixed, BlockType, Boxed, BrTableIndices, CallIndirect, HeapType, Index, Instruction,
+    LaneArg, LaneOp, LoadOrStoreLane, MemArg, MemLaneOp, MemOp, Ordering, RefType, SelectTypes,
+    StructAccess, TryTable, TryTableCatch, V128Const,
 };
 
 /// An instruction whose one immediate is an index.
@@ -84,6 +92,113 @@ fn put_mem<S: Sink>(op: MemOp, arg: &MemArg, out: &mut S) -> Result<(), Refusal>
         memarg: conv::mem_arg(arg),
     }
     .encode(out)
+}
+
+/// An instruction on a lane.
+fn put_lane<S: Sink>(op: LaneOp, arg: &LaneArg, out: &mut S) -> Result<(), Refusal>
+    ensures { Writes S.rules (InRangeInstr (lane_instr op arg.now.lane))
+        out.old out.new (instr (lane_instr op arg.now.lane)) result }
+{
+    LaneInstr { op, lane: arg.lane }.encode(out)
+}
+
+/// A load or a store of a lane.
+fn put_mem_lane<S: Sink>(op: MemLaneOp, arg: &LoadOrStoreLane, out: &mut S) -> Result<(), Refusal>
+    requires { IsTrue (are_encodable (in_mem_arg arg.now.memarg)) }
+    ensures { Writes S.rules (InRangeInstr (mem_lane_instr op (meaning.as_mem_arg arg.now.memarg) arg.now.lane.lane))
+        out.old out.new (instr (mem_lane_instr op (meaning.as_mem_arg arg.now.memarg) arg.now.lane.lane)) result }
+{
+    MemLaneInstr {
+        op,
+        memarg: conv::mem_arg(&arg.memarg),
+        lane: arg.lane.lane,
+    }
+    .encode(out)
+}
+
+/// A field of a struct: the type of the struct, and then the field.
+fn put_access<S: Sink>(op: IndexPairOp, arg: &StructAccess, out: &mut S) -> Result<(), Refusal>
+    requires { IsTrue (encodable (in_access arg.now)) }
+    ensures { Writes S.rules (InRangeInstr (index_pair_instr op (meaning.number arg.now.owner) (meaning.number arg.now.field)))
+        out.old out.new (instr (index_pair_instr op (meaning.number arg.now.owner) (meaning.number arg.now.field))) result }
+{
+    IndexPair {
+        op,
+        first: conv::index(&arg.owner),
+        second: conv::index(&arg.field),
+    }
+    .encode(out)
+}
+
+/// An array of a type with so many elements.
+fn put_new_fixed<S: Sink>(arg: &ArrayNewFixed, out: &mut S) -> Result<(), Refusal>
+    requires { IsTrue (is_number arg.now.array) }
+    ensures { Writes S.rules (InRangeInstr (index_pair_instr pair.ArrayNewFixed (meaning.number arg.now.array) arg.now.length))
+        out.old out.new (instr (index_pair_instr pair.ArrayNewFixed (meaning.number arg.now.array) arg.now.length)) result }
+{
+    IndexPair {
+        op: IndexPairOp::ArrayNewFixed,
+        first: conv::index(&arg.array),
+        second: arg.length,
+    }
+    .encode(out)
+}
+
+/// A test or a cast of a reference.
+fn put_cast<S: Sink>(op: CastOp, ty: &RefType, out: &mut S) -> Result<(), Refusal>
+    requires { IsTrue (are_encodable (in_ref ty.now)) }
+    ensures { Writes S.rules (InRangeInstr (cast_instr op (meaning.as_ref_type ty.now)))
+        out.old out.new (instr (cast_instr op (meaning.as_ref_type ty.now))) result }
+{
+    CastInstr {
+        op,
+        ty: conv::ref_type(ty),
+    }
+    .encode(out)
+}
+
+/// A branch on a cast.
+fn put_br_cast<S: Sink>(
+    op: BrCastOp,
+    label: &Index,
+    from: &RefType,
+    to: &RefType,
+    out: &mut S,
+) -> Result<(), Refusal>
+    requires { IsTrue (encodable (in_cast start.blocks label.now to.now from.now)) }
+    ensures { Writes S.rules
+        (InRangeInstr (br_cast_instr op (meaning.number label.now) (meaning.as_ref_type from.now) (meaning.as_ref_type to.now)))
+        out.old out.new
+        (instr (br_cast_instr op (meaning.number label.now) (meaning.as_ref_type from.now) (meaning.as_ref_type to.now))) result }
+{
+    BrCastInstr {
+        op,
+        label: conv::index(label),
+        from: conv::ref_type(from),
+        to: conv::ref_type(to),
+    }
+    .encode(out)
+}
+
+/// A vector.
+fn put_v128<S: Sink>(value: &V128Const, out: &mut S) -> Result<(), Refusal>
+    ensures { Writes S.rules (InRangeInstr (lanes_instr lanes.Const (meaning.lane_bytes value.now)))
+        out.old out.new (instr (lanes_instr lanes.Const (meaning.lane_bytes value.now))) result }
+{
+    LanesInstr {
+        op: LanesOp::Const,
+        lanes: lane_bytes(value),
+    }
+    .encode(out)
+}
+
+/// A fence of an ordering.
+fn put_fence<S: Sink>(ordering: Option<Ordering>, out: &mut S) -> Result<(), Refusal>
+    requires { IsTrue (is_sequential ordering) }
+    ensures { Writes S.rules (InRangeInstr (fence_instr (meaning.fence_ordering ordering)))
+        out.old out.new (instr (fence_instr (meaning.fence_ordering ordering))) result }
+{
+    Fence(fence_ordering(ordering)).encode(out)
 }
 
 /// An instruction that opens a block.
@@ -176,6 +291,8 @@ impl Spell<Instruction<'_>> for Resolved {
         match instruction {
             Instruction::Plain(op) => op.encode(out),
             Instruction::Mem(op, arg) => put_mem(*op, arg, out),
+            Instruction::Lane(op, arg) => put_lane(*op, arg, out),
+            Instruction::MemLane(op, arg) => put_mem_lane(*op, arg, out),
             Instruction::block(block) => put_block(BlockOp::Block, block, out),
             Instruction::loop_(block) => put_block(BlockOp::Loop, block, out),
             Instruction::if_(block) => put_block(BlockOp::If, block, out),
@@ -234,6 +351,83 @@ impl Spell<Instruction<'_>> for Resolved {
             Instruction::f64_const(value) => F64Const(value.bits).encode(out),
             Instruction::ref_null(ty) => put_null(ty, out),
             Instruction::ref_func(func) => put_index(IndexOp::RefFunc, func, out),
+            Instruction::struct_new(ty) => put_index(IndexOp::StructNew, ty, out),
+            Instruction::struct_new_default(ty) => put_index(IndexOp::StructNewDefault, ty, out),
+            Instruction::struct_get(arg) => put_access(IndexPairOp::StructGet, arg, out),
+            Instruction::struct_get_s(arg) => put_access(IndexPairOp::StructGetS, arg, out),
+            Instruction::struct_get_u(arg) => put_access(IndexPairOp::StructGetU, arg, out),
+            Instruction::struct_set(arg) => put_access(IndexPairOp::StructSet, arg, out),
+            Instruction::array_new(ty) => put_index(IndexOp::ArrayNew, ty, out),
+            Instruction::array_new_default(ty) => put_index(IndexOp::ArrayNewDefault, ty, out),
+            Instruction::array_new_fixed(arg) => put_new_fixed(arg, out),
+            Instruction::array_new_data(arg) => {
+                put_pair(IndexPairOp::ArrayNewData, &arg.array, &arg.data_idx, out)
+            }
+            Instruction::array_new_elem(arg) => {
+                put_pair(IndexPairOp::ArrayNewElem, &arg.array, &arg.elem_idx, out)
+            }
+            Instruction::array_get(ty) => put_index(IndexOp::ArrayGet, ty, out),
+            Instruction::array_get_s(ty) => put_index(IndexOp::ArrayGetS, ty, out),
+            Instruction::array_get_u(ty) => put_index(IndexOp::ArrayGetU, ty, out),
+            Instruction::array_set(ty) => put_index(IndexOp::ArraySet, ty, out),
+            Instruction::array_fill(arg) => put_index(IndexOp::ArrayFill, &arg.array, out),
+            Instruction::array_copy(arg) => {
+                put_pair(IndexPairOp::ArrayCopy, &arg.dest_array, &arg.src_array, out)
+            }
+            Instruction::array_init_data(arg) => {
+                put_pair(IndexPairOp::ArrayInitData, &arg.array, &arg.segment, out)
+            }
+            Instruction::array_init_elem(arg) => {
+                put_pair(IndexPairOp::ArrayInitElem, &arg.array, &arg.segment, out)
+            }
+            Instruction::ref_test(arg) => put_cast(CastOp::Test, &arg.rt, out),
+            Instruction::ref_cast(arg) => put_cast(CastOp::Cast, &arg.rt, out),
+            Instruction::br_on_cast(arg) => {
+                put_br_cast(
+                    BrCastOp::Succeeds,
+                    &arg.label,
+                    &arg.from_type,
+                    &arg.to_type,
+                    out,
+                )
+            }
+            Instruction::br_on_cast_fail(arg) => {
+                put_br_cast(
+                    BrCastOp::Fails,
+                    &arg.label,
+                    &arg.from_type,
+                    &arg.to_type,
+                    out,
+                )
+            }
+            Instruction::v128_const(value) => put_v128(value, out),
+            Instruction::i8x16_shuffle(arg) => {
+                LanesInstr {
+                    op: LanesOp::Shuffle,
+                    lanes: arg.lanes,
+                }
+                .encode(out)
+            }
+            Instruction::atomic_fence(ordering) => put_fence(*ordering, out),
+            Instruction::ref_cast_desc_eq(_)
+            | Instruction::br_on_cast_desc_eq(_)
+            | Instruction::br_on_cast_desc_eq_fail(_)
+            | Instruction::GlobalAtomic(_)
+            | Instruction::TableAtomic(_)
+            | Instruction::StructAtomic(_)
+            | Instruction::ArrayAtomic(_)
+            | Instruction::struct_new_desc(_)
+            | Instruction::struct_new_default_desc(_)
+            | Instruction::ref_get_desc(_)
+            | Instruction::cont_new(_)
+            | Instruction::cont_bind(_)
+            | Instruction::suspend(_)
+            | Instruction::resume(_)
+            | Instruction::resume_throw(_)
+            | Instruction::resume_throw_ref(_)
+            | Instruction::switch(_)
+            | Instruction::memory_discard(_)
+            | Instruction::Beyond(_) => unreachable!(),
         }
     }
 }

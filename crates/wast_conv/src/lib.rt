@@ -3,8 +3,10 @@
 
 pub mod conv;
 mod conv_entities;
+mod conv_handles;
 mod conv_immediates;
 mod conv_segments;
+mod conv_vectors;
 mod field_items;
 mod field_values;
 mod instr_values;

@@ -20,9 +20,9 @@ use wast_tree::{Error, Export, FunctionType, Rec, Type, TypeUse};
 
 /// An item of a section.
 ///
-/// Each call needs a resolved item of a supported form, in what is written of it: branch hints and inline types are not
-/// written. All items are so in the fields that `Module::resolve` of `wast_core` leaves where it refuses nothing: its clause
-/// `at_rest` tells it.
+/// Each call needs a resolved item of a covered form, in what is written of it: branch hints and inline types are not
+/// written. All items are so in the fields that `Module::resolve` of `wast_core` leaves where it refuses nothing, as its clause
+/// `at_rest` tells, if no form in them is uncovered (`uncovered` of `wast_tree`).
 pub trait SectionItem {
     /// The section that holds such items.
     type Section: Build;
@@ -33,11 +33,11 @@ pub trait SectionItem {
     /// The numbers, counts and lengths in its spelling are in range.
     ghost in_range: { Self → Type 0 };
 
-    /// It is resolved, and of a supported form.
+    /// It is resolved, and of a covered form.
     ghost is_encodable: { Self → Bool };
 
     /// Appends the item's spelling to the section, and adds one to the count of its items. It needs a resolved item of
-    /// a supported form.
+    /// a covered form.
     ///
     /// E10 comes only where there would be 2^32 items, or where a count or length in the item is 2^32 or more; E12
     /// where memory is refused. Then the section stays as it was.
@@ -46,7 +46,7 @@ pub trait SectionItem {
         ensures { Adds (InRangeU32 ((Self.Section.built section.old).count + 1) × in_range self.now)
             (Self.Section.built section.old) (Self.Section.built section.new) (spelling self.now) result };
 
-    /// Appends the item's spelling to a sink. It needs a resolved item of a supported form.
+    /// Appends the item's spelling to a sink. It needs a resolved item of a covered form.
     ///
     /// The errors are the sink's refusal, where it has no room, and E10, where a count or length in the item is 2^32 or
     /// more; then the sink stays as it was.

@@ -23,7 +23,7 @@ use wast_tree::{
     NameAnnotation, StructField, StructType, Type, TypeDef, TypeUse, ValType,
 };
 
-/// The way to spell parts of a resolved tree: by the numbers of their indices (binary format). It needs supported
+/// The way to spell parts of a resolved tree: by the numbers of their indices (binary format). It needs covered
 /// parts, with resolved indices.
 #[derive(Clone, Copy)]
 pub struct Resolved;
@@ -138,6 +138,7 @@ impl Spell<InnerTypeKind<'_>> for Resolved {
             InnerTypeKind::Func(ty) => self.spell(ty, out),
             InnerTypeKind::Struct(ty) => self.spell(ty, out),
             InnerTypeKind::Array(ty) => self.spell(ty, out),
+            InnerTypeKind::Cont(_) => unreachable!(),
         }
     }
 }

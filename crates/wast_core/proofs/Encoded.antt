@@ -14,24 +14,24 @@ use Rattle.wast_resolve.specs.Resolvers.{KnownNames}
 use Rattle.wast_resolve.specs.Laws.{FinishedStaysWellFormed, FinishedIsResolved, FinishedIsWrittenOut, SamePositions}
 use Rattle.wasm_ops.specs.Sinks.{SinkRules, AppendLaws}
 use Rattle.wasm_out.specs.Reads.{Reads}
-use Rattle.wast_conv.specs.Encodable.{is_encodable}
-use Rattle.wast_conv.proofs.Ready.{fields_ready}
+use Rattle.wast_conv.specs.Encodable.{is_at_rest}
+use Rattle.wast_conv.proofs.Ready.{fields_at_rest}
 use Rattle.wast_core.specs.Tree.{ModuleField}
 use Rattle.wast_core.specs.declared.module.ModuleKind.{ModuleKind}
 use Rattle.wast_core.specs.declared.module.ModuleKind.TheVariants as kind
 use Rattle.wast_core.specs.Bounded.{InRangeModule, IsWritable, IsBounded}
 use Rattle.wast_core.specs.Headline.{IsMet, ResolvesKind, EncodesKind, IsUnwritten}
 use Rattle.wast_core.specs.Modules.{bound_of_kind}
-use Rattle.wast_core.specs.Uncovered.{first, uncovered}
+use Rattle.wast_core.specs.Uncovered.{first, uncovered_forms}
 use Rattle.wast_core.specs.Writing.{EncodesResolved, IsNotPut}
 use Rattle.wast_core.proofs.ByPosition.{means_what_is_written, written_where_meant}
 
--- well formed fields whose demands are met may be handed to the encoder once they are resolved
-pub encodable : FinishedStaysWellFormed → FinishedIsResolved → FinishedIsWrittenOut → (n : ℕ) (fields : List ModuleField)
-    → greatest_generation fields < n → is_well_formed fields ≡ true → IsMet fields → is_encodable (finished n fields) ≡ true
-encodable stays resolved written n fields above h met =
+-- well formed fields whose demands are met are at rest once they are resolved
+pub at_rest : FinishedStaysWellFormed → FinishedIsResolved → FinishedIsWrittenOut → (n : ℕ) (fields : List ModuleField)
+    → greatest_generation fields < n → is_well_formed fields ≡ true → IsMet fields → is_at_rest (finished n fields) ≡ true
+at_rest stays resolved written n fields above h met =
     let new = finished n fields in
-    fields_ready (known (items new)) new (stays n fields above h met) (resolved n fields above met) (written n fields)
+    fields_at_rest (known (items new)) new (stays n fields above h met) (resolved n fields above met) (written n fields)
 
 -- encoding a resolved module answers as encoding the module that it was
 unwritten : SamePositions → (form : Option Form) (n : ℕ) (name : Option (List ℕ)) (fields : List ModuleField) (e : Error) → greatest_generation fields < n → IsMet fields → IsUnwritten form (IsWritable name (finished n fields)) e → IsUnwritten form (IsBounded n name fields) e
@@ -43,7 +43,7 @@ encodes positions n name (kind.Text fs) new names result above r h = text fs new
   where
     text : (fs : List ModuleField) (new : ModuleKind) (result : Result (Vec ℕ) Error) → greatest_generation fs < n → ResolvesKind n (kind.Text fs) (Ok names) new → EncodesResolved name (kind.Text (finished n fs)) result → EncodesKind n name (kind.Text fs) result new
     text fs new (Ok bytes) above r h = (r.0, h.0, subst (Reads bytes.items) (means_what_is_written positions n name fs above r.0) h.1, r.1)
-    text fs new (Err e) above r h = inr (r.0, unwritten positions (first (uncovered (finished n fs))) n name fs e above r.0 h, r.1)
+    text fs new (Err e) above r h = inr (r.0, unwritten positions (first (uncovered_forms (finished n fs))) n name fs e above r.0 h, r.1)
 encodes positions n name (kind.Binary pieces) new names result above r h = binary pieces new result r.1 (subst (λ k. EncodesResolved name k result) r.1 h)
   where
     binary : (pieces : List (Bor (List ℕ))) (new : ModuleKind) (result : Result (Vec ℕ) Error) → new ≡ kind.Binary pieces → EncodesResolved name (kind.Binary pieces) result → EncodesKind n name (kind.Binary pieces) result new

@@ -1,5 +1,5 @@
 -- The bytes of an encoded module are read as its parts.
-use Rattle.std.proofs.Common.{◌≡◌, ◌<◌, ℕ, Bool, true, false, List, [], ◌∷◌, map, length, Option, Some, None, option_map, refl}
+use Rattle.std.proofs.Common.{◌≡◌, ◌<◌, ℕ, Bool, true, false, List, [], ◌∷◌, ◌++◌, map, length, Option, Some, None, option_map, refl}
 use Rattle.std.specs.Prelude.{All, IsTrue, codes}
 use Rattle.std.specs.List.{flat_map}
 use Rattle.std.specs.Str.{is_utf8}
@@ -7,7 +7,7 @@ use Rattle.std.proofs.lemmas.List.Elements.{All-nil, All-map}
 use Rattle.std.proofs.lemmas.Str.{is_utf8-from_IsUtf8}
 use lib.Utf8.{encode}
 use Rattle.wasm_ops.proofs.Everywhere.{all_each, all_one, all_both, all_tested, all_in_flat}
-use Rattle.wast_tree.specs.Sites.{in_rec, in_import, in_table_type, in_global_type}
+use Rattle.wast_tree.specs.Sites.{Site, asking, uncovered, in_rec, in_sig, in_import, in_table_type, in_global_type}
 use Rattle.wasm_out.specs.NameSectionBytes.{NameSubsection}
 use Rattle.wasm_out.specs.Parts.{SectionKind, Types, Imports, Functions, Tables, Memories, Tags, Globals, Exports, Elements, Code, Data, Single, Entry, Listed, DataCount, InRangePart}
 use Rattle.wasm_out.specs.Readable.{is_covered_init, HasRowsInit, is_balanced_init, is_covered_entry, HasRows, is_balanced_entry, HasUtf8Name, IsReadable, IsReadablePart}
@@ -16,6 +16,7 @@ use Rattle.wast_core.specs.Tree.{Index, Expression, FuncKind, Func, GlobalType, 
 use Rattle.wast_core.specs.Tree as tree
 use Rattle.wast_core.specs.Tree.ty
 use Rattle.wast_core.specs.Tree.func
+use Rattle.wast_core.specs.Tree.form
 use Rattle.wast_core.specs.Tree.import_items
 use Rattle.wast_core.specs.Tree.table
 use Rattle.wast_core.specs.Tree.global
@@ -23,7 +24,7 @@ use Rattle.wast_core.specs.Tree.field
 use Rattle.wast_core.specs.declared.slots.Slot.{Slot}
 use Rattle.wast_core.specs.declared.slots.Slot.TheVariants as slot
 use Rattle.wast_core.specs.Bounded.{bytes_of, InRangeSlot, InRangeModule}
-use Rattle.wast_conv.specs.Encodable.{are_encodable, are_entered, is_encodable_type, is_encodable_kind, is_encodable_import, is_encodable_init, is_encodable_table_kind, is_encodable_table, is_encodable_global_kind, is_encodable_global, is_encodable_elem, is_encodable_data, is_encodable_field, is_encodable}
+use Rattle.wast_conv.specs.Encodable.{are_encodable, is_entered_site, are_entered, is_encodable_type, is_encodable_kind, is_encodable_import, is_encodable_init, is_encodable_table_kind, is_encodable_table, is_encodable_global_kind, is_encodable_global, is_encodable_elem, is_encodable_data, is_encodable_field, is_encodable}
 use Rattle.wast_conv.specs.FieldEntries.{imported, table_of, value_of}
 use Rattle.wast_core.specs.DataCounts.{needs_count, count_parts}
 use Rattle.wast_core.specs.Meaning as meaning
@@ -32,11 +33,12 @@ use Rattle.wast_core.specs.Utf8Names.{HasUtf8Items, HasUtf8Names}
 use Rattle.wast_names.specs.ModuleNames.{name_subsections}
 use Rattle.wast_names.specs.NamesPart.{names_part}
 use Rattle.wast_core.specs.Slots.{section_kind, order}
-use Rattle.wast_conv.proofs.EachPasses.{both_pass, both_true}
+use Rattle.wast_conv.proofs.EachPasses.{both_pass, both_true, both_lists}
 use Rattle.wast_conv.proofs.EntitiesReady.{table_covered, global_covered, kind_covered}
-use Rattle.wast_conv.proofs.Expressions.{instrs_rows, instrs_covered, expression_covered, expression_balanced}
+use Rattle.wast_conv.proofs.Expressions.{instrs_covered, expression_covered, expression_balanced}
 use Rattle.wast_conv.proofs.Ready.{type_ready, group_ready, import_ready, func_ready, table_ready, global_ready, elem_ready, data_ready}
-use Rattle.wast_conv.proofs.SegmentsReady.{elem_covered, mode_rows, items_rows, elem_balanced, place_covered, place_rows, place_balanced}
+use Rattle.wast_conv.proofs.Rows.{instrs_rows, expression_rows}
+use Rattle.wast_conv.proofs.SegmentsReady.{elem_covered, elem_rows, elem_balanced, place_covered, place_rows, place_balanced}
 use Rattle.wast_conv.proofs.Standing.{body_parts}
 use Rattle.wast_conv.proofs.TypesReady.{def_covered, locals_covered, types_covered}
 
@@ -48,16 +50,22 @@ plain k e covered rows balanced name = all_one (IsReadable k) e record { covered
 nothing_more : (k : SectionKind) → All (IsReadable k) []
 nothing_more k = All-nil (IsReadable k)
 
+-- a group is not covered
+group_fails : (ss : List Site) → are_entered (ss ++ asking (uncovered form.CompactImports)) ≡ true → ⊥
+group_fails ss e = let no = (both_lists is_entered_site ss (asking (uncovered form.CompactImports)) e).1 in cc
+
 import_read : (i : ImportItems) → are_entered (in_import i) ≡ true → HasUtf8Items i → All (IsReadable Imports) (imported i ∷ [])
 import_read (import_items.Single source name sig) e h = plain Imports (imported (import_items.Single source name sig)) (kind_covered sig.kind e) tt refl h
+import_read (import_items.Group1 source items) e h = absurd (group_fails (flat_map (λ p. in_sig p.1) items) e)
+import_read (import_items.Group2 source sig names) e h = absurd (group_fails (in_sig sig) e)
 
 init_covered : (o : Option Expression) → is_encodable_init o ≡ true → is_covered_init (option_map meaning.as_expression o) ≡ true
 init_covered None e = refl
 init_covered (Some x) e = expression_covered x e
 
-init_rows : (o : Option Expression) → HasRowsInit (option_map meaning.as_expression o)
-init_rows None = tt
-init_rows (Some x) = instrs_rows x.instrs
+init_rows : (o : Option Expression) → is_encodable_init o ≡ true → HasRowsInit (option_map meaning.as_expression o)
+init_rows None e = tt
+init_rows (Some x) e = expression_rows x e
 
 init_balanced : (o : Option Expression) → is_encodable_init o ≡ true → is_balanced_init (option_map meaning.as_expression o) ≡ true
 init_balanced None e = refl
@@ -68,25 +76,25 @@ table_read (table.Import import ty) e = absurd cc
 table_read (table.Inline ty is64 shared elements) e = absurd cc
 table_read (table.Normal ty init) e =
     let both = both_pass (are_encodable (in_table_type ty)) (is_encodable_init init) e in
-    plain Tables (table_of (table.Normal ty init)) (both_true _ _ (table_covered ty both.0) (init_covered init both.1)) (init_rows init) (init_balanced init both.1) tt
+    plain Tables (table_of (table.Normal ty init)) (both_true _ _ (table_covered ty both.0) (init_covered init both.1)) (init_rows init both.1) (init_balanced init both.1) tt
 
 global_read : (t : GlobalType) (k : GlobalKind) → are_encodable (in_global_type t) ≡ true → is_encodable_global_kind k ≡ true
     → All (IsReadable Globals) (record { ty = meaning.as_global_type t; init = value_of k } ∷ [])
 global_read t (global.Import import) e f = absurd cc
 global_read t (global.Inline x) e f =
-    plain Globals (record { ty = meaning.as_global_type t; init = meaning.as_expression x }) (both_true _ _ (global_covered t e) (expression_covered x f)) (instrs_rows x.instrs) (expression_balanced x f) tt
+    plain Globals (record { ty = meaning.as_global_type t; init = meaning.as_expression x }) (both_true _ _ (global_covered t e) (expression_covered x f)) (expression_rows x f) (expression_balanced x f) tt
 
 code_read : (k : FuncKind) → is_encodable_kind k ≡ true → All (IsReadable Code) (meaning.as_body k ∷ [])
 code_read (func.Import import exact) e = absurd cc
 code_read (func.Inline locals x) e =
     let both = body_parts locals x e in
-    plain Code (meaning.body_of locals x.instrs) (both_true _ _ (locals_covered locals both.0) (instrs_covered x.instrs both.1)) (instrs_rows x.instrs) refl tt
+    plain Code (meaning.body_of locals x.instrs) (both_true _ _ (locals_covered locals both.0) (instrs_covered x.instrs both.1)) (instrs_rows x.instrs both.1) refl tt
 
 elem_read : (x : Elem) → is_encodable_elem x ≡ true → All (IsReadable Elements) (meaning.as_element x ∷ [])
-elem_read x e = plain Elements (meaning.as_element x) (elem_covered x e) (mode_rows x.kind, items_rows x.payload) (elem_balanced x e) tt
+elem_read x e = plain Elements (meaning.as_element x) (elem_covered x e) (elem_rows x e) (elem_balanced x e) tt
 
 data_read : (x : tree.Data) → is_encodable_data x ≡ true → All (IsReadable Data) (meaning.as_data x ∷ [])
-data_read x e = plain Data (meaning.as_data x) (place_covered x.kind e) (place_rows x.kind) (place_balanced x.kind e) tt
+data_read x e = plain Data (meaning.as_data x) (place_covered x.kind e) (place_rows x.kind e) (place_balanced x.kind e) tt
 
 -- ---- what a field puts into the sections is readable
 

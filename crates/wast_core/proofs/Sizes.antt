@@ -1,15 +1,14 @@
 -- How long a module is, of how long the payloads of its sections are.
-use Rattle.std.proofs.Common.{◌≡◌, ◌<◌, ◌≤◌, ◌+◌, ℕ, Bool, List, [], ◌∷◌, ◌++◌, length, Option, Result, sym, ap, ◌∙◌, arith, append-nil, length-append, take}
+use Rattle.std.proofs.Common.{◌≡◌, ◌<◌, ◌≤◌, ◌+◌, ℕ, Bool, List, [], ◌∷◌, ◌++◌, length, Option, Result, sym, ap, ◌∙◌, arith, length-append, take}
 use Rattle.std.specs.Prelude.{All, codes}
 use Rattle.std.specs.List.{flat_map}
 use Rattle.std.proofs.lemmas.Bool.{ne_eqb}
 use Rattle.std.proofs.lemmas.List.{take_all}
-use Rattle.std.proofs.lemmas.List.Elements.{All-head}
 use Rattle.wasm_ops.specs.Leb128.{unsigned}
 use Rattle.wasm_ops.specs.Spelling.{vec}
 use Rattle.wasm_ops.specs.Sinks.{SinkRules, Writes}
 use Rattle.wasm_ops.specs.declared.sink.Refusal.{Refusal}
-use Rattle.wasm_ops.proofs.Everywhere.{all_one, flat_one, flat_in_flat, all_in_flat, all_of_flat}
+use Rattle.wasm_ops.proofs.Everywhere.{flat_one, flat_in_flat, all_in_flat, all_of_flat}
 use Rattle.wasm_ops.proofs.Sinking.{written_as}
 use Rattle.wasm_ops.proofs.Numbers.{unsigned_fits, unsigned-nonempty}
 use Rattle.wasm_out.specs.NameSectionBytes.{NameSubsection, name_subsection, name_payload}
@@ -88,12 +87,6 @@ all_summed f xs i sum le is = is ∙ ap (λ ys. counted (length (flat_map f ys))
 pub module_size : (name : Option (List ℕ)) (fields : List ModuleField) (sum : ℕ) → sum ≡ counted (length (flat_map (λ s. flat_map part (in_slot name fields s)) order)) → counted (8 + sum) ≡ counted (length (bytes_of name fields))
 module_size name fields sum is =
     omega (arith, is, ap (λ (bs : List ℕ). length bs) (flat_in_flat part (in_slot name fields) order), length-append header (flat_map part (parts name fields)))
-
--- what is written of a list of one thing
-pub alone_written : {S A X : Type 0} (rules : SinkRules S) (InRange : X → Type 0) (x : X) (a b : S) (bytes : List ℕ) (r : Result A Refusal)
-    → Writes rules (All InRange (x ∷ [])) a b (bytes ++ []) r → Writes rules (InRange x) a b bytes r
-alone_written rules InRange x a b bytes r p =
-    written_as rules (All InRange (x ∷ [])) (InRange x) a b (bytes ++ []) bytes r (All-head InRange x []) (all_one InRange x) (append-nil bytes) p
 
 -- what each field gives one after another, as parts
 pub each_part_written : {S A X : Type 0} (rules : SinkRules S) (f : X → List Part) (xs : List X) (a b : S) (r : Result A Refusal)

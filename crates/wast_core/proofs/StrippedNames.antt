@@ -1,15 +1,17 @@
 -- The name section tells nothing of generated ids, and of the places of type uses.
-use Rattle.std.proofs.Common.{◌≡◌, List, [], ◌∷◌, ◌++◌, map, Option, Some, None, option_map, refl, ap, arith}
+use Rattle.std.proofs.Common.{◌≡◌, ℕ, List, [], ◌∷◌, ◌++◌, map, Option, Some, None, option_map, refl, ap, arith}
 use Rattle.std.specs.Prelude.{cond}
+use Rattle.std.specs.Borrow.{Bor}
 use Rattle.std.specs.List.{flat_map}
 use Rattle.std.proofs.lemmas.Grind.{common_steps}
 use Rattle.wast_base.specs.Ids.{Name, Written, Generated, name_of, is_generated}
+use Rattle.wast_tree.specs.Imports.{item_sigs}
 use Rattle.wast_tree.specs.Items.{space_of_kind}
 use Rattle.wast_tree.specs.Sites.{Here, behind, param_marks, local_marks, body_here}
-use Rattle.wast_map.specs.Mapped.{mapped_type, mapped_tag_type, mapped_item_kind, mapped_import_items, mapped_instr, mapped_instrs, mapped_local, mapped_func_kind, mapped_func, mapped}
+use Rattle.wast_map.specs.Mapped.{mapped_type, mapped_tag_type, mapped_item_kind, mapped_sig, mapped_import_items, mapped_instr, mapped_instrs, mapped_local, mapped_func_kind, mapped_func, mapped}
 use Rattle.wast_map.specs.Laws.{all_mapped}
 use Rattle.wast_resolve.specs.Stripped.{written_id, at_start, stripped_use, stripping}
-use Rattle.wast_core.specs.Tree.{Id, Index, NameAnnotation, FunctionType, TypeUse, TagType, ItemKind, ImportItems, Instruction, FuncKind, Func, ModuleField}
+use Rattle.wast_core.specs.Tree.{Id, Index, NameAnnotation, FunctionType, TypeUse, TagType, ItemKind, ItemSig, ImportItems, Instruction, FuncKind, Func, ModuleField}
 use Rattle.wast_core.specs.Tree.index
 use Rattle.wast_core.specs.Tree.space
 use Rattle.wast_core.specs.Tree.ty
@@ -20,10 +22,10 @@ use Rattle.wast_core.specs.Tree.func
 use Rattle.wast_core.specs.Tree.field
 use Rattle.wast_names.specs.GivenNames.{written_text, id_text, given_name}
 use Rattle.wast_names.specs.WithinItems as within
-use Rattle.wast_names.specs.WithinItems.{arity, types_within, arity_at, params_or, local_name, locals_in, label_in, labels_in, locals_of, tag_params, lists_in_type}
+use Rattle.wast_names.specs.WithinItems.{arity, types_within, types_of, arity_at, params_or, local_name, locals_in, label_in, labels_in, locals_of, tag_params, lists_in_type}
 use Rattle.wast_names.specs.ModuleNames.{type_name, import_names, item_names_in}
 use Rattle.wast_names.proofs.Each.{each_like}
-use Rattle.wast_names.proofs.SameNameSection.{SameLists, SameInKind, SameInImport, KeepsNames, arity_in, same_arity, in_type, in_func, in_tag, in_imported_func}
+use Rattle.wast_names.proofs.SameNameSection.{SameLists, SameInKind, SameInImport, KeepsNames, arity_in, same_arity, in_type, in_func, in_tag, in_imported_func, names_imported, in_import}
 use Rattle.wast_core.proofs.Stripping.{each_alike, def_stays}
 
 -- The names of items.
@@ -42,8 +44,32 @@ same_types ts = each_alike (mapped_type stripping) type_name (λ t i. (space.Ty,
 same_space_of : (k : ItemKind) → space_of_kind (mapped_item_kind stripping k) ≡ space_of_kind k
 same_space_of k = grind (arith, common_steps)
 
+-- an item of a group, with its name there
+abbrev Named : Type 0
+Named = Bor (List ℕ) × ItemSig
+
+abbrev sig_of : Named → ItemSig
+sig_of p = p.1
+
+abbrev stripped_item : Named → Named
+stripped_item p = (p.0, mapped_sig stripping p.1)
+
+-- the signatures of what is imported are changed one by one
+sigs_changed : (x : ImportItems) → item_sigs (mapped_import_items stripping x) ≡ map (mapped_sig stripping) (item_sigs x)
+sigs_changed (import_items.Single source name sig) = refl
+sigs_changed (import_items.Group1 source items) = pairs items
+  where
+    pairs : (ps : List Named) → map sig_of (map stripped_item ps) ≡ map (mapped_sig stripping) (map sig_of ps)
+    pairs [] = refl
+    pairs (p ∷ ps) = ap (λ sigs. mapped_sig stripping p.1 ∷ sigs) (pairs ps)
+sigs_changed (import_items.Group2 source sig names) = copies names
+  where
+    copies : (names : List (Bor (List ℕ))) → map (λ name. mapped_sig stripping sig) names ≡ map (mapped_sig stripping) (map (λ name. sig) names)
+    copies [] = refl
+    copies (name ∷ names) = ap (λ sigs. mapped_sig stripping sig ∷ sigs) (copies names)
+
 same_imported : (x : ImportItems) → import_names (mapped_import_items stripping x) ≡ import_names x
-same_imported (import_items.Single source name sig) = λ i. (same_space_of sig.kind i, same_given sig.name sig.id i) ∷ []
+same_imported x = names_imported (mapped_sig stripping) x (mapped_import_items stripping x) (sigs_changed x) (λ s i. (same_space_of s.kind i, same_given s.name s.id i))
 
 same_names : (x : ModuleField) → item_names_in (mapped stripping x) ≡ item_names_in x
 same_names x = grind (arith, common_steps, same_given, same_types, same_imported)
@@ -57,7 +83,7 @@ arities_in (field.Ty t) = ap (λ n. n ∷ []) (same_arity_in t)
 arities_in (field.Rec r) = each_alike (mapped_type stripping) arity_in same_arity_in r.types
 arities_in x = refl
 
-arity_stays : (xs : List ModuleField) (i : Option Index) → arity_at (all_mapped stripping xs) (option_map at_start i) ≡ arity_at xs i
+arity_stays : (xs : List ModuleField) (i : Option Index) → arity_at (types_of (all_mapped stripping xs)) (option_map at_start i) ≡ arity_at (types_of xs) i
 arity_stays xs None = refl
 arity_stays xs (Some (index.Num n span)) = same_arity (mapped stripping) arities_in xs n
 arity_stays xs (Some (index.Id id)) = refl
@@ -67,7 +93,7 @@ names_inside : (u : TypeUse FunctionType) (k : FuncKind) → locals_in (mapped_f
 names_inside u (func.Import import exact) = refl
 names_inside u (func.Inline locals e) = each_alike (mapped_local stripping) local_name (λ l. refl) locals
 
-same_locals : (xs : List ModuleField) (f : Func) → locals_of (all_mapped stripping xs) (mapped_func stripping f) ≡ locals_of xs f
+same_locals : (xs : List ModuleField) (f : Func) → locals_of (types_of (all_mapped stripping xs)) (mapped_func stripping f) ≡ locals_of (types_of xs) f
 same_locals xs f = λ i. within.behind (params_or (arity_stays xs f.ty.index i) f.ty.inline) (names_inside f.ty f.kind i)
 
 same_label : (h : Here) (i : Instruction) → label_in (mapped_instr stripping h i) ≡ label_in i
@@ -86,16 +112,17 @@ same_params (tag.Exception u) = refl
 
 same_kind : (k : ItemKind) → SameInKind (mapped_item_kind stripping k) k
 same_kind (kind.Func u) = λ w. in_imported_func w (stripped_use u) u refl
+same_kind (kind.FuncExact u) = λ w. in_imported_func w (stripped_use u) u refl
 same_kind k = λ w. refl
 
-same_import : (i : ImportItems) → SameInImport (mapped_import_items stripping i) i
-same_import (import_items.Single source name sig) = same_kind sig.kind
+same_import : (x : ImportItems) → SameInImport (mapped_import_items stripping x) x
+same_import x = in_import (mapped_sig stripping) x (mapped_import_items stripping x) (sigs_changed x) (λ s. same_kind s.kind)
 
 same_lists : (xs : List ModuleField) (x : ModuleField) → SameLists (all_mapped stripping xs) xs (mapped stripping x) x
 same_lists xs (field.Ty t) = λ w. in_type w (mapped_type stripping t) t (def_stays t)
 same_lists xs (field.Rec r) = λ w. each_like (mapped_type stripping) (lists_in_type w) (lists_in_type w) (λ t. in_type w (mapped_type stripping t) t (def_stays t)) r.types
 same_lists xs (field.Import i) = same_import i.items
-same_lists xs (field.Func f) = λ w. in_func w (all_mapped stripping xs) xs (mapped_func stripping f) f (same_locals xs f) (same_labels f.ty f.kind)
+same_lists xs (field.Func f) = λ w. in_func w (types_of (all_mapped stripping xs)) (types_of xs) (mapped_func stripping f) f (same_locals xs f) (same_labels f.ty f.kind)
 same_lists xs (field.Tag t) = λ w. in_tag w (mapped_tag_type stripping t.ty) t.ty (same_params t.ty)
 same_lists xs x = λ w. refl
 

@@ -88,12 +88,13 @@ numbers_told is = each_alike (λ i. i) number (λ i. refl) is
 -- Bodies.
 instr_told : (h : Here) (i : Instruction) → as_instr (mapped_instr stripping h i) ≡ as_instr i
 instr_told h (instr.Mem op m) = ap (λ n. as_instr (instr.Mem op n)) (mem_arg_at m).still
+instr_told h (instr.MemLane op a) = ap (λ n. as_instr (instr.MemLane op (record a { memarg = n }))) (mem_arg_at a.memarg).still
 instr_told h (instr.select t) = ap (λ u. as_instr (instr.select u)) (select_at t).still
 instr_told h (instr.call_indirect c) = ap (λ n. index_pair_instr pair.CallIndirect n (number c.table)) (use_told c.ty)
 instr_told h (instr.return_call_indirect c) = ap (λ n. index_pair_instr pair.ReturnCallIndirect n (number c.table)) (use_told c.ty)
 instr_told h (instr.try_table t) = λ i. try_table_instr (block_told t.block i) (catches_told h.blocks t.catches i)
 instr_told h (instr.br_table t) = ap (λ ls. br_table_instr ls (number t.default)) (numbers_told t.labels)
-instr_told h i = grind (arith, common_steps, heap_stays, block_told)
+instr_told h i = grind (arith, common_steps, heap_stays, ref_stays, block_told)
 
 instrs_told : (h : Here) (is : List Instruction) → map as_instr (mapped_instrs stripping h is) ≡ map as_instr is
 instrs_told h [] = refl

@@ -21,7 +21,7 @@ use Rattle.wast_core.specs.declared.module.ModuleKind.TheVariants as kind
 use Rattle.wast_names.specs.GivenNames.{given_name}
 use Rattle.wast_core.specs.Meaning.{meaning}
 use Rattle.wast_core.specs.Bounded.{IsBounded}
-use Rattle.wast_core.specs.Uncovered.{first, uncovered, IsCovered}
+use Rattle.wast_core.specs.Uncovered.{first, uncovered_forms, IsCovered}
 
 -- each demand is met of the fields with all that stands in place, and of the types that they imply
 abbrev pub IsMet : List ModuleField → Type 0
@@ -66,7 +66,7 @@ IsUnwritten None is_bounded e = (e ≡ out_of_memory) ⊎ ((e ≡ too_large) × 
 abbrev pub IsUnencoded : ℕ → Option (List ℕ) → List ModuleField → Error → ModuleKind → Type 0
 IsUnencoded n name fields e new =
     (IsUnresolved n fields e × (new ≡ kind.Refused e))
-    ⊎ (IsMet fields × IsUnwritten (first (uncovered (finished n fields))) (IsBounded n name fields) e × (new ≡ kind.Text (finished n fields)))
+    ⊎ (IsMet fields × IsUnwritten (first (uncovered_forms (finished n fields))) (IsBounded n name fields) e × (new ≡ kind.Text (finished n fields)))
 
 -- A text module gives bytes only where each demand is met and each form covered, and then bytes that are read as what it means.
 abbrev pub EncodesKind : ℕ → Option (List ℕ) → ModuleKind → Result (Vec ℕ) Error → ModuleKind → Type 0

@@ -5,6 +5,7 @@ pub use Rattle.wast_base.specs.declared.ids.Index.TheVariants as index
 pub use Rattle.wast_base.specs.declared.ids.NameAnnotation.{NameAnnotation}
 pub use Rattle.wast_base.specs.declared.spaces.Space.{Space}
 pub use Rattle.wast_base.specs.declared.spaces.Space.TheVariants as space
+pub use Rattle.wast_base.specs.declared.faults.Form.TheVariants as form
 pub use Rattle.wast_tree.specs.declared.types.ValType.{ValType}
 pub use Rattle.wast_tree.specs.declared.types.ValType.TheVariants as value
 pub use Rattle.wast_tree.specs.declared.types.RefType.{RefType}
@@ -31,6 +32,7 @@ pub use Rattle.wast_tree.specs.declared.entities.TagType.TheVariants as tag
 pub use Rattle.wast_tree.specs.declared.imports.Imports.{Imports}
 pub use Rattle.wast_tree.specs.declared.imports.ImportItems.{ImportItems}
 pub use Rattle.wast_tree.specs.declared.imports.ImportItems.TheVariants as import_items
+pub use Rattle.wast_tree.specs.declared.imports.ItemSig.{ItemSig}
 pub use Rattle.wast_tree.specs.declared.imports.ItemKind.{ItemKind}
 pub use Rattle.wast_tree.specs.declared.imports.ItemKind.TheVariants as kind
 pub use Rattle.wast_tree.specs.declared.segments.Elem.{Elem}

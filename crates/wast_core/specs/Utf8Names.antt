@@ -5,9 +5,11 @@ use Rattle.wast_core.specs.Tree.{ImportItems, ModuleField}
 use Rattle.wast_core.specs.Tree.import_items
 use Rattle.wast_core.specs.Tree.field
 
--- the module and the name by which an item is imported are UTF-8
+-- the module and the name by which an item is imported are UTF-8; a group is not covered, and has no entry
 abbrev pub HasUtf8Items : ImportItems → Type 0
 HasUtf8Items (import_items.Single source name sig) = IsTrue (is_utf8 source.now) × IsTrue (is_utf8 name.now)
+HasUtf8Items (import_items.Group1 source items) = Unit {0}
+HasUtf8Items (import_items.Group2 source sig names) = Unit {0}
 
 -- the names that a field puts into the sections are UTF-8
 abbrev pub HasUtf8Names : ModuleField → Type 0

@@ -11,27 +11,31 @@ use Rattle.wast_core.specs.Tree.{ModuleField}
 use Rattle.wast_core.specs.declared.module.ModuleKind.{ModuleKind}
 use Rattle.wast_core.specs.declared.module.ModuleKind.TheVariants as kind
 use Rattle.wast_core.specs.Bounded.{bytes_of, InRangeModule, IsWritable}
-use Rattle.wast_conv.specs.Encodable.{is_encodable}
+use Rattle.wast_conv.specs.Encodable.{is_at_rest}
 use Rattle.wast_core.specs.Headline.{IsUnwritten, joined}
 use Rattle.wast_core.specs.Meaning.{parts}
-use Rattle.wast_core.specs.Uncovered.{first, uncovered, IsCovered}
+use Rattle.wast_core.specs.Uncovered.{first, uncovered_forms, IsCovered}
 
--- a text module as a successful resolving leaves it
-abbrev pub IsEncodable : ModuleKind → Type 0
-IsEncodable (kind.Text fields) = IsTrue (is_encodable fields)
-IsEncodable (kind.Binary pieces) = ⊥
-IsEncodable (kind.Refused e) = ⊥
+-- a text module as a successful resolving leaves it, whether its forms are covered or not
+abbrev pub IsTextAtRest : ModuleKind → Type 0
+IsTextAtRest (kind.Text fields) = IsTrue (is_at_rest fields)
+IsTextAtRest (kind.Binary pieces) = ⊥
+IsTextAtRest (kind.Refused e) = ⊥
 
 -- a text module has to be so; of the others nothing is asked
 abbrev pub IsAtRest : ModuleKind → Type 0
-IsAtRest (kind.Text fields) = IsTrue (is_encodable fields)
+IsAtRest (kind.Text fields) = IsTrue (is_at_rest fields)
 IsAtRest (kind.Binary pieces) = Unit {0}
 IsAtRest (kind.Refused e) = Unit {0}
 
+-- encoding resolved fields of a module with this name: their bytes, where each form is covered
+abbrev pub EncodesFields : Option (List ℕ) → List ModuleField → Result (Vec ℕ) Error → Type 0
+EncodesFields name fields (Ok bytes) = IsCovered fields × Reads bytes.items (parts name fields)
+EncodesFields name fields (Err e) = IsUnwritten (first (uncovered_forms fields)) (IsWritable name fields) e
+
 -- encoding what a module with this name holds, where it is resolved
 abbrev pub EncodesResolved : Option (List ℕ) → ModuleKind → Result (Vec ℕ) Error → Type 0
-EncodesResolved name (kind.Text fields) (Ok bytes) = IsCovered fields × Reads bytes.items (parts name fields)
-EncodesResolved name (kind.Text fields) (Err e) = IsUnwritten (first (uncovered fields)) (IsWritable name fields) e
+EncodesResolved name (kind.Text fields) result = EncodesFields name fields result
 EncodesResolved name (kind.Binary pieces) (Ok bytes) = bytes.items ≡ joined pieces
 EncodesResolved name (kind.Binary pieces) (Err e) = e ≡ out_of_memory
 EncodesResolved name (kind.Refused e) (Ok bytes) = ⊥
@@ -46,7 +50,7 @@ IsNotPut None rules old name fields e =
 -- the bytes of a module with this name, of these fields, were appended, where each form is covered; or none were
 abbrev pub PutsFields : {S : Type 0} → SinkRules S → Option (List ℕ) → List ModuleField → S → S → Result (Unit {0}) Error → Type 0
 PutsFields rules name fields old new (Ok x) = IsCovered fields × rules.appended old new (bytes_of name fields) × InRangeModule name fields
-PutsFields rules name fields old new (Err e) = rules.appended old new [] × IsNotPut (first (uncovered fields)) rules old name fields e
+PutsFields rules name fields old new (Err e) = rules.appended old new [] × IsNotPut (first (uncovered_forms fields)) rules old name fields e
 
 -- the same of what a module holds, which is a text module
 abbrev pub PutsModule : {S : Type 0} → SinkRules S → Option (List ℕ) → ModuleKind → S → S → Result (Unit {0}) Error → Type 0

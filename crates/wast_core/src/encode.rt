@@ -5,22 +5,22 @@ ghost use Rattle.wast_base.specs.Faults.{out_of_memory};
 ghost use Rattle.wasm_out.specs.Built.{IsRefused};
 ghost use Rattle.wasm_out.specs.Reads.{Reads};
 ghost use Rattle.wast_core.specs.Bounded.{IsWritable};
-ghost use Rattle.wast_conv.specs.Encodable.{is_encodable};
+ghost use Rattle.wast_conv.specs.Encodable.{is_encodable, is_at_rest};
 ghost use Rattle.wast_core.specs.Headline.{Encodes, joined, name_of_module};
 ghost use Rattle.wast_core.specs.Meaning.{parts};
 ghost use Rattle.wast_core.specs.Modules.{IsReady};
 ghost use Rattle.wast_core.specs.Utf8Names.{HasUtf8Names};
 ghost use Rattle.wast_names.specs.FoundNames.{text_seen};
-ghost use Rattle.wast_core.specs.Writing.{IsEncodable, IsAtRest, EncodesResolved, PutsFields, PutsModule};
+ghost use Rattle.wast_core.specs.Writing.{IsTextAtRest, IsAtRest, EncodesFields, EncodesResolved, PutsFields, PutsModule};
 
-use crate::covered;
 use crate::module::{Module, ModuleKind};
 use crate::sections::{measure, put_measured, size};
+use crate::utf8_names::names_law;
 use std::alloc::Global;
 use wasm_ops::{Room, Sink};
 use wast_names::given_name;
 use wast_resolve::{discard_names, resolved_laws};
-use wast_tree::{Error, Fault, Gensym, ModuleField};
+use wast_tree::{Error, Fault, Gensym, ModuleField, uncovered};
 
 /// The bytes of a module with this name, of these resolved fields. It needs names that are UTF-8.
 fn encode_fields<'e>(
@@ -40,20 +40,38 @@ fn encode_fields<'e>(
     Ok(bytes)
 }
 
-/// Appends the bytes of a module with this name, of these resolved fields, to a sink.
+/// Appends the bytes of a module with this name, of these resolved fields, to a sink, where each form is covered.
 fn put_fields<'e, S: Sink>(
     fields: &[ModuleField],
     name: Option<&str>,
     out: &mut S,
 ) -> Result<(), Error<'e>>
-    requires { IsTrue (is_encodable fields.now) }
+    requires { IsTrue (is_at_rest fields.now) }
     ensures { PutsFields S.rules (text_seen name.entry) fields.now out.old out.new result }
 {
-    match covered::uncovered(fields) {
+    match uncovered(fields) {
         Some(form) => Err(Error::refusal(Fault::Uncovered(form))),
         None => {
             let measures = measure(fields, name)?;
             Ok(put_measured(fields, name, &measures, out)?)
+        }
+    }
+}
+
+/// The bytes of a module with this name, of these resolved fields, where each form is covered.
+fn encode_covered<'e>(
+    alloc: Global,
+    fields: &[ModuleField],
+    name: Option<&str>,
+) -> Result<Vec<u8>, Error<'e>>
+    requires { IsTrue (is_at_rest fields.now) }
+    ensures { EncodesFields (text_seen name.entry) fields.now result }
+{
+    match uncovered(fields) {
+        Some(form) => Err(Error::refusal(Fault::Uncovered(form))),
+        None => {
+            names_law(fields);
+            encode_fields(alloc, fields, name)
         }
     }
 }
@@ -77,10 +95,7 @@ fn encode_resolved<'a>(alloc: Global, module: &Module<'a>) -> Result<Vec<u8>, Er
 {
     let name = given_name(&module.name, &module.id);
     match &module.kind {
-        ModuleKind::Text(fields) => match covered::uncovered(fields.as_slice()) {
-            Some(form) => Err(Error::refusal(Fault::Uncovered(form))),
-            None => encode_fields(alloc, fields.as_slice(), name),
-        },
+        ModuleKind::Text(fields) => encode_covered(alloc, fields.as_slice(), name),
         ModuleKind::Binary(pieces) => join(alloc, pieces.as_slice()),
         ModuleKind::Refused(error) => Err(*error),
     }
@@ -100,10 +115,11 @@ impl EncodeOptions {
     ///
     /// It needs what [`Module::resolve`] needs. The bytes of a text module are read as what its fields mean. A refusal
     /// of resolving is answered and kept, and a refused module answers what it keeps; a refusal of encoding leaves the
-    /// module resolved: E11 where a form is not covered, E10 where a count, length or position is 2^32 or more or
-    /// the bytes are more than the greatest usize, E12 where memory is refused. A binary
-    /// module gives its pieces, one after another, and stays as it is. The module is well formed afterwards, and its
-    /// span, id and name stay. The counter is left as [`Module::resolve`] leaves it.
+    /// module resolved: E11, first and without memory, exactly where a form stands in the resolved fields that no encoder
+    /// covers, and it names the first one; E10 where a count, length or position is 2^32 or more or the bytes are more
+    /// than the greatest usize, E12 where memory is refused. A binary module gives its pieces, one after another, and stays
+    /// as it is. The module is well formed afterwards, and its span, id and name stay. The counter is left as
+    /// [`Module::resolve`] leaves it.
     pub fn encode_module<'a>(
         &self,
         alloc: Global,
@@ -124,10 +140,10 @@ impl EncodeOptions {
     ///
     /// It needs a text module at rest: nothing stands in place in it, its indices are numbers, and each type use has one. A
     /// text module that [`Module::resolve`] did not refuse is so, as its clause `at_rest` tells. E11 comes exactly where a
-    /// form is not covered. Else the errors are the sink's refusal, where
-    /// all the bytes do not fit, and E10, where a count, length or position is 2^32 or more. Then the sink stays as it was.
+    /// form in its fields is not covered, and names the first one. Else the errors are the sink's refusal, where all the
+    /// bytes do not fit, and E10, where a count, length or position is 2^32 or more. Then the sink stays as it was.
     pub fn put_module<'e, S: Sink>(self, module: &Module, out: &mut S) -> Result<(), Error<'e>>
-        requires { IsEncodable «module».now.kind }
+        requires { IsTextAtRest «module».now.kind }
         ensures { PutsModule S.rules (name_of_module «module».now) «module».now.kind out.old out.new result }
     {
         let name = given_name(&module.name, &module.id);

@@ -15,8 +15,9 @@ ghost use Rattle.wast_reach.specs.Reaches.{is_reach, are_reaches};
 ghost use Rattle.wast_tree.specs.declared.fields.ModuleField.{ModuleField};
 ghost use Rattle.wast_core.specs.Slots.{section_kind};
 
+use crate::items::{counted_size, put_items, put_listed};
 use crate::slots::SectionKind;
-use wasm_ops::{By, Each, Encode, Refusal, Sink, Spell, WithLength, length_of, width};
+use wasm_ops::{By, Encode, Refusal, Sink, Spell, WithLength, width};
 use wast_conv::{RecOrType, Resolved, conv};
 use wast_reach::{FieldKind, Reach, Reaches};
 use wast_tree::ModuleField;
@@ -236,7 +237,7 @@ pub(crate) fn extent_of(
     if count == 0 {
         return Ok(Extent { count: 0, size: 0 });
     }
-    let size = length_of(&(count, Each(there, EntriesOf(kind))))?;
+    let size = counted_size(there, EntriesOf(kind), count)?;
     Ok(Extent { count, size })
 }
 
@@ -257,8 +258,9 @@ pub(crate) fn put_section<S: Sink>(
     if extent.count == 0 {
         return Ok(());
     }
-    let entries = Each(section_fields(kind, fields, reaches), EntriesOf(kind));
-    (kind.id(), (extent.size, (extent.count, entries))).encode(out)
+    let there = section_fields(kind, fields, reaches);
+    let id = kind.id();
+    put_listed(there, EntriesOf(kind), id, extent.size, extent.count, out)
 }
 
 /// The start section of a field, where it is a start field.
@@ -286,8 +288,7 @@ pub(crate) fn put_starts<S: Sink>(fields: &[ModuleField], out: &mut S) -> Result
     ensures { Writes S.rules (All InRangePart (flat_map starts_in fields.now))
         out.old out.new (flat_map part (flat_map starts_in fields.now)) result }
 {
-    // As an option: to lend the list itself, antt would compare all types of the tree at two lifetimes, beyond its limit.
-    Some(Each(fields, StartOf)).encode(out)
+    put_items(fields, StartOf, out)
 }
 
 /// How many bytes the start section of a field has, and 0 where it is no start field.

@@ -2,14 +2,15 @@
 #![tactic(auto)]
 
 mod counts;
-mod covered;
 mod encode;
 mod entries;
 mod examples;
+mod items;
 mod laws;
 mod module;
 mod sections;
 mod slots;
+mod utf8_names;
 mod wat;
 
 pub use encode::EncodeOptions;

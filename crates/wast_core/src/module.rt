@@ -6,7 +6,8 @@ ghost use Rattle.wast_core.specs.Headline.{Resolves, ResolvesKind, Counts};
 ghost use Rattle.wast_core.specs.Writing.{IsAtRest};
 
 use std::alloc::Global;
-use std::mem;
+use std::fmt::Debug;
+use std::{fmt, mem};
 use wast_resolve::{Names, resolved_laws};
 use wast_tree::{
     Error, Fault, Gensym, Id, ModuleField, NameAnnotation, Seq, Span, discard_fields, gensym_bound,
@@ -14,7 +15,7 @@ use wast_tree::{
 };
 
 /// What a module holds.
-#[derive(Debug, Drop)]
+#[derive(Drop)]
 pub enum ModuleKind<'a> {
     /// Fields in the text format.
     Text(Seq<ModuleField<'a>>),
@@ -22,6 +23,31 @@ pub enum ModuleKind<'a> {
     Binary(Seq<&'a [u8]>),
     /// Nothing any more: resolving refused the fields, and this is why.
     Refused(Error<'a>),
+}
+
+/// Tells fields, one after another.
+fn tell_fields<W: fmt::Write>(
+    fields: &[ModuleField<'_>],
+    f: &mut fmt::Formatter<W>,
+) -> fmt::Result {
+    f.write_str("Text([")?;
+    for i in 0..fields.len() {
+        if i > 0 {
+            f.write_str(", ")?;
+        }
+        Debug::fmt(&fields[i], f)?;
+    }
+    f.write_str("])")
+}
+
+impl Debug for ModuleKind<'_> {
+    fn fmt<W: fmt::Write>(&self, f: &mut fmt::Formatter<W>) -> fmt::Result {
+        match self {
+            ModuleKind::Text(fields) => tell_fields(fields.as_slice(), f),
+            ModuleKind::Binary(pieces) => Debug::fmt(pieces, f),
+            ModuleKind::Refused(error) => Debug::fmt(error, f),
+        }
+    }
 }
 
 /// A module: `(module $m ..)`.
@@ -41,12 +67,10 @@ impl<'a> Module<'a> {
     /// Whether the module can be resolved and encoded. It takes no memory.
     ///
     /// Binary and refused modules are well formed. Fields are, where each generated id that stands for an index is
-    /// borne by an item of its space, none stands for a local or a label, and where they keep to what the tree covers
-    /// today: no expression has hints; types, tables and globals are not shared, types are without descriptor and
-    /// describes, and no shared heap type is referred to; the alignment of a memory argument is a power of two, and it
-    /// has no ordering; a constant expression closes as many blocks as it opens, and none before it is open;
-    /// expressions of an active element segment without a table are of type `funcref`; a function that is imported in
-    /// place is not exact, and the page exponent of a memory with bytes in place is below 64.
+    /// borne by an item of its space, none stands for a local, a label or a field, no expression has hints, the alignment
+    /// of a memory argument is a power of two, a constant expression closes as many blocks as it opens, and none before
+    /// it is open, expressions of an active element segment without a table are of type `funcref`, and the page exponent
+    /// of a memory with bytes in place is below 64. Forms that no encoder covers are well formed too.
     pub fn well_formed(&self) -> bool
         ensures { result ≡ is_well_formed self.now }
     {
@@ -77,25 +101,27 @@ impl<'a> Module<'a> {
     /// It needs a well formed module and a counter above its generated ids, and leaves both so. A text module is
     /// resolved where no import, also none in place, stands behind a function, table, memory, global or tag of the
     /// module, the id of each item is new in its space, that of each field of a struct new in the struct, each id that
-    /// stands for an index denotes an item, a local or an open block, each inline type is that of the index beside it,
-    /// the parameters and locals of a function differ in their ids, and a label at an `else` or `end` is that of its
-    /// block. Exports, imports, elements and data in place are then fields of their own, and a type for each signature
+    /// stands for an index denotes an item, a local, an open block or a field, each inline type is that of the index
+    /// beside it, the parameters and locals of a function differ in their ids, and a label at an `else` or `end` is that
+    /// of its block. Exports, imports, elements and data in place are then fields of their own, and a type for each signature
     /// that a type use needs and no type has is put after all fields. Each item without an id that is exported or
     /// filled in place, and each type without an id, is given a generated one: the counter rises by as many.
     ///
     /// Else the answer is the first that is not so, with its place: E1 at an import behind what is defined; after that
     /// E2 where two items of a space have one id, and directly after a type E3 where two of its fields have one; after
-    /// all of these, field by field, E4 where an id denotes nothing, E6, E5 or E7 where an inline type is not that of
-    /// the index, E2 where two parameters or locals of a function have one id, and E8 where a label at an `else` or
-    /// `end` is not that of its block; E10 only where a space has 2^32 items or more, a struct as many fields, a
-    /// function as many parameters and locals, an expression as many open blocks, a memory as many bytes in place, or
-    /// the counter would pass the greatest u64, E12 where memory is refused. The module keeps a refusal, and answers it
-    /// from then on; the counter then stands where it stood or higher. A binary module stays as it is, and binds no
-    /// names; for it, and for a refused module, the counter stays. Span, id and name stay.
+    /// all of these, field by field, E4 where an id denotes nothing, E9 where a field is named of a type that is no struct
+    /// with a named field, E6, E5 or E7 where an inline type is not that of the index, E2 where two parameters or locals
+    /// of a function have one id, and E8 where a label at an `else` or `end` is not that of its block; E10 only where a
+    /// space has 2^32 items or more, a struct as many fields, a function as many parameters and locals, an expression as
+    /// many open blocks, a memory as many bytes in place, or the counter would pass the greatest u64, E12 where memory is
+    /// refused. The module keeps a refusal, and answers it from then on; the counter then stands where it stood or higher.
+    /// A binary module stays as it is, and binds no names; for it, and for a refused module, the counter stays. Span, id
+    /// and name stay.
     ///
-    /// A module that is not refused is at rest afterwards (clause `at_rest`): each of its fields, and what stands in these,
-    /// is what [`SectionItem`](crate::SectionItem), [`conv`](crate::conv) and
-    /// [`EncodeOptions::put_module`](crate::EncodeOptions::put_module) need. So this call is the test of their needs.
+    /// A module that is not refused is at rest afterwards (clause `at_rest`): it is what
+    /// [`EncodeOptions::put_module`](crate::EncodeOptions::put_module) needs, and where `uncovered` of `wast_tree` finds no
+    /// form in its fields, each of them, and what stands in these, is what [`SectionItem`](crate::SectionItem) and
+    /// [`conv`](crate::conv) need. So this call is the test of their needs.
     pub fn resolve(&mut self, alloc: Global, gensym: &mut Gensym) -> Result<Names<'a>, Error<'a>>
         requires { IsReady self.old gensym.old }
         ensures answer { Resolves self.old.kind gensym.old result self.new.kind gensym.new }

@@ -53,7 +53,7 @@ written_below n fields above =
     (same_of_items (list_all (is_item_below m)) (λ s xs h. ap (λ b. b && list_all (is_item_below m) xs) (lt-ltb 0 m some)) (λ x xs ys e. ap (λ b. is_item_below m x && b) e) (referable n fields) ∙ given) in
     let of_asks : greatest_asked (asked (in_module (written_out_from n fields))) < m =
     greatest_below m generation_in (asked (in_module (written_out_from n fields))) some
-    (written_pass (is_ask_below m) (λ c. lt-ltb 0 m some) (lt-ltb 0 m some) (is_item_below m) (own_below m) n fields given (each_below m generation_in (asked (in_module fields)) (omega (arith, above)))) in
+    (written_pass (is_ask_below m) (λ c. lt-ltb 0 m some) (is_item_below m) (own_below m) n fields given (each_below m generation_in (asked (in_module fields)) (omega (arith, above)))) in
     omega (arith, of_items, of_asks)
 
 -- By positions no other id is asked.
@@ -61,4 +61,4 @@ pub written_out_below : (n : ℕ) (fields : List ModuleField) → greatest_asked
 written_out_below n fields above =
     let some : 0 < n = omega (arith, above) in
     greatest_below n generation_in (asked (in_module (written_out fields))) some
-    (written_out_pass (is_ask_below n) (λ c. lt-ltb 0 n some) (lt-ltb 0 n some) (λ s m span. lt-ltb 0 n some) fields (each_below n generation_in (asked (in_module fields)) above))
+    (written_out_pass (is_ask_below n) (λ c. lt-ltb 0 n some) (λ s m span. lt-ltb 0 n some) fields (each_below n generation_in (asked (in_module fields)) above))

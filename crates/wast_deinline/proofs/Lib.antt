@@ -9,4 +9,3 @@ pub mod WrittenItems
 pub mod WrittenAsks
 pub mod Below
 pub mod Settled
-pub mod Inexact

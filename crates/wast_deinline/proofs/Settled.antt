@@ -8,7 +8,7 @@ use Rattle.wast_base.specs.Ids.{Name, Written, Generated, Mark, name_of, is_gene
 use Rattle.wast_base.specs.Spaces.{rank_of, same_space, name_if, is_called, is_borne}
 use Rattle.wast_tree.specs.Items.{Item, item, items}
 use Rattle.wast_tree.specs.Known.{Known, known, names_in}
-use Rattle.wast_tree.specs.Sites.{Ask, Wants, Within, Unasked, Clause, Supported, in_module, asked}
+use Rattle.wast_tree.specs.Sites.{Ask, Wants, Within, Unasked, Clause, Covered, in_module, asked}
 use Rattle.wast_tree.specs.WellFormed.{is_kept, are_kept}
 use Rattle.wast_tree.proofs.Bearing.{borne_among, borne_by_both}
 use Rattle.wast_deinline.specs.Tree.{Span, Id, Space, ModuleField}
@@ -66,7 +66,7 @@ module _ (k : Known) where
       one (Within i) h = h
       one (Unasked m) h = refl
       one (Clause n holds) h = h
-      one (Supported holds) h = h
+      one (Covered form holds) h = refl
 
 module _ (n : ℕ) (fields : List ModuleField) where
   abbrev new : Known
@@ -89,5 +89,5 @@ module _ (n : ℕ) (fields : List ModuleField) where
 pub written_well_formed : StaysWellFormed
 written_well_formed n fields h =
     let k : Known = new n fields in
-    written_pass (is_kept k) (λ c. refl) refl (is_settled_item k) (own_settled k) n fields (all_settled k (items (referable n fields)) (knows_referable n fields))
+    written_pass (is_kept k) (λ c. refl) (is_settled_item k) (own_settled k) n fields (all_settled k (items (referable n fields)) (knows_referable n fields))
     (still_kept k (items fields) (knows_old n fields) (asked (in_module fields)) h)

@@ -12,7 +12,7 @@ pub imported_funcs : ImportedFuncs
 imported_funcs a b c d e f = (refl, refl, refl)
 
 pub exact_import : ExactImport
-exact_import a b = (refl, refl)
+exact_import a b = refl
 
 pub table_of_two : TableOfTwo
 table_of_two a b = (refl, refl, refl)

@@ -7,11 +7,12 @@ use Rattle.std.proofs.lemmas.List.{map-append}
 use Rattle.std.proofs.lemmas.List.Folds.{list_all-append}
 use Rattle.wast_base.specs.Blocks.{stays_open}
 use Rattle.wast_tree.specs.Items.{Item, item, items_in, items}
-use Rattle.wast_tree.specs.Sites.{Ask, Wants, Clause, Supported, OfItem, Site, Asked, asking, in_ref, in_use, in_func, in_global_type, in_constant, in_payload, in_table_kind, in_global_kind, in_tag_type, in_field, in_module, asked}
+use Rattle.wast_tree.specs.Sites.{Ask, Wants, Clause, Covered, OfItem, Site, Asked, asking, in_ref, in_use, in_func, in_global_type, in_constant, in_payload, in_table_kind, in_global_kind, in_tag_type, in_field, in_module, asked}
 use Rattle.wast_tree.specs.Known.{names_in}
 use Rattle.wast_base.specs.Filling.{one_if, given_if}
 use Rattle.wast_tree.proofs.Visiting.{asked_both}
 use Rattle.wast_deinline.specs.Tree.{Span, Id, Index, Space, Func, FuncKind, Table, TableKind, Memory, MemoryKind, Global, GlobalKind, Tag, TagKind, ModuleField}
+use Rattle.wast_tree.specs.Tree.form
 use Rattle.wast_deinline.specs.Tree.index
 use Rattle.wast_deinline.specs.Tree.space
 use Rattle.wast_deinline.specs.Tree.func
@@ -24,7 +25,7 @@ use Rattle.wast_deinline.specs.Segments.{at_zero}
 use Rattle.wast_deinline.specs.WriteOut.{Reference, data_in, elem_in, func_alone, table_alone, memory_alone, global_alone, tag_alone, write_out}
 use Rattle.wast_deinline.specs.Referring.{by_id, place_or, by_position, wants_id, with_item_id}
 use Rattle.wast_deinline.specs.Written.{referable, written_out_from, written_after, written_out}
-use Rattle.wast_deinline.specs.Laws.{is_supported, StaysSupportedByPosition}
+use Rattle.wast_deinline.specs.Laws.{is_sound, StaysSoundByPosition}
 use Rattle.wast_deinline.proofs.Exported.{both_pass, behind_exports}
 
 -- ids that are given change nothing of it
@@ -46,8 +47,8 @@ all_true : {A : Type 0} (xs : List A) → list_all (λ (x : A). true) xs ≡ tru
 all_true [] = refl
 all_true (x ∷ xs) = all_true xs
 
--- Where all that is asked in some fields passes a test, which clauses that hold and a form that is supported pass.
-module _ (ok : Ask → Bool) (clause : (n : ℕ) → ok (Clause n true) ≡ true) (form : ok (Supported true) ≡ true) where
+-- Where all that is asked in some fields passes a test, which clauses that hold pass.
+module _ (ok : Ask → Bool) (clause : (n : ℕ) → ok (Clause n true) ≡ true) where
   abbrev pass : List Site → Bool
   pass os = list_all ok (asked os)
 
@@ -70,11 +71,12 @@ module _ (ok : Ask → Bool) (clause : (n : ℕ) → ok (Clause n true) ≡ true
   -- a segment begins at a number, without branch hints and blocks
   offset_passes : (is64 : Bool) → pass (in_constant (at_zero is64)) ≡ true
   unfolding stays_open
-  offset_passes false = both_true form (both_true (clause 5) refl)
-  offset_passes true = both_true form (both_true (clause 5) refl)
+  offset_passes false = both_true (clause 2) (both_true (clause 5) refl)
+  offset_passes true = both_true (clause 2) (both_true (clause 5) refl)
 
   func_passes : (f : Func) (k : FuncKind) → pass (in_func (record f { kind = k })) ≡ true → list_all passes (func_alone f k ∷ []) ≡ true
-  func_passes f (func.Import source exact) h = both_true (parted (in_use OfItem f.ty) (Asked (Supported (not exact)) ∷ []) h).0 refl
+  func_passes f (func.Import source false) h = both_true (parted (in_use OfItem f.ty) (Asked (Covered form.Descriptor true) ∷ []) h).0 refl
+  func_passes f (func.Import source true) h = both_true h refl
   func_passes f (func.Inline locals e) h = both_true h refl
 
   table_passes : (t : Table) (k : TableKind) (i : Index) → ok (Wants space.Table i) ≡ true → pass (in_table_kind k) ≡ true → list_all passes (elem_in k t.span i ++ table_alone t k ∷ []) ≡ true
@@ -82,7 +84,7 @@ module _ (ok : Ask → Bool) (clause : (n : ℕ) → ok (Clause n true) ≡ true
   table_passes t (table.Normal ty init) i mine h = both_true h refl
   table_passes t (table.Inline ty is64 shared p) i mine h =
       let suited : List Ask = Clause 4 true ∷ [] in
-      let unshared : List Ask = Supported (not shared) ∷ [] in
+      let unshared : List Ask = Covered form.Shared (not shared) ∷ [] in
       let parts = parted (asking (in_ref ty)) (in_payload p ++ asking unshared) h in
       let rest = parted (in_payload p) (asking unshared) parts.1 in
       both_true (both_true mine (joined (in_constant (at_zero is64)) (in_payload p ++ asking suited) (offset_passes is64) (joined (in_payload p) (asking suited) rest.0 (both_true (clause 4) refl))))
@@ -144,5 +146,5 @@ module _ (ok : Ask → Bool) (clause : (n : ℕ) → ok (Clause n true) ≡ true
     pub written_out_pass : (fields : List ModuleField) → list_all ok (asked (in_module fields)) ≡ true → list_all ok (asked (in_module (written_out fields))) ≡ true
     written_out_pass fields h = all_fields (written_out fields) ∙ after_pass [] fields (sym (all_fields fields) ∙ h)
 
-pub stays_supported_by_position : StaysSupportedByPosition
-stays_supported_by_position = written_out_pass is_supported (λ c. refl) refl (λ s m span. refl)
+pub stays_sound_by_position : StaysSoundByPosition
+stays_sound_by_position = written_out_pass is_sound (λ c. refl) (λ s m span. refl)

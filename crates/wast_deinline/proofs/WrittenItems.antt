@@ -29,7 +29,8 @@ exported span k i [] ys = refl
 exported span k i (name ∷ names) ys = exported span k i names ys
 
 func_items : (f : Func) (k : FuncKind) → items (func_alone f k ∷ []) ≡ item space.Func f.id [] ∷ []
-func_items f (func.Import source exact) = refl
+func_items f (func.Import source true) = refl
+func_items f (func.Import source false) = refl
 func_items f (func.Inline locals e) = refl
 
 global_items : (g : Global) (k : GlobalKind) → items (global_alone g k ∷ []) ≡ item space.Global g.id [] ∷ []

@@ -1,12 +1,11 @@
 -- What holds of each list that is written out (text format: abbreviations).
-use Rattle.std.specs.Prelude.{◌≡◌, ℕ, ◌+◌, ◌<◌, Bool, true, false, List, IsTrue}
+use Rattle.std.specs.Prelude.{◌≡◌, ℕ, ◌+◌, ◌<◌, Bool, true, List, IsTrue}
 use Rattle.std.specs.List.{list_all}
 use Rattle.wast_tree.specs.Generations.{greatest_generation}
-use Rattle.wast_tree.specs.Sites.{Ask, Wants, Within, Unasked, Clause, Supported, asked, in_module}
+use Rattle.wast_tree.specs.Sites.{Ask, Wants, Within, Unasked, Clause, Covered, asked, in_module}
 use Rattle.wast_tree.specs.WellFormed.{is_well_formed}
 use Rattle.wast_tree.specs.WrittenOut.{is_written_out}
 use Rattle.wast_deinline.specs.Tree.{ModuleField}
-use Rattle.wast_deinline.specs.Exact.{imports_exact}
 use Rattle.wast_deinline.specs.Written.{written_out_from, references_wanted, written_out}
 
 -- No abbreviation is left.
@@ -29,17 +28,17 @@ StaysByPosition = (fields : List ModuleField) → IsTrue (is_written_out fields)
 abbrev pub WantsNoReference : Type 0
 WantsNoReference = (fields : List ModuleField) → IsTrue (is_written_out fields) → references_wanted fields ≡ 0
 
--- What is asked of single parts, whatever the module names: a clause holds, and a form is supported.
-abbrev pub is_supported : Ask → Bool
-is_supported (Wants s i) = true
-is_supported (Within i) = true
-is_supported (Unasked m) = true
-is_supported (Clause n holds) = holds
-is_supported (Supported holds) = holds
+-- What is asked of single parts, whatever the module names: a clause holds.
+abbrev pub is_sound : Ask → Bool
+is_sound (Wants s i) = true
+is_sound (Within i) = true
+is_sound (Unasked m) = true
+is_sound (Clause n holds) = holds
+is_sound (Covered form holds) = true
 
--- By positions, what is supported today stays so.
-abbrev pub StaysSupportedByPosition : Type 0
-StaysSupportedByPosition = (fields : List ModuleField) → IsTrue (list_all is_supported (asked (in_module fields))) → IsTrue (list_all is_supported (asked (in_module (written_out fields))))
+-- By positions, what holds stays so.
+abbrev pub StaysSoundByPosition : Type 0
+StaysSoundByPosition = (fields : List ModuleField) → IsTrue (list_all is_sound (asked (in_module fields))) → IsTrue (list_all is_sound (asked (in_module (written_out fields))))
 
 -- Where the counter begins above the generations of the fields, each generation is below that of the next id.
 abbrev pub StaysBelow : Type 0
@@ -48,7 +47,3 @@ StaysBelow = (n : ℕ) (fields : List ModuleField) → greatest_generation field
 -- Well formed fields stay so.
 abbrev pub StaysWellFormed : Type 0
 StaysWellFormed = (n : ℕ) (fields : List ModuleField) → is_well_formed fields ≡ true → is_well_formed (written_out_from n fields) ≡ true
-
--- In well formed fields no function that is imported in place is exact.
-abbrev pub WellFormedIsInexact : Type 0
-WellFormedIsInexact = (fields : List ModuleField) → is_well_formed fields ≡ true → imports_exact fields ≡ false

@@ -1,7 +1,6 @@
 -- What the contracts cite.
 pub mod Tree
 pub mod Segments
-pub mod Exact
 pub mod WriteOut
 pub mod Referring
 pub mod Written

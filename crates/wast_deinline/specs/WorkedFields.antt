@@ -22,7 +22,6 @@ use Rattle.wast_deinline.specs.Tree.global
 use Rattle.wast_deinline.specs.Tree.tag_kind
 use Rattle.wast_deinline.specs.Tree.export
 use Rattle.wast_deinline.specs.Tree.field
-use Rattle.wast_deinline.specs.Exact.{imports_exact}
 use Rattle.wast_deinline.specs.Written.{written_out_from, references_wanted, written_out}
 
 -- the id of a generation for the field at n, and as an index
@@ -116,7 +115,7 @@ ImportedFuncs = (a b c d e f : Address) →
     × (written_out_from 5 (imported_funcs a b c d e f) ≡ imported_funcs_with a b c d e f (by_made 5 9) (Some (made 5 9)))
     × (written_out (imported_funcs a b c d e f) ≡ imported_funcs_with a b c d e f (by_number 0 9) None)
 
--- `(module (func (import "m" "n")) (func (import "m" "n") exact))`: the second is exact, and none where it is left out.
+-- `(func (import "m" "n") exact)`: an exact import stands for it.
 abbrev pub exact_func : (a b : Address) → ModuleField
 exact_func a b = field.Func (record {
   span = place 33;
@@ -127,10 +126,14 @@ exact_func a b = field.Func (record {
   ty = no_type;
 })
 
+abbrev pub exact_import_of : (a b : Address) → ModuleField
+exact_import_of a b = field.Import (record {
+  span = place 33;
+  items = import_items.Single (text a (codes "m")) (text b (codes "n")) (record { span = place 33; id = None; name = None; kind = kind.FuncExact no_type });
+})
+
 abbrev pub ExactImport : Type 0
-ExactImport = (a b : Address) →
-    (imports_exact (imported_func 9 a b None [] ∷ exact_func a b ∷ []) ≡ true)
-    × (imports_exact (imported_func 9 a b None [] ∷ []) ≡ false)
+ExactImport = (a b : Address) → written_out_from 1 (exact_func a b ∷ []) ≡ exact_import_of a b ∷ []
 
 -- `(module (table funcref (elem $f $f)))`: two elements, and a table that holds two.
 abbrev pub funcref : RefType

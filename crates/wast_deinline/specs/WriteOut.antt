@@ -1,8 +1,8 @@
 -- The fields that stand for a field once its abbreviations are written out (text format: functions, tables, memories,
 -- globals, tags; abbreviations).
-use Rattle.std.specs.Prelude.{ℕ, List, [], ◌∷◌, ◌++◌, map, Option, None}
+use Rattle.std.specs.Prelude.{ℕ, Bool, true, false, List, [], ◌∷◌, ◌++◌, map, Option, None}
 use Rattle.std.specs.Borrow.{Bor}
-use Rattle.wast_deinline.specs.Tree.{Span, Id, Index, NameAnnotation, Space, ItemKind, InlineExport, InlineImport, FuncKind, Func, Table, TableKind, Memory, MemoryKind, Global, GlobalKind, Tag, TagKind, ExportKind, ModuleField}
+use Rattle.wast_deinline.specs.Tree.{Span, Id, Index, NameAnnotation, Space, FunctionType, TypeUse, ItemKind, InlineExport, InlineImport, FuncKind, Func, Table, TableKind, Memory, MemoryKind, Global, GlobalKind, Tag, TagKind, ExportKind, ModuleField}
 use Rattle.wast_deinline.specs.Tree.space
 use Rattle.wast_deinline.specs.Tree.import_items
 use Rattle.wast_deinline.specs.Tree.kind
@@ -50,9 +50,14 @@ elem_in (table.Import source ty) span item = []
 elem_in (table.Normal ty init) span item = []
 elem_in (table.Inline ty is64 shared p) span item = elem_into span item is64 p ∷ []
 
+-- an imported function of this type use, which is exact or not
+abbrev pub imported_func : Bool → TypeUse FunctionType → ItemKind
+imported_func true u = kind.FuncExact u
+imported_func false u = kind.Func u
+
 -- The field without what stands in place. Of the imported ones a function alone keeps its name annotation.
 abbrev pub func_alone : Func → FuncKind → ModuleField
-func_alone f (func.Import source exact) = import_of f.span f.id f.name source (kind.Func f.ty)
+func_alone f (func.Import source exact) = import_of f.span f.id f.name source (imported_func exact f.ty)
 func_alone f (func.Inline locals e) = field.Func (record f { exports = no_exports; kind = func.Inline locals e })
 
 -- a table, or the import that stands for it

@@ -20,7 +20,7 @@ pub(crate) fn imported_funcs()
     ensures { ImportedFuncs }
 {}
 
-/// A function that is imported in place and exact, behind one that is not.
+/// A function that is imported in place and exact.
 #[tactic(auto, using(crate::proofs::Worked::exact_import))]
 pub(crate) fn exact_import()
     ensures { ExactImport }

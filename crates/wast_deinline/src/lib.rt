@@ -4,7 +4,6 @@
 //! A call takes memory only where its text says so. A call that can fail says when, and with what.
 #![tactic(auto)]
 
-mod exact;
 mod examples;
 mod laws;
 mod references;
@@ -15,6 +14,5 @@ pub use laws::written_laws;
 
 /// The pass over the fields of a module.
 pub mod deinline {
-    pub use crate::exact::imports_exact;
     pub use crate::writing::run;
 }

@@ -7,9 +7,8 @@ ghost use Rattle.wast_tree.specs.WrittenOut.{is_written_out};
 ghost use Rattle.wast_deinline.specs.Tree.field;
 ghost use Rattle.wast_deinline.specs.Tree.table as table_kind;
 ghost use Rattle.wast_deinline.specs.Tree.memory as memory_kind;
-ghost use Rattle.wast_deinline.specs.Exact.{imports_exact};
 ghost use Rattle.wast_deinline.specs.Segments.{overflows_kind, overflows};
-ghost use Rattle.wast_deinline.specs.WriteOut.{no_exports, exports_of, import_of, data_in, elem_in, func_alone, table_alone, memory_alone, global_alone, tag_alone, write_out};
+ghost use Rattle.wast_deinline.specs.WriteOut.{imported_func, no_exports, exports_of, import_of, data_in, elem_in, func_alone, table_alone, memory_alone, global_alone, tag_alone, write_out};
 ghost use Rattle.wast_deinline.specs.Referring.{by_id};
 ghost use Rattle.wast_deinline.specs.Written.{written_out_from, references_wanted, IsRefusedWhere, CannotBeWritten};
 
@@ -17,11 +16,11 @@ use crate::references::{by_id, has_bytes, has_elements, name_items};
 use crate::segments::{at_zero, data_into, elem_into, filled_table_type, filling};
 use std::alloc::Global;
 use wast_tree::{
-    Error, Export, ExportKind, Expression, Func, FuncKind, Gensym, GlobalKind, Id, Imports, Index,
-    InlineExport, InlineImport, ItemKind, ItemSig, Memory, MemoryKind, MemoryType, ModuleField,
-    NameAnnotation, Seq, Span, Table, TableKind, TableType, Tag, TagKind, discard_data,
-    discard_elem_payload, discard_exports, discard_field, discard_fields, fields_with_capacity,
-    is_written_out, push_field, take_field,
+    Error, Export, ExportKind, Expression, Func, FuncKind, FunctionType, Gensym, GlobalKind, Id,
+    Imports, Index, InlineExport, InlineImport, ItemKind, ItemSig, Memory, MemoryKind, MemoryType,
+    ModuleField, NameAnnotation, Seq, Span, Table, TableKind, TableType, Tag, TagKind, TypeUse,
+    discard_data, discard_elem_payload, discard_exports, discard_field, discard_fields,
+    fields_with_capacity, is_written_out, push_field, take_field,
 };
 
 /// Writes the abbreviations of fields out (text format: functions, tables, memories, globals, tags; abbreviations).
@@ -30,9 +29,8 @@ use wast_tree::{
 /// order; then the segment of the bytes or elements that stand in place, which begins at 0; and then the field alone, or
 /// its import where that stands in place. A memory with bytes in place has as many pages as hold them, and no more; a
 /// table as many elements. An item that is exported or filled so is referred to by its id, and given a generated one at
-/// the place of its field where it has none. All other fields stay. It needs that no function that is imported in place is
-/// exact, as [`imports_exact`](crate::deinline::imports_exact) tells; well formed fields are so. The ids that it makes are
-/// new where the counter stands above [`wast_tree::gensym_bound`].
+/// the place of its field where it has none. All other fields stay. A function that is imported in place and
+/// exact becomes an exact import. The ids that it makes are new where the counter stands above [`wast_tree::gensym_bound`].
 ///
 /// Where nothing stands in place, it gives the fields back as they are, and never an error. Else it takes memory for the
 /// new list and for the offsets of segments. The error is E12 where memory was refused, and E10 only where the counter
@@ -43,7 +41,6 @@ pub fn run<'a>(
     fields: Seq<ModuleField<'a>>,
     gensym: &mut Gensym,
 ) -> Result<Seq<ModuleField<'a>>, Error<'a>>
-    requires inexact { imports_exact fields ≡ false }
     ensures list { IfOk result (λ out. out ≡ written_out_from gensym.old fields.entry) }
     ensures counted { OnOk result (gensym.new ≡ gensym.old + references_wanted fields.entry) }
     ensures refusal { IfErr result (CannotBeWritten gensym.old fields.entry) }
@@ -250,6 +247,17 @@ fn import_of<'a>(
     ModuleField::Import(Imports::single(span, source.module, source.field, sig))
 }
 
+/// What an imported function of this type use is, exact or not.
+fn imported_func<'a>(exact: bool, ty: TypeUse<'a, FunctionType<'a>>) -> ItemKind<'a>
+    ensures { result ≡ imported_func exact ty.entry }
+{
+    if exact {
+        ItemKind::FuncExact(ty)
+    } else {
+        ItemKind::Func(ty)
+    }
+}
+
 /// A function without what stands in place, or its import.
 fn func_alone<'a>(alloc: Global, func: Func<'a>) -> ModuleField<'a>
     ensures { result ≡ func_alone func.entry func.entry.kind }
@@ -264,7 +272,9 @@ fn func_alone<'a>(alloc: Global, func: Func<'a>) -> ModuleField<'a>
     } = func;
     discard_exports(exports);
     match kind {
-        FuncKind::Import(source, _) => import_of(span, id, name, source, ItemKind::Func(ty)),
+        FuncKind::Import(source, exact) => {
+            import_of(span, id, name, source, imported_func(exact, ty))
+        }
         FuncKind::Inline { locals, expression } => ModuleField::Func(Func {
             span,
             id,

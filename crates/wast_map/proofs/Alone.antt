@@ -1,8 +1,9 @@
 -- What no map changes of a field: whether it is written out, its items but for their ids, and what import order asks of it.
 use Rattle.std.specs.Prelude.{◌&&◌, Option, Some, None}
-use Rattle.std.proofs.Common.{◌≡◌, List, [], ◌∷◌, ◌++◌, refl, ap, ◌∙◌, map}
+use Rattle.std.specs.Borrow.{Bor}
+use Rattle.std.proofs.Common.{◌≡◌, ℕ, List, [], ◌∷◌, ◌++◌, refl, ap, ◌∙◌, map}
 use Rattle.std.specs.List.{flat_map, list_all}
-use Rattle.wast_map.specs.Tree.{Id, TypeUse, FunctionType, FuncKind, TableKind, GlobalKind, ItemKind, ImportItems, InnerTypeKind, Space, StructField, ModuleField}
+use Rattle.wast_map.specs.Tree.{Id, TypeUse, FunctionType, FuncKind, TableKind, GlobalKind, ItemSig, ItemKind, ImportItems, InnerTypeKind, Space, StructField, ModuleField}
 use Rattle.wast_map.specs.Tree.space
 use Rattle.wast_map.specs.Tree.inner
 use Rattle.wast_map.specs.Tree.ty
@@ -13,10 +14,10 @@ use Rattle.wast_map.specs.Tree.table
 use Rattle.wast_map.specs.Tree.global
 use Rattle.wast_map.specs.Tree.field
 use Rattle.wast_base.specs.Ids.{Mark, marked}
-use Rattle.wast_tree.specs.Items.{Item, item, field_ids, fields_of, space_of_kind, items_of_type, items_of_import, items_in, items}
+use Rattle.wast_tree.specs.Items.{Item, item, field_ids, fields_of, space_of_kind, items_of_type, item_of_sig, items_of_import, items_in, items}
 use Rattle.wast_tree.specs.Imports.{defined_space}
 use Rattle.wast_tree.specs.WrittenOut.{exports_nothing, is_written_func, is_written_table, is_written_global, is_written_field, is_written_out}
-use Rattle.wast_map.specs.Mapped.{Change, mapped_struct_field, mapped_inner, mapped_type, mapped_func_kind, mapped_table_kind, mapped_global_kind, mapped_item_kind, mapped_import_items, mapped}
+use Rattle.wast_map.specs.Mapped.{Change, mapped_struct_field, mapped_inner, mapped_type, mapped_func_kind, mapped_table_kind, mapped_global_kind, mapped_item_kind, mapped_sig, mapped_import_items, mapped}
 use Rattle.wast_map.specs.Laws.{KeepsItems, all_mapped}
 
 module _ (f : Change) where
@@ -60,6 +61,7 @@ module _ (f : Change) (keeps : KeepsItems f) where
   inner_alone (inner.Func t) = refl
   inner_alone (inner.Struct t) = struct_alone t.fields
   inner_alone (inner.Array t) = refl
+  inner_alone (inner.Cont t) = refl
 
   type_alone : (t : ty.«Type») → items_of_type (mapped_type f t) ≡ items_of_type t
   type_alone t = λ i. record { space = space.Ty; id = keeps t.id i; fields = inner_alone t.def.kind i } ∷ []
@@ -70,13 +72,23 @@ module _ (f : Change) (keeps : KeepsItems f) where
 
   kind_alone : (k : ItemKind) → space_of_kind (mapped_item_kind f k) ≡ space_of_kind k
   kind_alone (kind.Func u) = refl
+  kind_alone (kind.FuncExact u) = refl
   kind_alone (kind.Table t) = refl
   kind_alone (kind.Memory t) = refl
   kind_alone (kind.Global t) = refl
   kind_alone (kind.Tag t) = refl
 
+  sig_alone : (s : ItemSig) → item_of_sig (mapped_sig f s) ≡ item_of_sig s
+  sig_alone s = λ i. record { space = kind_alone s.kind i; id = keeps s.id i; fields = [] }
+
+  sigs_alone : (ps : List (Bor (List ℕ) × ItemSig)) → flat_map (λ (p : Bor (List ℕ) × ItemSig). item_of_sig p.1 ∷ []) (map (λ (p : Bor (List ℕ) × ItemSig). (p.0, mapped_sig f p.1)) ps) ≡ flat_map (λ (p : Bor (List ℕ) × ItemSig). item_of_sig p.1 ∷ []) ps
+  sigs_alone [] = refl
+  sigs_alone (p ∷ ps) = λ i. sig_alone p.1 i ∷ sigs_alone ps i
+
   import_alone : (i : ImportItems) → items_of_import (mapped_import_items f i) ≡ items_of_import i
-  import_alone (import_items.Single source name sig) = λ i. record { space = kind_alone sig.kind i; id = keeps sig.id i; fields = [] } ∷ []
+  import_alone (import_items.Single source name sig) = λ i. sig_alone sig i ∷ []
+  import_alone (import_items.Group1 source items) = sigs_alone items
+  import_alone (import_items.Group2 source sig names) = ap (λ (x : Item). flat_map (λ name. x ∷ []) names) (sig_alone sig)
 
   item_alone : (s : Space) (o : Option Id) → item s (f.id o) [] ∷ [] ≡ item s o [] ∷ []
   item_alone s o = ap (λ (m : Option Mark). record { space = s; id = m; fields = [] } ∷ []) (keeps o)

@@ -1,18 +1,21 @@
 -- The laws of the map at each instruction and each field.
+use Rattle.std.specs.Borrow.{Bor}
 use Rattle.std.specs.Int.{is_power_of_two}
 use Rattle.std.specs.Prelude.{is_none, ◌==◌, ◌&&◌, not, Option, Some, None, option_map, length}
-use Rattle.std.proofs.Common.{◌≡◌, List, [], ◌∷◌, ◌++◌, refl, sym, ap, ◌∙◌, map, arith}
+use Rattle.std.proofs.Common.{◌≡◌, ℕ, List, [], ◌∷◌, ◌++◌, refl, sym, ap, ◌∙◌, map, arith}
 use Rattle.std.specs.List.{flat_map}
 use Rattle.std.proofs.lemmas.Grind.{common_steps}
 use Rattle.std.proofs.lemmas.List.{map-append}
 use Rattle.wast_base.specs.Blocks.{Blocks, closed, is_balanced}
 use Rattle.wast_base.specs.Ids.{Name, Mark, marked}
 use Rattle.wast_base.specs.Spaces.{name_if}
-use Rattle.wast_map.specs.Tree.{Id, Index, RefType, HeapType, TableType, GlobalType, TypeUse, FunctionType, BlockType, BrTableIndices, TryTable, TryTableCatch, TryTableCatchKind, MemArg, MemArgTarget, CallIndirect, SelectTypes, Instruction, Expression, Local, FuncKind, Func, ItemKind, ImportItems, TableKind, MemoryKind, GlobalKind, ElemKind, ElemPayload, Elem, DataKind, TagType, ModuleField, ValType}
+use Rattle.wast_map.specs.Tree.{Id, Index, RefType, HeapType, TableType, GlobalType, TypeUse, FunctionType, BlockType, BrTableIndices, TryTable, TryTableCatch, TryTableCatchKind, MemArg, MemArgTarget, CallIndirect, SelectTypes, Handle, ResumeTable, Instruction, Expression, Local, FuncKind, Func, ItemSig, ItemKind, ImportItems, TableKind, MemoryKind, GlobalKind, ElemKind, ElemPayload, Elem, DataKind, TagType, ModuleField, ValType}
+use Rattle.wast_map.specs.Tree.form
 use Rattle.wast_map.specs.Tree.space
 use Rattle.wast_map.specs.Tree.heap
 use Rattle.wast_map.specs.Tree.target
 use Rattle.wast_map.specs.Tree.caught
+use Rattle.wast_map.specs.Tree.handle
 use Rattle.wast_map.specs.Tree.instr
 use Rattle.wast_map.specs.Tree.func
 use Rattle.wast_map.specs.Tree.kind
@@ -26,19 +29,20 @@ use Rattle.wast_map.specs.Tree.data_kind
 use Rattle.wast_map.specs.Tree.field
 use Rattle.wast_tree.specs.Clauses.{is_func_heap, suits}
 use Rattle.wast_tree.specs.Instrs.{turn_of, turns}
-use Rattle.wast_tree.specs.Sites.{Locals, Here, start, OfItem, OfCall, OfBlock, Site, Asked, Used, Declared, LocalAt, LabelAt, Repeated, Begins, Ends, Clause, Supported, after, after_all, asking, at_index, if_there, in_heap, at_label, in_block, in_caught, in_catch, in_try_table, in_br_table, in_target, in_mem_arg, in_select, in_indirect, in_instr, behind, in_instrs, in_expression, in_constant, in_local, local_marks, param_marks, declaring, body_here, in_func_kind, in_use, in_func, in_item_kind, in_import, exported_space, in_payload, in_table_kind, in_memory_kind, in_global_kind, in_elem_kind, in_elem, in_data_kind, in_field}
-use Rattle.wast_map.specs.Mapped.{Change, same, mapped_locals, mapped_here, mapped_site, KeepsMarks, Joins, AreJoint, Each, mapped_heap, mapped_block, mapped_caught, mapped_catch, mapped_try_table, mapped_br_table, mapped_target, mapped_mem_arg, mapped_select, mapped_indirect, mapped_instr, mapped_instrs, mapped_expression, mapped_constant, mapped_local, mapped_func_kind, mapped_func, mapped_item_kind, mapped_import_items, mapped_payload, mapped_table_kind, mapped_global_kind, mapped_elem_kind, mapped_elem, mapped_data_kind, mapped}
+use Rattle.wast_tree.specs.Sites.{Locals, Here, start, OfItem, OfCall, OfBlock, Site, Asked, Used, Declared, LocalAt, FieldAt, LabelAt, Repeated, Begins, Ends, Clause, Covered, uncovered, after, after_all, asking, at_index, if_there, in_heap, at_label, in_block, in_caught, in_catch, in_try_table, in_br_table, in_ref, in_pair, in_cast, in_handle, in_handlers, in_target, in_mem_arg, in_select, in_indirect, in_instr, behind, in_instrs, in_expression, in_constant, in_local, local_marks, param_marks, declaring, body_here, in_func_kind, in_use, in_func, in_item_kind, in_sig, in_import, exported_space, in_payload, in_table_kind, in_memory_kind, in_global_kind, in_elem_kind, in_elem, in_data_kind, in_field}
+use Rattle.wast_map.specs.Mapped.{Change, same, mapped_locals, mapped_here, mapped_site, KeepsMarks, Joins, AreJoint, Each, mapped_heap, mapped_ref, mapped_handle, mapped_handlers, mapped_block, mapped_caught, mapped_catch, mapped_try_table, mapped_br_table, mapped_target, mapped_mem_arg, mapped_select, mapped_indirect, mapped_instr, mapped_instrs, mapped_expression, mapped_constant, mapped_local, mapped_func_kind, mapped_func, mapped_item_kind, mapped_sig, mapped_import_items, mapped_payload, mapped_table_kind, mapped_global_kind, mapped_elem_kind, mapped_elem, mapped_data_kind, mapped}
 use Rattle.wast_map.proofs.Ways.{In, At, each_first, each_rest, index_in, index_at, mark_in, label_at, asked_at, item_id_at, use_at, fixed_at, both_at, made_at, tested_at, behind_at, option_at, list_at}
 use Rattle.wast_map.proofs.Types.{heap_at, ref_at, val_at, type_at, rec_at, table_type_at, global_type_at, tag_type_at}
 
 -- what a memory argument reads or writes, and the argument
 target_at : (t : MemArgTarget) → In in_target (λ f. mapped_target f.index) t
 target_at (target.Memory i) = made_at target.Memory (λ y. refl) (λ f y. refl) i (index_in space.Memory i)
+target_at (target.Array i) = made_at target.Array (λ y. refl) (λ f y. refl) i (tested_at i (uncovered form.ArrayMemArg) (λ f. refl) (index_in space.Ty i))
 
 pub mem_arg_at : (m : MemArg) → In in_mem_arg (λ f. mapped_mem_arg f.index) m
 mem_arg_at m =
     made_at (λ (t : MemArgTarget). record m { target = t }) (λ y. refl) (λ f y. refl) m.target
-    (tested_at m.target (Clause 1 (is_power_of_two m.align) ∷ Supported (is_none m.ordering) ∷ []) (λ f. refl) (target_at m.target))
+    (tested_at m.target (Clause 1 (is_power_of_two m.align) ∷ Covered form.Ordering (is_none m.ordering) ∷ []) (λ f. refl) (target_at m.target))
 
 pub select_at : (t : SelectTypes) → In in_select (λ f. mapped_select f.index) t
 select_at t = made_at (λ (o : Option (List ValType)). record { tys = o }) (λ y. refl) (λ f y. refl) t.tys (option_at (list_at val_at) t.tys)
@@ -74,6 +78,45 @@ br_table_at blocks t =
     made_at {t = in_br_table blocks} {n = λ f. mapped_br_table f blocks} (λ (q : List Index × Index). record { labels = q.0; default = q.1 }) (λ y. refl) (λ f y. refl) (t.labels, t.default)
     (both_at t.labels t.default (list_at (label_at blocks) t.labels) (label_at blocks t.default))
 
+-- a branch on a cast: its label, and the types that are cast to and from
+abbrev Cast : Type 0
+Cast = Index × (RefType × RefType)
+
+abbrev in_cast_of : Blocks → Cast → List Site
+in_cast_of blocks q = in_cast blocks q.0 q.1.0 q.1.1
+
+abbrev mapped_cast : Change → Blocks → Cast → Cast
+mapped_cast f blocks q = (f.label blocks q.0, (mapped_ref f.index q.1.0, mapped_ref f.index q.1.1))
+
+cast_at : (blocks : Blocks) (q : Cast) → At (in_cast_of blocks) (λ f. mapped_cast f blocks) q
+cast_at blocks q = both_at q.0 q.1 (label_at blocks q.0) (asked_at q.1 (both_at q.1.0 q.1.1 (ref_at q.1.0) (ref_at q.1.1)))
+
+-- of a form that no encoder covers
+uncovered_cast_at : (blocks : Blocks) (q : Cast) → At (λ q. in_cast_of blocks q ++ asking (uncovered form.Descriptor)) (λ f. mapped_cast f blocks) q
+uncovered_cast_at blocks q = tested_at q (asking (uncovered form.Descriptor)) (λ f. refl) (cast_at blocks q)
+
+uncovered_ref_at : (r : RefType) → In (λ r. in_ref r ++ uncovered form.Descriptor) (λ f. mapped_ref f.index) r
+uncovered_ref_at r = tested_at r (uncovered form.Descriptor) (λ f. refl) (ref_at r)
+
+-- the handlers of a resumption
+handle_at : (blocks : Blocks) (x : Handle) → At (in_handle blocks) (λ f. mapped_handle f blocks) x
+handle_at blocks (handle.OnLabel e l) =
+    made_at {t = in_handle blocks} {n = λ f. mapped_handle f blocks} (λ (q : Index × Index). handle.OnLabel q.0 q.1) (λ y. refl) (λ f y. refl) (e, l) (both_at e l (index_at space.Tag e) (label_at blocks l))
+handle_at blocks (handle.OnSwitch e) = made_at {t = in_handle blocks} {n = λ f. mapped_handle f blocks} (λ (i : Index). handle.OnSwitch i) (λ y. refl) (λ f y. refl) e (index_at space.Tag e)
+
+handlers_at : (blocks : Blocks) (t : ResumeTable) → At (in_handlers blocks) (λ f. mapped_handlers f blocks) t
+handlers_at blocks t =
+    made_at {t = in_handlers blocks} {n = λ f. mapped_handlers f blocks} (λ (xs : List Handle). record { handlers = xs }) (λ y. refl) (λ f y. refl) t.handlers
+    (tested_at t.handlers (asking (uncovered form.StackSwitching)) (λ f. refl) (list_at (handle_at blocks) t.handlers))
+
+-- and what stands before them
+resume_at : (blocks : Blocks) (q : Index × ResumeTable) → At (λ q. at_index space.Ty q.0 ++ in_handlers blocks q.1) (λ f q. (f.index space.Ty q.0, mapped_handlers f blocks q.1)) q
+resume_at blocks q = both_at q.0 q.1 (index_at space.Ty q.0) (handlers_at blocks q.1)
+
+throw_at : (blocks : Blocks) (q : (Index × Index) × ResumeTable)
+    → At (λ q. asking (in_pair space.Ty q.0.0 space.Tag q.0.1) ++ in_handlers blocks q.1) (λ f q. ((f.index space.Ty q.0.0, f.index space.Tag q.0.1), mapped_handlers f blocks q.1)) q
+throw_at blocks q = both_at q.0 q.1 (asked_at q.0 (both_at q.0.0 q.0.1 (index_in space.Ty q.0.0) (index_in space.Tag q.0.1))) (handlers_at blocks q.1)
+
 -- An instruction: a tactic goes through the variants, with one line for each kind of immediates that has parts of its own. The
 -- changed one stands where the function of its body is changed, too.
 module _ (f : Change) (k : KeepsMarks f) where
@@ -90,6 +133,17 @@ module _ (f : Change) (k : KeepsMarks f) where
   instr_stands h (instr.return_call_indirect c) = (indirect_at c).stands f k
   instr_stands h (instr.try_table t) = (try_table_at h.blocks t).stands f k
   instr_stands h (instr.br_table t) = (br_table_at h.blocks t).stands f k
+  instr_stands h (instr.MemLane op a) = (asked_at a.memarg (mem_arg_at a.memarg)).stands f k
+  instr_stands h (instr.br_on_cast a) = (cast_at h.blocks (a.label, (a.to_type, a.from_type))).stands f k
+  instr_stands h (instr.br_on_cast_fail a) = (cast_at h.blocks (a.label, (a.to_type, a.from_type))).stands f k
+  instr_stands h (instr.br_on_cast_desc_eq a) = (uncovered_cast_at h.blocks (a.label, (a.to_type, a.from_type))).stands f k
+  instr_stands h (instr.br_on_cast_desc_eq_fail a) = (uncovered_cast_at h.blocks (a.label, (a.to_type, a.from_type))).stands f k
+  instr_stands h (instr.ref_test a) = (asked_at a.rt (ref_at a.rt)).stands f k
+  instr_stands h (instr.ref_cast a) = (asked_at a.rt (ref_at a.rt)).stands f k
+  instr_stands h (instr.ref_cast_desc_eq a) = (asked_at a.rt (uncovered_ref_at a.rt)).stands f k
+  instr_stands h (instr.resume a) = (resume_at h.blocks (a.type_index, a.table)).stands f k
+  instr_stands h (instr.resume_throw_ref a) = (resume_at h.blocks (a.type_index, a.table)).stands f k
+  instr_stands h (instr.resume_throw a) = (throw_at h.blocks ((a.type_index, a.tag_index), a.table)).stands f k
   instr_stands h i = grind (arith, common_steps, heap_stands, block_stands)
 
 module _ (x g f : Change) (j : AreJoint x g f) where
@@ -106,6 +160,17 @@ module _ (x g f : Change) (j : AreJoint x g f) where
   instr_joins h (instr.return_call_indirect c) e = ap instr.return_call_indirect ((indirect_at c).joins x g f j e)
   instr_joins h (instr.try_table t) e = ap instr.try_table ((try_table_at h.blocks t).joins x g f j e)
   instr_joins h (instr.br_table t) e = ap instr.br_table ((br_table_at h.blocks t).joins x g f j e)
+  instr_joins h (instr.MemLane op a) e = ap (λ (m : MemArg). instr.MemLane op (record a { memarg = m })) ((asked_at a.memarg (mem_arg_at a.memarg)).joins x g f j e)
+  instr_joins h (instr.br_on_cast a) e = ap (λ (q : Cast). instr.br_on_cast (record { label = q.0; from_type = q.1.1; to_type = q.1.0 })) ((cast_at h.blocks (a.label, (a.to_type, a.from_type))).joins x g f j e)
+  instr_joins h (instr.br_on_cast_fail a) e = ap (λ (q : Cast). instr.br_on_cast_fail (record { label = q.0; from_type = q.1.1; to_type = q.1.0 })) ((cast_at h.blocks (a.label, (a.to_type, a.from_type))).joins x g f j e)
+  instr_joins h (instr.br_on_cast_desc_eq a) e = ap (λ (q : Cast). instr.br_on_cast_desc_eq (record { label = q.0; from_type = q.1.1; to_type = q.1.0 })) ((uncovered_cast_at h.blocks (a.label, (a.to_type, a.from_type))).joins x g f j e)
+  instr_joins h (instr.br_on_cast_desc_eq_fail a) e = ap (λ (q : Cast). instr.br_on_cast_desc_eq_fail (record { label = q.0; from_type = q.1.1; to_type = q.1.0 })) ((uncovered_cast_at h.blocks (a.label, (a.to_type, a.from_type))).joins x g f j e)
+  instr_joins h (instr.ref_test a) e = ap (λ (r : RefType). instr.ref_test (record { rt = r })) ((asked_at a.rt (ref_at a.rt)).joins x g f j e)
+  instr_joins h (instr.ref_cast a) e = ap (λ (r : RefType). instr.ref_cast (record { rt = r })) ((asked_at a.rt (ref_at a.rt)).joins x g f j e)
+  instr_joins h (instr.ref_cast_desc_eq a) e = ap (λ (r : RefType). instr.ref_cast_desc_eq (record { rt = r })) ((asked_at a.rt (uncovered_ref_at a.rt)).joins x g f j e)
+  instr_joins h (instr.resume a) e = ap (λ (q : Index × ResumeTable). instr.resume (record { type_index = q.0; table = q.1 })) ((resume_at h.blocks (a.type_index, a.table)).joins x g f j e)
+  instr_joins h (instr.resume_throw_ref a) e = ap (λ (q : Index × ResumeTable). instr.resume_throw_ref (record { type_index = q.0; table = q.1 })) ((resume_at h.blocks (a.type_index, a.table)).joins x g f j e)
+  instr_joins h (instr.resume_throw a) e = ap (λ (q : (Index × Index) × ResumeTable). instr.resume_throw (record { type_index = q.0.0; tag_index = q.0.1; table = q.1 })) ((throw_at h.blocks ((a.type_index, a.tag_index), a.table)).joins x g f j e)
   instr_joins h i e = grind (arith, common_steps, heap_joins, block_joins)
 
 heap_still : (t : HeapType) → mapped_heap same.index t ≡ t
@@ -118,6 +183,17 @@ instr_still h (instr.call_indirect c) = ap instr.call_indirect (indirect_at c).s
 instr_still h (instr.return_call_indirect c) = ap instr.return_call_indirect (indirect_at c).still
 instr_still h (instr.try_table t) = ap instr.try_table (try_table_at h.blocks t).still
 instr_still h (instr.br_table t) = ap instr.br_table (br_table_at h.blocks t).still
+instr_still h (instr.MemLane op a) = ap (λ (m : MemArg). instr.MemLane op (record a { memarg = m })) (asked_at a.memarg (mem_arg_at a.memarg)).still
+instr_still h (instr.br_on_cast a) = ap (λ (q : Cast). instr.br_on_cast (record { label = q.0; from_type = q.1.1; to_type = q.1.0 })) (cast_at h.blocks (a.label, (a.to_type, a.from_type))).still
+instr_still h (instr.br_on_cast_fail a) = ap (λ (q : Cast). instr.br_on_cast_fail (record { label = q.0; from_type = q.1.1; to_type = q.1.0 })) (cast_at h.blocks (a.label, (a.to_type, a.from_type))).still
+instr_still h (instr.br_on_cast_desc_eq a) = ap (λ (q : Cast). instr.br_on_cast_desc_eq (record { label = q.0; from_type = q.1.1; to_type = q.1.0 })) (uncovered_cast_at h.blocks (a.label, (a.to_type, a.from_type))).still
+instr_still h (instr.br_on_cast_desc_eq_fail a) = ap (λ (q : Cast). instr.br_on_cast_desc_eq_fail (record { label = q.0; from_type = q.1.1; to_type = q.1.0 })) (uncovered_cast_at h.blocks (a.label, (a.to_type, a.from_type))).still
+instr_still h (instr.ref_test a) = ap (λ (r : RefType). instr.ref_test (record { rt = r })) (asked_at a.rt (ref_at a.rt)).still
+instr_still h (instr.ref_cast a) = ap (λ (r : RefType). instr.ref_cast (record { rt = r })) (asked_at a.rt (ref_at a.rt)).still
+instr_still h (instr.ref_cast_desc_eq a) = ap (λ (r : RefType). instr.ref_cast_desc_eq (record { rt = r })) (asked_at a.rt (uncovered_ref_at a.rt)).still
+instr_still h (instr.resume a) = ap (λ (q : Index × ResumeTable). instr.resume (record { type_index = q.0; table = q.1 })) (resume_at h.blocks (a.type_index, a.table)).still
+instr_still h (instr.resume_throw_ref a) = ap (λ (q : Index × ResumeTable). instr.resume_throw_ref (record { type_index = q.0; table = q.1 })) (resume_at h.blocks (a.type_index, a.table)).still
+instr_still h (instr.resume_throw a) = ap (λ (q : (Index × Index) × ResumeTable). instr.resume_throw (record { type_index = q.0.0; tag_index = q.0.1; table = q.1 })) (throw_at h.blocks ((a.type_index, a.tag_index), a.table)).still
 instr_still h i = grind (arith, common_steps, heap_still)
 
 -- where the next one stands: in the changed body as behind the changed place
@@ -126,6 +202,7 @@ after_site f h (Asked a) = refl
 after_site f h (Used w u) = refl
 after_site f h (Declared before m) = refl
 after_site f h (LocalAt locals i) = refl
+after_site f h (FieldAt owner i) = refl
 after_site f h (LabelAt blocks i) = refl
 after_site f h (Repeated blocks m) = refl
 after_site f h (Begins blocks m) = refl
@@ -168,12 +245,12 @@ turns_still f h (i ∷ is) = λ t. turn_still f h i t ∷ turns_still f (behind 
 -- an expression, in the changed body
 pub expression_stands : (f : Change) → KeepsMarks f → (h : Here) (e : Expression) → in_expression (mapped_here f h) (mapped_expression f h e) ≡ map (mapped_site f) (in_expression h e)
 expression_stands f k h e =
-    let hints = Asked (Supported (length e.branch_hints == 0)) ∷ [] in
+    let hints = Asked (Clause 2 (length e.branch_hints == 0)) ∷ [] in
     ap (λ z. z ++ hints) (instrs_stand f k h e.instrs) ∙ sym (map-append (mapped_site f) (in_instrs h e.instrs) hints)
 
 expression_joins : (x g f : Change) → AreJoint x g f → (h : Here) (e : Expression) → Each (Joins x g f) (in_expression h e) → mapped_expression g (mapped_here x h) (mapped_expression x h e) ≡ mapped_expression f h e
 expression_joins x g f j h e q =
-    let hints = Asked (Supported (length e.branch_hints == 0)) ∷ [] in
+    let hints = Asked (Clause 2 (length e.branch_hints == 0)) ∷ [] in
     ap (λ (is : List Instruction). record e { instrs = is }) (instrs_join x g f j h e.instrs (each_first (Joins x g f) (in_instrs h e.instrs) hints q))
 
 expression_still : (h : Here) (e : Expression) → mapped_expression same h e ≡ e
@@ -252,14 +329,25 @@ func_at x =
 
 item_kind_at : (k : ItemKind) → At in_item_kind mapped_item_kind k
 item_kind_at (kind.Func u) = made_at kind.Func (λ y. refl) (λ f y. refl) u (use_at OfItem u)
+item_kind_at (kind.FuncExact u) = made_at kind.FuncExact (λ y. refl) (λ f y. refl) u (tested_at u (asking (uncovered form.Descriptor)) (λ f. refl) (use_at OfItem u))
 item_kind_at (kind.Table t) = made_at kind.Table (λ y. refl) (λ f y. refl) t (asked_at t (table_type_at t))
 item_kind_at (kind.Memory t) = fixed_at (kind.Memory t) (λ f. refl) (λ f. refl)
 item_kind_at (kind.Global t) = made_at kind.Global (λ y. refl) (λ f y. refl) t (asked_at t (global_type_at t))
 item_kind_at (kind.Tag t) = made_at kind.Tag (λ y. refl) (λ f y. refl) t (tag_type_at t)
 
+sig_at : (s : ItemSig) → At in_sig mapped_sig s
+sig_at s = made_at (λ (q : Option Id × ItemKind). record s { id = q.0; kind = q.1 }) (λ y. refl) (λ f y. refl) (s.id, s.kind) (both_at s.id s.kind (item_id_at s.id) (item_kind_at s.kind))
+
+-- with its name
+named_sig_at : (p : Bor (List ℕ) × ItemSig) → At (λ p. in_sig p.1) (λ f p. (p.0, mapped_sig f p.1)) p
+named_sig_at p = made_at (λ (s : ItemSig). (p.0, s)) (λ y. refl) (λ f y. refl) p.1 (sig_at p.1)
+
 import_at : (i : ImportItems) → At in_import mapped_import_items i
-import_at (import_items.Single source name sig) =
-    made_at (λ (q : Option Id × ItemKind). import_items.Single source name (record sig { id = q.0; kind = q.1 })) (λ y. refl) (λ f y. refl) (sig.id, sig.kind) (both_at sig.id sig.kind (item_id_at sig.id) (item_kind_at sig.kind))
+import_at (import_items.Single source name sig) = made_at (import_items.Single source name) (λ y. refl) (λ f y. refl) sig (sig_at sig)
+import_at (import_items.Group1 source items) =
+    made_at (import_items.Group1 source) (λ y. refl) (λ f y. refl) items (tested_at items (asking (uncovered form.CompactImports)) (λ f. refl) (list_at named_sig_at items))
+import_at (import_items.Group2 source sig names) =
+    made_at (λ (s : ItemSig). import_items.Group2 source s names) (λ y. refl) (λ f y. refl) sig (tested_at sig (asking (uncovered form.CompactImports)) (λ f. refl) (sig_at sig))
 
 payload_at : (p : ElemPayload) → At in_payload mapped_payload p
 payload_at (payload.Indices is) = made_at payload.Indices (λ y. refl) (λ f y. refl) is (list_at (index_at space.Func) is)
@@ -271,7 +359,7 @@ table_kind_at (table.Normal ty init) =
     made_at (λ (q : TableType × Option Expression). table.Normal q.0 q.1) (λ y. refl) (λ f y. refl) (ty, init) (both_at ty init (asked_at ty (table_type_at ty)) (option_at constant_at init))
 table_kind_at (table.Inline ty is64 shared elements) =
     made_at (λ (q : RefType × ElemPayload). table.Inline q.0 is64 shared q.1) (λ y. refl) (λ f y. refl) (ty, elements)
-    (both_at ty elements (asked_at ty (ref_at ty)) (tested_at elements (Asked (Supported (not shared)) ∷ []) (λ f. refl) (payload_at elements)))
+    (both_at ty elements (asked_at ty (ref_at ty)) (tested_at elements (Asked (Covered form.Shared (not shared)) ∷ []) (λ f. refl) (payload_at elements)))
 
 memory_kind_still : (f : Change) (k : MemoryKind) → map (mapped_site f) (in_memory_kind k) ≡ in_memory_kind k
 memory_kind_still f (memory.Import import ty) = refl
@@ -298,6 +386,7 @@ suits_still f (elem.Active None offset) (payload.Exprs ty es) = ap (λ b. ty.nul
     func_heap : (t : HeapType) → is_func_heap (mapped_heap f.index t) ≡ is_func_heap t
     func_heap (heap.Abstract shared ty) = refl
     func_heap (heap.Concrete i) = refl
+    func_heap (heap.Exact i) = refl
 
 elem_at : (e : Elem) → At in_elem mapped_elem e
 elem_at e =

@@ -3,7 +3,7 @@ use Rattle.std.specs.Prelude.{⊤, Option}
 use Rattle.std.proofs.Common.{◌≡◌, List, [], ◌∷◌, refl, sym, ap, ◌∙◌, map}
 use Rattle.std.specs.List.{flat_map}
 use Rattle.wast_map.specs.Tree.{Id, ModuleField}
-use Rattle.wast_tree.specs.Sites.{Site, Asked, Wants, Within, Unasked, Clause, Supported, Used, Declared, LocalAt, LabelAt, Repeated, Begins, Ends, in_field, in_module}
+use Rattle.wast_tree.specs.Sites.{Site, Asked, Wants, Within, Unasked, Clause, Covered, Used, Declared, LocalAt, FieldAt, LabelAt, Repeated, Begins, Ends, in_field, in_module}
 use Rattle.wast_map.specs.Mapped.{Change, same, then, mapped, mapped_site, KeepsMarks, Joins, AreJoint, Each}
 use Rattle.wast_map.proofs.Ways.{At, list_at}
 use Rattle.wast_map.proofs.Fields.{field_at}
@@ -32,10 +32,11 @@ joins_then h g (Asked (Wants s i)) = refl
 joins_then h g (Asked (Within i)) = tt
 joins_then h g (Asked (Unasked m)) = tt
 joins_then h g (Asked (Clause n holds)) = tt
-joins_then h g (Asked (Supported holds)) = tt
+joins_then h g (Asked (Covered form holds)) = tt
 joins_then h g (Used w u) = refl
 joins_then h g (Declared before m) = tt
 joins_then h g (LocalAt locals i) = refl
+joins_then h g (FieldAt owner i) = (refl, refl)
 joins_then h g (LabelAt blocks i) = refl
 joins_then h g (Repeated blocks m) = tt
 joins_then h g (Begins blocks m) = tt

@@ -2,6 +2,7 @@
 use Rattle.std.specs.Prelude.{Option, not, []}
 use Rattle.std.proofs.Common.{List, ◌∷◌, refl}
 use Rattle.wast_map.specs.Tree.{Id, Index, NameAnnotation, HeapType, RefType, ValType, StorageType, StructField, StructType, ArrayType, FunctionType, InnerTypeKind, TypeDef, Rec, TableType, GlobalType, TagType}
+use Rattle.wast_map.specs.Tree.form
 use Rattle.wast_map.specs.Tree.space
 use Rattle.wast_map.specs.Tree.heap
 use Rattle.wast_map.specs.Tree.value
@@ -9,13 +10,14 @@ use Rattle.wast_map.specs.Tree.storage
 use Rattle.wast_map.specs.Tree.inner
 use Rattle.wast_map.specs.Tree.ty
 use Rattle.wast_map.specs.Tree.tag
-use Rattle.wast_tree.specs.Sites.{OfItem, Supported, in_heap, in_ref, in_val, in_storage, in_param, in_signature, in_struct_field, in_struct, in_array, in_inner, in_descriptor, in_def, in_type, in_rec, in_table_type, in_global_type, in_tag_type}
+use Rattle.wast_tree.specs.Sites.{OfItem, Covered, uncovered, in_heap, in_ref, in_val, in_storage, in_param, in_signature, in_struct_field, in_struct, in_array, in_inner, in_descriptor, in_def, in_type, in_rec, in_table_type, in_global_type, in_tag_type}
 use Rattle.wast_map.specs.Mapped.{Change, mapped_heap, mapped_ref, mapped_val, mapped_storage, mapped_param, mapped_signature, mapped_struct_field, mapped_struct, mapped_array, mapped_inner, mapped_def, mapped_type, mapped_rec, mapped_table_type, mapped_global_type, mapped_tag_type}
 use Rattle.wast_map.proofs.Ways.{In, At, index_in, mark_in, item_id_at, use_at, fixed_at, both_at, made_at, tested_at, option_at, list_at}
 
 pub heap_at : (t : HeapType) → In in_heap (λ f. mapped_heap f.index) t
 heap_at (heap.Abstract shared ty) = fixed_at (heap.Abstract shared ty) (λ f. refl) (λ f. refl)
 heap_at (heap.Concrete i) = made_at heap.Concrete (λ y. refl) (λ f y. refl) i (index_in space.Ty i)
+heap_at (heap.Exact i) = made_at heap.Exact (λ y. refl) (λ f y. refl) i (tested_at i (uncovered form.Descriptor) (λ f. refl) (index_in space.Ty i))
 
 pub ref_at : (r : RefType) → In in_ref (λ f. mapped_ref f.index) r
 ref_at r = made_at (λ (t : HeapType). record r { heap = t }) (λ y. refl) (λ f y. refl) r.heap (heap_at r.heap)
@@ -49,6 +51,7 @@ inner_at : (t : InnerTypeKind) → In in_inner (λ f. mapped_inner f.index) t
 inner_at (inner.Func t) = made_at inner.Func (λ y. refl) (λ f y. refl) t (signature_at t)
 inner_at (inner.Struct t) = made_at inner.Struct (λ y. refl) (λ f y. refl) t (struct_at t)
 inner_at (inner.Array t) = made_at inner.Array (λ y. refl) (λ f y. refl) t (array_at t)
+inner_at (inner.Cont t) = made_at (λ (i : Index). inner.Cont (record { 0 = i })) (λ y. refl) (λ f y. refl) t.0 (tested_at t.0 (uncovered form.StackSwitching) (λ f. refl) (index_in space.Ty t.0))
 
 descriptor_at : (i : Index) → In in_descriptor (λ f i. f.index space.Ty i) i
 descriptor_at i = record { stands = λ f k. refl; joins = λ h g f j e. e.0; still = refl }
@@ -59,7 +62,7 @@ def_at d =
     (d.parents, (d.descriptor, (d.describes, d.kind)))
     (both_at d.parents (d.descriptor, (d.describes, d.kind)) (list_at (index_in space.Ty) d.parents)
     (both_at d.descriptor (d.describes, d.kind) (option_at descriptor_at d.descriptor)
-    (both_at d.describes d.kind (option_at descriptor_at d.describes) (tested_at d.kind (Supported (not d.shared) ∷ []) (λ f. refl) (inner_at d.kind)))))
+    (both_at d.describes d.kind (option_at descriptor_at d.describes) (tested_at d.kind (Covered form.Shared (not d.shared) ∷ []) (λ f. refl) (inner_at d.kind)))))
 
 pub type_at : (t : ty.«Type») → In in_type mapped_type t
 type_at t = made_at (λ (q : Option Id × TypeDef). record t { id = q.0; def = q.1 }) (λ y. refl) (λ f y. refl) (t.id, t.def) (both_at t.id t.def (item_id_at t.id) (def_at t.def))
@@ -68,10 +71,10 @@ pub rec_at : (r : Rec) → In in_rec mapped_rec r
 rec_at r = made_at (λ (ts : List ty.«Type»). record r { types = ts }) (λ y. refl) (λ f y. refl) r.types (list_at type_at r.types)
 
 pub table_type_at : (t : TableType) → In in_table_type (λ f. mapped_table_type f.index) t
-table_type_at t = made_at (λ (r : RefType). record t { elem = r }) (λ y. refl) (λ f y. refl) t.elem (tested_at t.elem (Supported (not t.shared) ∷ []) (λ f. refl) (ref_at t.elem))
+table_type_at t = made_at (λ (r : RefType). record t { elem = r }) (λ y. refl) (λ f y. refl) t.elem (tested_at t.elem (Covered form.Shared (not t.shared) ∷ []) (λ f. refl) (ref_at t.elem))
 
 pub global_type_at : (t : GlobalType) → In in_global_type (λ f. mapped_global_type f.index) t
-global_type_at t = made_at (λ (u : ValType). record t { ty = u }) (λ y. refl) (λ f y. refl) t.ty (tested_at t.ty (Supported (not t.shared) ∷ []) (λ f. refl) (val_at t.ty))
+global_type_at t = made_at (λ (u : ValType). record t { ty = u }) (λ y. refl) (λ f y. refl) t.ty (tested_at t.ty (Covered form.Shared (not t.shared) ∷ []) (λ f. refl) (val_at t.ty))
 
 pub tag_type_at : (t : TagType) → At in_tag_type mapped_tag_type t
 tag_type_at (tag.Exception u) = made_at tag.Exception (λ y. refl) (λ f y. refl) u (use_at OfItem u)

@@ -3,7 +3,7 @@
 use Rattle.std.specs.Prelude.{⊤, ◌≡◌, List, [], ◌∷◌, ◌++◌, map, Option, option_map}
 use Rattle.wast_base.specs.Blocks.{Blocks, closed}
 use Rattle.wast_base.specs.Ids.{Mark}
-use Rattle.wast_map.specs.Tree.{Id, Index, NameAnnotation, Space, RefType, HeapType, ValType, StorageType, StructField, StructType, ArrayType, FunctionType, TypeUse, InnerTypeKind, TypeDef, Rec, BlockType, BrTableIndices, TryTable, TryTableCatch, TryTableCatchKind, TableArg, MemoryArg, MemoryInit, MemoryCopy, TableInit, TableCopy, CallIndirect, SelectTypes, MemArg, MemArgTarget, Instruction, Expression, TableType, GlobalType, TagType, Imports, ImportItems, ItemSig, ItemKind, Local, FuncKind, Func, Table, TableKind, Memory, Global, GlobalKind, Tag, Elem, ElemKind, ElemPayload, Data, DataKind, Export, ModuleField}
+use Rattle.wast_map.specs.Tree.{Id, Index, NameAnnotation, Space, RefType, HeapType, ValType, StorageType, StructField, StructType, ArrayType, FunctionType, TypeUse, InnerTypeKind, TypeDef, Rec, BlockType, BrTableIndices, TryTable, TryTableCatch, TryTableCatchKind, TableArg, MemoryArg, MemoryInit, MemoryCopy, TableInit, TableCopy, CallIndirect, SelectTypes, MemArg, MemArgTarget, StructAccess, Handle, ResumeTable, Instruction, Expression, TableType, GlobalType, TagType, Imports, ImportItems, ItemSig, ItemKind, Local, FuncKind, Func, Table, TableKind, Memory, Global, GlobalKind, Tag, Elem, ElemKind, ElemPayload, Data, DataKind, Export, ModuleField}
 use Rattle.wast_map.specs.Tree.space
 use Rattle.wast_map.specs.Tree.heap
 use Rattle.wast_map.specs.Tree.value
@@ -12,6 +12,7 @@ use Rattle.wast_map.specs.Tree.inner
 use Rattle.wast_map.specs.Tree.ty
 use Rattle.wast_map.specs.Tree.target
 use Rattle.wast_map.specs.Tree.caught
+use Rattle.wast_map.specs.Tree.handle
 use Rattle.wast_map.specs.Tree.instr
 use Rattle.wast_map.specs.Tree.func
 use Rattle.wast_map.specs.Tree.tag
@@ -23,7 +24,7 @@ use Rattle.wast_map.specs.Tree.elem
 use Rattle.wast_map.specs.Tree.payload
 use Rattle.wast_map.specs.Tree.data_kind
 use Rattle.wast_map.specs.Tree.field
-use Rattle.wast_tree.specs.Sites.{Locals, Here, start, behind, param_marks, local_marks, body_here, exported_space, Ask, Wants, Within, Unasked, Clause, Supported, Where, OfItem, OfCall, OfBlock, Site, Asked, Used, Declared, LocalAt, LabelAt, Repeated, Begins, Ends}
+use Rattle.wast_tree.specs.Sites.{Locals, Here, start, behind, param_marks, local_marks, body_here, exported_space, Ask, Wants, Within, Unasked, Clause, Covered, Where, OfItem, OfCall, OfBlock, Site, Asked, Used, Declared, LocalAt, FieldAt, LabelAt, Repeated, Begins, Ends}
 
 -- what an index becomes where one of a space is wanted
 abbrev pub Indices : Type 0
@@ -36,6 +37,8 @@ pub record Change : Type 0 where
   pub used : Where → TypeUse FunctionType → TypeUse FunctionType
   -- an index of a local, among these
   pub local : Locals → Index → Index
+  -- an index of a field, in the struct of this type
+  pub field : Index → Index → Index
   -- an index of a label, where these blocks are open
   pub label : Blocks → Index → Index
   -- the id of an item
@@ -51,7 +54,7 @@ mapped_here f h = record h { locals = mapped_locals f h.locals }
 
 -- nothing changes
 abbrev pub same : Change
-same = record { index = λ s i. i; used = λ w u. u; local = λ l i. i; label = λ b i. i; id = λ o. o }
+same = record { index = λ s i. i; used = λ w u. u; local = λ l i. i; field = λ o i. i; label = λ b i. i; id = λ o. o }
 
 -- one after the other
 abbrev pub then : Change → Change → Change
@@ -59,6 +62,7 @@ then h g = record {
   index = λ s i. g.index s (h.index s i);
   used = λ w u. g.used w (h.used w u);
   local = λ l i. g.local (mapped_locals h l) (h.local l i);
+  field = λ o i. g.field (h.index space.Ty o) (h.field o i);
   label = λ b i. g.label b (h.label b i);
   id = λ o. g.id (h.id o);
 }
@@ -67,6 +71,7 @@ then h g = record {
 abbrev pub mapped_heap : Indices → HeapType → HeapType
 mapped_heap f (heap.Abstract shared ty) = heap.Abstract shared ty
 mapped_heap f (heap.Concrete i) = heap.Concrete (f space.Ty i)
+mapped_heap f (heap.Exact i) = heap.Exact (f space.Ty i)
 
 -- a reference type
 abbrev pub mapped_ref : Indices → RefType → RefType
@@ -112,6 +117,7 @@ abbrev pub mapped_inner : Indices → InnerTypeKind → InnerTypeKind
 mapped_inner f (inner.Func t) = inner.Func (mapped_signature f t)
 mapped_inner f (inner.Struct t) = inner.Struct (mapped_struct f t)
 mapped_inner f (inner.Array t) = inner.Array (mapped_array f t)
+mapped_inner f (inner.Cont t) = inner.Cont (record { 0 = f space.Ty t.0 })
 
 -- what a type is defined as
 abbrev pub mapped_def : Indices → TypeDef → TypeDef
@@ -165,6 +171,7 @@ mapped_table_copy f a = record { dst = f space.Table a.dst; src = f space.Table 
 -- what a memory argument reads or writes, and the argument
 abbrev pub mapped_target : Indices → MemArgTarget → MemArgTarget
 mapped_target f (target.Memory i) = target.Memory (f space.Memory i)
+mapped_target f (target.Array i) = target.Array (f space.Ty i)
 
 abbrev pub mapped_mem_arg : Indices → MemArg → MemArg
 mapped_mem_arg f m = record m { target = mapped_target f m.target }
@@ -199,10 +206,24 @@ mapped_try_table f blocks t = record { block = mapped_block f t.block; catches =
 abbrev pub mapped_br_table : Change → Blocks → BrTableIndices → BrTableIndices
 mapped_br_table f blocks t = record { labels = map (f.label blocks) t.labels; default = f.label blocks t.default }
 
+-- a field of a struct
+abbrev pub mapped_access : Change → StructAccess → StructAccess
+mapped_access f a = record { owner = f.index space.Ty a.owner; field = f.field a.owner a.field }
+
+-- the handlers of a resumption
+abbrev pub mapped_handle : Change → Blocks → Handle → Handle
+mapped_handle f blocks (handle.OnLabel e l) = handle.OnLabel (f.index space.Tag e) (f.label blocks l)
+mapped_handle f blocks (handle.OnSwitch e) = handle.OnSwitch (f.index space.Tag e)
+
+abbrev pub mapped_handlers : Change → Blocks → ResumeTable → ResumeTable
+mapped_handlers f blocks t = record { handlers = map (mapped_handle f blocks) t.handlers }
+
 -- Bodies: each instruction from where it stands.
 abbrev pub mapped_instr : Change → Here → Instruction → Instruction
 mapped_instr f h (instr.Plain op) = instr.Plain op
 mapped_instr f h (instr.Mem op m) = instr.Mem op (mapped_mem_arg f.index m)
+mapped_instr f h (instr.Lane op a) = instr.Lane op a
+mapped_instr f h (instr.MemLane op a) = instr.MemLane op (record a { memarg = mapped_mem_arg f.index a.memarg })
 mapped_instr f h (instr.block b) = instr.block (mapped_block f b)
 mapped_instr f h (instr.loop_ b) = instr.loop_ (mapped_block f b)
 mapped_instr f h (instr.if_ b) = instr.if_ (mapped_block f b)
@@ -251,6 +272,51 @@ mapped_instr f h (instr.f32_const n) = instr.f32_const n
 mapped_instr f h (instr.f64_const n) = instr.f64_const n
 mapped_instr f h (instr.ref_null t) = instr.ref_null (mapped_heap f.index t)
 mapped_instr f h (instr.ref_func i) = instr.ref_func (f.index space.Func i)
+mapped_instr f h (instr.struct_new i) = instr.struct_new (f.index space.Ty i)
+mapped_instr f h (instr.struct_new_default i) = instr.struct_new_default (f.index space.Ty i)
+mapped_instr f h (instr.struct_get a) = instr.struct_get (mapped_access f a)
+mapped_instr f h (instr.struct_get_s a) = instr.struct_get_s (mapped_access f a)
+mapped_instr f h (instr.struct_get_u a) = instr.struct_get_u (mapped_access f a)
+mapped_instr f h (instr.struct_set a) = instr.struct_set (mapped_access f a)
+mapped_instr f h (instr.array_new i) = instr.array_new (f.index space.Ty i)
+mapped_instr f h (instr.array_new_default i) = instr.array_new_default (f.index space.Ty i)
+mapped_instr f h (instr.array_new_fixed a) = instr.array_new_fixed (record a { array = f.index space.Ty a.array })
+mapped_instr f h (instr.array_new_data a) = instr.array_new_data (record { array = f.index space.Ty a.array; data_idx = f.index space.Data a.data_idx })
+mapped_instr f h (instr.array_new_elem a) = instr.array_new_elem (record { array = f.index space.Ty a.array; elem_idx = f.index space.Elem a.elem_idx })
+mapped_instr f h (instr.array_get i) = instr.array_get (f.index space.Ty i)
+mapped_instr f h (instr.array_get_s i) = instr.array_get_s (f.index space.Ty i)
+mapped_instr f h (instr.array_get_u i) = instr.array_get_u (f.index space.Ty i)
+mapped_instr f h (instr.array_set i) = instr.array_set (f.index space.Ty i)
+mapped_instr f h (instr.array_fill a) = instr.array_fill (record { array = f.index space.Ty a.array })
+mapped_instr f h (instr.array_copy a) = instr.array_copy (record { dest_array = f.index space.Ty a.dest_array; src_array = f.index space.Ty a.src_array })
+mapped_instr f h (instr.array_init_data a) = instr.array_init_data (record { array = f.index space.Ty a.array; segment = f.index space.Data a.segment })
+mapped_instr f h (instr.array_init_elem a) = instr.array_init_elem (record { array = f.index space.Ty a.array; segment = f.index space.Elem a.segment })
+mapped_instr f h (instr.ref_test a) = instr.ref_test (record { rt = mapped_ref f.index a.rt })
+mapped_instr f h (instr.ref_cast a) = instr.ref_cast (record { rt = mapped_ref f.index a.rt })
+mapped_instr f h (instr.ref_cast_desc_eq a) = instr.ref_cast_desc_eq (record { rt = mapped_ref f.index a.rt })
+mapped_instr f h (instr.br_on_cast a) = instr.br_on_cast (record { label = f.label h.blocks a.label; from_type = mapped_ref f.index a.from_type; to_type = mapped_ref f.index a.to_type })
+mapped_instr f h (instr.br_on_cast_fail a) = instr.br_on_cast_fail (record { label = f.label h.blocks a.label; from_type = mapped_ref f.index a.from_type; to_type = mapped_ref f.index a.to_type })
+mapped_instr f h (instr.br_on_cast_desc_eq a) = instr.br_on_cast_desc_eq (record { label = f.label h.blocks a.label; from_type = mapped_ref f.index a.from_type; to_type = mapped_ref f.index a.to_type })
+mapped_instr f h (instr.br_on_cast_desc_eq_fail a) = instr.br_on_cast_desc_eq_fail (record { label = f.label h.blocks a.label; from_type = mapped_ref f.index a.from_type; to_type = mapped_ref f.index a.to_type })
+mapped_instr f h (instr.v128_const c) = instr.v128_const c
+mapped_instr f h (instr.i8x16_shuffle lanes) = instr.i8x16_shuffle lanes
+mapped_instr f h (instr.atomic_fence o) = instr.atomic_fence o
+mapped_instr f h (instr.GlobalAtomic a) = instr.GlobalAtomic (record a { inner = f.index space.Global a.inner })
+mapped_instr f h (instr.TableAtomic a) = instr.TableAtomic (record a { inner = mapped_table_arg f.index a.inner })
+mapped_instr f h (instr.StructAtomic a) = instr.StructAtomic (record a { inner = mapped_access f a.inner })
+mapped_instr f h (instr.ArrayAtomic a) = instr.ArrayAtomic (record a { inner = f.index space.Ty a.inner })
+mapped_instr f h (instr.struct_new_desc i) = instr.struct_new_desc (f.index space.Ty i)
+mapped_instr f h (instr.struct_new_default_desc i) = instr.struct_new_default_desc (f.index space.Ty i)
+mapped_instr f h (instr.ref_get_desc i) = instr.ref_get_desc (f.index space.Ty i)
+mapped_instr f h (instr.cont_new i) = instr.cont_new (f.index space.Ty i)
+mapped_instr f h (instr.cont_bind a) = instr.cont_bind (record { argument_index = f.index space.Ty a.argument_index; result_index = f.index space.Ty a.result_index })
+mapped_instr f h (instr.suspend i) = instr.suspend (f.index space.Tag i)
+mapped_instr f h (instr.resume a) = instr.resume (record { type_index = f.index space.Ty a.type_index; table = mapped_handlers f h.blocks a.table })
+mapped_instr f h (instr.resume_throw a) = instr.resume_throw (record { type_index = f.index space.Ty a.type_index; tag_index = f.index space.Tag a.tag_index; table = mapped_handlers f h.blocks a.table })
+mapped_instr f h (instr.resume_throw_ref a) = instr.resume_throw_ref (record { type_index = f.index space.Ty a.type_index; table = mapped_handlers f h.blocks a.table })
+mapped_instr f h (instr.switch a) = instr.switch (record { type_index = f.index space.Ty a.type_index; tag_index = f.index space.Tag a.tag_index })
+mapped_instr f h (instr.memory_discard a) = instr.memory_discard (mapped_memory_arg f.index a)
+mapped_instr f h (instr.Beyond name) = instr.Beyond name
 
 -- instructions, each behind those before it
 abbrev pub mapped_instrs : Change → Here → List Instruction → List Instruction
@@ -281,6 +347,7 @@ mapped_func f x = record x { id = f.id x.id; kind = mapped_func_kind f x.ty x.ki
 -- what is imported: its type
 abbrev pub mapped_item_kind : Change → ItemKind → ItemKind
 mapped_item_kind f (kind.Func u) = kind.Func (f.used OfItem u)
+mapped_item_kind f (kind.FuncExact u) = kind.FuncExact (f.used OfItem u)
 mapped_item_kind f (kind.Table t) = kind.Table (mapped_table_type f.index t)
 mapped_item_kind f (kind.Memory t) = kind.Memory t
 mapped_item_kind f (kind.Global t) = kind.Global (mapped_global_type f.index t)
@@ -293,6 +360,8 @@ mapped_sig f s = record s { id = f.id s.id; kind = mapped_item_kind f s.kind }
 -- what an import imports
 abbrev pub mapped_import_items : Change → ImportItems → ImportItems
 mapped_import_items f (import_items.Single source name sig) = import_items.Single source name (mapped_sig f sig)
+mapped_import_items f (import_items.Group1 source items) = import_items.Group1 source (map (λ p. (p.0, mapped_sig f p.1)) items)
+mapped_import_items f (import_items.Group2 source sig names) = import_items.Group2 source (mapped_sig f sig) names
 
 -- an import
 abbrev pub mapped_import : Change → Imports → Imports
@@ -374,7 +443,7 @@ mapped_ask f (Wants s i) = Wants s (f s i)
 mapped_ask f (Within i) = Within i
 mapped_ask f (Unasked m) = Unasked m
 mapped_ask f (Clause n holds) = Clause n holds
-mapped_ask f (Supported holds) = Supported holds
+mapped_ask f (Covered form holds) = Covered form holds
 
 -- a site
 abbrev pub mapped_site : Change → Site → Site
@@ -382,6 +451,7 @@ mapped_site f (Asked a) = Asked (mapped_ask f.index a)
 mapped_site f (Used w u) = Used w (f.used w u)
 mapped_site f (Declared before m) = Declared before m
 mapped_site f (LocalAt locals i) = LocalAt (mapped_locals f locals) (f.local locals i)
+mapped_site f (FieldAt owner i) = FieldAt (f.index space.Ty owner) (f.field owner i)
 mapped_site f (LabelAt blocks i) = LabelAt blocks (f.label blocks i)
 mapped_site f (Repeated blocks m) = Repeated blocks m
 mapped_site f (Begins blocks m) = Begins blocks m
@@ -397,7 +467,7 @@ JoinsAsk h g f (Wants s i) = g s (h s i) ≡ f s i
 JoinsAsk h g f (Within i) = ⊤
 JoinsAsk h g f (Unasked m) = ⊤
 JoinsAsk h g f (Clause n holds) = ⊤
-JoinsAsk h g f (Supported holds) = ⊤
+JoinsAsk h g f (Covered form holds) = ⊤
 
 -- The same at a site.
 abbrev pub Joins : Change → Change → Change → Site → Type 0
@@ -405,6 +475,7 @@ Joins h g f (Asked a) = JoinsAsk h.index g.index f.index a
 Joins h g f (Used w u) = g.used w (h.used w u) ≡ f.used w u
 Joins h g f (Declared before m) = ⊤
 Joins h g f (LocalAt locals i) = g.local (mapped_locals h locals) (h.local locals i) ≡ f.local locals i
+Joins h g f (FieldAt owner i) = (g.index space.Ty (h.index space.Ty owner) ≡ f.index space.Ty owner) × (g.field (h.index space.Ty owner) (h.field owner i) ≡ f.field owner i)
 Joins h g f (LabelAt blocks i) = g.label blocks (h.label blocks i) ≡ f.label blocks i
 Joins h g f (Repeated blocks m) = ⊤
 Joins h g f (Begins blocks m) = ⊤

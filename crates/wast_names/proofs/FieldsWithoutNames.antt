@@ -1,41 +1,38 @@
 -- Fields of other kinds have no items of a space, and no lists of names within their items.
-use Rattle.std.proofs.Common.{◌≡◌, ℕ, false, List, [], ◌∷◌, Option, refl}
+use Rattle.std.proofs.Common.{◌≡◌, false, List, [], ◌∷◌, map, refl}
 use Rattle.std.specs.List.{flat_map}
+use Rattle.wast_tree.specs.Imports.{item_sigs}
 use Rattle.wast_tree.specs.Items.{space_of_kind}
+use Rattle.wast_base.specs.Spaces.{same_space}
 use Rattle.wast_names.specs.FieldsWithNames.{has_items, has_lists}
-use Rattle.wast_names.specs.ModuleNames.{import_names, given_name_in, names_given}
-use Rattle.wast_names.specs.WithinItems.{lists_in_type, lists_in_kind, lists_in_import, lists_within}
-use Rattle.wast_names.specs.Tree.{Space, ItemKind, ImportItems, ModuleField}
+use Rattle.wast_names.specs.ModuleNames.{sig_name, given_name_in, names_given}
+use Rattle.wast_names.specs.WithinItems.{lists_in_type, lists_in_kind, lists_in_sig, lists_within}
+use Rattle.wast_names.specs.Tree.{Space, ItemKind, ItemSig, ModuleField}
 use Rattle.wast_names.specs.Tree.space
 use Rattle.wast_names.specs.Tree.ty
-use Rattle.wast_names.specs.Tree.import_items
 use Rattle.wast_names.specs.Tree.kind
 use Rattle.wast_names.specs.Tree.field
 use Rattle.wast_names.specs.declared.within.Within.{Within}
 use Rattle.wast_names.specs.declared.within.Within.TheVariants as within
 use Rattle.wast_names.proofs.NameMaps.{other_space}
 
+-- where no kind of imported items is of a space, no signature gives an item of it
+none_imported : (s : Space) → ((k : ItemKind) → same_space s (space_of_kind k) ≡ false) → (sigs : List ItemSig) → flat_map (given_name_in s) (map sig_name sigs) ≡ []
+none_imported s other [] = refl
+none_imported s other (sig ∷ sigs) = rw (other sig.kind) (none_imported s other sigs)
+
 -- segments and types are not imported
-no_elem_named : (k : ItemKind) (name : Option (List ℕ)) → flat_map (given_name_in space.Elem) ((space_of_kind k, name) ∷ []) ≡ []
-no_elem_named (kind.Func u) name = refl
-no_elem_named k name = refl
+no_elem : (k : ItemKind) → same_space space.Elem (space_of_kind k) ≡ false
+no_elem (kind.Func u) = refl
+no_elem k = refl
 
-no_elem_imported : (i : ImportItems) → flat_map (given_name_in space.Elem) (import_names i) ≡ []
-no_elem_imported (import_items.Single source name sig) = no_elem_named sig.kind _
+no_data : (k : ItemKind) → same_space space.Data (space_of_kind k) ≡ false
+no_data (kind.Func u) = refl
+no_data k = refl
 
-no_data_named : (k : ItemKind) (name : Option (List ℕ)) → flat_map (given_name_in space.Data) ((space_of_kind k, name) ∷ []) ≡ []
-no_data_named (kind.Func u) name = refl
-no_data_named k name = refl
-
-no_data_imported : (i : ImportItems) → flat_map (given_name_in space.Data) (import_names i) ≡ []
-no_data_imported (import_items.Single source name sig) = no_data_named sig.kind _
-
-no_type_named : (k : ItemKind) (name : Option (List ℕ)) → flat_map (given_name_in space.Ty) ((space_of_kind k, name) ∷ []) ≡ []
-no_type_named (kind.Func u) name = refl
-no_type_named k name = refl
-
-no_type_imported : (i : ImportItems) → flat_map (given_name_in space.Ty) (import_names i) ≡ []
-no_type_imported (import_items.Single source name sig) = no_type_named sig.kind _
+no_type : (k : ItemKind) → same_space space.Ty (space_of_kind k) ≡ false
+no_type (kind.Func u) = refl
+no_type k = refl
 
 pub no_items_elsewhere : (s : Space) (f : ModuleField) → has_items s f ≡ false → names_given s f ≡ []
 no_items_elsewhere space.Func (field.Import i) h = cc
@@ -58,15 +55,15 @@ no_items_elsewhere space.Tag (field.Import i) h = cc
 no_items_elsewhere space.Tag (field.Tag x) h = cc
 no_items_elsewhere space.Tag (field.Rec r) h = other_space space.Tag r.types refl
 no_items_elsewhere space.Tag f h = refl
-no_items_elsewhere space.Elem (field.Import i) h = no_elem_imported i.items
+no_items_elsewhere space.Elem (field.Import i) h = none_imported space.Elem no_elem (item_sigs i.items)
 no_items_elsewhere space.Elem (field.Elem x) h = cc
 no_items_elsewhere space.Elem (field.Rec r) h = other_space space.Elem r.types refl
 no_items_elsewhere space.Elem f h = refl
-no_items_elsewhere space.Data (field.Import i) h = no_data_imported i.items
+no_items_elsewhere space.Data (field.Import i) h = none_imported space.Data no_data (item_sigs i.items)
 no_items_elsewhere space.Data (field.Data x) h = cc
 no_items_elsewhere space.Data (field.Rec r) h = other_space space.Data r.types refl
 no_items_elsewhere space.Data f h = refl
-no_items_elsewhere space.Ty (field.Import i) h = no_type_imported i.items
+no_items_elsewhere space.Ty (field.Import i) h = none_imported space.Ty no_type (item_sigs i.items)
 no_items_elsewhere space.Ty (field.Ty t) h = cc
 no_items_elsewhere space.Ty (field.Rec r) h = cc
 no_items_elsewhere space.Ty f h = refl
@@ -89,34 +86,32 @@ no_fields_in : (k : ItemKind) → lists_in_kind within.Fields k ≡ []
 no_fields_in (kind.Func u) = refl
 no_fields_in k = refl
 
-no_fields_imported : (i : ImportItems) → lists_in_import within.Fields i ≡ []
-no_fields_imported (import_items.Single source name sig) = no_fields_in sig.kind
-
 no_params_in : (k : ItemKind) → lists_in_kind within.Parameters k ≡ []
 no_params_in (kind.Func u) = refl
 no_params_in k = refl
 
-no_params_imported : (i : ImportItems) → lists_in_import within.Parameters i ≡ []
-no_params_imported (import_items.Single source name sig) = no_params_in sig.kind
+no_lists_imported : (w : Within) → ((k : ItemKind) → lists_in_kind w k ≡ []) → (sigs : List ItemSig) → flat_map (lists_in_sig w) sigs ≡ []
+no_lists_imported w none [] = refl
+no_lists_imported w none (sig ∷ sigs) = rw (none sig.kind) (no_lists_imported w none sigs)
 
-pub no_lists_elsewhere : (fields : List ModuleField) (w : Within) (f : ModuleField) → has_lists w f ≡ false → lists_within fields w f ≡ []
-no_lists_elsewhere fields within.Locals (field.Import i) h = cc
-no_lists_elsewhere fields within.Locals (field.Func x) h = cc
-no_lists_elsewhere fields within.Locals (field.Rec r) h = no_locals_in r.types
-no_lists_elsewhere fields within.Locals f h = refl
-no_lists_elsewhere fields within.Labels (field.Import i) h = cc
-no_lists_elsewhere fields within.Labels (field.Func x) h = cc
-no_lists_elsewhere fields within.Labels (field.Rec r) h = no_labels_in r.types
-no_lists_elsewhere fields within.Labels f h = refl
-no_lists_elsewhere fields within.Fields (field.Ty t) h = cc
-no_lists_elsewhere fields within.Fields (field.Rec r) h = cc
-no_lists_elsewhere fields within.Fields (field.Import i) h = no_fields_imported i.items
-no_lists_elsewhere fields within.Fields f h = refl
-no_lists_elsewhere fields within.Parameters (field.Ty t) h = cc
-no_lists_elsewhere fields within.Parameters (field.Rec r) h = cc
-no_lists_elsewhere fields within.Parameters (field.Import i) h = no_params_imported i.items
-no_lists_elsewhere fields within.Parameters f h = refl
-no_lists_elsewhere fields within.TagParameters (field.Import i) h = cc
-no_lists_elsewhere fields within.TagParameters (field.Tag t) h = cc
-no_lists_elsewhere fields within.TagParameters (field.Rec r) h = no_tag_params_in r.types
-no_lists_elsewhere fields within.TagParameters f h = refl
+pub no_lists_elsewhere : (types : List ty.«Type») (w : Within) (f : ModuleField) → has_lists w f ≡ false → lists_within types w f ≡ []
+no_lists_elsewhere types within.Locals (field.Import i) h = cc
+no_lists_elsewhere types within.Locals (field.Func x) h = cc
+no_lists_elsewhere types within.Locals (field.Rec r) h = no_locals_in r.types
+no_lists_elsewhere types within.Locals f h = refl
+no_lists_elsewhere types within.Labels (field.Import i) h = cc
+no_lists_elsewhere types within.Labels (field.Func x) h = cc
+no_lists_elsewhere types within.Labels (field.Rec r) h = no_labels_in r.types
+no_lists_elsewhere types within.Labels f h = refl
+no_lists_elsewhere types within.Fields (field.Ty t) h = cc
+no_lists_elsewhere types within.Fields (field.Rec r) h = cc
+no_lists_elsewhere types within.Fields (field.Import i) h = no_lists_imported within.Fields no_fields_in (item_sigs i.items)
+no_lists_elsewhere types within.Fields f h = refl
+no_lists_elsewhere types within.Parameters (field.Ty t) h = cc
+no_lists_elsewhere types within.Parameters (field.Rec r) h = cc
+no_lists_elsewhere types within.Parameters (field.Import i) h = no_lists_imported within.Parameters no_params_in (item_sigs i.items)
+no_lists_elsewhere types within.Parameters f h = refl
+no_lists_elsewhere types within.TagParameters (field.Import i) h = cc
+no_lists_elsewhere types within.TagParameters (field.Tag t) h = cc
+no_lists_elsewhere types within.TagParameters (field.Rec r) h = no_tag_params_in r.types
+no_lists_elsewhere types within.TagParameters f h = refl

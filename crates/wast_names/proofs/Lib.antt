@@ -1,5 +1,6 @@
 pub mod Each
 pub mod FieldsWithoutNames
+pub mod ImportedNames
 pub mod ListedNames
 pub mod NameEntries
 pub mod NameMaps

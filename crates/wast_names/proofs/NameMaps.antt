@@ -24,9 +24,9 @@ use Rattle.wast_names.specs.Tree.ty
 use Rattle.wast_names.specs.FoundNames.{counted, InRangeMap, map_bytes}
 use Rattle.wast_names.specs.ModuleNames.{given_name_in, type_name, direct, indirect}
 
--- the names of a group's types
-pub group_names : (s : Space) (types : List ty.«Type») (items : List (Space × Option (List ℕ))) → map type_name types ≡ items → flat_map (given_name_in s) items ≡ flat_map (λ t. given_name_in s (type_name t)) types
-group_names s types items is = ap (flat_map (given_name_in s)) (sym is) ∙ flat_map-map (given_name_in s) type_name types
+-- the names of items, each of one thing in a list
+pub names_of_each : {X : Type 0} (s : Space) (name_of : X → Space × Option (List ℕ)) (xs : List X) (items : List (Space × Option (List ℕ))) → map name_of xs ≡ items → flat_map (given_name_in s) items ≡ flat_map (λ x. given_name_in s (name_of x)) xs
+names_of_each s name_of xs items is = ap (flat_map (given_name_in s)) (sym is) ∙ flat_map-map (given_name_in s) name_of xs
 
 -- types are items of the type space alone
 pub other_space : (s : Space) (types : List ty.«Type») → same_space s space.Ty ≡ false → flat_map (given_name_in s) (map type_name types) ≡ []

@@ -1,7 +1,7 @@
 -- The worked name sections, computed.
 use Rattle.std.proofs.Common.{refl}
 use Rattle.wasm_ops.specs.Leb128.{unsigned, unsigned_in}
-use Rattle.wast_names.specs.WorkedNames.{Row34, Row35, InlineParameter, SecondOfGroup, NoFunctionType, GeneratedField, NamedGlobal, ImportedFunction, EachSpace, ImportedParameter, TagParameter, NamedLabels}
+use Rattle.wast_names.specs.WorkedNames.{Row34, Row35, InlineParameter, SecondOfGroup, NoFunctionType, GeneratedField, NamedGlobal, ImportedFunction, EachSpace, ImportedParameter, TagParameter, NamedLabels, GroupedImport, SharedSignature}
 
 pub row34 : Row34
 unfolding unsigned unsigned_in
@@ -50,3 +50,11 @@ tag_parameter a b c d = refl
 pub named_labels : NamedLabels
 unfolding unsigned unsigned_in
 named_labels a b c d e f = refl
+
+pub grouped_import : GroupedImport
+unfolding unsigned unsigned_in
+grouped_import a b c d e f = refl
+
+pub shared_signature : SharedSignature
+unfolding unsigned unsigned_in
+shared_signature a b c d = refl

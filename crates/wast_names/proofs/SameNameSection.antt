@@ -5,20 +5,21 @@ use Rattle.std.specs.List.{flat_map}
 use Rattle.std.proofs.lemmas.List.{map-append}
 use Rattle.std.proofs.lemmas.Option.{slice_get-map}
 use mathlib.Core.Path.{fun_ext}
-use Rattle.wast_names.specs.Tree.{Space, Func, FunctionType, TypeUse, TagType, ItemKind, ImportItems, ModuleField}
+use Rattle.wast_tree.specs.Imports.{item_sigs}
+use Rattle.wast_names.specs.Tree.{Space, Func, FunctionType, TypeUse, TagType, ItemKind, ItemSig, ImportItems, ModuleField}
 use Rattle.wast_names.specs.Tree.ty
 use Rattle.wast_names.specs.declared.within.Within.{Within}
 use Rattle.wast_names.specs.declared.within.Within.TheVariants as within
 use Rattle.wast_names.specs.declared.names_payload.NameMap.{NameMap}
 use Rattle.wast_names.specs.declared.names_payload.NameMap.TheVariants as map_of
 use Rattle.wast_names.specs.GivenNames.{named_from}
-use Rattle.wast_names.specs.WithinItems.{arity, arity_of, types_within, locals_of, labels_in, inline_params, tag_params, list_of, lists_in_type, lists_in_func, lists_in_tag, lists_in_imported_func, lists_in_kind, lists_in_import, lists_within}
-use Rattle.wast_names.specs.ModuleNames.{item_names_in, given_name_in, names_given, named_items, direct, named_of, indirect, named_within, map_names, module_name, name_maps, name_subsections}
+use Rattle.wast_names.specs.WithinItems.{arity, arity_of, types_within, types_of, locals_of, labels_in, inline_params, tag_params, list_of, lists_in_type, lists_in_func, lists_in_tag, lists_in_imported_func, lists_in_kind, lists_in_sig, lists_in_import, lists_within}
+use Rattle.wast_names.specs.ModuleNames.{sig_name, import_names, item_names_in, given_name_in, names_given, named_items, direct, named_of, indirect, named_within, map_names, module_name, name_maps, name_subsections}
 use Rattle.wast_names.proofs.Each.{each_like}
 
 -- the lists within a field are those within another, each field among the fields of its module
 abbrev pub SameLists : List ModuleField → List ModuleField → ModuleField → ModuleField → Type 0
-SameLists xs ys x y = (w : Within) → lists_within xs w x ≡ lists_within ys w y
+SameLists xs ys x y = (w : Within) → lists_within (types_of xs) w x ≡ lists_within (types_of ys) w y
 
 abbrev pub SameInKind : ItemKind → ItemKind → Type 0
 SameInKind k l = (w : Within) → lists_in_kind w k ≡ lists_in_kind w l
@@ -38,7 +39,7 @@ module _ (f : ModuleField → ModuleField) (keeps : KeepsNames f) where
   same_map : (xs : List ModuleField) (m : NameMap) → map_names (map f xs) m ≡ map_names xs m
   same_map xs (map_of.Items s) = ap (direct (named_of s)) (same_items s xs)
   same_map xs (map_of.Within w) =
-      ap (λ lists. indirect (named_within w) (named_from 0 lists)) (each_like f (lists_within (map f xs) w) (lists_within xs w) (λ x. keeps.lists xs x w) xs)
+      ap (λ lists. indirect (named_within w) (named_from 0 lists)) (each_like f (lists_within (types_of (map f xs)) w) (lists_within (types_of xs) w) (λ x. keeps.lists xs x w) xs)
 
   pub same_subsections : (name : Option (List ℕ)) (xs : List ModuleField) → name_subsections name (map f xs) ≡ name_subsections name xs
   same_subsections name xs = ap (λ g. module_name name ++ flat_map g name_maps) (fun_ext (same_map xs))
@@ -48,7 +49,7 @@ abbrev pub arity_in : ty.«Type» → Option ℕ
 arity_in t = arity t.def.kind
 
 abbrev arities : List ModuleField → List (Option ℕ)
-arities xs = map arity_in (flat_map types_within xs)
+arities xs = map arity_in (types_of xs)
 
 abbrev found : Option (Option ℕ) → Option ℕ
 found None = None
@@ -58,18 +59,18 @@ arity_found : (t : Option ty.«Type») → arity_of t ≡ found (option_map arit
 arity_found None = refl
 arity_found (Some t) = refl
 
-arity_read : (xs : List ModuleField) (n : ℕ) → arity_of (slice_get (flat_map types_within xs) n) ≡ found (slice_get (arities xs) n)
-arity_read xs n = arity_found (slice_get (flat_map types_within xs) n) ∙ ap found (sym (slice_get-map arity_in (flat_map types_within xs) n))
+arity_read : (xs : List ModuleField) (n : ℕ) → arity_of (slice_get (types_of xs) n) ≡ found (slice_get (arities xs) n)
+arity_read xs n = arity_found (slice_get (types_of xs) n) ∙ ap found (sym (slice_get-map arity_in (types_of xs) n))
 
 module _ (f : ModuleField → ModuleField) (alike : (x : ModuleField) → map arity_in (types_within (f x)) ≡ map arity_in (types_within x)) where
   same_arities : (xs : List ModuleField) → arities (map f xs) ≡ arities xs
   same_arities [] = refl
   same_arities (x ∷ xs) =
-      map-append arity_in (types_within (f x)) (flat_map types_within (map f xs))
+      map-append arity_in (types_within (f x)) (types_of (map f xs))
       ∙ (ap (λ ns. ns ++ arities (map f xs)) (alike x)
-      ∙ (ap (λ ns. map arity_in (types_within x) ++ ns) (same_arities xs) ∙ sym (map-append arity_in (types_within x) (flat_map types_within xs))))
+      ∙ (ap (λ ns. map arity_in (types_within x) ++ ns) (same_arities xs) ∙ sym (map-append arity_in (types_within x) (types_of xs))))
 
-  pub same_arity : (xs : List ModuleField) (n : ℕ) → arity_of (slice_get (flat_map types_within (map f xs)) n) ≡ arity_of (slice_get (flat_map types_within xs) n)
+  pub same_arity : (xs : List ModuleField) (n : ℕ) → arity_of (slice_get (types_of (map f xs)) n) ≡ arity_of (slice_get (types_of xs) n)
   same_arity xs n = arity_read (map f xs) n ∙ (ap (λ ns. found (slice_get ns n)) (same_arities xs) ∙ sym (arity_read xs n))
 
 -- the lists within parts that are alike in what has names
@@ -80,7 +81,7 @@ in_type within.Fields s t is = ap (λ d. lists_in_type within.Fields (record t {
 in_type within.Parameters s t is = ap (λ d. lists_in_type within.Parameters (record t { def = d })) is
 in_type within.TagParameters s t is = refl
 
-pub in_func : (w : Within) (xs ys : List ModuleField) (f g : Func) → locals_of xs f ≡ locals_of ys g → labels_in f.kind ≡ labels_in g.kind → lists_in_func xs w f ≡ lists_in_func ys w g
+pub in_func : (w : Within) (xs ys : List ty.«Type») (f g : Func) → locals_of xs f ≡ locals_of ys g → labels_in f.kind ≡ labels_in g.kind → lists_in_func xs w f ≡ lists_in_func ys w g
 in_func within.Labels xs ys f g is also = ap (λ (names : List (Option (List ℕ))). list_of names ∷ []) also
 in_func within.Locals xs ys f g is also = ap (λ (names : List (Option (List ℕ))). list_of names ∷ []) is
 in_func within.Fields xs ys f g is also = refl
@@ -100,3 +101,15 @@ in_imported_func within.Labels u v is = refl
 in_imported_func within.Fields u v is = refl
 in_imported_func within.Parameters u v is = refl
 in_imported_func within.TagParameters u v is = refl
+
+-- what an import gives, where each of its signatures is changed so that it gives the same
+module _ (f : ItemSig → ItemSig) (i j : ImportItems) (changed : item_sigs j ≡ map f (item_sigs i)) where
+  pub names_imported : ((s : ItemSig) → sig_name (f s) ≡ sig_name s) → import_names j ≡ import_names i
+  names_imported same = ap (map sig_name) changed ∙ map_like (item_sigs i)
+    where
+      map_like : (sigs : List ItemSig) → map sig_name (map f sigs) ≡ map sig_name sigs
+      map_like [] = refl
+      map_like (s ∷ sigs) = λ t. same s t ∷ map_like sigs t
+
+  pub in_import : ((s : ItemSig) → SameInKind (f s).kind s.kind) → SameInImport j i
+  in_import same w = ap (flat_map (lists_in_sig w)) changed ∙ each_like f (lists_in_sig w) (lists_in_sig w) (λ s. same s w) (item_sigs i)

@@ -14,8 +14,8 @@ use Rattle.wast_names.specs.declared.within.Lists.{Lists}
 use Rattle.wast_names.specs.declared.within.Lists.TheVariants as lists
 use Rattle.wast_names.specs.declared.within.Within.{Within}
 use Rattle.wast_names.specs.GivenNames.{named_from}
-use Rattle.wast_names.specs.ModuleNames.{type_name}
-use Rattle.wast_names.specs.WithinItems.{param_name, field_name, local_name, label_in, where_named, lists_in_type}
+use Rattle.wast_names.specs.ModuleNames.{type_name, import_names}
+use Rattle.wast_names.specs.WithinItems.{param_name, field_name, local_name, label_in, where_named, lists_in_type, lists_in_import}
 use Rattle.wast_names.specs.Tree.{Space}
 
 -- a text that may be missing
@@ -27,6 +27,7 @@ abbrev pub items_seen : Items → List (Space × Option (List ℕ))
 items_seen items.Nothing = []
 items_seen (items.One own name) = (own, text_seen name) ∷ []
 items_seen (items.Types types) = map type_name types.now
+items_seen (items.Imported i) = import_names i.now
 
 -- what a `u64` that counted so far holds: from the greatest on, it stays
 abbrev pub counted : ℕ → ℕ
@@ -72,3 +73,4 @@ lists_found (Some listed) = where_named (names_listed listed) ∷ []
 abbrev pub lists_seen : Within → Lists → List (Option (List (ℕ × List ℕ)))
 lists_seen w (lists.One found) = lists_found found
 lists_seen w (lists.Types types) = flat_map (lists_in_type w) types.now
+lists_seen w (lists.Imported i) = lists_in_import w i.now

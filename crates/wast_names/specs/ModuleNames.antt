@@ -3,17 +3,17 @@ use Rattle.std.specs.Prelude.{ℕ, List, [], ◌∷◌, ◌++◌, Option, Some, 
 use Rattle.std.specs.List.{flat_map}
 use Rattle.wast_base.specs.Spaces.{same_space}
 use Rattle.wast_tree.specs.Items.{space_of_kind}
-use Rattle.wast_names.specs.Tree.{Space, ImportItems, ModuleField}
+use Rattle.wast_tree.specs.Imports.{item_sigs}
+use Rattle.wast_names.specs.Tree.{Space, ItemSig, ImportItems, ModuleField}
 use Rattle.wast_names.specs.Tree.space
 use Rattle.wast_names.specs.Tree.ty
-use Rattle.wast_names.specs.Tree.import_items
 use Rattle.wast_names.specs.Tree.field
 use Rattle.wast_names.specs.declared.within.Within.{Within}
 use Rattle.wast_names.specs.declared.within.Within.TheVariants as within
 use Rattle.wast_names.specs.declared.names_payload.NameMap.{NameMap}
 use Rattle.wast_names.specs.declared.names_payload.NameMap.TheVariants as map_of
 use Rattle.wast_names.specs.GivenNames.{given_name, named_from}
-use Rattle.wast_names.specs.WithinItems.{lists_within}
+use Rattle.wast_names.specs.WithinItems.{types_of, lists_within}
 use Rattle.wasm_out.specs.NameSectionBytes.{Named, One, Direct, Indirect, NameSubsection, InRangeNameSubsection}
 use Rattle.wasm_out.specs.NameSectionBytes as named
 
@@ -21,9 +21,13 @@ use Rattle.wasm_out.specs.NameSectionBytes as named
 abbrev pub type_name : ty.«Type» → Space × Option (List ℕ)
 type_name t = (space.Ty, given_name t.name t.id)
 
--- what is imported, with its space and its name
+-- an imported item, with its space and its name
+abbrev pub sig_name : ItemSig → Space × Option (List ℕ)
+sig_name sig = (space_of_kind sig.kind, given_name sig.name sig.id)
+
+-- what is imported; items that share a signature have its name each
 abbrev pub import_names : ImportItems → List (Space × Option (List ℕ))
-import_names (import_items.Single source name sig) = (space_of_kind sig.kind, given_name sig.name sig.id) ∷ []
+import_names i = map sig_name (item_sigs i)
 
 -- the names of the items of a field, each with its space
 abbrev pub item_names_in : ModuleField → List (Space × Option (List ℕ))
@@ -83,7 +87,7 @@ named_within within.TagParameters = named.TagParameters
 
 -- the items that have names within, by their positions
 abbrev pub named_lists : Within → List ModuleField → List (ℕ × List (ℕ × List ℕ))
-named_lists w fields = named_from 0 (flat_map (lists_within fields w) fields)
+named_lists w fields = named_from 0 (flat_map (lists_within (types_of fields) w) fields)
 
 -- the names of the items of a space, or of what stands within items
 abbrev pub map_names : List ModuleField → NameMap → List NameSubsection

@@ -21,6 +21,7 @@ pub use Rattle.wast_tree.specs.declared.instrs.Instruction.{Instruction}
 pub use Rattle.wast_tree.specs.declared.instrs.Instruction.TheVariants as instr
 pub use Rattle.wast_tree.specs.declared.entities.TagType.{TagType}
 pub use Rattle.wast_tree.specs.declared.entities.TagType.TheVariants as tag
+pub use Rattle.wast_tree.specs.declared.imports.ItemSig.{ItemSig}
 pub use Rattle.wast_tree.specs.declared.imports.ImportItems.{ImportItems}
 pub use Rattle.wast_tree.specs.declared.imports.ImportItems.TheVariants as import_items
 pub use Rattle.wast_tree.specs.declared.imports.ItemKind.{ItemKind}

@@ -1,17 +1,17 @@
 -- What stands within items and has names of its own: locals and labels of functions, fields of structs, parameters of function types and of tags (custom sections, name section: indirect name maps).
 use Rattle.std.specs.Prelude.{ℕ, List, [], ◌∷◌, ◌++◌, length, map, replicate, Option, Some, None, option_map, slice_get}
 use Rattle.std.specs.List.{flat_map}
-use Rattle.wast_names.specs.Tree.{Id, Index, NameAnnotation, ValType, StructField, FunctionType, TypeUse, InnerTypeKind, BlockType, Instruction, Local, FuncKind, Func, TagType, ItemKind, ImportItems, ModuleField}
+use Rattle.wast_names.specs.Tree.{Id, Index, NameAnnotation, ValType, StructField, FunctionType, TypeUse, InnerTypeKind, BlockType, Instruction, Local, FuncKind, Func, TagType, ItemKind, ItemSig, ImportItems, ModuleField}
 use Rattle.wast_names.specs.Tree.index
 use Rattle.wast_names.specs.Tree.inner
 use Rattle.wast_names.specs.Tree.ty
 use Rattle.wast_names.specs.Tree.func
 use Rattle.wast_names.specs.Tree.tag
-use Rattle.wast_names.specs.Tree.import_items
 use Rattle.wast_names.specs.Tree.kind
 use Rattle.wast_names.specs.Tree.field
 use Rattle.wast_names.specs.declared.within.Within.{Within}
 use Rattle.wast_names.specs.declared.within.Within.TheVariants as within
+use Rattle.wast_tree.specs.Imports.{item_sigs}
 use Rattle.wast_tree.specs.Instrs.{block_of}
 use Rattle.wast_names.specs.GivenNames.{given_name, named_from}
 
@@ -45,18 +45,21 @@ abbrev pub field_names_of : InnerTypeKind → List (Option (List ℕ))
 field_names_of (inner.Func t) = []
 field_names_of (inner.Struct t) = map field_name t.fields
 field_names_of (inner.Array t) = []
+field_names_of (inner.Cont t) = []
 
 -- the names of the parameters of a function type
 abbrev pub param_names_of : InnerTypeKind → List (Option (List ℕ))
 param_names_of (inner.Func t) = map param_name t.params
 param_names_of (inner.Struct t) = []
 param_names_of (inner.Array t) = []
+param_names_of (inner.Cont t) = []
 
 -- how many parameters a function type has
 abbrev pub arity : InnerTypeKind → Option ℕ
 arity (inner.Func t) = Some (length t.params)
 arity (inner.Struct t) = None
 arity (inner.Array t) = None
+arity (inner.Cont t) = None
 
 -- the same of a type that may be missing
 abbrev pub arity_of : Option ty.«Type» → Option ℕ
@@ -78,11 +81,15 @@ types_within (field.Elem e) = []
 types_within (field.Data d) = []
 types_within (field.Tag t) = []
 
+-- the type space of these fields
+abbrev pub types_of : List ModuleField → List ty.«Type»
+types_of fields = flat_map types_within fields
+
 -- how many parameters the function type at an index has, where one stands there
-abbrev pub arity_at : List ModuleField → Option Index → Option ℕ
-arity_at fields None = None
-arity_at fields (Some (index.Id id)) = None
-arity_at fields (Some (index.Num n span)) = arity_of (slice_get (flat_map types_within fields) n)
+abbrev pub arity_at : List ty.«Type» → Option Index → Option ℕ
+arity_at types None = None
+arity_at types (Some (index.Id id)) = None
+arity_at types (Some (index.Num n span)) = arity_of (slice_get types n)
 
 -- parameters without names
 abbrev pub nameless : ℕ → List (Option (List ℕ))
@@ -94,8 +101,8 @@ params_or arity (Some t) = Some (map param_name t.params)
 params_or arity None = option_map nameless arity
 
 -- the parameters of a type use
-abbrev pub params_used : List ModuleField → TypeUse FunctionType → Option (List (Option (List ℕ)))
-params_used fields u = params_or (arity_at fields u.index) u.inline
+abbrev pub params_used : List ty.«Type» → TypeUse FunctionType → Option (List (Option (List ℕ)))
+params_used types u = params_or (arity_at types u.index) u.inline
 
 -- the names of the locals of a function
 abbrev pub locals_in : FuncKind → List (Option (List ℕ))
@@ -108,8 +115,8 @@ behind None locals = []
 behind (Some params) locals = params ++ locals
 
 -- the parameters of a function, and then its locals
-abbrev pub locals_of : List ModuleField → Func → List (Option (List ℕ))
-locals_of fields f = behind (params_used fields f.ty) (locals_in f.kind)
+abbrev pub locals_of : List ty.«Type» → Func → List (Option (List ℕ))
+locals_of types f = behind (params_used types f.ty) (locals_in f.kind)
 
 -- the labels of a function: those of all that opens a block, in the order of the body
 abbrev pub labels_in : FuncKind → List (Option (List ℕ))
@@ -147,12 +154,12 @@ lists_in_type within.Parameters t = list_of (param_names_of t.def.kind) ∷ []
 lists_in_type within.TagParameters t = []
 
 -- within a function
-abbrev pub lists_in_func : List ModuleField → Within → Func → List (Option (List (ℕ × List ℕ)))
-lists_in_func fields within.Locals f = list_of (locals_of fields f) ∷ []
-lists_in_func fields within.Labels f = list_of (labels_in f.kind) ∷ []
-lists_in_func fields within.Fields f = []
-lists_in_func fields within.Parameters f = []
-lists_in_func fields within.TagParameters f = []
+abbrev pub lists_in_func : List ty.«Type» → Within → Func → List (Option (List (ℕ × List ℕ)))
+lists_in_func types within.Locals f = list_of (locals_of types f) ∷ []
+lists_in_func types within.Labels f = list_of (labels_in f.kind) ∷ []
+lists_in_func types within.Fields f = []
+lists_in_func types within.Parameters f = []
+lists_in_func types within.TagParameters f = []
 
 -- within a tag
 abbrev pub lists_in_tag : Within → TagType → List (Option (List (ℕ × List ℕ)))
@@ -181,26 +188,31 @@ lists_in_imported_tag within.TagParameters = None ∷ []
 -- within what is imported
 abbrev pub lists_in_kind : Within → ItemKind → List (Option (List (ℕ × List ℕ)))
 lists_in_kind w (kind.Func u) = lists_in_imported_func w u
+lists_in_kind w (kind.FuncExact u) = lists_in_imported_func w u
 lists_in_kind w (kind.Table t) = []
 lists_in_kind w (kind.Memory t) = []
 lists_in_kind w (kind.Global t) = []
 lists_in_kind w (kind.Tag t) = lists_in_imported_tag w
 
--- within an import
-abbrev pub lists_in_import : Within → ImportItems → List (Option (List (ℕ × List ℕ)))
-lists_in_import w (import_items.Single source name sig) = lists_in_kind w sig.kind
+-- the same of its signature
+abbrev pub lists_in_sig : Within → ItemSig → List (Option (List (ℕ × List ℕ)))
+lists_in_sig w sig = lists_in_kind w sig.kind
 
--- in a field, of the list of all fields
-abbrev pub lists_within : List ModuleField → Within → ModuleField → List (Option (List (ℕ × List ℕ)))
-lists_within fields w (field.Ty t) = lists_in_type w t
-lists_within fields w (field.Rec r) = flat_map (lists_in_type w) r.types
-lists_within fields w (field.Import i) = lists_in_import w i.items
-lists_within fields w (field.Func f) = lists_in_func fields w f
-lists_within fields w (field.Table t) = []
-lists_within fields w (field.Memory m) = []
-lists_within fields w (field.Global g) = []
-lists_within fields w (field.Export e) = []
-lists_within fields w (field.Start i) = []
-lists_within fields w (field.Elem e) = []
-lists_within fields w (field.Data d) = []
-lists_within fields w (field.Tag t) = lists_in_tag w t.ty
+-- within an import, item by item; items that share a signature have its list each
+abbrev pub lists_in_import : Within → ImportItems → List (Option (List (ℕ × List ℕ)))
+lists_in_import w i = flat_map (lists_in_sig w) (item_sigs i)
+
+-- in a field, where these are the types of its module
+abbrev pub lists_within : List ty.«Type» → Within → ModuleField → List (Option (List (ℕ × List ℕ)))
+lists_within types w (field.Ty t) = lists_in_type w t
+lists_within types w (field.Rec r) = flat_map (lists_in_type w) r.types
+lists_within types w (field.Import i) = lists_in_import w i.items
+lists_within types w (field.Func f) = lists_in_func types w f
+lists_within types w (field.Table t) = []
+lists_within types w (field.Memory m) = []
+lists_within types w (field.Global g) = []
+lists_within types w (field.Export e) = []
+lists_within types w (field.Start i) = []
+lists_within types w (field.Elem e) = []
+lists_within types w (field.Data d) = []
+lists_within types w (field.Tag t) = lists_in_tag w t.ty

@@ -6,7 +6,7 @@ use Rattle.wast_base.specs.Ids.{generated}
 use Rattle.wast_tree.specs.WorkedModules.{Address, text, place, id_at, by_number, plain_def, plain_type, plain_func, plain_memory}
 use Rattle.wast_names.specs.NamesPart.{names_part}
 use Rattle.wast_names.specs.ModuleNames.{name_subsections}
-use Rattle.wast_names.specs.Tree.{Id, NameAnnotation, ValType, FunctionType, TypeUse, InnerTypeKind, BlockType, Instruction, Local, ItemKind, ModuleField}
+use Rattle.wast_names.specs.Tree.{Id, NameAnnotation, ValType, FunctionType, TypeUse, InnerTypeKind, BlockType, Instruction, Local, ItemKind, ItemSig, ModuleField}
 use Rattle.wast_names.specs.Tree.ty
 use Rattle.wast_names.specs.Tree.value as val
 use Rattle.wast_names.specs.Tree.storage
@@ -185,3 +185,29 @@ NamedLabels = (a b c d e f : Address) →
     ∷ instr.try_table (record { block = labelled (id_of f (codes "d") 99) None; catches = [] }) ∷ instr.end_ None ∷ instr.end_ None ∷ [])
     ∷ [])
     (0x03 ∷ 0x0c ∷ 0x01 ∷ 0x01 ∷ 0x03 ∷ 0x00 ∷ 0x01 ∷ 0x61 ∷ 0x02 ∷ 0x01 ∷ 0x63 ∷ 0x03 ∷ 0x01 ∷ 0x64 ∷ [])
+
+-- an imported item at n
+abbrev pub sig_of : Option Id → ItemKind → ℕ → ItemSig
+sig_of id of n = record { span = place n; id = id; name = None; kind = of }
+
+-- `(module (type (func (param i32))) (import "m" (item "a" (func $f (type 0))) (item "b" (func $g (type 0)))) (func $h (type 0)))`: the items of an import have positions of their own
+abbrev pub GroupedImport : Type 0
+GroupedImport = (a b c d e f : Address) →
+    HasNames (takes_i32
+    ∷ field.Import (record {
+      span = place 37;
+      items = import_items.Group1 (text a (codes "m")) ((text b (codes "a"), sig_of (id_of d (codes "f") 65) (kind.Func (typed None)) 60) ∷ (text c (codes "b"), sig_of (id_of e (codes "g") 96) (kind.Func (typed None)) 91) ∷ []);
+    })
+    ∷ field.Func (plain_func (id_of f (codes "h") 119) 114 (by_number 0 128) []) ∷ [])
+    (0x01 ∷ 0x0a ∷ 0x03 ∷ 0x00 ∷ 0x01 ∷ 0x66 ∷ 0x01 ∷ 0x01 ∷ 0x67 ∷ 0x02 ∷ 0x01 ∷ 0x68 ∷ [])
+
+-- `(module (type (func (param i32))) (import "m" (item "a") (item "b") (func (exact (type 0) (param $p i32)))))`: items that share a signature each have its names
+abbrev pub SharedSignature : Type 0
+SharedSignature = (a b c d : Address) →
+    HasNames (takes_i32
+    ∷ field.Import (record {
+      span = place 37;
+      items = import_items.Group2 (text a (codes "m")) (sig_of None (kind.FuncExact (typed (Some (takes (i32_param (id_of d (codes "p") 99) None ∷ []))))) 75) (text b (codes "a") ∷ text c (codes "b") ∷ []);
+    })
+    ∷ [])
+    (0x02 ∷ 0x0b ∷ 0x02 ∷ 0x00 ∷ 0x01 ∷ 0x00 ∷ 0x01 ∷ 0x70 ∷ 0x01 ∷ 0x01 ∷ 0x00 ∷ 0x01 ∷ 0x70 ∷ [])

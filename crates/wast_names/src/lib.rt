@@ -3,6 +3,7 @@
 #![tactic(auto)]
 
 mod examples;
+mod imported;
 mod name_lists;
 mod name_maps;
 mod named_fields;

@@ -8,7 +8,9 @@ ghost use Rattle.wast_names.specs.GivenNames.{named_from};
 ghost use Rattle.wast_names.specs.FoundNames.{counted, names_listed, lists_found, WritesItems};
 ghost use Rattle.wast_names.specs.WithinItems.{param_name, field_name, local_name, label_in};
 
-use crate::name_maps::{Entries, HasName, NameItems, Own, count_each, put_entry, put_name};
+use crate::name_maps::{
+    CountItems, Entries, HasName, NameItems, Own, count_each, put_entry, put_name,
+};
 use crate::names_payload::given_name;
 use wasm_ops::{Encode, Refusal, Sink};
 use wast_tree::{Id, Instruction, Local, NameAnnotation, StructField, ValType};
@@ -52,13 +54,6 @@ impl<'a> NameItems<Instruction<'a>> for Openers {
 
     ghost in_range = { InRangeNameEntry };
 
-    fn count(&self, part: &Instruction<'a>) -> u64 {
-        match part.block_type() {
-            Some(block) => u64::from(given_name(&block.label_name, &block.label).is_some()),
-            None => 0,
-        }
-    }
-
     fn put<S: Sink>(
         &self,
         part: &Instruction<'a>,
@@ -68,6 +63,15 @@ impl<'a> NameItems<Instruction<'a>> for Openers {
         match part.block_type() {
             Some(block) => put_name(position, given_name(&block.label_name, &block.label), out),
             None => Ok(position),
+        }
+    }
+}
+
+impl<'a> CountItems<Instruction<'a>> for Openers {
+    fn count(&self, part: &Instruction<'a>) -> u64 {
+        match part.block_type() {
+            Some(block) => u64::from(given_name(&block.label_name, &block.label).is_some()),
+            None => 0,
         }
     }
 }

@@ -26,10 +26,6 @@ pub(crate) trait NameItems<T> {
     /// Its numbers, counts and lengths are in range.
     ghost in_range: { ℕ × Entry → Type 0 };
 
-    /// How many items of a value have an entry.
-    fn count(&self, part: &T) -> u64
-        ensures { result ≡ counted (length (named_from 0 (items self.now part.now))) };
-
     /// Appends the entries of the items of a value, the first of which stands at a position, and answers the position
     /// behind the last. It refuses as [`Encode::encode`] does; then nothing was appended.
     fn put<S: Sink>(&self, part: &T, position: u64, out: &mut S) -> Result<u64, Refusal>
@@ -37,8 +33,15 @@ pub(crate) trait NameItems<T> {
         ensures next { IfOk result (λ p. p ≡ counted (position + length (items self.now part.now))) };
 }
 
+/// The same, of items that are counted.
+pub(crate) trait CountItems<T>: NameItems<T> {
+    /// How many items of a value have an entry.
+    fn count(&self, part: &T) -> u64
+        ensures { result ≡ counted (length (named_from 0 (Self.items self.now part.now))) };
+}
+
 /// How many items in a list have an entry.
-pub(crate) fn count_each<T, W: NameItems<T>>(way: &W, parts: &[T]) -> u64
+pub(crate) fn count_each<T, W: CountItems<T>>(way: &W, parts: &[T]) -> u64
     ensures { result ≡ counted (length (named_from 0 (flat_map (W.items way.now) parts.now))) }
 {
     let mut sum = 0u64;
@@ -115,17 +118,18 @@ impl<T, W: NameItems<T>> Encode for Entries<'_, T, W> {
     }
 }
 
-/// A map as a subsection of this id, where it has entries.
-pub(crate) fn put_map<'b, T, W: NameItems<T> + Copy, S: Sink>(
+/// A map as a subsection of this id, where it has entries. It needs as many as there are.
+pub(crate) fn put_counted<'b, T, W: NameItems<T> + Copy, S: Sink>(
     id: u8,
+    count: u64,
     way: W,
     parts: &'b [T],
     out: &'b mut S,
 ) -> Result<(), Refusal>
+    requires { count ≡ counted (length (named_from 0 (flat_map (W.items way) parts.now))) }
     ensures { Writes S.rules (InRangeMap W.entry W.in_range (named_from 0 (flat_map (W.items way) parts.now)))
         out.old out.new (map_bytes id W.entry (named_from 0 (flat_map (W.items way) parts.now))) result }
 {
-    let count = count_each(&way, parts);
     if count == 0 {
         return Ok(());
     }
@@ -138,6 +142,19 @@ pub(crate) fn put_map<'b, T, W: NameItems<T> + Copy, S: Sink>(
         parts,
     };
     (id, WithLength((count, entries))).encode(out)
+}
+
+/// The same of items that are counted.
+pub(crate) fn put_map<'b, T, W: CountItems<T> + Copy, S: Sink>(
+    id: u8,
+    way: W,
+    parts: &'b [T],
+    out: &'b mut S,
+) -> Result<(), Refusal>
+    ensures { Writes S.rules (InRangeMap W.entry W.in_range (named_from 0 (flat_map (W.items way) parts.now)))
+        out.old out.new (map_bytes id W.entry (named_from 0 (flat_map (W.items way) parts.now))) result }
+{
+    put_counted(id, count_each(&way, parts), way, parts, out)
 }
 
 /// What has one name.
@@ -163,12 +180,14 @@ impl<T: HasName> NameItems<T> for Own {
 
     ghost in_range = { InRangeNameEntry };
 
-    fn count(&self, part: &T) -> u64 {
-        u64::from(part.name().is_some())
-    }
-
     fn put<S: Sink>(&self, part: &T, position: u64, out: &mut S) -> Result<u64, Refusal> {
         put_name(position, part.name(), out)
+    }
+}
+
+impl<T: HasName> CountItems<T> for Own {
+    fn count(&self, part: &T) -> u64 {
+        u64::from(part.name().is_some())
     }
 }
 

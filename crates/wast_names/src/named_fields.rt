@@ -6,6 +6,7 @@ ghost use Rattle.wast_reach.specs.Reaches.{is_reach, are_reaches};
 ghost use Rattle.wast_names.specs.FieldsWithNames.{is_either, has_items, has_lists};
 ghost use Rattle.wast_names.specs.ModuleNames.{names_given};
 ghost use Rattle.wast_names.specs.Tree.{ModuleField};
+ghost use Rattle.wast_names.specs.Tree.ty;
 ghost use Rattle.wast_names.specs.WithinItems.{lists_within};
 
 use crate::within::Within;
@@ -69,7 +70,7 @@ pub(crate) fn with_lists<'b, 'a>(
     reaches: &Reaches,
 ) -> &'b [ModuleField<'a>]
     requires { IsTrue (are_reaches fields.now reaches.now) }
-    ensures { flat_map (lists_within fields.now within) result.now ≡ flat_map (lists_within fields.now within) fields.now }
+    ensures { (types : List ty.«Type») → flat_map (lists_within types within) result.now ≡ flat_map (lists_within types within) fields.now }
 {
     let reach = reach_within(within, reaches);
     &fields[reach.first..reach.end]

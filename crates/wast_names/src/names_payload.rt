@@ -11,15 +11,17 @@ ghost use Rattle.wast_reach.specs.Reaches.{are_reaches};
 ghost use Rattle.wast_names.specs.NamesPart.{names_part, names_payload_of};
 ghost use Rattle.wast_names.specs.GivenNames.{id_text, given_name, named_from};
 ghost use Rattle.wast_names.specs.FoundNames.{text_seen, items_seen, counted, WritesItems, map_bytes, InRangeMap};
-ghost use Rattle.wast_names.specs.WithinItems.{lists_within};
-ghost use Rattle.wast_names.specs.ModuleNames.{type_name, import_names, item_names_in, given_name_in, names_given, named_of, named_within, map_names, module_name, name_maps, name_subsections, InRangeNames};
+ghost use Rattle.wast_names.specs.ModuleNames.{type_name, sig_name, item_names_in, given_name_in, names_given, named_of, named_within, map_names, module_name, name_maps, name_subsections, InRangeNames};
 
-use crate::name_maps::{NameItems, count_each, put_each, put_map, put_name};
+use crate::imported::{count_imported, put_imported};
+use crate::name_maps::{
+    CountItems, NameItems, count_each, put_counted, put_each, put_map, put_name,
+};
 use crate::named_fields::{with_items, with_lists};
-use crate::within::{NamedField, Within, WithinItems};
+use crate::within::{FieldTypes, PutLists, Within, WithinItems, count_lists};
 use wasm_ops::{Encode, Length, Name, Refusal, Sink, WithLength};
 use wast_reach::Reaches;
-use wast_tree::{Id, ImportItems, ModuleField, NameAnnotation, Space, Type};
+use wast_tree::{Id, ImportItems, ItemSig, ModuleField, NameAnnotation, Space, Type};
 
 fn id_text<'a>(id: &Option<Id<'a>>) -> Option<&'a str>
     ensures { text_seen result ≡ id_text id.now }
@@ -53,17 +55,8 @@ enum Items<'b, 'a> {
     One(Space, Option<&'a str>),
     /// The types of a group.
     Types(&'b [Type<'a>]),
-}
-
-/// Finds the items of an import.
-fn imported<'b, 'a>(items: &'b ImportItems<'a>) -> Items<'b, 'a>
-    ensures { items_seen result ≡ import_names items.now }
-{
-    match items {
-        ImportItems::Single { sig, .. } => {
-            Items::One(sig.kind.space(), given_name(&sig.name, &sig.id))
-        }
-    }
+    /// Those of an import.
+    Imported(&'b ImportItems<'a>),
 }
 
 /// Finds the items of a field.
@@ -73,7 +66,7 @@ fn items_of<'b, 'a>(field: &'b ModuleField<'a>) -> Items<'b, 'a>
     match field {
         ModuleField::Ty(ty) => Items::One(Space::Ty, given_name(&ty.name, &ty.id)),
         ModuleField::Rec(rec) => Items::Types(rec.types.as_slice()),
-        ModuleField::Import(imports) => imported(&imports.items),
+        ModuleField::Import(imports) => Items::Imported(&imports.items),
         ModuleField::Func(func) => Items::One(Space::Func, given_name(&func.name, &func.id)),
         ModuleField::Table(table) => Items::One(Space::Table, given_name(&table.name, &table.id)),
         ModuleField::Memory(memory) => {
@@ -123,13 +116,36 @@ impl<'a> NameItems<Type<'a>> for Space {
 
     ghost in_range = { InRangeNameEntry };
 
-    fn count(&self, part: &Type<'a>) -> u64 {
-        count_item(*self, Space::Ty, given_name(&part.name, &part.id))
-    }
-
     fn put<S: Sink>(&self, part: &Type<'a>, position: u64, out: &mut S) -> Result<u64, Refusal> {
         let name = given_name(&part.name, &part.id);
         put_item(*self, Space::Ty, name, position, out)
+    }
+}
+
+impl<'a> CountItems<Type<'a>> for Space {
+    fn count(&self, part: &Type<'a>) -> u64 {
+        count_item(*self, Space::Ty, given_name(&part.name, &part.id))
+    }
+}
+
+impl<'a> NameItems<ItemSig<'a>> for Space {
+    ghost Entry = { List ℕ };
+
+    ghost items = { λ s sig. given_name_in s (sig_name sig) };
+
+    ghost entry = { name_entry };
+
+    ghost in_range = { InRangeNameEntry };
+
+    fn put<S: Sink>(&self, part: &ItemSig<'a>, position: u64, out: &mut S) -> Result<u64, Refusal> {
+        let name = given_name(&part.name, &part.id);
+        put_item(*self, part.kind.space(), name, position, out)
+    }
+}
+
+impl<'a> CountItems<ItemSig<'a>> for Space {
+    fn count(&self, part: &ItemSig<'a>) -> u64 {
+        count_item(*self, part.kind.space(), given_name(&part.name, &part.id))
     }
 }
 
@@ -142,14 +158,6 @@ impl<'a> NameItems<ModuleField<'a>> for Space {
 
     ghost in_range = { InRangeNameEntry };
 
-    fn count(&self, part: &ModuleField<'a>) -> u64 {
-        match items_of(part) {
-            Items::Nothing => 0,
-            Items::One(own, name) => count_item(*self, own, name),
-            Items::Types(types) => count_each(self, types),
-        }
-    }
-
     fn put<S: Sink>(
         &self,
         part: &ModuleField<'a>,
@@ -160,6 +168,18 @@ impl<'a> NameItems<ModuleField<'a>> for Space {
             Items::Nothing => Ok(position),
             Items::One(own, name) => put_item(*self, own, name, position, out),
             Items::Types(types) => put_each(self, types, position, out),
+            Items::Imported(items) => put_imported(*self, items, position, out),
+        }
+    }
+}
+
+impl<'a> CountItems<ModuleField<'a>> for Space {
+    fn count(&self, part: &ModuleField<'a>) -> u64 {
+        match items_of(part) {
+            Items::Nothing => 0,
+            Items::One(own, name) => count_item(*self, own, name),
+            Items::Types(types) => count_each(self, types),
+            Items::Imported(items) => count_imported(*self, items),
         }
     }
 }
@@ -202,22 +222,22 @@ pub(crate) enum NameMap {
     Within(Within),
 }
 
-/// Appends the subsection of the lists of names within items of some of these fields, where there are any.
-fn put_lists<'b, T: NamedField, S: Sink>(
-    within: Within,
+/// Appends the subsection of the lists of names within items of some of these fields, where there are any. It needs as many as
+/// there are.
+fn put_lists<'b, T: FieldTypes + PutLists, S: Sink>(
     fields: &'b [T],
     there: &'b [T],
+    within: Within,
+    count: u64,
     out: &'b mut S,
 ) -> Result<(), Refusal>
-    ensures { Writes S.rules (InRangeMap map_entry InRangeMapEntry (named_from 0 (flat_map (λ t. lists_within (map T.field fields.now) within (T.field t)) there.now)))
-        out.old out.new (map_bytes (subsection_id (named_within within)) map_entry (named_from 0 (flat_map (λ t. lists_within (map T.field fields.now) within (T.field t)) there.now))) result }
+    requires { count ≡ counted (length (named_from 0 (flat_map (T.lists (flat_map T.types fields.now) within) there.now))) }
+    ensures { Writes S.rules (InRangeMap map_entry InRangeMapEntry (named_from 0 (flat_map (T.lists (flat_map T.types fields.now) within) there.now)))
+        out.old out.new (map_bytes (subsection_id (named_within within)) map_entry (named_from 0 (flat_map (T.lists (flat_map T.types fields.now) within) there.now))) result }
 {
-    put_map(
-        id_within(within),
-        WithinItems { within, fields },
-        there,
-        out,
-    )
+    let id = id_within(within);
+    let way = WithinItems { fields, within };
+    put_counted(id, count, way, there, out)
 }
 
 /// Appends the subsection of a map of the names in these fields, where there are any.
@@ -238,7 +258,8 @@ fn put_subsection<S: Sink>(
         }
         NameMap::Within(within) => {
             let there = with_lists(*within, fields, reaches);
-            put_lists(*within, fields, there, out)
+            let count = count_lists(fields, there, *within);
+            put_lists(fields, there, *within, count, out)
         }
     }
 }

@@ -1,22 +1,24 @@
 //! What stands within items and has names of its own: locals and labels of functions, fields of structs, parameters of
 //! types and of tags.
 
-ghost use Rattle.std.specs.Prelude.{◌≡◌, ◌<◌, ◌+◌, ℕ, List, length, map, slice_get, IfOk};
+ghost use Rattle.std.specs.Prelude.{◌≡◌, ◌<◌, ◌≤◌, ◌+◌, ℕ, List, Option, length, map, slice_get, IfOk, IfErr};
 ghost use Rattle.std.specs.List.{flat_map};
 ghost use Rattle.wasm_out.specs.NameSectionBytes.{map_entry, InRangeMapEntry};
-ghost use Rattle.wast_names.specs.Tree.{ModuleField};
+ghost use Rattle.wast_names.specs.Tree.ty;
+ghost use Rattle.wast_names.specs.declared.within.Within.{Within};
 ghost use Rattle.wast_names.specs.GivenNames.{named_from};
 ghost use Rattle.wast_names.specs.FoundNames.{counted, names_listed, lists_found, lists_seen, WritesItems};
-ghost use Rattle.wast_names.specs.WithinItems.{param_name, local_name, lists_in_type, lists_in_func, lists_in_tag, lists_in_imported_func, lists_in_imported_tag, lists_in_kind, lists_in_import, lists_within, types_within, arity, arity_of, arity_at, behind, params_used, locals_of, locals_in, label_in, labels_in, field_names_of, param_names_of, inline_params, tag_params};
+ghost use Rattle.wast_names.specs.WithinItems.{param_name, local_name, lists_in_type, lists_in_func, lists_in_tag, lists_in_imported_func, lists_in_imported_tag, lists_in_kind, lists_in_sig, lists_within, types_within, arity, arity_of, arity_at, behind, params_used, locals_of, locals_in, label_in, labels_in, field_names_of, param_names_of, inline_params, tag_params};
 
+use crate::imported::{count_imported, put_imported};
 use crate::name_lists::{Listed, count_found, no_names, none, put_found};
-use crate::name_maps::{NameItems, Own, count_each, put_each};
+use crate::name_maps::{CountItems, NameItems, Own, count_each, put_each};
 use std::alloc::AllocError;
 use std::slice;
 use wasm_ops::{Refusal, Sink};
 use wast_tree::{
-    Func, FuncKind, FunctionType, ImportItems, Index, InnerTypeKind, Instruction, ItemKind, Local,
-    ModuleField, TagType, Type, TypeUse,
+    Func, FuncKind, FunctionType, ImportItems, Index, InnerTypeKind, Instruction, ItemKind,
+    ItemSig, Local, ModuleField, TagType, Type, TypeUse,
 };
 
 /// What stands within items and has names.
@@ -51,7 +53,9 @@ fn field_names_of<'b, 'a>(kind: &'b InnerTypeKind<'a>) -> Listed<'b, 'a>
 {
     match kind {
         InnerTypeKind::Struct(ty) => Listed::Fields(ty.fields.as_slice()),
-        InnerTypeKind::Func(_) | InnerTypeKind::Array(_) => Listed::Fields(none()),
+        InnerTypeKind::Func(_) | InnerTypeKind::Array(_) | InnerTypeKind::Cont(_) => {
+            Listed::Fields(none())
+        }
     }
 }
 
@@ -68,7 +72,9 @@ fn param_names_of<'b, 'a>(kind: &'b InnerTypeKind<'a>) -> Listed<'b, 'a>
 {
     match kind {
         InnerTypeKind::Func(ty) => params_in(ty),
-        InnerTypeKind::Struct(_) | InnerTypeKind::Array(_) => Listed::Fields(none()),
+        InnerTypeKind::Struct(_) | InnerTypeKind::Array(_) | InnerTypeKind::Cont(_) => {
+            Listed::Fields(none())
+        }
     }
 }
 
@@ -78,7 +84,7 @@ fn arity(kind: &InnerTypeKind) -> Option<u64>
 {
     match kind {
         InnerTypeKind::Func(ty) => Some(ty.params.len() as u64),
-        InnerTypeKind::Struct(_) | InnerTypeKind::Array(_) => None,
+        InnerTypeKind::Struct(_) | InnerTypeKind::Array(_) | InnerTypeKind::Cont(_) => None,
     }
 }
 
@@ -105,17 +111,17 @@ fn types_within<'b, 'a>(field: &'b ModuleField<'a>) -> &'b [Type<'a>]
 /// A list of fields, as types are looked up in it. It is a type parameter of what looks them up: a proof would else compare
 /// the type of the whole list with itself at each call.
 pub(crate) trait Arities {
-    /// These fields.
-    ghost fields: { Self → List ModuleField };
+    /// The types of these fields.
+    ghost types: { Self → List ty.«Type» };
 
     /// How many parameters the function type at an index has, where one stands there. It walks the fields up to that type.
     fn arity_of(&self, index: usize) -> Option<u64>
-        ensures { result ≡ arity_of (slice_get (flat_map types_within (fields self.now)) index) };
+        ensures { result ≡ arity_of (slice_get (types self.now) index) };
 }
 
 /// The same of the index of a type use.
 fn arity_at<A: Arities>(arities: &A, index: &Option<Index>) -> Option<u64>
-    ensures { result ≡ arity_at (A.fields arities.now) index.now }
+    ensures { result ≡ arity_at (A.types arities.now) index.now }
 {
     match index {
         Some(Index::Num(number, _)) => arities.arity_of(*number as usize),
@@ -130,7 +136,7 @@ fn locals_behind<'b, 'a, A: Arities>(
     ty: &'b TypeUse<'a, FunctionType<'a>>,
     locals: &'b [Local<'a>],
 ) -> Listed<'b, 'a>
-    ensures { names_listed result ≡ named_from 0 (behind (params_used (A.fields arities.now) ty.now) (map local_name locals.now)) }
+    ensures { names_listed result ≡ named_from 0 (behind (params_used (A.types arities.now) ty.now) (map local_name locals.now)) }
 {
     if let Some(inline) = &ty.inline {
         let params = inline.params.as_slice();
@@ -157,7 +163,7 @@ fn locals_in<'b, 'a>(kind: &'b FuncKind<'a>) -> &'b [Local<'a>]
 
 /// The parameters and locals of a function.
 fn locals_of<'b, 'a, A: Arities>(arities: &A, func: &'b Func<'a>) -> Listed<'b, 'a>
-    ensures { names_listed result ≡ named_from 0 (locals_of (A.fields arities.now) func.now) }
+    ensures { names_listed result ≡ named_from 0 (locals_of (A.types arities.now) func.now) }
 {
     locals_behind(arities, &func.ty, locals_in(&func.kind))
 }
@@ -185,7 +191,7 @@ fn listed_in_func<'b, 'a, A: Arities>(
     arities: &A,
     func: &'b Func<'a>,
 ) -> Option<Listed<'b, 'a>>
-    ensures { lists_found result ≡ lists_in_func (A.fields arities.now) within func.now }
+    ensures { lists_found result ≡ lists_in_func (A.types arities.now) within func.now }
 {
     match within {
         Within::Locals => Some(locals_of(arities, func)),
@@ -252,18 +258,9 @@ fn listed_in_kind<'b, 'a>(within: Within, kind: &'b ItemKind<'a>) -> Option<List
     ensures { lists_found result ≡ lists_in_kind within kind.now }
 {
     match kind {
-        ItemKind::Func(ty) => listed_in_imported_func(within, ty),
+        ItemKind::Func(ty) | ItemKind::FuncExact(ty) => listed_in_imported_func(within, ty),
         ItemKind::Tag(_) => listed_in_imported_tag(within),
         ItemKind::Table(_) | ItemKind::Memory(_) | ItemKind::Global(_) => None,
-    }
-}
-
-/// The list that stands within an imported item.
-fn listed_in_import<'b, 'a>(within: Within, items: &'b ImportItems<'a>) -> Option<Listed<'b, 'a>>
-    ensures { lists_found result ≡ lists_in_import within items.now }
-{
-    match items {
-        ImportItems::Single { sig, .. } => listed_in_kind(within, &sig.kind),
     }
 }
 
@@ -274,6 +271,8 @@ enum Lists<'b, 'a> {
     One(Option<Listed<'b, 'a>>),
     /// Those of the types of a group.
     Types(&'b [Type<'a>]),
+    /// Those of the items of an import.
+    Imported(&'b ImportItems<'a>),
 }
 
 /// Finds the lists that stand within a field of this list of fields.
@@ -282,12 +281,12 @@ fn lists_in<'b, 'a, A: Arities>(
     arities: &A,
     field: &'b ModuleField<'a>,
 ) -> Lists<'b, 'a>
-    ensures { lists_seen within result ≡ lists_within (A.fields arities.now) within field.now }
+    ensures { lists_seen within result ≡ lists_within (A.types arities.now) within field.now }
 {
     match field {
         ModuleField::Ty(ty) => Lists::One(listed_in_type(within, ty)),
         ModuleField::Rec(rec) => Lists::Types(rec.types.as_slice()),
-        ModuleField::Import(imports) => Lists::One(listed_in_import(within, &imports.items)),
+        ModuleField::Import(imports) => Lists::Imported(&imports.items),
         ModuleField::Func(func) => Lists::One(listed_in_func(within, arities, func)),
         ModuleField::Tag(tag) => Lists::One(listed_in_tag(within, &tag.ty)),
         ModuleField::Table(_)
@@ -310,35 +309,67 @@ impl<'a> NameItems<Type<'a>> for Within {
 
     ghost in_range = { InRangeMapEntry };
 
-    fn count(&self, part: &Type<'a>) -> u64 {
-        count_found(listed_in_type(*self, part))
-    }
-
     fn put<S: Sink>(&self, part: &Type<'a>, position: u64, out: &mut S) -> Result<u64, Refusal> {
         put_found(position, listed_in_type(*self, part), out)
     }
 }
 
-/// A field, as lists of fields are walked for what stands within its items. It is a type parameter of the walk, as
-/// [`Arities`] are of what looks types up.
-pub(crate) trait NamedField {
-    /// What it is.
-    ghost field: { Self → ModuleField };
+impl<'a> CountItems<Type<'a>> for Within {
+    fn count(&self, part: &Type<'a>) -> u64 {
+        count_found(listed_in_type(*self, part))
+    }
+}
 
-    /// How many types it has.
-    fn count_types(&self) -> usize
-        ensures { result ≡ length (types_within (field self.now)) };
+/// The way to see what stands within imported items.
+impl<'a> NameItems<ItemSig<'a>> for Within {
+    ghost Entry = { List (ℕ × List ℕ) };
 
-    /// How many parameters a type of it has, where that is a function type. It needs the place of one.
-    fn arity(&self, index: usize) -> Option<u64>
-        requires { index < length (types_within (field self.now)) }
-        ensures { result ≡ arity_of (slice_get (types_within (field self.now)) index) };
+    ghost items = { lists_in_sig };
 
-    /// How many of its items have a list of names, among these fields.
+    ghost entry = { map_entry };
+
+    ghost in_range = { InRangeMapEntry };
+
+    fn put<S: Sink>(&self, part: &ItemSig<'a>, position: u64, out: &mut S) -> Result<u64, Refusal> {
+        put_found(position, listed_in_kind(*self, &part.kind), out)
+    }
+}
+
+impl<'a> CountItems<ItemSig<'a>> for Within {
+    fn count(&self, part: &ItemSig<'a>) -> u64 {
+        count_found(listed_in_kind(*self, &part.kind))
+    }
+}
+
+/// A field, as its types are looked up. It is a type parameter of what walks over lists of fields, as [`Arities`] are of what
+/// looks types up.
+pub(crate) trait FieldTypes {
+    /// Its types.
+    ghost types: { Self → List ty.«Type» };
+
+    /// How many parameters the type at a place in it has, where that is a function type; how many types it has, where none
+    /// stands there.
+    fn arity_in(&self, index: usize) -> Result<Option<u64>, usize>
+        ensures found { IfOk result (λ n. (index < length (types self.now)) × (n ≡ arity_of (slice_get (types self.now) index))) }
+        ensures past { IfErr result (λ n. (n ≡ length (types self.now)) × (n ≤ index)) };
+}
+
+/// A field, as the lists of names within its items are counted.
+pub(crate) trait CountLists {
+    /// These lists, where these are the types of the module.
+    ghost lists: { List ty.«Type» → Within → Self → List (Option (List (ℕ × List ℕ))) };
+
+    /// How many of its items have such a list.
     fn count_lists<A: Arities>(&self, within: Within, arities: &A) -> u64
-        ensures { result ≡ counted (length (named_from 0 (lists_within (A.fields arities.now) within (field self.now)))) };
+        ensures { result ≡ counted (length (named_from 0 (lists (A.types arities.now) within self.now))) };
+}
 
-    /// Appends those lists, as [`NameItems::put`] does.
+/// A field, as they are written.
+pub(crate) trait PutLists {
+    /// These lists, where these are the types of the module.
+    ghost lists: { List ty.«Type» → Within → Self → List (Option (List (ℕ × List ℕ))) };
+
+    /// Appends them, as [`NameItems::put`] does.
     fn put_lists<A: Arities, S: Sink>(
         &self,
         within: Within,
@@ -346,27 +377,37 @@ pub(crate) trait NamedField {
         position: u64,
         out: &mut S,
     ) -> Result<u64, Refusal>
-        ensures written { WritesItems S.rules map_entry InRangeMapEntry (lists_within (A.fields arities.now) within (field self.now)) position out.old out.new result }
-        ensures next { IfOk result (λ p. p ≡ counted (position + length (lists_within (A.fields arities.now) within (field self.now)))) };
+        ensures written { WritesItems S.rules map_entry InRangeMapEntry (lists (A.types arities.now) within self.now) position out.old out.new result }
+        ensures next { IfOk result (λ p. p ≡ counted (position + length (lists (A.types arities.now) within self.now))) };
 }
 
-impl NamedField for ModuleField<'_> {
-    ghost field = { λ f. f };
+impl FieldTypes for ModuleField<'_> {
+    ghost types = { types_within };
 
-    fn count_types(&self) -> usize {
-        types_within(self).len()
+    fn arity_in(&self, index: usize) -> Result<Option<u64>, usize> {
+        let types = types_within(self);
+        if index < types.len() {
+            Ok(arity(&types[index].def.kind))
+        } else {
+            Err(types.len())
+        }
     }
+}
 
-    fn arity(&self, index: usize) -> Option<u64> {
-        arity(&types_within(self)[index].def.kind)
-    }
+impl CountLists for ModuleField<'_> {
+    ghost lists = { lists_within };
 
     fn count_lists<A: Arities>(&self, within: Within, arities: &A) -> u64 {
         match lists_in(within, arities, self) {
             Lists::One(found) => count_found(found),
             Lists::Types(types) => count_each(&within, types),
+            Lists::Imported(items) => count_imported(within, items),
         }
     }
+}
+
+impl PutLists for ModuleField<'_> {
+    ghost lists = { lists_within };
 
     fn put_lists<A: Arities, S: Sink>(
         &self,
@@ -378,14 +419,34 @@ impl NamedField for ModuleField<'_> {
         match lists_in(within, arities, self) {
             Lists::One(found) => put_found(position, found, out),
             Lists::Types(types) => put_each(&within, types, position, out),
+            Lists::Imported(items) => put_imported(within, items, position, out),
         }
+    }
+}
+
+/// The types of these fields.
+#[derive(Drop)]
+struct TypesOf<'b, T>(&'b [T]);
+
+impl<T: FieldTypes> Arities for TypesOf<'_, T> {
+    ghost types = { λ t. flat_map T.types t.0.now };
+
+    fn arity_of(&self, index: usize) -> Option<u64> {
+        let mut left = index;
+        for field in self.0 {
+            match field.arity_in(left) {
+                Ok(arity) => return arity,
+                Err(count) => left -= count,
+            }
+        }
+        None
     }
 }
 
 /// The way to see what stands within the items of these fields.
 pub(crate) struct WithinItems<'b, T> {
-    pub(crate) within: Within,
     pub(crate) fields: &'b [T],
+    pub(crate) within: Within,
 }
 
 impl<T> Clone for WithinItems<'_, T> {
@@ -396,36 +457,33 @@ impl<T> Clone for WithinItems<'_, T> {
 
 impl<T> Copy for WithinItems<'_, T> {}
 
-impl<T: NamedField> Arities for WithinItems<'_, T> {
-    ghost fields = { λ w. map T.field w.fields.now };
-
-    fn arity_of(&self, index: usize) -> Option<u64> {
-        let mut left = index;
-        for field in self.fields {
-            let types = field.count_types();
-            if left < types {
-                return field.arity(left);
-            }
-            left -= types;
-        }
-        None
-    }
-}
-
-impl<T: NamedField> NameItems<T> for WithinItems<'_, T> {
+impl<T: FieldTypes + PutLists> NameItems<T> for WithinItems<'_, T> {
     ghost Entry = { List (ℕ × List ℕ) };
 
-    ghost items = { λ w t. lists_within (map T.field w.fields.now) w.within (T.field t) };
+    ghost items = { λ w. T.lists (flat_map T.types w.fields.now) w.within };
 
     ghost entry = { map_entry };
 
     ghost in_range = { InRangeMapEntry };
 
-    fn count(&self, part: &T) -> u64 {
-        part.count_lists(self.within, self)
-    }
-
     fn put<S: Sink>(&self, part: &T, position: u64, out: &mut S) -> Result<u64, Refusal> {
-        part.put_lists(self.within, self, position, out)
+        let types = TypesOf(self.fields);
+        part.put_lists(self.within, &types, position, out)
     }
+}
+
+/// How many items of some of these fields have a list of names.
+pub(crate) fn count_lists<'b, T: FieldTypes + CountLists>(
+    fields: &'b [T],
+    there: &'b [T],
+    within: Within,
+) -> u64
+    ensures { result ≡ counted (length (named_from 0 (flat_map (T.lists (flat_map T.types fields.now) within) there.now))) }
+{
+    let types = TypesOf(fields);
+    let mut sum = 0u64;
+    for part in there {
+        sum = sum.saturating_add(part.count_lists(within, &types));
+    }
+    sum
 }

@@ -79,6 +79,7 @@ impl<'a> Gathering<'a> {
     ///
     /// A name is found by halving over whole names: where many are looked up among many, [`filled`](Gathering::filled) has
     /// heads for them.
+    #[inline(always)]
     pub fn sorted(self, alloc: Global) -> Result<Namespace<'a>, u32>
         ensures { FillsSpace self.entry result }
     {

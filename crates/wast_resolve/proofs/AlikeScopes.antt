@@ -1,6 +1,7 @@
 -- Where two scopes have the same types, and what passes a test denotes the same, sites that pass it demand the same, and as
 -- many parameters and locals are counted.
-use Rattle.std.proofs.Common.{◌≡◌, ℕ, zero, suc, ◌+◌, ◌<◌, length, Bool, true, not, List, [], ◌∷◌, ◌++◌, map, Option, Some, None, is_some, refl, sym, ap, ◌∙◌, append-nil}
+use Rattle.std.specs.Prelude.{cond, ◌&&◌}
+use Rattle.std.proofs.Common.{◌≡◌, ℕ, zero, suc, ◌+◌, ◌<◌, length, Bool, true, not, List, [], ◌∷◌, ◌++◌, map, Option, Some, None, is_some, refl, sym, ap, ◌∙◌, append-nil, false}
 use Rattle.std.specs.Prelude.{codes}
 use Rattle.std.specs.Cmp.{first_so, second_so}
 use Rattle.std.specs.List.{flat_map, list_all, slice_get}
@@ -11,19 +12,19 @@ use Rattle.wast_base.specs.Spaces.{word_of}
 use Rattle.wast_tree.specs.Items.{items}
 use Rattle.wast_tree.specs.Known.{known}
 use Rattle.wast_tree.specs.Types.{types_of}
-use Rattle.wast_tree.specs.Sites.{Ask, Wants, Supported, Site, Asked, Used, LocalAt, if_there, in_index, in_signature, in_inner, in_descriptor, in_type, in_rec, in_type_use, in_func_kind, asked_in, in_field, in_module, asked}
+use Rattle.wast_tree.specs.Sites.{Ask, Wants, Within, Covered, Site, Asked, Used, LocalAt, FieldAt, if_there, in_index, in_signature, in_inner, in_descriptor, in_type, in_rec, in_type_use, in_func_kind, asked_in, in_field, in_module, asked}
 use Rattle.wast_tree.proofs.Visiting.{asked_both, asked_asking}
 use Rattle.wast_types.specs.Signatures.{Signature, signature_of}
-use Rattle.wast_types.specs.TypeSpace.{taken_kind}
 use Rattle.wast_resolve.specs.Tree.{Index, Space, FunctionType, InnerTypeKind, ModuleField}
 use Rattle.wast_resolve.specs.Tree.index
 use Rattle.wast_resolve.specs.Tree.space
 use Rattle.wast_resolve.specs.Tree.inner
 use Rattle.wast_resolve.specs.Tree.ty
 use Rattle.wast_resolve.specs.Tree.field
-use Rattle.wast_resolve.specs.Scopes.{Scope, scope, signatures_in, signatures, denoted, type_at, unsaid_params}
+use Rattle.wast_resolve.specs.Tree.form
+use Rattle.wast_resolve.specs.Scopes.{Shape, Function, Struct, Other, Scope, scope, shape_of, shapes_in, shapes, denoted, type_at, unsaid_params}
 use Rattle.wast_resolve.specs.Matches.{same_number, same_type, matches}
-use Rattle.wast_resolve.specs.Demands.{unknown, ask_demand, ask_demands, match_with, match_demands, match_if, site_demand, site_demands, declared, body_counts_in, body_counts, open_counts}
+use Rattle.wast_resolve.specs.Demands.{unknown, ask_demand, ask_demands, match_with, match_demands, match_if, field_at, site_demand, site_demands, declared, body_counts_in, body_counts, open_counts}
 use Rattle.wast_resolve.proofs.CompletedAsks.{pass, value_passes, first_part, second_part, signature_needs, is_below}
 use Rattle.wast_resolve.proofs.ImpliedSignatures.{both_so, values_pass}
 use Rattle.wast_resolve.proofs.SameTypes.{signatures_alike}
@@ -31,18 +32,25 @@ use Rattle.wast_resolve.proofs.Nameless.{by_names, unsaid_denoted}
 
 module _ (ok : Ask → Bool) where
   -- what stands in a type passes
-  abbrev pub type_passes : Option Signature → Bool
-  type_passes None = true
-  type_passes (Some s) = values_pass (value_passes ok) s
+  abbrev pub type_passes : Shape → Bool
+  type_passes (Function s) = values_pass (value_passes ok) s
+  type_passes (Struct number) = true
+  type_passes Other = true
 
-  kind_type_passes : (k : InnerTypeKind) → pass ok (in_inner k) ≡ true → type_passes (taken_kind k) ≡ true
+  struct_passes : (b : Bool) (number : Name → Option ℕ) → type_passes (cond b (Struct number) Other) ≡ true
+  struct_passes true number = refl
+  struct_passes false number = refl
+
+  kind_type_passes : (k : InnerTypeKind) → pass ok (in_inner k) ≡ true → type_passes (shape_of k) ≡ true
   kind_type_passes (inner.Func t) h = signature_needs ok t h
-  kind_type_passes k h = refl
+  kind_type_passes (inner.Struct t) h = struct_passes _ _
+  kind_type_passes (inner.Array t) h = refl
+  kind_type_passes (inner.Cont t) h = refl
 
-  type_type_passes : (t : ty.«Type») → pass ok (in_type t) ≡ true → type_passes (taken_kind t.def.kind) ≡ true
+  type_type_passes : (t : ty.«Type») → pass ok (in_type t) ≡ true → type_passes (shape_of t.def.kind) ≡ true
   type_type_passes t h =
       let d = t.def in
-      let last = Supported (not d.shared) ∷ [] in
+      let last = Covered form.Shared (not d.shared) ∷ [] in
       let kind = in_inner d.kind ++ last in
       let rest = if_there in_descriptor d.describes ++ kind in
       kind_type_passes d.kind
@@ -51,10 +59,10 @@ module _ (ok : Ask → Bool) where
       (second_part ok (if_there in_descriptor d.descriptor) rest
       (second_part ok (flat_map (in_index space.Ty) d.parents) (if_there in_descriptor d.descriptor ++ rest) h))))
 
-  members_pass : (ms : List ty.«Type») → pass ok (flat_map in_type ms) ≡ true → list_all type_passes (map (λ t. taken_kind t.def.kind) ms) ≡ true
+  members_pass : (ms : List ty.«Type») → pass ok (flat_map in_type ms) ≡ true → list_all type_passes (map (λ t. shape_of t.def.kind) ms) ≡ true
   members_pass [] h = refl
   members_pass (m ∷ ms) h =
-      both_so (type_passes (taken_kind m.def.kind)) (list_all type_passes (map (λ t. taken_kind t.def.kind) ms)) (type_type_passes m (first_part ok (in_type m) (flat_map in_type ms) h)) (members_pass ms (second_part ok (in_type m) (flat_map in_type ms) h))
+      both_so (type_passes (shape_of m.def.kind)) (list_all type_passes (map (λ t. shape_of t.def.kind) ms)) (type_type_passes m (first_part ok (in_type m) (flat_map in_type ms) h)) (members_pass ms (second_part ok (in_type m) (flat_map in_type ms) h))
 
   -- the types of a field, one after the other
   members_asked : (x : ModuleField) → pass ok (asked (in_field x)) ≡ true → pass ok (flat_map in_type (types_of x)) ≡ true
@@ -62,12 +70,12 @@ module _ (ok : Ask → Bool) where
   members_asked (field.Rec r) h = sym (ap (pass ok) (asked_asking (in_rec r))) ∙ h
   members_asked x h = refl
 
-  all_types : (xs : List ModuleField) → pass ok (asked (in_module xs)) ≡ true → list_all type_passes (signatures xs) ≡ true
+  all_types : (xs : List ModuleField) → pass ok (asked (in_module xs)) ≡ true → list_all type_passes (shapes xs) ≡ true
   all_types [] h = refl
   all_types (x ∷ xs) h =
       let both = sym (ap (pass ok) (asked_both (in_field x) (in_module xs))) ∙ h in
-      list_all-append type_passes (signatures_in x) (signatures xs)
-      ∙ both_so (list_all type_passes (signatures_in x)) (list_all type_passes (signatures xs)) (members_pass (types_of x) (members_asked x (first_part ok (asked (in_field x)) (asked (in_module xs)) both)))
+      list_all-append type_passes (shapes_in x) (shapes xs)
+      ∙ both_so (list_all type_passes (shapes_in x)) (list_all type_passes (shapes xs)) (members_pass (types_of x) (members_asked x (first_part ok (asked (in_field x)) (asked (in_module xs)) both)))
       (all_types xs (second_part ok (asked (in_field x)) (asked (in_module xs)) both))
 
   module _ (c d : Scope) (types : c.types ≡ d.types) (they_pass : list_all type_passes d.types ≡ true)
@@ -87,11 +95,11 @@ module _ (ok : Ask → Bool) where
         ap (λ o. same_number o (denoted (c.known.number space.Ty) j)) (numbers space.Ty i h) ∙ ap (λ o. same_number (denoted (d.known.number space.Ty) i) o) (numbers space.Ty j k)
 
     -- what stands at a position passes
-    abbrev found_passes : Option (Option Signature) → Bool
+    abbrev found_passes : Option Shape → Bool
     found_passes None = true
-    found_passes (Some o) = type_passes o
+    found_passes (Some t) = type_passes t
 
-    get_passes : (ts : List (Option Signature)) (n : ℕ) → list_all type_passes ts ≡ true → found_passes (slice_get ts n) ≡ true
+    get_passes : (ts : List Shape) (n : ℕ) → list_all type_passes ts ≡ true → found_passes (slice_get ts n) ≡ true
     get_passes [] n h = refl
     get_passes (t ∷ ts) zero h = first_so (type_passes t) (list_all type_passes ts) h
     get_passes (t ∷ ts) (suc n) h = get_passes ts n (second_so (type_passes t) (list_all type_passes ts) h)
@@ -100,12 +108,13 @@ module _ (ok : Ask → Bool) where
     at_passes None = refl
     at_passes (Some n) = get_passes d.types n they_pass
 
-    with_alike : (t : FunctionType) (i : Index) → values_pass (value_passes ok) (signature_of t) ≡ true → (o : Option (Option Signature)) → found_passes o ≡ true
+    with_alike : (t : FunctionType) (i : Index) → values_pass (value_passes ok) (signature_of t) ≡ true → (o : Option Shape) → found_passes o ≡ true
         → match_with (matches c.known t) (span_of_index i) o ≡ match_with (matches d.known t) (span_of_index i) o
     with_alike t i h None k = refl
-    with_alike t i h (Some None) k = refl
-    with_alike t i h (Some (Some s)) k =
-        ap (λ b. match_with (λ u. b) (span_of_index i) (Some (Some s))) (signatures_alike ok (same_type c.known) (same_type d.known) type_alike (signature_of t) s h k)
+    with_alike t i h (Some (Struct number)) k = refl
+    with_alike t i h (Some Other) k = refl
+    with_alike t i h (Some (Function s)) k =
+        ap (λ b. match_with (λ u. b) (span_of_index i) (Some (Function s))) (signatures_alike ok (same_type c.known) (same_type d.known) type_alike (signature_of t) s h k)
 
     match_alike : (i : Index) (t : FunctionType) → ok (Wants space.Ty i) ≡ true → pass ok (in_signature t) ≡ true → match_demands c i t ≡ match_demands d i t
     match_alike i t h k =
@@ -123,6 +132,11 @@ module _ (ok : Ask → Bool) where
     site_alike (Asked a) h = ask_alike a (first_so (ok a) true h)
     site_alike (Used w u) h =
         ap (λ ds. ds ++ match_if c u.index u.inline) (asks_alike (in_type_use u) h) ∙ ap (λ ds. ask_demands d.known (in_type_use u) ++ ds) (if_alike u.index u.inline h)
+    site_alike (FieldAt owner i) h =
+        let owned = first_so (ok (Wants space.Ty owner)) (ok (Within i) && true) h in
+        ap (λ ds. ds ++ field_at c.types (denoted (c.known.number space.Ty) owner) i) (ask_alike (Wants space.Ty owner) owned)
+        ∙ (ap (λ o. ask_demand d.known (Wants space.Ty owner) ++ field_at c.types o i) (numbers space.Ty owner owned)
+        ∙ ap (λ (ts : List Shape). ask_demand d.known (Wants space.Ty owner) ++ field_at ts (denoted (d.known.number space.Ty) owner) i) types)
     site_alike (LocalAt locals i) h = by_names c locals (codes "local") i ∙ sym (by_names d locals (codes "local") i)
     site_alike s h = refl
 
@@ -152,7 +166,7 @@ module _ (ok : Ask → Bool) where
 
 -- Where both lists have the same types, and old names denote the same in both, sites that ask for old names alone demand the
 -- same, and functions have as many parameters.
-module _ (n : ℕ) (xs ys : List ModuleField) (types : signatures xs ≡ signatures ys) (old : (s : Space) (q : Name) → generation_of q < n → (known (items xs)).number s q ≡ (known (items ys)).number s q) where
+module _ (n : ℕ) (xs ys : List ModuleField) (types : shapes xs ≡ shapes ys) (old : (s : Space) (q : Name) → generation_of q < n → (known (items xs)).number s q ≡ (known (items ys)).number s q) where
   denoted_alike : (s : Space) (i : Index) → is_below n (Wants s i) ≡ true → denoted ((known (items xs)).number s) i ≡ denoted ((known (items ys)).number s) i
   denoted_alike s (index.Num m p) h = refl
   denoted_alike s (index.Id id) h = old s (name_of id) (ltb-true (generation_of (name_of id)) n h)

@@ -3,15 +3,15 @@
 use Rattle.std.proofs.Common.{◌≡◌, ℕ, suc, ◌<◌, ◌≤◌, Bool, true, ◌&&◌, List, [], ◌∷◌, refl, sym, ap, ◌∙◌, map}
 use Rattle.std.specs.Prelude.{nat_lt, Option, Some, None, is_some}
 use Rattle.std.specs.Cmp.{first_so, second_so}
-use Rattle.std.specs.List.{flat_map, list_all}
+use Rattle.std.specs.List.{flat_map, list_all, slice_get}
 use Rattle.std.proofs.lemmas.Bool.{ltb-true, lt-ltb}
 use Rattle.std.proofs.lemmas.List.Folds.{list_all-append, list_all-map}
 use native.Mathlib.Omega.{arith}
-use Rattle.wast_base.specs.Ids.{Name, name_of, is_number, Mark}
+use Rattle.wast_base.specs.Ids.{Name, name_of, mark_of, is_number, Mark}
 use Rattle.wast_base.specs.Faults.{Cause}
 use Rattle.wast_base.specs.Spaces.{is_settled_index}
 use Rattle.wast_tree.specs.Items.{items}
-use Rattle.wast_tree.specs.Sites.{Ask, Wants, Within, Unasked, Clause, Supported, Site, Asked, Used, Declared, LocalAt, LabelAt, Repeated, Begins, Ends, in_type_use, mark_asked, asked_in, asked, in_module}
+use Rattle.wast_tree.specs.Sites.{Ask, Wants, Within, Unasked, Clause, Covered, Site, Asked, Used, Declared, LocalAt, FieldAt, LabelAt, Repeated, Begins, Ends, in_type_use, mark_asked, asked_in, asked, in_module}
 use Rattle.wast_tree.specs.Known.{Known, known}
 use Rattle.wast_tree.specs.Generations.{generation_at, generation_in, greatest_item, greatest_asked, greatest_generation}
 use Rattle.wast_tree.specs.WellFormed.{is_written_index, is_kept, are_kept, is_well_formed}
@@ -22,8 +22,9 @@ use Rattle.wast_deinline.proofs.Below.{each_below, greatest_below}
 use Rattle.wast_labels.specs.OpenBlocks.{denotes}
 use Rattle.wast_resolve.specs.Tree.{Id, Span, Index, ModuleField}
 use Rattle.wast_resolve.specs.Tree.index
-use Rattle.wast_resolve.specs.Scopes.{Scope, scope, local_number}
-use Rattle.wast_resolve.specs.Demands.{first_unmet, known_index, ask_demand, ask_demands, match_if, site_demand, site_demands, item_demands, name_demands}
+use Rattle.wast_resolve.specs.Tree.space
+use Rattle.wast_resolve.specs.Scopes.{Shape, Function, Struct, Other, Scope, scope, denoted, type_at, field_in, local_number, field_number}
+use Rattle.wast_resolve.specs.Demands.{first_unmet, known_index, ask_demand, ask_demands, match_if, named_field, field_at, site_demand, site_demands, item_demands, name_demands}
 use Rattle.wast_resolve.specs.Resolved.{numbered_at, numbered_by, numbered, numbering, resolved}
 use Rattle.wast_resolve.proofs.Bodies.{IsOuter, all_outer}
 use Rattle.wast_resolve.proofs.OwnLocals.{outer, outer_use}
@@ -39,6 +40,26 @@ met_index f s id (Some n) h = refl
 met_known : (number : Name → Option ℕ) (word : List ℕ) (i : Index) → first_unmet (known_index number word i) ≡ None → is_number (numbered number i) ≡ true
 met_known number word (index.Num n span) h = refl
 met_known number word (index.Id id) h = met_index _ _ id (number (name_of id)) h
+
+known_denotes : (number : Name → Option ℕ) (word : List ℕ) (i : Index) → first_unmet (known_index number word i) ≡ None → is_some (denoted number i) ≡ true
+known_denotes number word (index.Num n span) h = refl
+known_denotes number word (index.Id id) h = by_number _ _ (number (name_of id)) h
+  where
+    by_number : (f : Cause) (s : Span) (o : Option ℕ) → first_unmet (record { fault = f; place = s; met = is_some o } ∷ []) ≡ None → is_some o ≡ true
+    by_number f s None h = absurd (cc h)
+    by_number f s (Some n) h = refl
+
+-- so does that of a field, where that of its type denotes one
+met_field : (types : List Shape) (o : Option ℕ) (i : Index) → is_some o ≡ true → first_unmet (field_at types o i) ≡ None → is_number (numbered (field_in (type_at types o)) i) ≡ true
+met_field types None i some h = absurd (cc some)
+met_field types (Some n) (index.Num m span) some h = refl
+met_field types (Some n) (index.Id id) some h = by_shape (slice_get types n) h
+  where
+    by_shape : (o : Option Shape) → first_unmet (named_field n o (mark_of id)) ≡ None → is_number (numbered_by (field_in o (name_of id)) id) ≡ true
+    by_shape None h = absurd (cc h)
+    by_shape (Some (Function s)) h = absurd (cc h)
+    by_shape (Some (Struct number)) h = met_index _ _ id (number (name_of id)) h
+    by_shape (Some Other) h = absurd (cc h)
 
 -- no generation is new
 below_by : (id : Id) (o : Option ℕ) → generation_at (numbered_by o id) ≤ generation_at (index.Id id)
@@ -85,6 +106,11 @@ module _ (c : Scope) where
   site_numbered (Asked a) o h = ap (λ b. b && true) (met_ask a o h)
   site_numbered (Used w u) o h = met_asks (in_type_use u) (outer_use u) (met_parts (ask_demands c.known (in_type_use u)) (match_if c u.index u.inline) h).0
   site_numbered (LocalAt locals i) o h = ap (λ b. b && true) (met_known (local_number c locals) _ i h)
+  site_numbered (FieldAt owner i) o h =
+      let known = c.known.number space.Ty in
+      let p = met_parts (ask_demand c.known (Wants space.Ty owner)) (field_at c.types (denoted known owner) i) h in
+      both_so (is_number (numbered known owner)) (is_number (numbered (field_number c owner) i) && true) (met_known known _ owner p.0)
+      (ap (λ b. b && true) (met_field c.types (denoted known owner) i (known_denotes known _ owner p.0) p.1))
   site_numbered (LabelAt blocks i) o h = ap (λ b. b && true) (met_known (λ name. denotes name blocks) _ i h)
   site_numbered (Repeated blocks m) o h = mark_passes is_numbered (λ m. refl) m
   site_numbered (Begins blocks m) o h = mark_passes is_numbered (λ m. refl) m
@@ -115,6 +141,11 @@ module _ (c : Scope) where
     site_under (Used w u) h = list_all-map is_under numbered_ask (in_type_use u) ∙ all_pass is_under (λ a. is_under (numbered_ask a)) ask_under (in_type_use u) h
     site_under (LocalAt locals i) h =
         ap (λ b. b && true) (under (Within i) (Within (numbered (local_number c locals) i)) (below_index (local_number c locals) i) (first_so (is_under (Within i)) true h))
+    site_under (FieldAt owner i) h =
+        let j : Index = numbered (field_number c owner) i in
+        let both = is_under (Within i) && true in
+        both_so (is_under (numbered_ask (Wants space.Ty owner))) (is_under (Within j) && true) (ask_under (Wants space.Ty owner) (first_so (is_under (Wants space.Ty owner)) both h))
+        (ap (λ b. b && true) (under (Within i) (Within j) (below_index (field_number c owner) i) (first_so (is_under (Within i)) true (second_so (is_under (Wants space.Ty owner)) both h))))
     site_under (LabelAt blocks i) h =
         let number : Name → Option ℕ = λ name. denotes name blocks in
         ap (λ b. b && true) (under (Within i) (Within (numbered number i)) (below_index number i) (first_so (is_under (Within i)) true h))
@@ -133,7 +164,7 @@ module _ (c : Scope) where
     kept_ask (Within i) h n = h
     kept_ask (Unasked m) h n = refl
     kept_ask (Clause n holds) h m = h
-    kept_ask (Supported holds) h m = h
+    kept_ask (Covered form holds) h m = refl
 
     kept_asks : (asks : List Ask) → are_kept c.known asks ≡ true → are_numbered (map numbered_ask asks) ≡ true → are_kept l (map numbered_ask asks) ≡ true
     kept_asks [] h n = refl
@@ -149,6 +180,12 @@ module _ (c : Scope) where
     site_kept (LocalAt locals i) h n =
         let j : Index = numbered (local_number c locals) i in
         ap (λ b. b && true) (number_written j (first_so (is_number j) true n))
+    site_kept (FieldAt owner i) h n =
+        let owned = numbered_ask (Wants space.Ty owner) in
+        let j : Index = numbered (field_number c owner) i in
+        both_so (is_kept l owned) (is_written_index j && true)
+        (kept_ask (Wants space.Ty owner) (first_so (is_kept c.known (Wants space.Ty owner)) (is_written_index i && true) h) (first_so (is_numbered owned) (is_number j && true) n))
+        (ap (λ b. b && true) (number_written j (first_so (is_number j) true (second_so (is_numbered owned) (is_number j && true) n))))
     site_kept (LabelAt blocks i) h n =
         let j : Index = numbered (λ name. denotes name blocks) i in
         ap (λ b. b && true) (number_written j (first_so (is_number j) true n))

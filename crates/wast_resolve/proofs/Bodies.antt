@@ -6,12 +6,13 @@ use Rattle.std.specs.List.{flat_map}
 use Rattle.wast_base.specs.Ids.{Name, Mark}
 use Rattle.wast_base.specs.Spaces.{name_if}
 use Rattle.wast_tree.specs.Clauses.{suits}
-use Rattle.wast_tree.specs.Sites.{Ask, Clause, Supported, Site, Asked, Declared, LocalAt, OfItem, asking, if_there, at_index, in_ref, in_val, in_id, in_type, in_type_use, in_use, in_expression, in_constant, in_local, declaring, param_marks, local_marks, body_here, in_func_kind, in_tag_type, in_item_kind, in_import, in_payload, in_table_kind, in_memory_kind, in_global_kind, in_elem_kind, in_data_kind, in_field, in_module, asked}
+use Rattle.wast_tree.specs.Sites.{Ask, Clause, Covered, Site, Asked, Declared, LocalAt, OfItem, asking, if_there, at_index, in_ref, in_val, in_id, in_type, in_type_use, in_use, in_expression, in_constant, in_local, declaring, param_marks, local_marks, body_here, in_func_kind, in_tag_type, in_item_kind, in_sig, in_import, uncovered, in_payload, in_table_kind, in_memory_kind, in_global_kind, in_elem_kind, in_data_kind, in_field, in_module, asked}
 use Rattle.wast_tree.proofs.Visiting.{asked_both}
 use Rattle.wast_map.specs.Mapped.{Each}
 use Rattle.wast_map.proofs.Ways.{each_first, each_rest}
 use Rattle.wast_resolve.specs.Tree.{Index, FunctionType, TypeUse, Expression, Local, FuncKind, TagType, ItemKind, ImportItems, TableKind, MemoryKind, GlobalKind, ElemKind, ElemPayload, DataKind, ModuleField}
 use Rattle.wast_resolve.specs.Tree.space
+use Rattle.wast_resolve.specs.Tree.form
 use Rattle.wast_resolve.specs.Tree.func
 use Rattle.wast_resolve.specs.Tree.tag
 use Rattle.wast_resolve.specs.Tree.kind
@@ -51,13 +52,17 @@ tag_fixed (tag.Exception u) = refl
 
 item_kind_fixed : (k : ItemKind) → Fixed None (in_item_kind k)
 item_kind_fixed (kind.Func u) = refl
-item_kind_fixed (kind.Table t) = fixed_form None (in_ref t.elem) (Supported (not t.shared)) (ref_part.typed t.elem) refl
+item_kind_fixed (kind.FuncExact u) = refl
+item_kind_fixed (kind.Table t) = fixed_form None (in_ref t.elem) (Covered form.Shared (not t.shared)) (ref_part.typed t.elem) refl
 item_kind_fixed (kind.Memory t) = refl
-item_kind_fixed (kind.Global t) = fixed_form None (in_val t.ty) (Supported (not t.shared)) (val_part.typed t.ty) refl
+item_kind_fixed (kind.Global t) = fixed_form None (in_val t.ty) (Covered form.Shared (not t.shared)) (val_part.typed t.ty) refl
 item_kind_fixed (kind.Tag t) = tag_fixed t
 
 import_fixed : (i : ImportItems) → Fixed None (in_import i)
 import_fixed (import_items.Single source name sig) = item_kind_fixed sig.kind
+import_fixed (import_items.Group1 source items) =
+    fixed_both None (flat_map (λ p. in_sig p.1) items) (asking (uncovered form.CompactImports)) (fixed_each None (λ p. in_sig p.1) (λ p. item_kind_fixed p.1.kind) items) refl
+import_fixed (import_items.Group2 source sig names) = fixed_both None (in_sig sig) (asking (uncovered form.CompactImports)) (item_kind_fixed sig.kind) refl
 
 payload_fixed : (p : ElemPayload) → Fixed None (in_payload p)
 payload_fixed (payload.Indices is) = fixed_each None (at_index space.Func) (λ i. refl) is
@@ -69,12 +74,12 @@ init_fixed None = refl
 init_fixed (Some e) = constant_fixed e
 
 table_fixed : (k : TableKind) → Fixed None (in_table_kind k)
-table_fixed (table.Import import ty) = fixed_form None (in_ref ty.elem) (Supported (not ty.shared)) (ref_part.typed ty.elem) refl
+table_fixed (table.Import import ty) = fixed_form None (in_ref ty.elem) (Covered form.Shared (not ty.shared)) (ref_part.typed ty.elem) refl
 table_fixed (table.Normal ty init) =
-    fixed_both None (asking (in_ref ty.elem ++ Supported (not ty.shared) ∷ [])) (if_there in_constant init) (fixed_form None (in_ref ty.elem) (Supported (not ty.shared)) (ref_part.typed ty.elem) refl)
+    fixed_both None (asking (in_ref ty.elem ++ Covered form.Shared (not ty.shared) ∷ [])) (if_there in_constant init) (fixed_form None (in_ref ty.elem) (Covered form.Shared (not ty.shared)) (ref_part.typed ty.elem) refl)
     (init_fixed init)
 table_fixed (table.Inline ty is64 shared elements) =
-    let form = Asked (Supported (not shared)) ∷ [] in
+    let form = Asked (Covered form.Shared (not shared)) ∷ [] in
     fixed_both None (asking (in_ref ty)) (in_payload elements ++ form) (fixed_asks None (in_ref ty) (ref_part.typed ty)) (fixed_both None (in_payload elements) form (payload_fixed elements) refl)
 
 memory_fixed : (k : MemoryKind) → Fixed None (in_memory_kind k)
@@ -112,7 +117,7 @@ field_fixed (field.Func f) = fixed_both (Some f.ty) (in_use OfItem f.ty) (in_fun
 field_fixed (field.Table t) = table_fixed t.kind
 field_fixed (field.Memory m) = memory_fixed m.kind
 field_fixed (field.Global g) =
-    fixed_both None (asking (in_val g.ty.ty ++ Supported (not g.ty.shared) ∷ [])) (in_global_kind g.kind) (fixed_form None (in_val g.ty.ty) (Supported (not g.ty.shared)) (val_part.typed g.ty.ty) refl)
+    fixed_both None (asking (in_val g.ty.ty ++ Covered form.Shared (not g.ty.shared) ∷ [])) (in_global_kind g.kind) (fixed_form None (in_val g.ty.ty) (Covered form.Shared (not g.ty.shared)) (val_part.typed g.ty.ty) refl)
     (global_fixed g.kind)
 field_fixed (field.Export e) = refl
 field_fixed (field.Start i) = refl

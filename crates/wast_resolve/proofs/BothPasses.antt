@@ -1,16 +1,20 @@
 -- The walk over the uses, after the items had what they demand.
 use Rattle.std.specs.Prelude.{⊤, flat_map}
-use Rattle.std.proofs.Common.{◌≡◌, List, None, Option, inr, sym, ◌∙◌, ap, subst}
-use Rattle.wast_base.specs.Faults.{Told}
+use Rattle.std.proofs.Common.{◌≡◌, List, None, Option, inl, inr, sym, ◌∙◌, ap, subst, map}
+use Rattle.wast_base.specs.declared.faults.Error.{Error}
+use Rattle.wast_base.specs.Faults.{Told, told}
 use Rattle.wast_tree.specs.Items.{items}
 use Rattle.wast_tree.specs.Sites.{in_module}
 use Rattle.wast_tree.specs.Known.{Known, known}
-use Rattle.wast_types.specs.Signatures.{Signature}
+use Rattle.wast_resolve.specs.declared.resolver.TypeShape.{TypeShape}
 use Rattle.wast_resolve.specs.Tree.{ModuleField}
-use Rattle.wast_resolve.specs.Scopes.{Scope, scope, signatures}
-use Rattle.wast_resolve.specs.Resolvers.{Resolution, known_of, scope_of, with_types}
-use Rattle.wast_resolve.specs.Demands.{first_unmet, item_demands, site_demands, name_demands, Answers, HasMany, body_counts_in, IsCrowded}
-use Rattle.wast_resolve.proofs.Unmet.{first_unmet-append, answers_first, answers_after}
+use Rattle.wast_resolve.specs.Scopes.{Scope, scope, shapes}
+use Rattle.wast_resolve.specs.Resolvers.{Resolution, known_of, scope_of, read_shape, with_types}
+use Rattle.wast_resolve.specs.Demands.{first_unmet, item_demands, site_demands, name_demands, Answers, HasMany, space_counts, field_counts, body_counts_in, IsCrowded}
+use Rattle.wast_resolve.specs.Shaping.{types_demands, types_fields, IsRefused}
+use Rattle.wast_resolve.proofs.Counted.{many_right}
+use Rattle.wast_resolve.proofs.Shaping.{types_met, types_many}
+use Rattle.wast_resolve.proofs.Unmet.{first_unmet-append, answers_first, answers_after, answers_more}
 
 -- gs are the fields that were read, k what is known
 module _ (fs gs : List ModuleField) (p : gs ≡ fs) where
@@ -25,8 +29,8 @@ module _ (fs gs : List ModuleField) (p : gs ≡ fs) where
   pub items_known : (k : Known) → k ≡ known (items gs) → k ≡ known (items fs)
   items_known k h = h ∙ ap (λ xs. known (items xs)) p
 
--- the name spaces, and the types that were read before them
-pub scope_known : (fs : List ModuleField) (r names : Resolution) (types : List (Option Signature)) → known_of r ≡ known (items fs) → types ≡ signatures fs → names ≡ with_types r types → scope_of names ≡ scope fs
+-- the name spaces, and what was read of the types behind them
+pub scope_known : (fs : List ModuleField) (r names : Resolution) (types : List TypeShape) → known_of r ≡ known (items fs) → map read_shape types ≡ shapes fs → names ≡ with_types r types → scope_of names ≡ scope fs
 scope_known fs r names types k t is = ap scope_of is ∙ (λ i. record { known = k i; types = t i })
 
 module _ (fs : List ModuleField) (c : Scope) (same : c ≡ scope fs) (met : first_unmet (item_demands (items fs)) ≡ None) where
@@ -37,3 +41,13 @@ module _ (fs : List ModuleField) (c : Scope) (same : c ≡ scope fs) (met : firs
 
   pub both_pass : first_unmet (site_demands c (in_module fs)) ≡ None → first_unmet (name_demands fs) ≡ None
   both_pass h = first_unmet-append (item_demands (items fs)) (site_demands (scope fs) (in_module fs)) met ∙ (ap (λ (c : Scope). first_unmet (site_demands c (in_module fs))) (sym same) ∙ h)
+
+-- what is read of the types, once no two items and no two fields of a struct have one name; it may be refused
+module _ (fs gs : List ModuleField) (p : gs ≡ fs) (met : first_unmet (item_demands (items fs)) ≡ None) where
+  pub shapes_need : first_unmet (flat_map types_demands gs) ≡ None
+  shapes_need = subst (λ (xs : List ModuleField). first_unmet (flat_map types_demands xs) ≡ None) (sym p) (types_met fs met)
+
+  pub shapes_stop : (e : Error) → IsRefused (HasMany (flat_map types_fields gs)) e → Answers ⊤ (IsCrowded fs) (told e) (first_unmet (name_demands fs))
+  shapes_stop e h =
+      answers_more (told e) None (first_unmet (name_demands fs)) (λ l. l) (λ m. inl (many_right (space_counts (items fs)) (field_counts (items fs)) (types_many fs m))) (λ f k. absurd (cc k))
+      (subst (λ (xs : List ModuleField). IsRefused (HasMany (flat_map types_fields xs)) e) p h)

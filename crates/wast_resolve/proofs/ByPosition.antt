@@ -6,7 +6,7 @@ use Rattle.wast_base.specs.Ids.{Name, name_of, generation_of}
 use Rattle.wast_base.specs.Filling.{one_if, given_if, filled, wanted}
 use Rattle.wast_tree.specs.Items.{items}
 use Rattle.wast_tree.specs.Known.{Known, known}
-use Rattle.wast_tree.specs.Sites.{Ask, Wants, Within, Unasked, Clause, Supported, asked, in_module}
+use Rattle.wast_tree.specs.Sites.{Ask, Wants, Within, Unasked, Clause, Covered, asked, in_module}
 use Rattle.wast_tree.specs.Generations.{generation_in, greatest_asked, greatest_generation}
 use Rattle.wast_map.specs.Mapped.{mapped, mapped_def}
 use Rattle.wast_map.specs.Laws.{all_mapped}
@@ -35,7 +35,7 @@ use Rattle.wast_resolve.proofs.Composed.{names_met}
 use Rattle.wast_resolve.proofs.FoundMatches.{id_denotes}
 use Rattle.wast_resolve.proofs.SameUses.{telling, one_pass, SameAsk, Same, all_same}
 use Rattle.wast_resolve.proofs.Nameless.{number_at}
-use Rattle.wast_resolve.proofs.ExpandedTypes.{bound_signatures, same_signatures}
+use Rattle.wast_resolve.proofs.ExpandedTypes.{bound_shapes, same_shapes}
 
 -- Ids that are given are generated, and so set aside.
 module _ (c : Scope) (find : LookUp) where
@@ -68,7 +68,7 @@ module _ (c : Scope) (find : LookUp) where
 
 -- What the list by positions tells.
 same_scope : (find : LookUp) (xs : List ModuleField) → scope (map (bound_field find) xs) ≡ scope xs
-same_scope find xs = λ i. record { known = known (bound_items find xs i); types = bound_signatures find xs i }
+same_scope find xs = λ i. record { known = known (bound_items find xs i); types = bound_shapes find xs i }
 
 pub told_positions : (fields : List ModuleField) → all_mapped stripping (resolved (positioned fields)) ≡ all_mapped (telling (scope (completed fields)) (position_for fields)) (completed fields)
 told_positions fields =
@@ -87,7 +87,7 @@ module _ (c d : Scope) (n : ℕ) (alike : (q : Name) (s : Space) → generation_
   ask_alike (Within i) lt = tt
   ask_alike (Unasked m) lt = tt
   ask_alike (Clause m holds) lt = tt
-  ask_alike (Supported holds) lt = tt
+  ask_alike (Covered form holds) lt = tt
 
   pub asks_alike : (asks : List Ask) → greatest_asked asks < n → Same c d asks
   asks_alike [] lt = tt
@@ -129,4 +129,4 @@ module _ (n : ℕ) (fields : List ModuleField) (above : greatest_generation fiel
   pub numbered_by_position : all_mapped stripping (numbered n fields) ≡ all_mapped stripping (resolved (positioned fields))
   numbered_by_position =
       one_pass new made (typed n fields)
-      ∙ (ids_aside new made n fields ∙ (all_same new old made (position_for fields) bound_alike (same_signatures n fields) (completed fields) old_alike ∙ sym (told_positions fields)))
+      ∙ (ids_aside new made n fields ∙ (all_same new old made (position_for fields) bound_alike (same_shapes n fields) (completed fields) old_alike ∙ sym (told_positions fields)))

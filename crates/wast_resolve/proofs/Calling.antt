@@ -5,9 +5,10 @@ use Rattle.std.proofs.lemmas.List.Elements.{Contains-append_left, Contains-appen
 use native.Mathlib.Omega.{arith}
 use Rattle.std.proofs.lemmas.Grind.{flat_map-append}
 use Rattle.wast_base.specs.declared.faults.Error.{Error}
-use Rattle.wast_tree.specs.Sites.{Ask, Wants, Supported, if_there, in_id, in_index, in_descriptor, in_inner, in_def}
+use Rattle.wast_tree.specs.Sites.{Ask, Wants, Covered, if_there, in_id, in_index, in_descriptor, in_inner, in_def}
 use Rattle.wast_resolve.specs.Tree.{Id, Index, Space, TypeDef}
 use Rattle.wast_resolve.specs.Tree.space
+use Rattle.wast_resolve.specs.Tree.form
 use Rattle.wast_resolve.specs.CoreTypes.{Calls, none_left, answered, refused, index_asked, indices_of, CallsOn, HasNeeds}
 
 pub indices-append : (xs ys : List Ask) → indices_of (xs ++ ys) ≡ indices_of xs ++ indices_of ys
@@ -78,12 +79,12 @@ descriptor_alike (Some i) = refl
 -- has the same indices
 def_alike : (d : TypeDef) → indices_of (in_def d) ≡ indices_of (asked_in_def d)
 def_alike d =
-    let form : List Ask = Supported (not d.shared) ∷ [] in
+    let last : List Ask = Covered form.Shared (not d.shared) ∷ [] in
     let at = if_there (in_index space.Ty) in
-    both_alike (flat_map (in_index space.Ty) d.parents) (if_there in_descriptor d.descriptor ++ (if_there in_descriptor d.describes ++ (in_inner d.kind ++ form))) (flat_map (in_index space.Ty) d.parents)
+    both_alike (flat_map (in_index space.Ty) d.parents) (if_there in_descriptor d.descriptor ++ (if_there in_descriptor d.describes ++ (in_inner d.kind ++ last))) (flat_map (in_index space.Ty) d.parents)
     (at d.descriptor ++ (at d.describes ++ in_inner d.kind)) refl
-    (both_alike (if_there in_descriptor d.descriptor) (if_there in_descriptor d.describes ++ (in_inner d.kind ++ form)) (at d.descriptor) (at d.describes ++ in_inner d.kind) (descriptor_alike d.descriptor)
-    (both_alike (if_there in_descriptor d.describes) (in_inner d.kind ++ form) (at d.describes) (in_inner d.kind) (descriptor_alike d.describes) (indices-append (in_inner d.kind) form ∙ append-nil (indices_of (in_inner d.kind)))))
+    (both_alike (if_there in_descriptor d.descriptor) (if_there in_descriptor d.describes ++ (in_inner d.kind ++ last)) (at d.descriptor) (at d.describes ++ in_inner d.kind) (descriptor_alike d.descriptor)
+    (both_alike (if_there in_descriptor d.describes) (in_inner d.kind ++ last) (at d.describes) (in_inner d.kind) (descriptor_alike d.describes) (indices-append (in_inner d.kind) last ∙ append-nil (indices_of (in_inner d.kind)))))
 
 -- so the calls on them are those, and so is what they need
 pub calls_in_def : {C : Type 0} {called : C → Index → C → Index → Result ℕ Error → Type 0} {a b : C} {result : Result (Unit {0}) Error} (d e : TypeDef)

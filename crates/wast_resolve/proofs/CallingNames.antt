@@ -3,7 +3,7 @@ use Rattle.std.proofs.Common.{◌≡◌, ℕ, zero, suc, arith, Bool, true, fals
 use Rattle.std.specs.List.{flat_map, Contains}
 use Rattle.wast_base.specs.declared.faults.Error.{Error}
 use Rattle.wast_base.specs.Faults.{told}
-use Rattle.wast_tree.specs.Sites.{Ask, Wants, Within, Unasked, Clause, Supported}
+use Rattle.wast_tree.specs.Sites.{Ask, Wants, Within, Unasked, Clause, Covered}
 use Rattle.wast_tree.specs.Known.{Known}
 use Rattle.wast_resolve.specs.Tree.{Index}
 use Rattle.wast_resolve.specs.Tree.index
@@ -30,7 +30,7 @@ typed_demands k (Wants s i ∷ asks) = ap (λ ds. type_demand k i ++ ds) (typed_
 typed_demands k (Within i ∷ asks) = typed_demands k asks
 typed_demands k (Unasked m ∷ asks) = typed_demands k asks
 typed_demands k (Clause n holds ∷ asks) = typed_demands k asks
-typed_demands k (Supported holds ∷ asks) = typed_demands k asks
+typed_demands k (Covered form holds ∷ asks) = typed_demands k asks
 
 both_true : (a b : Bool) → (a && b) ≡ true → (a ≡ true) × (b ≡ true)
 both_true true b h = (refl, h)
@@ -42,7 +42,7 @@ settled_each k [] h i (n, lt, is) = absurd (omega (arith, lt))
 settled_each k (Within j ∷ asks) h i c = settled_each k asks h i c
 settled_each k (Unasked m ∷ asks) h i c = settled_each k asks h i c
 settled_each k (Clause n holds ∷ asks) h i c = settled_each k asks h i c
-settled_each k (Supported holds ∷ asks) h i c = settled_each k asks h i c
+settled_each k (Covered form holds ∷ asks) h i c = settled_each k asks h i c
 settled_each k (Wants s j ∷ asks) h i (zero, lt, is) =
     subst (IsSettledFor k space.Ty) is (ap (λ b. b && true) (both_true (is_settled_index (k.number space.Ty) j) (are_settled k (map as_type asks)) h).0)
 settled_each k (Wants s j ∷ asks) h i (suc n, lt, is) =

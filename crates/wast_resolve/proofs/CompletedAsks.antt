@@ -7,7 +7,7 @@ use Rattle.std.proofs.Math.Bool.{and-true}
 use Rattle.std.proofs.lemmas.Bool.{lt-ltb}
 use Rattle.std.proofs.lemmas.List.Folds.{list_all-append, list_all-map}
 use Rattle.std.proofs.lemmas.Grind.{flat_map-append}
-use Rattle.wast_tree.specs.Sites.{Ask, Supported, Where, Site, Used, if_there, in_index, in_id, in_val, in_param, in_signature, in_field, in_module, asking, asked_in, asked}
+use Rattle.wast_tree.specs.Sites.{Ask, Covered, Where, Site, Used, if_there, in_index, in_id, in_val, in_param, in_signature, in_field, in_module, asking, asked_in, asked}
 use Rattle.wast_tree.specs.Generations.{generation_in, greatest_asked}
 use Rattle.wast_tree.proofs.Visiting.{asked_both, asked_asking}
 use Rattle.wast_types.specs.Signatures.{Signature, type_of_param, signature_of}
@@ -18,6 +18,7 @@ use Rattle.wast_types.specs.Completed.{completed}
 use Rattle.wast_deinline.proofs.Below.{each_below, greatest_below}
 use Rattle.wast_resolve.specs.Tree.{Id, Index, NameAnnotation, ValType, FunctionType, ModuleField}
 use Rattle.wast_resolve.specs.Tree.space
+use Rattle.wast_resolve.specs.Tree.form
 use Rattle.wast_resolve.proofs.ImpliedSignatures.{both_so, all_pass, all_parts, values_pass, all_implied}
 
 module _ (ok : Ask → Bool) where
@@ -74,17 +75,17 @@ module _ (ok : Ask → Bool) where
   sites_need ss h =
       all_parts (values_pass value_passes) needed_at ss ∙ all_pass (λ s. pass (asked_in s)) (λ s. all_pass_in (needed_at s)) site_needs ss (sym (all_parts ok asked_in ss) ∙ h)
 
-  -- and of what types without names ask, which are supported
-  module _ (supported : ok (Supported true) ≡ true) where
-    unnamed_passes : (t : FunctionType) → pass (in_signature t ++ Supported true ∷ []) ≡ (list_all param_passes t.params && list_all value_passes t.results)
+  -- and of what types without names ask, which are not shared
+  module _ (unshared : ok (Covered form.Shared true) ≡ true) where
+    unnamed_passes : (t : FunctionType) → pass (in_signature t ++ Covered form.Shared true ∷ []) ≡ (list_all param_passes t.params && list_all value_passes t.results)
     unnamed_passes t =
-        list_all-append ok (in_signature t) (Supported true ∷ []) ∙ (ap (λ b. pass (in_signature t) && (b && true)) supported ∙ (and-true (pass (in_signature t)) ∙ signature_passes t))
+        list_all-append ok (in_signature t) (Covered form.Shared true ∷ []) ∙ (ap (λ b. pass (in_signature t) && (b && true)) unshared ∙ (and-true (pass (in_signature t)) ∙ signature_passes t))
 
     unnamed_pass : (ss : List Signature) → pass (asked (in_module (map unnamed_type ss))) ≡ all_pass_in ss
     unnamed_pass [] = refl
     unnamed_pass (s ∷ ss) =
         let t : FunctionType = record { params = map nameless s.0; results = s.1 } in
-        let one = in_signature t ++ Supported true ∷ [] in
+        let one = in_signature t ++ Covered form.Shared true ∷ [] in
         let rest = asked (in_module (map unnamed_type ss)) in
         ap pass (asked_both (asking one) (in_module (map unnamed_type ss)) ∙ ap (λ asks. asks ++ rest) (asked_asking one))
         ∙ (list_all-append ok one rest

@@ -21,7 +21,7 @@ use Rattle.wast_resolve.proofs.AtRest.{all_numbered, still_well_formed, still_be
 use Rattle.wast_resolve.proofs.Unmet.{alike_behind, met_parts}
 use Rattle.wast_resolve.proofs.OrderKept.{expanded_orders}
 use Rattle.wast_resolve.proofs.ExpandedItems.{expanded_position, expanded_clashes, expanded_item_counts, expanded_below}
-use Rattle.wast_resolve.proofs.ExpandedTypes.{same_signatures}
+use Rattle.wast_resolve.proofs.ExpandedTypes.{same_shapes}
 use Rattle.wast_resolve.proofs.ExpandedBodies.{expanded_bodies}
 use Rattle.wast_resolve.proofs.ExpandedUses.{found_known, uses_met}
 use Rattle.wast_resolve.proofs.AlikeScopes.{old_uses, old_bodies}
@@ -81,12 +81,12 @@ module _ (n : ℕ) (fields : List ModuleField) where
     same_uses free =
         uses_met n fields free
         ∙ ap first_unmet
-        (old_uses n (expanded n fields) (completed fields) (same_signatures n fields) (λ s q lt. expanded_position n fields old_items_below q s lt) (each_below n generation_in (asked (in_module (completed fields))) old_asks_below))
+        (old_uses n (expanded n fields) (completed fields) (same_shapes n fields) (λ s q lt. expanded_position n fields old_items_below q s lt) (each_below n generation_in (asked (in_module (completed fields))) old_asks_below))
 
     pub same_bodies_if : first_unmet (item_demands (items (completed fields))) ≡ None → body_counts (expanded n fields) ≡ body_counts (completed fields)
     same_bodies_if free =
         expanded_bodies n fields (expanded_clashes n fields old_items_below ∙ free)
-        ∙ old_bodies n (expanded n fields) (completed fields) (same_signatures n fields) (λ s q lt. expanded_position n fields old_items_below q s lt) (each_below n generation_in (asked (in_module (completed fields))) old_asks_below)
+        ∙ old_bodies n (expanded n fields) (completed fields) (same_shapes n fields) (λ s q lt. expanded_position n fields old_items_below q s lt) (each_below n generation_in (asked (in_module (completed fields))) old_asks_below)
 
     still_kept : is_well_formed fields ≡ true → is_well_formed (expanded n fields) ≡ true
     still_kept h =

@@ -1,10 +1,9 @@
--- The function types of an expanded list are those of the completed one.
+-- The types of an expanded list are read as those of the completed one.
 use Rattle.std.proofs.Common.{◌≡◌, ℕ, ◌+◌, Bool, true, false, List, [], ◌∷◌, ◌++◌, map, refl, sym, ap, ◌∙◌}
 use Rattle.std.specs.List.{flat_map}
 use Rattle.std.proofs.lemmas.Grind.{flat_map-append}
 use Rattle.wast_map.proofs.Types.{type_at, rec_at}
 use Rattle.wast_types.specs.Signatures.{Signature}
-use Rattle.wast_types.specs.TypeSpace.{taken_kind}
 use Rattle.wast_types.specs.ImpliedTypes.{implied}
 use Rattle.wast_base.specs.Filling.{one_if, given_if, filled, wanted}
 use Rattle.wast_types.specs.Expanders.{LookUp, index_of}
@@ -13,7 +12,7 @@ use Rattle.wast_types.specs.Completed.{completed}
 use Rattle.wast_resolve.specs.Tree.{Rec, ModuleField}
 use Rattle.wast_resolve.specs.Tree.ty
 use Rattle.wast_resolve.specs.Tree.field
-use Rattle.wast_resolve.specs.Scopes.{signatures_in, signatures}
+use Rattle.wast_resolve.specs.Scopes.{shape_of, shapes_in, shapes}
 
 -- What neither ids nor indices of type uses change, field by field, they do not change in the list.
 module _ {A : Type 0} (f : ModuleField → List A) where
@@ -42,18 +41,18 @@ module _ {A : Type 0} (f : ModuleField → List A) where
         ∙ (ap (λ ys. ys ++ flat_map f (implied_types m (implied fields))) (each_filled n fields)
         ∙ (ap (λ ys. flat_map f fields ++ ys) (each_implied m (implied fields)) ∙ sym (flat_map-append f fields (map unnamed_type (implied fields))))))
 
-bound_types : (find : LookUp) (x : ModuleField) → signatures_in (bound_field find x) ≡ signatures_in x
-bound_types find (field.Ty t) = ap (λ (t : ty.«Type»). taken_kind t.def.kind ∷ []) (type_at t).still
-bound_types find (field.Rec r) = ap (λ (r : Rec). map (λ t. taken_kind t.def.kind) r.types) (rec_at r).still
+bound_types : (find : LookUp) (x : ModuleField) → shapes_in (bound_field find x) ≡ shapes_in x
+bound_types find (field.Ty t) = ap (λ (t : ty.«Type»). shape_of t.def.kind ∷ []) (type_at t).still
+bound_types find (field.Rec r) = ap (λ (r : Rec). map (λ t. shape_of t.def.kind) r.types) (rec_at r).still
 bound_types find x = refl
 
-given_types : (n : ℕ) (x : ModuleField) → signatures_in (with_type_id n x) ≡ signatures_in x
+given_types : (n : ℕ) (x : ModuleField) → shapes_in (with_type_id n x) ≡ shapes_in x
 given_types n (field.Ty t) = refl
 given_types n x = refl
 
 -- whatever type uses are bound to
-pub bound_signatures : (find : LookUp) (xs : List ModuleField) → signatures (map (bound_field find) xs) ≡ signatures xs
-bound_signatures find xs = each_bound signatures_in find (bound_types find) xs
+pub bound_shapes : (find : LookUp) (xs : List ModuleField) → shapes (map (bound_field find) xs) ≡ shapes xs
+bound_shapes find xs = each_bound shapes_in find (bound_types find) xs
 
-pub same_signatures : (n : ℕ) (fields : List ModuleField) → signatures (expanded n fields) ≡ signatures (completed fields)
-same_signatures n fields = all_stay signatures_in given_types n fields (bound_types (index_of (bindings (typed n fields))))
+pub same_shapes : (n : ℕ) (fields : List ModuleField) → shapes (expanded n fields) ≡ shapes (completed fields)
+same_shapes n fields = all_stay shapes_in given_types n fields (bound_types (index_of (bindings (typed n fields))))

@@ -1,12 +1,13 @@
 -- The first clash among the fields of a struct is their first unmet demand.
 use Rattle.std.proofs.Common.{◌≡◌, ℕ, zero, suc, ◌+◌, List, [], ◌∷◌, ◌++◌, length, map, get_or, Option, Some, None, option_map, codes, refl, sym, ap, ◌∙◌, subst, subst₂, arith, append_assoc, append-nil}
+use Rattle.std.proofs.Math.ListN.{get_or-map}
 use Rattle.std.proofs.lemmas.List.{length-map, map-append, length-append}
 use Rattle.wast_resolve.specs.Tree.{Span}
 use Rattle.wast_base.specs.Ids.{Name, Mark, text_of}
 use Rattle.wast_base.specs.Faults.{Cause, DuplicateField, Told}
 use Rattle.wast_base.specs.Spaces.{name_if}
 use Rattle.wast_resolve.specs.Demands.{first_unmet, field_demand, field_demands, each_after}
-use Rattle.wast_namespace.specs.Filling.{IsClash, HasFirstClash}
+use Rattle.wast_namespace.specs.Filling.{IsClash, IsFirstClash, HasFirstClash}
 use Rattle.wast_resolve.specs.Clashes.{field_clash_told, FindsAmong}
 use Rattle.wast_resolve.proofs.Unmet.{first_unmet-append}
 use Rattle.wast_resolve.proofs.Countdowns.{Ahead, from_start, still_free, one_nearer, not_here, none_past, met_here, clashes_here}
@@ -78,3 +79,13 @@ finds_clash ids {names} {p} {id} is h at seen = subst (FindsAmong ids) (sym seen
     by_id : (id : Option Mark) → first_unmet (field_demands ids) ≡ says id → FindsAmong ids (field_clash_told id)
     by_id None h = h
     by_id (Some m) h = h
+
+-- Where what the fields demand is met, none is the first clash.
+pub no_clash : (ids : List (Option Mark)) {names : List (Option Name)} {p : ℕ} → names ≡ map name_if ids → IsFirstClash names p → first_unmet (field_demands ids) ≡ None → ⊥
+no_clash ids {names} {p} is h met =
+    let first = subst (λ names. IsFirstClash names p) is h in
+    by_id (get_or ids p None) (sym (unmet_first ids (Some p) first) ∙ met) (sym (get_or-map name_if ids p None) ∙ first.clash.bears)
+  where
+    by_id : (id : Option Mark) {name : Name} → says id ≡ None → name_if id ≡ Some name → ⊥
+    by_id None same named = absurd (cc named)
+    by_id (Some m) same named = absurd (cc same)

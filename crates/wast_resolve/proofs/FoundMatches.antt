@@ -8,7 +8,7 @@ use Rattle.std.proofs.lemmas.List.Quantifiers.{position-Some}
 use Rattle.std.proofs.lemmas.Grind.{flat_map-append}
 use Rattle.wast_base.specs.Ids.{Name, name_of, place_of, marked}
 use Rattle.wast_base.specs.Spaces.{name_if, position_of}
-use Rattle.wast_tree.specs.Items.{item, items_of_type, space_of_kind, items_of_import, items_in, items}
+use Rattle.wast_tree.specs.Items.{item, item_of_sig, items_of_type, space_of_kind, items_of_import, items_in, items}
 use Rattle.wast_tree.specs.Known.{name_in, names_in}
 use Rattle.wast_tree.specs.Sites.{in_signature}
 use Rattle.wast_types.specs.Signatures.{Signature, signature_of, same_signature}
@@ -17,14 +17,15 @@ use Rattle.wast_types.specs.Expanders.{index_of}
 use Rattle.wast_types.specs.Expanded.{typed, bindings, expanded}
 use Rattle.wast_types.proofs.AtRest.{types_are_the_space}
 use Rattle.wast_types.proofs.AtItsIndex.{takes_the_type_at_its_index}
-use Rattle.wast_resolve.specs.Tree.{Id, Index, FunctionType, ItemKind, ImportItems, ModuleField}
+use Rattle.wast_resolve.specs.Tree.{Id, Index, FunctionType, InnerTypeKind, ItemKind, ItemSig, ImportItems, ModuleField}
+use Rattle.wast_resolve.specs.Tree.inner
 use Rattle.wast_resolve.specs.Tree.kind
 use Rattle.wast_resolve.specs.Tree.import_items
 use Rattle.wast_resolve.specs.Tree.index
 use Rattle.wast_resolve.specs.Tree.space
 use Rattle.wast_resolve.specs.Tree.ty
 use Rattle.wast_resolve.specs.Tree.field
-use Rattle.wast_resolve.specs.Scopes.{Scope, scope, signatures_in, signatures, type_at}
+use Rattle.wast_resolve.specs.Scopes.{Shape, Function, Scope, scope, shape_of, shapes_in, shapes, type_at}
 use Rattle.wast_resolve.specs.Matches.{matches}
 use Rattle.wast_resolve.specs.Demands.{first_unmet, item_demands, ask_demands, match_with, match_demands}
 use Rattle.wast_resolve.proofs.ExpandedItems.{bound_items}
@@ -32,32 +33,38 @@ use Rattle.wast_resolve.proofs.FreeNames.{free_position}
 use Rattle.wast_resolve.proofs.SameTypes.{signature_denotes}
 
 -- As many places, and each signature that stands in one stands in the other.
-abbrev Within : List (Option Signature) → List (Option Signature) → Type 0
+abbrev Within : List (Option Signature) → List Shape → Type 0
 Within [] [] = ⊤
 Within [] (b ∷ bs) = ⊥
 Within (a ∷ us) [] = ⊥
-Within (a ∷ us) (b ∷ bs) = ((s : Signature) → a ≡ Some s → b ≡ Some s) × Within us bs
+Within (a ∷ us) (b ∷ bs) = ((s : Signature) → a ≡ Some s → b ≡ Function s) × Within us bs
 
-within_both : (us bs cs ds : List (Option Signature)) → Within us bs → Within cs ds → Within (us ++ cs) (bs ++ ds)
+within_both : (us : List (Option Signature)) (bs : List Shape) (cs : List (Option Signature)) (ds : List Shape) → Within us bs → Within cs ds → Within (us ++ cs) (bs ++ ds)
 within_both [] [] cs ds h k = k
 within_both [] (b ∷ bs) cs ds h k = absurd h
 within_both (a ∷ us) [] cs ds h k = absurd h
 within_both (a ∷ us) (b ∷ bs) cs ds h k = (h.0, within_both us bs cs ds h.1 k)
 
-none_within : (ms : List ty.«Type») → Within (map (λ t. None) ms) (map (λ t. taken_kind t.def.kind) ms)
+none_within : (ms : List ty.«Type») → Within (map (λ t. None) ms) (map (λ t. shape_of t.def.kind) ms)
 none_within [] = tt
 none_within (m ∷ ms) = (λ s e. absurd (cc e), none_within ms)
 
-field_within : (x : ModuleField) → Within (types_in x) (signatures_in x)
-field_within (field.Ty t) = (λ s e. e, tt)
+taken_shape : (k : InnerTypeKind) (s : Signature) → taken_kind k ≡ Some s → shape_of k ≡ Function s
+taken_shape (inner.Func t) s e = ap Function (cc e)
+taken_shape (inner.Struct t) s e = absurd (cc e)
+taken_shape (inner.Array t) s e = absurd (cc e)
+taken_shape (inner.Cont t) s e = absurd (cc e)
+
+field_within : (x : ModuleField) → Within (types_in x) (shapes_in x)
+field_within (field.Ty t) = (taken_shape t.def.kind, tt)
 field_within (field.Rec r) = none_within r.types
 field_within x = tt
 
-all_within : (xs : List ModuleField) → Within (flat_map types_in xs) (signatures xs)
+all_within : (xs : List ModuleField) → Within (flat_map types_in xs) (shapes xs)
 all_within [] = tt
-all_within (x ∷ xs) = within_both (types_in x) (signatures_in x) (flat_map types_in xs) (signatures xs) (field_within x) (all_within xs)
+all_within (x ∷ xs) = within_both (types_in x) (shapes_in x) (flat_map types_in xs) (shapes xs) (field_within x) (all_within xs)
 
-within_get : (us bs : List (Option Signature)) → Within us bs → (p : ℕ) (s : Signature) → slice_get us p ≡ Some (Some s) → slice_get bs p ≡ Some (Some s)
+within_get : (us : List (Option Signature)) (bs : List Shape) → Within us bs → (p : ℕ) (s : Signature) → slice_get us p ≡ Some (Some s) → slice_get bs p ≡ Some (Function s)
 within_get [] [] h p s e = absurd (cc e)
 within_get [] (b ∷ bs) h p s e = absurd h
 within_get (a ∷ us) [] h p s e = absurd h
@@ -75,15 +82,22 @@ member_names : (ms : List ty.«Type») → names_in space.Ty (flat_map items_of_
 member_names [] = refl
 member_names (m ∷ ms) = ap (λ ns. name_if (marked m.id) ∷ ns) (member_names ms)
 
-kind_names : (k : ItemKind) (id : Option Id) → names_in space.Ty (item (space_of_kind k) id [] ∷ []) ≡ []
+kind_names : (k : ItemKind) (id : Option Id) → name_in space.Ty (item (space_of_kind k) id []) ≡ []
 kind_names (kind.Func u) id = refl
+kind_names (kind.FuncExact u) id = refl
 kind_names (kind.Table t) id = refl
 kind_names (kind.Memory t) id = refl
 kind_names (kind.Global t) id = refl
 kind_names (kind.Tag t) id = refl
 
+sig_names : {A : Type 0} (sig : A → ItemSig) (xs : List A) → names_in space.Ty (flat_map (λ x. item_of_sig (sig x) ∷ []) xs) ≡ []
+sig_names sig [] = refl
+sig_names sig (x ∷ xs) = ap (λ ns. ns ++ names_in space.Ty (flat_map (λ x. item_of_sig (sig x) ∷ []) xs)) (kind_names (sig x).kind (sig x).id) ∙ sig_names sig xs
+
 import_names : (i : ImportItems) → names_in space.Ty (items_of_import i) ≡ []
-import_names (import_items.Single source name sig) = kind_names sig.kind sig.id
+import_names (import_items.Single source name sig) = ap (λ ns. ns ++ []) (kind_names sig.kind sig.id)
+import_names (import_items.Group1 source items) = sig_names (λ p. p.1) items
+import_names (import_items.Group2 source sig names) = sig_names (λ name. sig) names
 
 field_names : (x : ModuleField) → names_in space.Ty (items_in x) ≡ names_by (ids_in x)
 field_names (field.Ty t) = refl
@@ -104,7 +118,7 @@ pub record HasSignature (c : Scope) (s : Signature) (i : Index) : Type 0 where
   pub number : ℕ
   pub denotes : c.known.number space.Ty (name_of id) ≡ Some number
   pub found : Signature
-  pub stands : slice_get c.types number ≡ Some (Some found)
+  pub stands : slice_get c.types number ≡ Some (Function found)
   pub same : same_signature s found ≡ true
 
 -- an inline type whose names are known matches it
@@ -114,7 +128,7 @@ it_matches c t i h met =
     ap (λ j. first_unmet (match_demands c j t)) h.is
     ∙ (ap (λ o. first_unmet (match_with (matches c.known t) place (type_at c.types o))) h.denotes
     ∙ (ap (λ o. first_unmet (match_with (matches c.known t) place o)) h.stands
-    ∙ ap (λ b. first_unmet (match_with (λ u. b) place (Some (Some h.found)))) (signature_denotes c.known t h.found h.same met)))
+    ∙ ap (λ b. first_unmet (match_with (λ u. b) place (Some (Function h.found)))) (signature_denotes c.known t h.found h.same met)))
 
 -- a type that has a signature
 its_signature : (s : Signature) (o : Option Signature) → has_signature s o ≡ true → (t : Signature) × (o ≡ Some t) × (same_signature s t ≡ true)
@@ -137,14 +151,14 @@ module _ (n : ℕ) (fields : List ModuleField) (free : first_unmet (item_demands
       (get_or_from_slice_get (names_in space.Ty (items (expanded n fields))) p (Some (name_of id)) None there)
 
   -- the type at a position of the type space
-  type_stands : (s : Signature) (p : ℕ) → index_for fields s ≡ Some p → (t : Signature) × (slice_get (signatures (expanded n fields)) p ≡ Some (Some t)) × (same_signature s t ≡ true)
+  type_stands : (s : Signature) (p : ℕ) → index_for fields s ≡ Some p → (t : Signature) × (slice_get (shapes (expanded n fields)) p ≡ Some (Function t)) × (same_signature s t ≡ true)
   type_stands s p at =
       let space = type_space fields in
       let x = position-Some (has_signature s) space p None at in
       let t = its_signature s (get_or space p None) x.1 in
       let here : slice_get space p ≡ Some (Some t.0) = slice_get-get_or space p None x.0 ∙ ap Some t.1 in
       let there : slice_get (flat_map types_in (expanded n fields)) p ≡ Some (Some t.0) = ap (λ ts. slice_get ts p) (types_are_the_space n fields) ∙ here in
-      (t.0, within_get (flat_map types_in (expanded n fields)) (signatures (expanded n fields)) (all_within (expanded n fields)) p t.0 there, t.2)
+      (t.0, within_get (flat_map types_in (expanded n fields)) (shapes (expanded n fields)) (all_within (expanded n fields)) p t.0 there, t.2)
 
   pub what_is_found : (s : Signature) (i : Index) → index_of (bindings (typed n fields)) s ≡ Some i → HasSignature (scope (expanded n fields)) s i
   what_is_found s i e = by_index (index_for fields s) refl (sym (takes_the_type_at_its_index n fields s) ∙ e)

@@ -7,7 +7,7 @@ use Rattle.std.specs.List.{list_all}
 use Rattle.std.proofs.lemmas.List.{length-map}
 use Rattle.std.proofs.lemmas.List.Folds.{list_all-map}
 use Rattle.wast_base.specs.Ids.{is_number}
-use Rattle.wast_tree.specs.Sites.{Where, OfItem, OfCall, OfBlock, Site, Asked, Used, LocalAt, LabelAt, in_type_use, asked_in, asked, in_module}
+use Rattle.wast_tree.specs.Sites.{Where, OfItem, OfCall, OfBlock, Site, Asked, Used, LocalAt, FieldAt, LabelAt, in_type_use, asked_in, asked, in_module}
 use Rattle.wast_tree.specs.Types.{is_short, says_enough}
 use Rattle.wast_tree.specs.Resolved.{is_numbered, are_numbered, is_resolved_site}
 use Rattle.wast_map.specs.Mapped.{mapped_val, mapped_param, mapped_signature, mapped_site, mapped}
@@ -129,6 +129,9 @@ site_resolved : (s : Site) → needed_at s ≡ [] → is_said s ≡ true → are
 site_resolved (Asked a) none said h = first_so (is_numbered a) true h
 site_resolved (Used w u) none said h = both_so (is_some u.index || says_enough w u.inline) (are_numbered (in_type_use u)) (use_enough w u.index u.inline none said) h
 site_resolved (LocalAt locals i) none said h = first_so (is_number i) true h
+site_resolved (FieldAt owner i) none said h =
+    let rest = is_number i && true in
+    both_so (is_number owner) (is_number i) (first_so (is_number owner) rest h) (first_so (is_number i) true (second_so (is_number owner) rest h))
 site_resolved (LabelAt blocks i) none said h = first_so (is_number i) true h
 site_resolved s none said h = refl
 

@@ -1,3 +1,4 @@
+pub mod Accesses
 pub mod AlikeScopes
 pub mod AtRest
 pub mod Bodies
@@ -27,8 +28,8 @@ pub mod FoundTypes
 pub mod FreeNames
 pub mod Functions
 pub mod ImpliedSignatures
-pub mod Indexed
 pub mod InPlace
+pub mod Indexed
 pub mod KeptAlike
 pub mod Matching
 pub mod Moving
@@ -43,6 +44,7 @@ pub mod PartsOfTypes
 pub mod Resolving
 pub mod SameTypes
 pub mod SameUses
+pub mod Shaping
 pub mod Standing
 pub mod Stepping
 pub mod Trying

@@ -10,7 +10,7 @@ use Rattle.wast_resolve.specs.Tree.index
 use Rattle.wast_resolve.specs.Tree.space
 use Rattle.wast_resolve.specs.Tree.heap
 use Rattle.wast_resolve.specs.Tree.value
-use Rattle.wast_resolve.specs.Scopes.{Scope, denoted, type_at}
+use Rattle.wast_resolve.specs.Scopes.{Shape, Function, Struct, Other, Scope, denoted, type_at}
 use Rattle.wast_resolve.specs.Matches.{same_number, same_type, matches}
 use Rattle.wast_resolve.specs.Demands.{match_with, match_demands, match_if}
 use Rattle.wast_resolve.specs.Resolved.{numbered_by, numbered, numbered_at, numbered_use}
@@ -40,6 +40,10 @@ module _ (k : Known) where
   same_heap_still (heap.Abstract s a) b = refl
   same_heap_still (heap.Concrete i) (heap.Concrete j) = same_index_still i j
   same_heap_still (heap.Concrete i) (heap.Abstract t b) = refl
+  same_heap_still (heap.Concrete i) (heap.Exact j) = refl
+  same_heap_still (heap.Exact i) (heap.Exact j) = same_index_still i j
+  same_heap_still (heap.Exact i) (heap.Abstract t b) = refl
+  same_heap_still (heap.Exact i) (heap.Concrete j) = refl
 
   same_value_still : (a b : ValType) → same_value_by (same_type k) (mapped_val (numbered_at k) a) b ≡ same_value_by (same_type k) a b
   same_value_still (value.Ref r) (value.Ref q) = ap (λ b. beq r.nullable q.nullable && b) (same_heap_still r.heap q.heap)
@@ -63,13 +67,14 @@ module _ (k : Known) where
       ∙ ap (λ b. same_values_by same (map type_of_param t.params) s.0 && b) (same_values_still t.results s.1))
 
 module _ (c : Scope) where
-  with_still : (t : FunctionType) (i : Index) (o : Option (Option Signature))
+  with_still : (t : FunctionType) (i : Index) (o : Option Shape)
       → match_with (matches c.known (mapped_signature (numbered_at c.known) t)) (span_of_index (numbered_at c.known space.Ty i)) o ≡ match_with (matches c.known t) (span_of_index i) o
   with_still t i None = ap (λ p. match_with (matches c.known t) p None) (span_still (c.known.number space.Ty) i)
-  with_still t i (Some None) = ap (λ p. match_with (matches c.known t) p (Some None)) (span_still (c.known.number space.Ty) i)
-  with_still t i (Some (Some s)) =
-      ap (λ p. match_with (matches c.known (mapped_signature (numbered_at c.known) t)) p (Some (Some s))) (span_still (c.known.number space.Ty) i)
-      ∙ ap (λ b. match_with (λ u. b) (span_of_index i) (Some (Some s))) (matches_still c.known t s)
+  with_still t i (Some (Struct number)) = ap (λ p. match_with (matches c.known t) p (Some (Struct number))) (span_still (c.known.number space.Ty) i)
+  with_still t i (Some Other) = ap (λ p. match_with (matches c.known t) p (Some Other)) (span_still (c.known.number space.Ty) i)
+  with_still t i (Some (Function s)) =
+      ap (λ p. match_with (matches c.known (mapped_signature (numbered_at c.known) t)) p (Some (Function s))) (span_still (c.known.number space.Ty) i)
+      ∙ ap (λ b. match_with (λ u. b) (span_of_index i) (Some (Function s))) (matches_still c.known t s)
 
   demands_still : (i : Index) (t : FunctionType) → match_demands c (numbered_at c.known space.Ty i) (mapped_signature (numbered_at c.known) t) ≡ match_demands c i t
   demands_still i t =

@@ -12,10 +12,12 @@ use Rattle.wast_labels.specs.Laws.{KnowsItsLabels, GathersInOrder}
 use Rattle.wast_labels.specs.OpenBlocks.{OpenBlocks}
 use Rattle.wast_labels.specs.Turns.{gathered}
 use Rattle.wast_tree.specs.Instrs.{block_of, is_closer, turn_by, turn_of, turns}
-use Rattle.wast_tree.specs.Sites.{Ask, Site, Asked, Used, Declared, LocalAt, LabelAt, Repeated, Begins, Ends, Here, Locals, after, after_all, asking, at_label, in_br_table, in_catch, in_caught}
+use Rattle.wast_tree.specs.Sites.{Ask, Site, Asked, Used, Declared, LocalAt, FieldAt, LabelAt, Repeated, Begins, Ends, Here, Locals, after, after_all, asking, uncovered, at_label, in_ref, in_cast, in_handle, in_handlers, in_br_table, in_catch, in_caught}
 use Rattle.wast_tree.proofs.Behind.{after-append}
-use Rattle.wast_resolve.specs.Tree.{Index, BlockType, BrTableIndices, Instruction, TryTableCatch, TryTableCatchKind}
+use Rattle.wast_resolve.specs.Tree.{Index, RefType, Handle, ResumeTable, BlockType, BrTableIndices, Instruction, TryTableCatch, TryTableCatchKind}
 use Rattle.wast_resolve.specs.Tree.caught
+use Rattle.wast_resolve.specs.Tree.handle
+use Rattle.wast_resolve.specs.Tree.form
 use Rattle.wast_resolve.specs.Openable.{is_openable_if, is_openable, AreOpenable, here, with_blocks}
 
 -- the parameters and locals stay
@@ -24,6 +26,7 @@ locals_after h (Asked a) = refl
 locals_after h (Used w u) = refl
 locals_after h (Declared before m) = refl
 locals_after h (LocalAt locals i) = refl
+locals_after h (FieldAt owner i) = refl
 locals_after h (LabelAt blocks i) = refl
 locals_after h (Repeated blocks m) = refl
 locals_after h (Begins blocks m) = refl
@@ -72,6 +75,28 @@ br_table_moves s l t r =
     let h = here l s in
     let stays = after-append h (flat_map (at_label s.blocks) t.labels) (at_label s.blocks t.default) ∙ ap (λ g. after_all g (at_label s.blocks t.default)) (labels_stay h s.blocks t.labels) in
     on_ok r (ap (with_blocks s) (sym stays))
+
+-- where nothing moves
+pub still_moves : {T : Type 0} (s : OpenBlocks) (l : Locals) (ss : List Site) (r : Result T Error) → after_all (here l s) ss ≡ here l s → OnOk r (s ≡ with_blocks s (after_all (here l s) ss))
+still_moves s l ss r stays = on_ok r (ap (with_blocks s) (sym stays))
+
+pub behind_stays : (h : Here) (ss : List Site) (asks : List Ask) → after_all h ss ≡ h → after_all h (ss ++ asking asks) ≡ h
+behind_stays h ss asks stays = after-append h ss (asking asks) ∙ (ap (λ g. after_all g (asking asks)) stays ∙ asking_stays h asks)
+
+pub cast_stays : (h : Here) (blocks : Blocks) (l : Index) (to from : RefType) → after_all h (in_cast blocks l to from) ≡ h
+cast_stays h blocks l to from = asking_stays h (in_ref to ++ in_ref from)
+
+handle_stays : (h : Here) (blocks : Blocks) (x : Handle) → after_all h (in_handle blocks x) ≡ h
+handle_stays h blocks (handle.OnLabel e l) = refl
+handle_stays h blocks (handle.OnSwitch e) = refl
+
+handles_stay : (h : Here) (blocks : Blocks) (xs : List Handle) → after_all h (flat_map (in_handle blocks) xs) ≡ h
+handles_stay h blocks [] = refl
+handles_stay h blocks (x ∷ xs) =
+    after-append h (in_handle blocks x) (flat_map (in_handle blocks) xs) ∙ (ap (λ g. after_all g (flat_map (in_handle blocks) xs)) (handle_stays h blocks x) ∙ handles_stay h blocks xs)
+
+pub handlers_stay : (h : Here) (blocks : Blocks) (t : ResumeTable) → after_all h (in_handlers blocks t) ≡ h
+handlers_stay h blocks t = behind_stays h (flat_map (in_handle blocks) t.handlers) (uncovered form.StackSwitching) (handles_stay h blocks t.handlers)
 
 -- one more instruction, of which the label is gathered
 pub gathered_one : (o : Option BlockType) (closes : Bool) (labels : List Name) (b : BlockType) → o ≡ Some b → gathered labels (turn_by o closes ∷ []) ≡ with_opener (name_if (marked b.label)) labels

@@ -23,7 +23,7 @@ by_names c l word (index.Num n p) = refl
 by_names c l word (index.Id id) = ap (unknown word (mark_of id)) (behind_some (nameless c l.owner) (position_of (name_of id) l.names))
 
 -- the number that an index is
-abbrev number_of : Index → Option ℕ
+abbrev pub number_of : Index → Option ℕ
 number_of (index.Num n p) = Some n
 number_of (index.Id id) = None
 

@@ -3,10 +3,12 @@ use Rattle.std.proofs.Common.{◌≡◌, ap, ◌∙◌, sym, subst, List, [], �
 use Rattle.std.specs.List.{flat_map}
 use Rattle.std.proofs.lemmas.Grind.{flat_map-append}
 use Rattle.wast_base.specs.Faults.{Cause, Told, told}
-use Rattle.wast_tree.specs.Sites.{Ask, Wants, Site, Asked, if_there, in_index, at_index, in_id, asking}
+use Rattle.wast_tree.specs.Sites.{Ask, Wants, Site, Asked, if_there, in_index, at_index, at_label, in_id, in_ref, in_cast, asking}
 use Rattle.wast_tree.specs.Known.{Known}
 use Rattle.wast_base.specs.declared.faults.Error.{Error}
-use Rattle.wast_resolve.specs.Tree.{Span, Space, Id, Index}
+use Rattle.wast_base.specs.Blocks.{Blocks}
+use Rattle.std.proofs.lemmas.List.{map-append}
+use Rattle.wast_resolve.specs.Tree.{Span, Space, Id, Index, RefType}
 use Rattle.wast_resolve.specs.Demands.{Demand, first_unmet, Answers, ask_demand, ask_demands, site_demand, site_demands, open_counts_at, open_counts}
 use Rattle.wast_resolve.specs.Scopes.{Scope}
 use Rattle.wast_resolve.specs.Walking.{Walks}
@@ -92,3 +94,17 @@ more_refused K M ds want new result walked = walks_as {L = K} {N = M} (λ l. abs
 -- what is made of a part
 pub walks_in : {T U : Type 0} (K M : Type 0) (make : T → U) (ds : List Demand) (want new : T) (result : Result (Unit {0}) Error) → Walks K M ds want new result → Walks K M ds (make want) (make new) result
 walks_in K M make ds want new result walked = walks_as {L = K} {N = M} (λ l. l) (λ m. m) ds ds want new (make want) (make new) result refl (ap make) walked
+
+-- what is made of a part, where more may be refused
+pub walks_made_in : {T U : Type 0} (K M : Type 0) (make : T → U) (ds : List Demand) (want new : T) (result : Result (Unit {0}) Error) → Walks ⊥ ⊥ ds want new result → Walks K M ds (make want) (make new) result
+walks_made_in K M make ds want new result walked = walks_as {L = K} {N = M} (λ l. absurd l) (λ m. absurd m) ds ds want new (make want) (make new) result refl (ap make) walked
+
+-- and where behind it something stands of which nothing is demanded
+pub walks_before : {T U : Type 0} (K M : Type 0) (c : Scope) (ss : List Site) (last : Ask) → ask_demand c.known last ≡ [] → (make : T → U) (want new : T) (result : Result (Unit {0}) Error)
+    → Walks ⊥ ⊥ (site_demands c ss) want new result → Walks K M (site_demands c (ss ++ Asked last ∷ [])) (make want) (make new) result
+walks_before K M c ss last none make want new result walked =
+    walks_as {L = K} {N = M} (λ l. absurd l) (λ m. absurd m) (site_demands c ss) (site_demands c (ss ++ Asked last ∷ [])) want new (make want) (make new) result (ap first_unmet (sym (all_but_last c ss last none))) (ap make) walked
+
+-- the label and the two types of a branch on a cast
+pub cast_sites : (blocks : Blocks) (l : Index) (to from : RefType) → in_cast blocks l to from ≡ at_label blocks l ++ (asking (in_ref to) ++ asking (in_ref from))
+cast_sites blocks l to from = ap (λ ss. at_label blocks l ++ ss) (map-append Asked (in_ref to) (in_ref from))

@@ -6,6 +6,7 @@ use Rattle.wast_resolve.specs.Tree.{Id, Span, NameAnnotation, RefType, HeapType,
 use Rattle.wast_resolve.specs.Tree.ty
 use Rattle.wast_resolve.specs.Tree.space
 use Rattle.wast_resolve.specs.Tree.inner
+use Rattle.wast_resolve.specs.Tree.form
 use Rattle.wast_tree.specs.Sites.{in_heap, in_ref, in_val, in_storage, in_param, in_signature, in_struct_field, in_struct, in_array, in_inner, in_def, in_type}
 use Rattle.wast_map.specs.Mapped.{Indices, mapped_heap, mapped_ref, mapped_val, mapped_storage, mapped_param, mapped_signature, mapped_struct_field, mapped_struct, mapped_array, mapped_inner, mapped_def}
 use Rattle.wast_resolve.specs.CoreTypes.{indices_of, blank, with_def}
@@ -73,6 +74,7 @@ inner_typed : (x : InnerTypeKind) → map as_type (in_inner x) ≡ in_inner x
 inner_typed (inner.Func t) = signature_part.typed t
 inner_typed (inner.Struct t) = struct_part.typed t
 inner_typed (inner.Array t) = array_part.typed t
+inner_typed (inner.Cont t) = refl
 
 inner_many : (x y : InnerTypeKind) → mapped_inner blank y ≡ mapped_inner blank x → length (indices_of (in_inner y)) ≡ length (indices_of (in_inner x))
 inner_many x y h = grind (arith, common_steps, signature_part.many, struct_part.many, array_part.many)
@@ -86,7 +88,7 @@ inner_part = record { typed = inner_typed; many = inner_many; same = inner_same 
 pub def_part : IsTypePart in_def mapped_def
 def_part =
     part_as (λ (d : TypeDef). (d.parents, (d.descriptor, (d.describes, (d.kind, (d.final_type, d.shared)))))) mapped_def
-    (both_part (list_part index_part) (both_part (option_part descriptor_part) (both_part (option_part descriptor_part) (both_part inner_part (both_part (const_part {T = Option Bool}) (form_part not)))))) (λ f d. refl)
+    (both_part (list_part index_part) (both_part (option_part descriptor_part) (both_part (option_part descriptor_part) (both_part inner_part (both_part (const_part {T = Option Bool}) (form_part form.Shared not)))))) (λ f d. refl)
     (λ x y h i. record { kind = (h i).1.1.1.0; shared = (h i).1.1.1.1.1; parents = (h i).0; descriptor = (h i).1.0; describes = (h i).1.1.0; final_type = (h i).1.1.1.1.0 })
 
 pub type_part : IsTypePart in_type with_def

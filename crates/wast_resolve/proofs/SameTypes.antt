@@ -1,6 +1,6 @@
 -- Signatures that are equal as they are written are equal once each index is what it denotes, where each denotes something; and
 -- what denotes the same by two modules is equal by both.
-use Rattle.std.proofs.Common.{◌≡◌, ℕ, Bool, true, ◌&&◌, cond, List, [], ◌∷◌, map, Option, Some, None, is_some, refl, sym, ap, ◌∙◌}
+use Rattle.std.proofs.Common.{◌≡◌, ℕ, Bool, true, ◌&&◌, cond, List, [], ◌∷◌, map, Option, Some, None, is_some, refl, sym, ap, ◌∙◌, false}
 use Rattle.std.specs.Bool.{beq}
 use Rattle.std.specs.Cmp.{first_so, second_so}
 use Rattle.std.specs.List.{flat_map, list_all}
@@ -9,11 +9,12 @@ use Rattle.std.proofs.lemmas.Grind.{flat_map-append}
 use Rattle.wast_base.specs.Ids.{name_of, same_index}
 use Rattle.wast_base.specs.Faults.{Cause}
 use Rattle.wast_tree.specs.Known.{Known}
-use Rattle.wast_tree.specs.Sites.{Ask, Wants, if_there, in_index, in_id, in_heap, in_val, in_param, in_signature}
+use Rattle.wast_tree.specs.Sites.{Ask, Wants, Covered, if_there, in_index, in_id, in_heap, in_val, in_param, in_signature}
 use Rattle.wast_types.specs.Signatures.{Signature, type_of_param, signature_of, same_heap_by, same_value_by, same_values_by, same_signature_by}
 use Rattle.wast_resolve.specs.Tree.{Id, Index, Span, NameAnnotation, HeapType, ValType, FunctionType}
 use Rattle.wast_resolve.specs.Tree.index
 use Rattle.wast_resolve.specs.Tree.space
+use Rattle.wast_resolve.specs.Tree.form
 use Rattle.wast_resolve.specs.Tree.heap
 use Rattle.wast_resolve.specs.Tree.value
 use Rattle.wast_resolve.specs.Matches.{same_number, same_type, matches}
@@ -42,6 +43,11 @@ module _ (k : Known) where
   heap_denotes (heap.Concrete i) (heap.Concrete j) h met = index_denotes i j h met
   heap_denotes (heap.Abstract s a) (heap.Concrete j) h met = h
   heap_denotes (heap.Concrete i) (heap.Abstract t b) h met = h
+  heap_denotes (heap.Exact i) (heap.Exact j) h met = index_denotes i j h met
+  heap_denotes (heap.Abstract s a) (heap.Exact j) h met = h
+  heap_denotes (heap.Exact i) (heap.Abstract t b) h met = h
+  heap_denotes (heap.Concrete i) (heap.Exact j) h met = h
+  heap_denotes (heap.Exact i) (heap.Concrete j) h met = h
 
   value_denotes : (v w : ValType) → same_value_by same_index v w ≡ true → first_unmet (ask_demands k (in_val v)) ≡ None → same_value_by (same_type k) v w ≡ true
   value_denotes (value.Ref r) (value.Ref q) h met =
@@ -83,11 +89,19 @@ module _ (ok : Ask → Bool) (same same2 : Index → Index → Bool)
   index_passes : (i : Index) → pass ok (in_index space.Ty i) ≡ true → ok (Wants space.Ty i) ≡ true
   index_passes i h = first_so (ok (Wants space.Ty i)) true h
 
+  exact_passes : (i : Index) → pass ok (in_heap (heap.Exact i)) ≡ true → ok (Wants space.Ty i) ≡ true
+  exact_passes i h = first_so (ok (Wants space.Ty i)) (ok (Covered form.Descriptor false) && true) h
+
   heap_alike : (a b : HeapType) → pass ok (in_heap a) ≡ true → pass ok (in_heap b) ≡ true → same_heap_by same a b ≡ same_heap_by same2 a b
   heap_alike (heap.Abstract s a) (heap.Abstract t b) p q = refl
   heap_alike (heap.Concrete i) (heap.Concrete j) p q = alike i j (index_passes i p) (index_passes j q)
   heap_alike (heap.Abstract s a) (heap.Concrete j) p q = refl
   heap_alike (heap.Concrete i) (heap.Abstract t b) p q = refl
+  heap_alike (heap.Exact i) (heap.Exact j) p q = alike i j (exact_passes i p) (exact_passes j q)
+  heap_alike (heap.Abstract s a) (heap.Exact j) p q = refl
+  heap_alike (heap.Exact i) (heap.Abstract t b) p q = refl
+  heap_alike (heap.Concrete i) (heap.Exact j) p q = refl
+  heap_alike (heap.Exact i) (heap.Concrete j) p q = refl
 
   value_alike : (v w : ValType) → value_passes ok v ≡ true → value_passes ok w ≡ true → same_value_by same v w ≡ same_value_by same2 v w
   value_alike (value.Ref a) (value.Ref b) p q = ap (λ c. beq a.nullable b.nullable && c) (heap_alike a.heap b.heap p q)

@@ -3,7 +3,7 @@
 use Rattle.std.proofs.Common.{◌≡◌, ℕ, ◌+◌, Bool, true, false, List, [], ◌∷◌, Option, Some, None, option_map, refl, sym, ap, ◌∙◌}
 use Rattle.wast_base.specs.Ids.{Name}
 use Rattle.wast_base.specs.Spaces.{position_of}
-use Rattle.wast_tree.specs.Sites.{Ask, Wants, Within, Unasked, Clause, Supported, Where, OfItem, OfCall, OfBlock, Site, Asked, Used, Declared, LocalAt, LabelAt, Repeated, Begins, Ends, if_there, in_index, in_signature, in_type_use, in_module, asked_in, asked}
+use Rattle.wast_tree.specs.Sites.{Ask, Wants, Within, Unasked, Clause, Covered, Where, OfItem, OfCall, OfBlock, Site, Asked, Used, Declared, LocalAt, FieldAt, LabelAt, Repeated, Begins, Ends, if_there, in_index, in_signature, in_type_use, in_module, asked_in, asked}
 use Rattle.wast_tree.specs.Known.{Known}
 use Rattle.wast_tree.specs.Types.{inline_alone}
 use Rattle.wast_map.specs.Mapped.{Change, same, then, mapped_signature, JoinsAsk, Joins, Each}
@@ -17,11 +17,11 @@ use Rattle.wast_types.specs.Expanders.{LookUp}
 use Rattle.wast_types.specs.Expanded.{bound_if, bound_index, bound_inline, bound_use, binding}
 use Rattle.wast_resolve.specs.Tree.{Index, FunctionType, TypeUse, ModuleField}
 use Rattle.wast_resolve.specs.Tree.space
-use Rattle.wast_resolve.specs.Scopes.{Scope, nameless}
+use Rattle.wast_resolve.specs.Scopes.{Shape, Scope, denoted, type_at, field_in, nameless}
 use Rattle.wast_resolve.specs.Resolved.{numbered, numbered_at, numbering}
 use Rattle.wast_resolve.specs.Stripped.{at_start, stripping}
 use Rattle.wast_resolve.proofs.Bodies.{Stands, all_stand}
-use Rattle.wast_resolve.proofs.Nameless.{number_at, unsaid_alike}
+use Rattle.wast_resolve.proofs.Nameless.{number_of, denoted_number, number_at, unsaid_alike}
 use Rattle.wast_resolve.proofs.Numbering.{numbering_keeps}
 
 -- what is told of a list whose type uses are bound, once each index is a number: one change
@@ -98,14 +98,22 @@ module _ (c d : Scope) where
       nameless_alike None h = refl
       nameless_alike (Some u) h = unsaid_alike c d types (bound_index find OfItem u.index u.inline) (bound_index other OfItem u.index u.inline) u.inline (its_index OfItem u h)
 
+      -- A field stands in the type that its owner denotes.
+      field_alike : (owner i : Index) → numbered_at c.known space.Ty owner ≡ numbered_at d.known space.Ty owner
+          → numbered (field_in (type_at c.types (denoted (c.known.number space.Ty) owner))) i ≡ numbered (field_in (type_at d.types (denoted (d.known.number space.Ty) owner))) i
+      field_alike owner i same =
+          let number_alike = denoted_number (c.known.number space.Ty) owner ∙ (ap (λ j. number_of (at_start j)) same ∙ sym (denoted_number (d.known.number space.Ty) owner)) in
+          ap (λ o. numbered (field_in (type_at c.types o)) i) number_alike ∙ ap (λ (ts : List Shape). numbered (field_in (type_at ts (denoted (d.known.number space.Ty) owner))) i) types
+
       site_alike : (s : Site) → Same (asked_in s) → Stands SameAsk s → Joins same (telling c find) (telling d other) s
       site_alike (Asked (Wants s i)) h o = h.0
       site_alike (Asked (Within i)) h o = tt
       site_alike (Asked (Unasked m)) h o = tt
       site_alike (Asked (Clause n holds)) h o = tt
-      site_alike (Asked (Supported holds)) h o = tt
+      site_alike (Asked (Covered form holds)) h o = tt
       site_alike (Used w u) h o = use_alike w u h
       site_alike (LocalAt locals i) h o = ap (behind_nameless locals.names i) (nameless_alike locals.owner o)
+      site_alike (FieldAt owner i) h o = (h.0, field_alike owner i h.0)
       site_alike (LabelAt blocks i) h o = refl
       site_alike (Declared before m) h o = tt
       site_alike (Repeated blocks m) h o = tt

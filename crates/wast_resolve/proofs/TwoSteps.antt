@@ -6,13 +6,20 @@ use Rattle.wast_base.specs.Faults.{Told}
 use Rattle.wast_base.specs.declared.faults.Error.{Error}
 use Rattle.std.specs.Prelude.{not}
 use Rattle.wast_tree.specs.Clauses.{suits}
-use Rattle.wast_tree.specs.Sites.{Ask, Site, Asked, Clause, Supported, asking, in_ref, in_table_type, in_table_kind, in_global_type, in_global_kind, in_global, in_elem_kind, in_payload, in_elem, in_data_kind}
+use Rattle.wast_tree.specs.Sites.{Ask, Site, Asked, Clause, Covered, asking, in_ref, in_table_type, in_table_kind, in_global_type, in_global_kind, in_global, in_elem_kind, in_payload, in_elem, in_data_kind}
 use Rattle.wast_map.specs.Mapped.{Change, mapped_table_kind, mapped_elem_kind, mapped_payload, mapped_data_kind}
 use Rattle.wast_resolve.specs.Tree.{TableKind, Global, Elem, ElemKind, ElemPayload, DataKind, ModuleField}
 use Rattle.wast_resolve.specs.Tree.table
 use Rattle.wast_resolve.specs.Tree.elem
 use Rattle.wast_resolve.specs.Tree.payload
 use Rattle.wast_resolve.specs.Tree.data_kind
+use Rattle.wast_base.specs.Blocks.{Blocks}
+use Rattle.wast_resolve.specs.Tree.{Handle}
+use Rattle.wast_resolve.specs.Tree.handle
+use Rattle.wast_tree.specs.Sites.{in_handle}
+use Rattle.wast_map.specs.Mapped.{mapped_handle}
+use Rattle.wast_resolve.specs.TwoSteps.{in_handler_tag, in_handler_label, with_handler_tag, with_handler_label}
+use Rattle.wast_resolve.specs.Tree.form
 use Rattle.wast_resolve.specs.Scopes.{Scope}
 use Rattle.wast_resolve.specs.Demands.{first_unmet, Answers, ask_demand, site_demand, site_demands, open_counts_at, open_counts, HasMany}
 use Rattle.wast_resolve.specs.Walking.{Walks}
@@ -84,8 +91,8 @@ module _ (c : Scope) where
   table_parts (table.Import import ty) = as_both (in_table_kind (table.Import import ty)) (asking (in_table_type ty)) [] (sym (append-nil (asking (in_table_type ty))))
   table_parts (table.Normal ty init) = as_both (in_table_kind (table.Normal ty init)) (in_type_of_table (table.Normal ty init)) (in_init (table.Normal ty init)) refl
   table_parts (table.Inline ty is64 shared elements) =
-      but_last (in_table_kind (table.Inline ty is64 shared elements)) (asking (in_ref ty)) (in_payload elements) (Supported (not shared))
-      (sym (append_assoc (asking (in_ref ty)) (in_payload elements) (Asked (Supported (not shared)) ∷ []))) refl
+      but_last (in_table_kind (table.Inline ty is64 shared elements)) (asking (in_ref ty)) (in_payload elements) (Covered form.Shared (not shared))
+      (sym (append_assoc (asking (in_ref ty)) (in_payload elements) (Asked (Covered form.Shared (not shared)) ∷ []))) refl
 
   pub segment_parts : (e : Elem) → IsBoth c (in_elem e) (in_elem_kind e.kind) (in_payload e.payload)
   segment_parts e =
@@ -159,3 +166,16 @@ module _ (f : Change) where
 pub of_field : {T : Type 0} (many : Type 0) (wrap : T → ModuleField) (c : Scope) (ss : List Site) (want new : T) (result : Result (Unit {0}) Error)
     → Walks ⊥ ⊥ (site_demands c ss) want new result → Walks ⊤ many (site_demands c ss) (wrap want) (wrap new) result
 of_field many wrap c ss want new result walked = walks_as (λ l. absurd l) (λ m. absurd m) (site_demands c ss) (site_demands c ss) want new (wrap want) (wrap new) result refl (ap wrap) walked
+
+-- a handler of a resumption
+pub handle_sites : (blocks : Blocks) (h : Handle) → in_handle blocks h ≡ in_handler_tag h ++ in_handler_label blocks h
+handle_sites blocks (handle.OnLabel e l) = refl
+handle_sites blocks (handle.OnSwitch e) = refl
+
+pub handle_stays : (f : Change) (blocks : Blocks) (h : Handle) → in_handler_label blocks (with_handler_tag f h) ≡ in_handler_label blocks h
+handle_stays f blocks (handle.OnLabel e l) = refl
+handle_stays f blocks (handle.OnSwitch e) = refl
+
+pub handle_becomes : (f : Change) (blocks : Blocks) (h : Handle) → with_handler_label f blocks (with_handler_tag f h) ≡ mapped_handle f blocks h
+handle_becomes f blocks (handle.OnLabel e l) = refl
+handle_becomes f blocks (handle.OnSwitch e) = refl

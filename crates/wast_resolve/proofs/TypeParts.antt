@@ -3,9 +3,9 @@ use Rattle.std.proofs.Common.{◌≡◌, List, [], ◌∷◌, ◌++◌, refl, sy
 use Rattle.std.specs.Prelude.{Bool, true, option_map}
 use Rattle.std.specs.List.{flat_map}
 use Rattle.std.proofs.lemmas.List.{length-append, map-append}
-use Rattle.wast_resolve.specs.Tree.{Id, Index}
+use Rattle.wast_resolve.specs.Tree.{Id, Index, Form}
 use Rattle.wast_resolve.specs.Tree.space
-use Rattle.wast_tree.specs.Sites.{Ask, Wants, Within, Unasked, Clause, Supported, if_there, in_id, in_index, in_descriptor}
+use Rattle.wast_tree.specs.Sites.{Ask, Wants, Within, Unasked, Clause, Covered, if_there, in_id, in_index, in_descriptor}
 use Rattle.wast_map.specs.Mapped.{Indices}
 use Rattle.wast_resolve.specs.CoreTypes.{indices_of, blank}
 use Rattle.wast_resolve.proofs.Calling.{indices-append}
@@ -13,10 +13,10 @@ use Rattle.wast_resolve.proofs.Calling.{indices-append}
 -- what is asked, of types
 abbrev pub as_type : Ask → Ask
 as_type (Wants s i) = Wants space.Ty i
-as_type (Within i) = Supported true
+as_type (Within i) = Clause 0 true
 as_type (Unasked m) = Unasked m
 as_type (Clause n holds) = Clause n holds
-as_type (Supported holds) = Supported holds
+as_type (Covered form holds) = Covered form holds
 
 pub record IsTypePart {T : Type 0} (asks : T → List Ask) (changed : Indices → T → T) : Type 0 where
   pub typed : (x : T) → map as_type (asks x) ≡ asks x
@@ -64,9 +64,9 @@ index_part = record { typed = λ x. refl; many = λ x y h. refl; same = λ f x y
 pub descriptor_part : IsTypePart in_descriptor (λ f i. f space.Ty i)
 descriptor_part = record { typed = λ x. refl; many = λ x y h. refl; same = λ f x y h k. only_index (f space.Ty x) y k }
 
--- a form, and whether it is supported
-pub form_part : {T : Type 0} (holds : T → Bool) → IsTypePart (λ x. Supported (holds x) ∷ []) (λ f x. x)
-form_part holds = record { typed = λ x. refl; many = λ x y h. refl; same = λ f x y h k. h }
+-- a form, and whether what stands here is without it
+pub form_part : {T : Type 0} (form : Form) (holds : T → Bool) → IsTypePart (λ x. Covered form (holds x) ∷ []) (λ f x. x)
+form_part form holds = record { typed = λ x. refl; many = λ x y h. refl; same = λ f x y h k. h }
 
 pub both_part : {A B : Type 0} {p : A → List Ask} {v : Indices → A → A} {q : B → List Ask} {w : Indices → B → B} → IsTypePart p v → IsTypePart q w → IsTypePart {T = A × B} (λ x. p x.0 ++ q x.1) (λ f x. (v f x.0, w f x.1))
 both_part {A} {B} {p} {v} {q} {w} a b = record {

@@ -2,6 +2,7 @@
 use Rattle.std.proofs.Common.{refl}
 use Rattle.wast_resolve.specs.WorkedAnswers.{Row27, Row31, Row32, Row2, Row7, Row8, Row24, TwoFunctions, ClashOfTypes, FieldsOfOneStruct, FieldsOfTwoStructs, ClashesInOrder, Row14, Row22, Row23, UnknownNames, MatchedByNumber, Row17, IndirectCalls}
 use Rattle.wast_resolve.specs.WorkedBodies.{NestedLabels, InnermostOfTwo, CaughtOutside, CaughtInItself, DelegatedOutside, DelegatedToItself, LabelsAtEnds, BlockOfTwo, BehindNameless}
+use Rattle.wast_resolve.specs.WorkedFields.{Row48, Row16}
 use Rattle.wast_resolve.specs.WorkedImports.{Row12, Row13, Row21, BehindAMemory, ImportsInOrder, ImportedTwice, UnknownStart}
 use Rattle.wast_resolve.specs.WorkedUnknowns.{UnknownInSegments, UnknownInTables, UnknownInGlobals}
 
@@ -118,3 +119,9 @@ block_of_two = (refl, refl)
 
 pub behind_nameless : BehindNameless
 behind_nameless a b = (refl, refl, refl, refl)
+
+pub row48 : Row48
+row48 a b c d e = (refl, refl, refl, refl)
+
+pub row16 : Row16
+row16 a b = (refl, refl, refl, refl)

@@ -2,7 +2,7 @@
 use Rattle.std.proofs.Common.{◌≡◌, ℕ, ◌<◌, true, List, None, ap, ◌∙◌, arith}
 use Rattle.std.proofs.lemmas.Bool.{lt-ltb}
 use Rattle.wast_tree.specs.Items.{items}
-use Rattle.wast_tree.specs.Sites.{Supported, in_module, asked}
+use Rattle.wast_tree.specs.Sites.{Covered, in_module, asked}
 use Rattle.wast_tree.specs.Generations.{generation_in, greatest_item, greatest_generation}
 use Rattle.wast_deinline.specs.Written.{written_out_from, written_out}
 use Rattle.wast_deinline.proofs.WrittenAsks.{written_out_pass}
@@ -10,12 +10,13 @@ use Rattle.wast_deinline.proofs.Below.{each_below}
 use Rattle.wast_types.specs.Expanded.{ids_wanted}
 use Rattle.wast_types.specs.Completed.{completed}
 use Rattle.wast_resolve.specs.Tree.{ModuleField}
+use Rattle.wast_resolve.specs.Tree.form
 use Rattle.wast_resolve.specs.Scopes.{scope}
 use Rattle.wast_resolve.specs.Demands.{first_unmet, item_demands, site_demands, order_demands, name_demands, demands, item_counts, body_counts}
 use Rattle.wast_resolve.proofs.Unmet.{alike_behind}
 use Rattle.wast_resolve.proofs.CompletedAsks.{pass, is_below, completed_pass}
 use Rattle.wast_resolve.proofs.AlikeScopes.{old_uses, old_bodies}
-use Rattle.wast_resolve.proofs.WrittenLooks.{alike_signatures, alike_bodies, alike_orders, alike_wants, written_looks, completed_looks}
+use Rattle.wast_resolve.proofs.WrittenLooks.{alike_shapes, alike_bodies, alike_orders, alike_wants, written_looks, completed_looks}
 use Rattle.wast_resolve.proofs.WrittenOwn.{completed_own}
 use Rattle.wast_resolve.proofs.WrittenItems.{written_position, written_clashes, written_item_counts}
 use Rattle.wast_resolve.proofs.WrittenUses.{written_uses}
@@ -33,13 +34,13 @@ module _ (n : ℕ) (fields : List ModuleField) (above : greatest_generation fiel
   -- No generation is new among what is asked by positions.
   asks_below : pass (is_below n) (asked (in_module old)) ≡ true
   asks_below =
-      let some : is_below n (Supported true) ≡ true = lt-ltb 0 n (omega (arith, above)) in
-      completed_pass (is_below n) some (written_out fields) (written_out_pass (is_below n) (λ c. some) some (λ s m p. some) fields (each_below n generation_in (asked (in_module fields)) (omega (arith, above))))
+      let some : is_below n (Covered form.Shared true) ≡ true = lt-ltb 0 n (omega (arith, above)) in
+      completed_pass (is_below n) some (written_out fields) (written_out_pass (is_below n) (λ c. some) (λ s m p. some) fields (each_below n generation_in (asked (in_module fields)) (omega (arith, above))))
 
   same_uses : first_unmet (item_demands (items new)) ≡ None → first_unmet (site_demands (scope new) (in_module new)) ≡ first_unmet (site_demands (scope old) (in_module old))
   same_uses free =
       written_uses (scope new) n fields (completed_own n fields free)
-      ∙ ap first_unmet (old_uses n new old (alike_signatures (completed_looks n fields)) (λ s q lt. written_position n fields items_below q s lt) asks_below)
+      ∙ ap first_unmet (old_uses n new old (alike_shapes (completed_looks n fields)) (λ s q lt. written_position n fields items_below q s lt) asks_below)
 
   same_names : first_unmet (name_demands new) ≡ first_unmet (name_demands old)
   same_names =
@@ -56,7 +57,7 @@ module _ (n : ℕ) (fields : List ModuleField) (above : greatest_generation fiel
 
   pub written_bodies : body_counts new ≡ body_counts old
   written_bodies =
-      alike_bodies (completed_looks n fields) (scope new) ∙ old_bodies n new old (alike_signatures (completed_looks n fields)) (λ s q lt. written_position n fields items_below q s lt) asks_below
+      alike_bodies (completed_looks n fields) (scope new) ∙ old_bodies n new old (alike_shapes (completed_looks n fields)) (λ s q lt. written_position n fields items_below q s lt) asks_below
 
 pub written_wants : (n : ℕ) (fields : List ModuleField) → ids_wanted (written_out_from n fields) ≡ ids_wanted (written_out fields)
 written_wants n fields = alike_wants (written_looks n fields)

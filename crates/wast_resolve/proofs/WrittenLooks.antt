@@ -26,7 +26,7 @@ use Rattle.wast_resolve.specs.Tree.{Id, Index, Space, Span, FunctionType, TypeUs
 use Rattle.wast_resolve.specs.Tree.index
 use Rattle.wast_resolve.specs.Tree.field
 use Rattle.wast_resolve.specs.ImportOrder.{import_place, nothing_defined}
-use Rattle.wast_resolve.specs.Scopes.{Scope, signatures_in, signatures, nameless}
+use Rattle.wast_resolve.specs.Scopes.{Shape, Scope, shapes_in, shapes, nameless}
 use Rattle.wast_resolve.specs.Demands.{Demand, declared, open_counts, body_counts_in, order_demands}
 use Rattle.wast_resolve.proofs.Orders.{orders_from, orders_are}
 use Rattle.wast_resolve.proofs.WrittenSame.{called, IsBlind, AllOwn, fields_alike}
@@ -41,7 +41,7 @@ pub record Look : Type 0 where
   pub needs : List Signature
   pub writes : List Signature
   pub types : List (Option Signature)
-  pub signatures : List (Option Signature)
+  pub shapes : List Shape
   pub functions : List (TypeUse FunctionType × ℕ)
   pub opens : List ℕ
   pub place : Option Span
@@ -53,7 +53,7 @@ look x = record {
   needs = needed_in (in_field x);
   writes = written_in x;
   types = types_in x;
-  signatures = signatures_in x;
+  shapes = shapes_in x;
   functions = functions_in x;
   opens = open_counts (in_field x);
   place = import_place x;
@@ -116,8 +116,8 @@ module _ {xs ys : List ModuleField} (h : LookAlike xs ys) where
   alike : {A : Type 0} (g : Look → List A) → flat_map (λ x. g (look x)) xs ≡ flat_map (λ x. g (look x)) ys
   alike g = by_looks g xs ∙ (ap (flat_map g) h.looks ∙ sym (by_looks g ys))
 
-  pub alike_signatures : signatures xs ≡ signatures ys
-  alike_signatures = alike (λ l. l.signatures)
+  pub alike_shapes : shapes xs ≡ shapes ys
+  alike_shapes = alike (λ l. l.shapes)
 
   pub alike_bodies : (c : Scope) → flat_map (body_counts_in c) xs ≡ flat_map (body_counts_in c) ys
   alike_bodies c = bodies_by_looks c xs ∙ (alike (bodies_of c) ∙ sym (bodies_by_looks c ys))

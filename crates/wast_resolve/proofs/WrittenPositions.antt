@@ -20,7 +20,7 @@ use Rattle.wast_resolve.proofs.Unmet.{met_parts}
 use Rattle.wast_resolve.proofs.CompletedAsks.{completed_below}
 use Rattle.wast_resolve.proofs.SameUses.{telling, all_same}
 use Rattle.wast_resolve.proofs.ByPosition.{told_positions, position_stays, asks_alike}
-use Rattle.wast_resolve.proofs.WrittenLooks.{alike_positions, alike_signatures, written_looks, completed_looks}
+use Rattle.wast_resolve.proofs.WrittenLooks.{alike_positions, alike_shapes, written_looks, completed_looks}
 use Rattle.wast_resolve.proofs.WrittenOwn.{completed_own}
 use Rattle.wast_resolve.proofs.WrittenTold.{told_alike}
 use Rattle.wast_resolve.proofs.WrittenItems.{written_position}
@@ -41,7 +41,7 @@ module _ (n : ℕ) (fields : List ModuleField) (above : greatest_generation fiel
       let as_old : greatest_asked (asked (in_module old)) < n = completed_below n (written_out fields) (written_out_below n fields (omega (arith, above))) in
       told_positions (written_out_from n fields)
       ∙ (ap (λ (f : LookUp). all_mapped (telling (scope new) f) new) (alike_positions (written_looks n fields))
-      ∙ (told_alike (known (items new)) (telling (scope new) find).used (telling (scope new) find).local (telling (scope new) find).label n fields (completed_own n fields no_clash)
+      ∙ (told_alike (known (items new)) (telling (scope new) find).used (telling (scope new) find).local (telling (scope new) find).field (telling (scope new) find).label n fields (completed_own n fields no_clash)
       ∙ (all_same (scope new) (scope old) find find (λ s. position_stays (known (items new)) (index_for (written_out fields) s) ∙ sym (position_stays (known (items old)) (index_for (written_out fields) s)))
-      (alike_signatures (completed_looks n fields)) old (asks_alike (scope new) (scope old) n (written_position n fields (omega (arith, above))) (asked (in_module old)) as_old)
+      (alike_shapes (completed_looks n fields)) old (asks_alike (scope new) (scope old) n (written_position n fields (omega (arith, above))) (asked (in_module old)) as_old)
       ∙ sym (told_positions (written_out fields)))))

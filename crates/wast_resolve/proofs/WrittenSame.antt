@@ -12,7 +12,7 @@ use Rattle.wast_tree.specs.Sites.{exported_space}
 use Rattle.wast_base.specs.Filling.{one_if, given_if}
 use Rattle.wast_deinline.specs.Tree.{InlineImport, InlineExport}
 use Rattle.wast_deinline.specs.Segments.{data_into, elem_into, has_bytes, has_elements}
-use Rattle.wast_deinline.specs.WriteOut.{Reference, import_of, export_of, exports_of, data_in, elem_in, func_alone, table_alone, memory_alone, global_alone, tag_alone, write_out}
+use Rattle.wast_deinline.specs.WriteOut.{Reference, imported_func, import_of, export_of, exports_of, data_in, elem_in, func_alone, table_alone, memory_alone, global_alone, tag_alone, write_out}
 use Rattle.wast_deinline.specs.Referring.{by_id, by_position, exports_some, wants_id, with_item_id}
 use Rattle.wast_deinline.specs.Written.{referable, written_after}
 use Rattle.wast_deinline.proofs.WrittenItems.{is_of_segments}
@@ -87,7 +87,7 @@ module _ (Same : Space → Index → Index → Type 0) where
 
       -- the field alone
       func_named : (f : Func) (k : FuncKind) → give (func_alone (record f { id = x }) k) ≡ give (func_alone (record f { id = y }) k)
-      func_named f (func.Import source exact) = named.of_import f.span f.name source (kind.Func f.ty)
+      func_named f (func.Import source exact) = named.of_import f.span f.name source (imported_func exact f.ty)
       func_named f k = named.of_field (func_alone f k)
 
       table_named : (t : Table) (k : TableKind) → give (table_alone (record t { id = x }) k) ≡ give (table_alone (record t { id = y }) k)

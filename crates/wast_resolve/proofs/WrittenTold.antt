@@ -19,9 +19,9 @@ use Rattle.wast_resolve.proofs.WrittenSame.{called, IsBlind, AllOwn}
 use Rattle.wast_resolve.proofs.WrittenLooks.{completed_alike}
 use Rattle.wast_resolve.proofs.WrittenOwn.{Numbers}
 
-module _ (k : Known) (used : Where → TypeUse FunctionType → TypeUse FunctionType) (local : Locals → Index → Index) (label : Blocks → Index → Index) where
+module _ (k : Known) (used : Where → TypeUse FunctionType → TypeUse FunctionType) (local : Locals → Index → Index) (member : Index → Index → Index) (label : Blocks → Index → Index) where
   abbrev pub telling_numbers : Change
-  telling_numbers = record { index = numbered_at k; used = used; local = local; label = label; id = written_id }
+  telling_numbers = record { index = numbered_at k; used = used; local = local; field = member; label = label; id = written_id }
 
   told_blind : (n : ℕ) → IsBlind (Numbers k) n (mapped telling_numbers)
   told_blind n = record {

@@ -1,25 +1,26 @@
 -- What a module demands of its imports and names, in the order in which it is answered (text format: identifiers, indices, modules).
-use Rattle.std.specs.Prelude.{◌≡◌, ⊤, ℕ, ◌+◌, ◌≤◌, ◌^◌, ◌⊎◌, Bool, false, not, List, [], ◌∷◌, ◌++◌, length, map, flat_map, Option, Some, None, codes, Contains, IsTrue}
+use Rattle.std.specs.Prelude.{◌≡◌, ⊤, ℕ, ◌+◌, ◌≤◌, ◌^◌, ◌⊎◌, Bool, false, not, is_some, List, [], ◌∷◌, ◌++◌, length, map, flat_map, Option, Some, None, slice_get, codes, Contains, IsTrue}
 use Rattle.std.specs.List.{list_any}
 use Rattle.wast_resolve.specs.Tree.{Span, Index, FunctionType, TypeUse, FuncKind, ModuleField}
 use Rattle.wast_resolve.specs.Tree.space
+use Rattle.wast_resolve.specs.Tree.index
 use Rattle.wast_resolve.specs.Tree.func
 use Rattle.wast_resolve.specs.Tree.field
-use Rattle.wast_base.specs.Ids.{Name, text_of, Mark, span_of_index}
-use Rattle.wast_base.specs.Faults.{Cause, Duplicate, DuplicateField, OutOfBounds, NotFunc, NoMatch, Labels, told}
+use Rattle.wast_base.specs.Ids.{Name, text_of, Mark, mark_of, span_of_index}
+use Rattle.wast_base.specs.Faults.{Cause, Duplicate, DuplicateField, OutOfBounds, NotFunc, NoMatch, Labels, NoNamedFields, told}
 use Rattle.wast_base.specs.declared.faults.Error.{Error}
 use Rattle.wast_base.specs.Spaces.{spaces, word_of, name_if, is_borne}
 use Rattle.wast_tree.specs.Items.{Item, items}
 use Rattle.wast_base.specs.Blocks.{Blocks}
 use Rattle.wast_labels.specs.OpenBlocks.{denotes, expects}
-use Rattle.wast_tree.specs.Sites.{Ask, Wants, Within, Unasked, Clause, Supported, Site, Asked, Used, Declared, LocalAt, LabelAt, Repeated, Begins, Ends, in_type_use, param_marks, local_marks, in_field, in_module}
+use Rattle.wast_tree.specs.Sites.{Ask, Wants, Within, Unasked, Clause, Covered, Site, Asked, Used, Declared, LocalAt, FieldAt, LabelAt, Repeated, Begins, Ends, in_type_use, param_marks, local_marks, in_field, in_module}
 use Rattle.wast_tree.specs.Known.{Known, names_in}
 use Rattle.wast_types.specs.Signatures.{Signature}
 use Rattle.wast_deinline.specs.Segments.{overflows}
 use Rattle.wast_resolve.specs.Explicit.{explicit, ids_filled}
 pub use Rattle.wast_namespace.specs.FirstUnmet.{Demand, one_demand, first_unmet, unknown, known_index, Answers}
 use Rattle.wast_resolve.specs.ImportOrder.{order_demand}
-use Rattle.wast_resolve.specs.Scopes.{Scope, scope, denoted, type_at, nameless, local_number}
+use Rattle.wast_resolve.specs.Scopes.{Shape, Function, Struct, Other, Scope, scope, denoted, type_at, nameless, local_number}
 use Rattle.wast_resolve.specs.Matches.{matches}
 
 -- what each demands, after those before it
@@ -66,17 +67,18 @@ ask_demand k (Wants s i) = known_index (k.number s) (word_of s) i
 ask_demand k (Within i) = []
 ask_demand k (Unasked m) = []
 ask_demand k (Clause n holds) = []
-ask_demand k (Supported holds) = []
+ask_demand k (Covered form holds) = []
 
 -- those of all that is asked
 abbrev pub ask_demands : Known → List Ask → List Demand
 ask_demands k asks = flat_map (ask_demand k) asks
 
 -- An inline type matches what the index beside it denotes: a type, of a function, of the same signature.
-abbrev pub match_with : (Signature → Bool) → Span → Option (Option Signature) → List Demand
+abbrev pub match_with : (Signature → Bool) → Span → Option Shape → List Demand
 match_with same place None = one_demand OutOfBounds place false
-match_with same place (Some None) = one_demand NotFunc place false
-match_with same place (Some (Some s)) = one_demand NoMatch place (same s)
+match_with same place (Some (Function s)) = one_demand NoMatch place (same s)
+match_with same place (Some (Struct number)) = one_demand NotFunc place false
+match_with same place (Some Other) = one_demand NotFunc place false
 
 -- of an inline type, and of the index beside it
 abbrev pub match_demands : Scope → Index → FunctionType → List Demand
@@ -93,6 +95,24 @@ match_if c (Some i) (Some t) = match_demands c i t
 abbrev pub use_demand : Scope → TypeUse FunctionType → List Demand
 use_demand c u = ask_demands c.known (in_type_use u) ++ match_if c u.index u.inline
 
+-- A name of a field is asked of a type with this number: it is that of a struct with a named field, and one of its fields has
+-- the name.
+abbrev pub named_field : ℕ → Option Shape → Mark → List Demand
+named_field n None m = one_demand (NoNamedFields (text_of m.0) n) m.1 false
+named_field n (Some (Function s)) m = one_demand (NoNamedFields (text_of m.0) n) m.1 false
+named_field n (Some (Struct number)) m = unknown (codes "field") m (is_some (number m.0))
+named_field n (Some Other) m = one_demand (NoNamedFields (text_of m.0) n) m.1 false
+
+-- of the type that an index denotes; where it denotes none, that is a fault of the index
+abbrev pub field_at : List Shape → Option ℕ → Index → List Demand
+field_at types None i = []
+field_at types (Some n) (index.Num m place) = []
+field_at types (Some n) (index.Id id) = named_field n (slice_get types n) (mark_of id)
+
+-- of an access to a field: the index of the struct type, and then the field
+abbrev pub access_demand : Scope → (owner i : Index) → List Demand
+access_demand c owner i = ask_demand c.known (Wants space.Ty owner) ++ field_at c.types (denoted (c.known.number space.Ty) owner) i
+
 -- A label at an `else` or an `end` is that of the innermost open block, where a block is open.
 abbrev pub repeated_demand : Blocks → Option Mark → List Demand
 repeated_demand blocks None = []
@@ -104,6 +124,7 @@ site_demand c (Asked a) = ask_demand c.known a
 site_demand c (Used w u) = use_demand c u
 site_demand c (Declared before m) = new_name_in (codes "local") before m
 site_demand c (LocalAt locals i) = known_index (local_number c locals) (codes "local") i
+site_demand c (FieldAt owner i) = access_demand c owner i
 site_demand c (LabelAt blocks i) = known_index (λ name. denotes name blocks) (codes "label") i
 site_demand c (Repeated blocks m) = repeated_demand blocks m
 site_demand c (Begins blocks m) = []

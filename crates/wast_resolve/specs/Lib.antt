@@ -13,11 +13,13 @@ pub mod Openable
 pub mod Resolved
 pub mod Resolvers
 pub mod Scopes
+pub mod Shaping
 pub mod Stripped
 pub mod Tree
 pub mod TwoSteps
 pub mod Walking
 pub mod WorkedAnswers
 pub mod WorkedBodies
+pub mod WorkedFields
 pub mod WorkedImports
 pub mod WorkedUnknowns

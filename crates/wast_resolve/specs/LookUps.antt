@@ -4,7 +4,7 @@ use Rattle.std.specs.List.{list_all}
 use Rattle.wast_base.specs.declared.faults.Error.{Error}
 use Rattle.wast_base.specs.Faults.{told}
 use Rattle.wast_base.specs.Spaces.{is_settled_index}
-use Rattle.wast_tree.specs.Sites.{Ask, Wants, Within, Unasked, Clause, Supported, in_index}
+use Rattle.wast_tree.specs.Sites.{Ask, Wants, Within, Unasked, Clause, Covered, in_index}
 use Rattle.wast_tree.specs.Known.{Known}
 use Rattle.wast_resolve.specs.Tree.{Space, Index}
 use Rattle.wast_resolve.specs.Tree.space
@@ -18,7 +18,7 @@ is_settled k (Wants s i) = is_settled_index (k.number s) i
 is_settled k (Within i) = true
 is_settled k (Unasked m) = true
 is_settled k (Clause n holds) = true
-is_settled k (Supported holds) = true
+is_settled k (Covered form holds) = true
 
 -- each of all that is asked
 abbrev pub are_settled : Known → List Ask → Bool

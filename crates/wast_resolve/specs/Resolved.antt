@@ -3,7 +3,7 @@ use Rattle.std.specs.Prelude.{List, map, option_map}
 use Rattle.wast_resolve.specs.Tree.{FunctionType, TypeUse, ModuleField}
 use Rattle.wast_resolve.specs.Tree.space
 use Rattle.wast_labels.specs.OpenBlocks.{denotes}
-use Rattle.wast_resolve.specs.Scopes.{Scope, scope, local_number}
+use Rattle.wast_resolve.specs.Scopes.{Scope, scope, local_number, field_number}
 use Rattle.wast_tree.specs.Sites.{Where, OfItem, OfCall, OfBlock}
 use Rattle.wast_tree.specs.Types.{said_once}
 use Rattle.wast_tree.specs.Known.{Known}
@@ -30,6 +30,7 @@ numbering c = record {
   index = numbered_at c.known;
   used = resolved_use c.known;
   local = λ l i. numbered (local_number c l) i;
+  field = λ owner i. numbered (field_number c owner) i;
   label = λ blocks i. numbered (λ name. denotes name blocks) i;
   id = λ o. o;
 }

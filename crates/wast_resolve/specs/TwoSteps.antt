@@ -1,13 +1,15 @@
 -- The two parts of what is walked in two steps. Private functions alone use this.
 use Rattle.std.specs.Prelude.{List, [], map, flat_map, option_map}
-use Rattle.wast_resolve.specs.Tree.{FuncKind, TableKind, ElemKind, ElemPayload, DataKind}
+use Rattle.wast_base.specs.Blocks.{Blocks}
+use Rattle.wast_resolve.specs.Tree.{Handle, FuncKind, TableKind, ElemKind, ElemPayload, DataKind}
+use Rattle.wast_resolve.specs.Tree.handle
 use Rattle.wast_resolve.specs.Tree.space
 use Rattle.wast_resolve.specs.Tree.func
 use Rattle.wast_resolve.specs.Tree.table
 use Rattle.wast_resolve.specs.Tree.elem
 use Rattle.wast_resolve.specs.Tree.payload
 use Rattle.wast_resolve.specs.Tree.data_kind
-use Rattle.wast_tree.specs.Sites.{Ask, Site, Here, asking, at_index, if_there, in_ref, in_table_type, in_expression, in_constant, in_payload, in_local}
+use Rattle.wast_tree.specs.Sites.{Ask, Site, Here, asking, at_index, at_label, if_there, in_ref, in_table_type, in_expression, in_constant, in_payload, in_local}
 use Rattle.wast_map.specs.Mapped.{Change, mapped_ref, mapped_table_type, mapped_expression, mapped_constant, mapped_payload, mapped_local}
 
 -- a function: the types of its locals, and its body from where it stands
@@ -117,3 +119,23 @@ with_data_memory f (data_kind.Active memory offset) = data_kind.Active (f.index 
 abbrev pub with_data_offset : Change → DataKind → DataKind
 with_data_offset f data_kind.Passive = data_kind.Passive
 with_data_offset f (data_kind.Active memory offset) = data_kind.Active memory (mapped_constant f offset)
+
+-- a handler of a resumption: its tag
+abbrev pub in_handler_tag : Handle → List Site
+in_handler_tag (handle.OnLabel e l) = at_index space.Tag e
+in_handler_tag (handle.OnSwitch e) = at_index space.Tag e
+
+-- its label, if it has one
+abbrev pub in_handler_label : Blocks → Handle → List Site
+in_handler_label blocks (handle.OnLabel e l) = at_label blocks l
+in_handler_label blocks (handle.OnSwitch e) = []
+
+-- the handler, its tag changed
+abbrev pub with_handler_tag : Change → Handle → Handle
+with_handler_tag f (handle.OnLabel e l) = handle.OnLabel (f.index space.Tag e) l
+with_handler_tag f (handle.OnSwitch e) = handle.OnSwitch (f.index space.Tag e)
+
+-- the handler, its label changed
+abbrev pub with_handler_label : Change → Blocks → Handle → Handle
+with_handler_label f blocks (handle.OnLabel e l) = handle.OnLabel e (f.label blocks l)
+with_handler_label f blocks (handle.OnSwitch e) = handle.OnSwitch e

@@ -5,6 +5,10 @@ use Rattle.wast_base.specs.Faults.{told}
 use Rattle.wast_tree.specs.Sites.{Ask, Site}
 use Rattle.wast_map.specs.Mapped.{Change}
 use Rattle.wast_resolve.specs.Demands.{Demand, first_unmet, ask_demands, site_demands, open_counts, HasMany, Answers}
+use Rattle.wast_base.specs.Blocks.{Blocks}
+use Rattle.wast_tree.specs.Sites.{in_cast}
+use Rattle.wast_map.specs.Mapped.{mapped_ref}
+use Rattle.wast_resolve.specs.Tree.{Index, RefType}
 use Rattle.wast_resolve.specs.Resolved.{numbering}
 use Rattle.wast_resolve.specs.Resolvers.{Resolution, known_of, scope_of}
 
@@ -29,3 +33,12 @@ WalksFunctions many names sites mapped old new result = Walks ⊤ many (site_dem
 -- of a part in which blocks may be opened: these take memory, and may be too many
 abbrev pub WalksBodies : {T : Type 0} → Resolution → (T → List Site) → (Change → T → T) → T → T → Result (Unit {0}) Error → Type 0
 WalksBodies names sites mapped old new result = WalksFunctions (HasMany (open_counts (sites old))) names sites mapped old new result
+
+-- a branch on a cast: its label, the type that is cast to, and the type that is cast from, and what they become
+abbrev pub Cast : Type 0
+Cast = Index × (RefType × RefType)
+
+abbrev pub WalksCast : Resolution → Blocks → (old new : Cast) → Result (Unit {0}) Error → Type 0
+WalksCast names blocks old new result =
+    let f = numbering (scope_of names) in
+    Walks ⊥ ⊥ (site_demands (scope_of names) (in_cast blocks old.0 old.1.0 old.1.1)) (f.label blocks old.0, (mapped_ref f.index old.1.0, mapped_ref f.index old.1.1)) new result

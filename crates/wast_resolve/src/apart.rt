@@ -1,16 +1,16 @@
 //! Walks over fields whose parts stand apart: what is asked outside of bodies, and type uses.
 #![tactic(auto, using(crate::proofs::Parts::both_met, crate::proofs::Parts::first_fails, crate::proofs::Parts::second_fails))]
 
-ghost use Rattle.std.specs.Prelude.{List};
-ghost use Rattle.wast_tree.specs.Sites.{OfItem, Site, asking, at_index, in_use, in_tag_type, in_item_kind, in_import, in_memory_kind};
+ghost use Rattle.std.specs.Prelude.{List, map, flat_map};
+ghost use Rattle.wast_tree.specs.Sites.{OfItem, Site, asking, at_index, in_use, in_tag_type, in_item_kind, in_sig, in_import, in_memory_kind};
 ghost use Rattle.wast_map.specs.Mapped.{Change, mapped_tag_type, mapped_item_kind, mapped_sig, mapped_import_items, mapped_import, mapped_memory, mapped_tag};
 ghost use Rattle.wast_resolve.specs.Walking.{WalksSites};
 
 use crate::resolver::Resolver;
 use crate::walks::{Walk, walk_index, walk_type_use};
 use wast_tree::{
-    Error, FunctionType, ImportItems, Imports, Index, ItemKind, ItemSig, Memory, MemoryKind, Space,
-    Tag, TagType, TypeUse,
+    Error, FunctionType, ImportItems, Imports, Index, ItemKind, ItemSig, Memory, MemoryKind, Seq,
+    Space, Tag, TagType, TypeUse,
 };
 
 /// Walks over a part of a field in which nothing stands in a body.
@@ -78,6 +78,7 @@ impl<'a> WalkApart<'a> for ItemKind<'a> {
     fn walk_apart(&mut self, names: &Resolver<'a>) -> Result<(), Error<'a>> {
         match self {
             ItemKind::Func(ty) => ty.walk_apart(names),
+            ItemKind::FuncExact(ty) => ty.walk_apart(names),
             ItemKind::Table(ty) => walk_outside(names, ty),
             ItemKind::Memory(_) => Ok(()),
             ItemKind::Global(ty) => walk_outside(names, ty),
@@ -87,7 +88,7 @@ impl<'a> WalkApart<'a> for ItemKind<'a> {
 }
 
 impl<'a> WalkApart<'a> for ItemSig<'a> {
-    ghost stands = { λ s. in_item_kind s.kind };
+    ghost stands = { in_sig };
 
     ghost mapped = { mapped_sig };
 
@@ -95,6 +96,31 @@ impl<'a> WalkApart<'a> for ItemSig<'a> {
         self.kind.walk_apart(names)?;
         Ok(())
     }
+}
+
+/// An item of a group, behind its name.
+impl<'a> WalkApart<'a> for (&'a str, ItemSig<'a>) {
+    ghost stands = { λ p. in_sig p.1 };
+
+    ghost mapped = { λ f p. (p.0, mapped_sig f p.1) };
+
+    fn walk_apart(&mut self, names: &Resolver<'a>) -> Result<(), Error<'a>> {
+        self.1.walk_apart(names)?;
+        Ok(())
+    }
+}
+
+/// Walks over each part of a list, in order.
+fn walk_each_apart<'a, T: WalkApart<'a>>(
+    names: &Resolver<'a>,
+    parts: &mut Seq<T>,
+) -> Result<(), Error<'a>>
+    ensures { WalksSites names.now (flat_map T.stands) (λ f. map (T.mapped f)) parts.old parts.new result }
+{
+    for i in 0..parts.len() {
+        parts.at_mut(i).walk_apart(names)?;
+    }
+    Ok(())
 }
 
 impl<'a> WalkApart<'a> for ImportItems<'a> {
@@ -105,6 +131,8 @@ impl<'a> WalkApart<'a> for ImportItems<'a> {
     fn walk_apart(&mut self, names: &Resolver<'a>) -> Result<(), Error<'a>> {
         match self {
             ImportItems::Single { sig, .. } => sig.walk_apart(names),
+            ImportItems::Group1 { items, .. } => walk_each_apart(names, items),
+            ImportItems::Group2 { sig, .. } => sig.walk_apart(names),
         }
     }
 }

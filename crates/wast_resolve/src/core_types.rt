@@ -221,6 +221,7 @@ impl<'a, C: ResolveCoreType<'a>> CoreType<'a, C> for HeapType<'a> {
         match self {
             HeapType::Abstract { .. } => Ok(()),
             HeapType::Concrete(index) => index.resolve_with(cx),
+            HeapType::Exact(index) => index.resolve_with(cx),
         }
     }
 }
@@ -334,6 +335,7 @@ impl<'a, C: ResolveCoreType<'a>> CoreType<'a, C> for InnerTypeKind<'a> {
             InnerTypeKind::Func(ty) => ty.resolve_with(cx),
             InnerTypeKind::Struct(ty) => ty.resolve_with(cx),
             InnerTypeKind::Array(ty) => ty.resolve_with(cx),
+            InnerTypeKind::Cont(ty) => ty.0.resolve_with(cx),
         }
     }
 }

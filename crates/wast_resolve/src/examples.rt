@@ -2,6 +2,7 @@
 
 ghost use Rattle.wast_resolve.specs.WorkedAnswers.{Row27, Row31, Row32, Row2, Row7, Row8, Row24, TwoFunctions, ClashOfTypes, FieldsOfOneStruct, FieldsOfTwoStructs, ClashesInOrder, Row14, Row22, Row23, UnknownNames, MatchedByNumber, Row17, IndirectCalls};
 ghost use Rattle.wast_resolve.specs.WorkedBodies.{NestedLabels, InnermostOfTwo, CaughtOutside, CaughtInItself, DelegatedOutside, DelegatedToItself, LabelsAtEnds, BlockOfTwo, BehindNameless};
+ghost use Rattle.wast_resolve.specs.WorkedFields.{Row48, Row16};
 ghost use Rattle.wast_resolve.specs.WorkedImports.{Row12, Row13, Row21, BehindAMemory, ImportsInOrder, ImportedTwice, UnknownStart};
 ghost use Rattle.wast_resolve.specs.WorkedUnknowns.{UnknownInSegments, UnknownInTables, UnknownInGlobals};
 
@@ -111,6 +112,13 @@ pub(crate) fn block_of_two()
 #[tactic(auto, using(crate::proofs::Worked::behind_nameless))]
 pub(crate) fn behind_nameless()
     ensures { BehindNameless }
+{}
+
+/// A field of a struct by its name, and where there is none: E9 where no field has a name, and else E4.
+#[tactic(auto, using(crate::proofs::Worked::row48, crate::proofs::Worked::row16))]
+pub(crate) fn named_fields()
+    ensures named { Row48 }
+    ensures unnamed { Row16 }
 {}
 
 /// Imports behind what is defined: E1 at the first, by what is defined last, and before any clash of names.

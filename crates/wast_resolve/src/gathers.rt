@@ -179,6 +179,7 @@ pub(crate) fn gather_each<'a, T: HasId<'a>>(
 ///
 /// It asks for memory once, and only where some field has an id. Where it is refused, that is E12; where there are 2^32
 /// fields or more, E10.
+#[inline(always)]
 pub(crate) fn gather_fields<'a>(
     alloc: Global,
     fields: &[StructField<'a>],

@@ -92,9 +92,11 @@ fn check_order<'e>(fields: &[ModuleField<'_>]) -> Result<(), Error<'e>>
     Ok(())
 }
 
-/// The same of a list.
-fn check_list<'e>(fields: &Seq<ModuleField<'_>>) -> Result<(), Error<'e>>
-    ensures { Outcome ⊥ ⊥ (first_unmet (order_demands fields.now)) result }
+/// The same of a list. It is lent to be changed, and stays: where it was lent to be read, the prover would compare the type of
+/// the whole tree with itself.
+fn check_list<'a, 'e>(fields: &mut Seq<ModuleField<'a>>) -> Result<(), Error<'e>>
+    ensures outcome { Outcome ⊥ ⊥ (first_unmet (order_demands fields.old)) result }
+    ensures stays { fields.new ≡ fields.old }
 {
     check_order(fields.as_slice())
 }
@@ -106,7 +108,8 @@ pub(crate) fn in_order<'a>(fields: Seq<ModuleField<'a>>) -> Result<Seq<ModuleFie
     ensures list { IfOk result (λ r. r ≡ fields.entry) }
     ensures refusal { IfErr result (λ e. Answers ⊥ ⊥ (told e) (first_unmet (order_demands fields.entry))) }
 {
-    match check_list(&fields) {
+    let mut fields = fields;
+    match check_list(&mut fields) {
         Ok(()) => Ok(fields),
         Err(e) => {
             discard_fields(fields);

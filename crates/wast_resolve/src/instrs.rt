@@ -8,7 +8,7 @@ ghost use Rattle.wast_base.specs.Spaces.{name_if};
 ghost use Rattle.wast_labels.specs.Gathered.{knows};
 ghost use Rattle.wast_labels.specs.OpenBlocks.{OpenBlocks};
 ghost use Rattle.wast_labels.specs.Turns.{gathered};
-ghost use Rattle.wast_map.specs.Mapped.{mapped_block, mapped_br_table, mapped_catch, mapped_caught, mapped_expression, mapped_indirect, mapped_instr, mapped_instrs, mapped_try_table};
+ghost use Rattle.wast_map.specs.Mapped.{mapped_access, mapped_block, mapped_br_table, mapped_catch, mapped_caught, mapped_expression, mapped_handle, mapped_handlers, mapped_indirect, mapped_instr, mapped_instrs, mapped_try_table};
 ghost use Rattle.wast_namespace.specs.Outcomes.{Outcome};
 ghost use Rattle.wast_resolve.specs.Demands.{first_unmet, site_demands, open_counts_at, HasMany};
 ghost use Rattle.wast_resolve.specs.Locals.{Numbers};
@@ -16,9 +16,10 @@ ghost use Rattle.wast_resolve.specs.Openable.{is_openable, AreOpenable, here, be
 ghost use Rattle.wast_resolve.specs.Resolvers.{Resolution, scope_of};
 ghost use Rattle.wast_resolve.specs.Scopes.{Scope};
 ghost use Rattle.wast_resolve.specs.Tree.space;
-ghost use Rattle.wast_resolve.specs.Walking.{WalksAsks, WalksSites, WalksBodies};
+ghost use Rattle.wast_resolve.specs.TwoSteps.{in_handler_tag, in_handler_label, with_handler_tag, with_handler_label};
+ghost use Rattle.wast_resolve.specs.Walking.{WalksAsks, WalksSites, WalksBodies, WalksCast};
 ghost use Rattle.wast_tree.specs.Instrs.{turn_of, turns};
-ghost use Rattle.wast_tree.specs.Sites.{Begins, Ends, Repeated, LocalAt, Locals, OfBlock, OfCall, asking, at_index, at_label, in_block, in_br_table, in_catch, in_caught, in_expression, in_indirect, in_instr, in_instrs, in_try_table, in_use};
+ghost use Rattle.wast_tree.specs.Sites.{Begins, Ends, Repeated, LocalAt, Locals, OfBlock, OfCall, asking, at_index, at_label, in_access, in_block, in_br_table, in_catch, in_caught, in_expression, in_handle, in_handlers, in_indirect, in_instr, in_instrs, in_pair, in_try_table, in_use};
 
 use crate::apart::{walk_outside, walk_outside_index};
 use crate::local_names::LocalNames;
@@ -27,8 +28,9 @@ use crate::walks::{Walk, walk_body_type, walk_index};
 use std::alloc::{AllocError, Global};
 use wast_labels::{LabelNames, Labels, gathering_law};
 use wast_tree::{
-    BlockType, Boxed, BrTableIndices, CallIndirect, Error, Expression, Fault, FunctionType, Id,
-    Index, Instruction, Seq, Space, TryTable, TryTableCatch, TryTableCatchKind, TypeUse,
+    ArrayInit, BlockType, Boxed, BrTableIndices, CallIndirect, Error, Expression, Fault,
+    FunctionType, Handle, Id, Index, Instruction, RefType, Resume, ResumeTable, ResumeThrow,
+    ResumeThrowRef, Seq, Space, StructAccess, TryTable, TryTableCatch, TryTableCatchKind, TypeUse,
 };
 
 /// Walks over an index of a space. No block is opened.
@@ -232,6 +234,148 @@ fn walk_delegate<'a>(labels: &mut Labels<'a>, label: &mut Index<'a>) -> Result<(
     Ok(())
 }
 
+/// Walks over an access to a field of a struct: the type of the struct, and then the field.
+fn walk_access<'a>(names: &Resolver<'a>, access: &mut StructAccess<'a>) -> Result<(), Error<'a>>
+    ensures { WalksBodies names.now in_access mapped_access access.old access.new result }
+{
+    names.number_access(access)
+}
+
+/// Walks over an array that is filled from a segment of a space: its type, and then the segment.
+fn walk_array_init<'a>(
+    names: &Resolver<'a>,
+    segments: Space,
+    init: &mut ArrayInit<'a>,
+) -> Result<(), Error<'a>>
+    ensures { WalksBodies names.now (λ a. asking (in_pair space.Ty a.array segments a.segment))
+        (λ f a. record { array = f.index space.Ty a.array; segment = f.index segments a.segment }) init.old init.new result }
+{
+    walk_outside_index(names, Space::Ty, &mut init.array)?;
+    walk_outside_index(names, segments, &mut init.segment)?;
+    Ok(())
+}
+
+/// Walks over a branch on a cast: its label, the type that is cast to, and the type that is cast from.
+fn walk_cast<'a>(
+    names: &Resolver<'a>,
+    labels: &Labels<'a>,
+    label: &mut Index<'a>,
+    to: &mut RefType<'a>,
+    from: &mut RefType<'a>,
+) -> Result<(), Error<'a>>
+    ensures { WalksCast names.now labels.now.blocks (label.old, (to.old, from.old)) (label.new, (to.new, from.new)) result }
+{
+    walk_label(labels, label)?;
+    walk_outside(names, to)?;
+    walk_outside(names, from)?;
+    Ok(())
+}
+
+/// Walks over the tag of a handler of a resumption.
+fn walk_handler_tag<'a>(names: &Resolver<'a>, handle: &mut Handle<'a>) -> Result<(), Error<'a>>
+    ensures { WalksSites names.now in_handler_tag with_handler_tag handle.old handle.new result }
+{
+    match handle {
+        Handle::OnLabel { tag, .. } => walk_outside_index(names, Space::Tag, tag),
+        Handle::OnSwitch { tag } => walk_outside_index(names, Space::Tag, tag),
+    }
+}
+
+/// Walks over the label of a handler of a resumption, if it has one.
+fn walk_handler_label<'a>(labels: &Labels<'a>, handle: &mut Handle<'a>) -> Result<(), Error<'a>>
+    ensures { (names : Resolution) → WalksSites names (in_handler_label labels.now.blocks)
+        (λ f. with_handler_label f labels.now.blocks) handle.old handle.new result }
+{
+    match handle {
+        Handle::OnLabel { label, .. } => walk_label(labels, label),
+        Handle::OnSwitch { .. } => Ok(()),
+    }
+}
+
+/// Walks over a handler of a resumption: its tag, and then its label if it has one.
+fn walk_handle<'a>(
+    names: &Resolver<'a>,
+    labels: &Labels<'a>,
+    handle: &mut Handle<'a>,
+) -> Result<(), Error<'a>>
+    ensures { WalksSites names.now (in_handle labels.now.blocks) (λ f. mapped_handle f labels.now.blocks) handle.old handle.new result }
+{
+    walk_handler_tag(names, handle)?;
+    walk_handler_label(labels, handle)?;
+    Ok(())
+}
+
+/// Walks over handlers, in order.
+fn walk_handles<'a>(
+    names: &Resolver<'a>,
+    labels: &Labels<'a>,
+    handles: &mut Seq<Handle<'a>>,
+) -> Result<(), Error<'a>>
+    ensures { WalksSites names.now (flat_map (in_handle labels.now.blocks))
+        (λ f. map (mapped_handle f labels.now.blocks)) handles.old handles.new result }
+{
+    for i in 0..handles.len() {
+        walk_handle(names, labels, handles.at_mut(i))?;
+    }
+    Ok(())
+}
+
+/// Walks over the handlers of a resumption.
+fn walk_handlers<'a>(
+    names: &Resolver<'a>,
+    labels: &Labels<'a>,
+    table: &mut ResumeTable<'a>,
+) -> Result<(), Error<'a>>
+    ensures { WalksSites names.now (in_handlers labels.now.blocks) (λ f. mapped_handlers f labels.now.blocks) table.old table.new result }
+{
+    walk_handles(names, labels, &mut table.handlers)?;
+    Ok(())
+}
+
+/// Walks over a resumption: its type, and then its handlers.
+fn walk_resume<'a>(
+    names: &Resolver<'a>,
+    labels: &Labels<'a>,
+    resume: &mut Resume<'a>,
+) -> Result<(), Error<'a>>
+    ensures { WalksBodies names.now (λ a. at_index space.Ty a.type_index ++ in_handlers labels.now.blocks a.table)
+        (λ f a. record { type_index = f.index space.Ty a.type_index; table = mapped_handlers f labels.now.blocks a.table }) resume.old resume.new result }
+{
+    walk_outside_index(names, Space::Ty, &mut resume.type_index)?;
+    walk_handlers(names, labels, &mut resume.table)?;
+    Ok(())
+}
+
+/// Walks over a resumption that throws: its type, its tag, and then its handlers.
+fn walk_resume_throw<'a>(
+    names: &Resolver<'a>,
+    labels: &Labels<'a>,
+    resume: &mut ResumeThrow<'a>,
+) -> Result<(), Error<'a>>
+    ensures { WalksBodies names.now
+        (λ a. asking (in_pair space.Ty a.type_index space.Tag a.tag_index) ++ in_handlers labels.now.blocks a.table)
+        (λ f a. record { type_index = f.index space.Ty a.type_index; tag_index = f.index space.Tag a.tag_index; table = mapped_handlers f labels.now.blocks a.table }) resume.old resume.new result }
+{
+    walk_outside_index(names, Space::Ty, &mut resume.type_index)?;
+    walk_outside_index(names, Space::Tag, &mut resume.tag_index)?;
+    walk_handlers(names, labels, &mut resume.table)?;
+    Ok(())
+}
+
+/// Walks over a resumption that throws what is referred to: its type, and then its handlers.
+fn walk_resume_throw_ref<'a>(
+    names: &Resolver<'a>,
+    labels: &Labels<'a>,
+    resume: &mut ResumeThrowRef<'a>,
+) -> Result<(), Error<'a>>
+    ensures { WalksBodies names.now (λ a. at_index space.Ty a.type_index ++ in_handlers labels.now.blocks a.table)
+        (λ f a. record { type_index = f.index space.Ty a.type_index; table = mapped_handlers f labels.now.blocks a.table }) resume.old resume.new result }
+{
+    walk_outside_index(names, Space::Ty, &mut resume.type_index)?;
+    walk_handlers(names, labels, &mut resume.table)?;
+    Ok(())
+}
+
 /// Walks over an instruction. A block that it opens or closes is opened or closed then.
 ///
 /// It needs that the label of a block that it opens was gathered.
@@ -249,6 +393,8 @@ fn walk_instr<'a>(
     match instr {
         Instruction::Plain(_) => Ok(()),
         Instruction::Mem(_, arg) => walk_part(names, arg),
+        Instruction::Lane(..) => Ok(()),
+        Instruction::MemLane(_, arg) => walk_part(names, arg),
         Instruction::block(block) => walk_block(names, labels, block),
         Instruction::loop_(block) => walk_block(names, labels, block),
         Instruction::if_(block) => walk_block(names, labels, block),
@@ -297,6 +443,85 @@ fn walk_instr<'a>(
         Instruction::f64_const(_) => Ok(()),
         Instruction::ref_null(heap) => walk_part(names, heap),
         Instruction::ref_func(func) => walk_number(names, Space::Func, func),
+        Instruction::struct_new(ty) => walk_number(names, Space::Ty, ty),
+        Instruction::struct_new_default(ty) => walk_number(names, Space::Ty, ty),
+        Instruction::struct_get(access) => walk_access(names, access),
+        Instruction::struct_get_s(access) => walk_access(names, access),
+        Instruction::struct_get_u(access) => walk_access(names, access),
+        Instruction::struct_set(access) => walk_access(names, access),
+        Instruction::array_new(ty) => walk_number(names, Space::Ty, ty),
+        Instruction::array_new_default(ty) => walk_number(names, Space::Ty, ty),
+        Instruction::array_new_fixed(arg) => walk_number(names, Space::Ty, &mut arg.array),
+        Instruction::array_new_data(arg) => walk_part(names, arg),
+        Instruction::array_new_elem(arg) => walk_part(names, arg),
+        Instruction::array_get(ty) => walk_number(names, Space::Ty, ty),
+        Instruction::array_get_s(ty) => walk_number(names, Space::Ty, ty),
+        Instruction::array_get_u(ty) => walk_number(names, Space::Ty, ty),
+        Instruction::array_set(ty) => walk_number(names, Space::Ty, ty),
+        Instruction::array_fill(arg) => walk_number(names, Space::Ty, &mut arg.array),
+        Instruction::array_copy(arg) => walk_part(names, arg),
+        Instruction::array_init_data(arg) => walk_array_init(names, Space::Data, arg),
+        Instruction::array_init_elem(arg) => walk_array_init(names, Space::Elem, arg),
+        Instruction::ref_test(arg) => walk_part(names, &mut arg.rt),
+        Instruction::ref_cast(arg) => walk_part(names, &mut arg.rt),
+        Instruction::ref_cast_desc_eq(arg) => walk_part(names, &mut arg.rt),
+        Instruction::br_on_cast(arg) => {
+            walk_cast(
+                names,
+                labels,
+                &mut arg.label,
+                &mut arg.to_type,
+                &mut arg.from_type,
+            )
+        }
+        Instruction::br_on_cast_fail(arg) => {
+            walk_cast(
+                names,
+                labels,
+                &mut arg.label,
+                &mut arg.to_type,
+                &mut arg.from_type,
+            )
+        }
+        Instruction::br_on_cast_desc_eq(arg) => {
+            walk_cast(
+                names,
+                labels,
+                &mut arg.label,
+                &mut arg.to_type,
+                &mut arg.from_type,
+            )
+        }
+        Instruction::br_on_cast_desc_eq_fail(arg) => {
+            walk_cast(
+                names,
+                labels,
+                &mut arg.label,
+                &mut arg.to_type,
+                &mut arg.from_type,
+            )
+        }
+        Instruction::v128_const(_) => Ok(()),
+        Instruction::i8x16_shuffle(_) => Ok(()),
+        Instruction::atomic_fence(_) => Ok(()),
+        Instruction::GlobalAtomic(access) => walk_number(names, Space::Global, &mut access.inner),
+        Instruction::TableAtomic(access) => {
+            walk_number(names, Space::Table, &mut access.inner.dst)
+        }
+        Instruction::StructAtomic(access) => walk_access(names, &mut access.inner),
+        Instruction::ArrayAtomic(access) => walk_number(names, Space::Ty, &mut access.inner),
+        Instruction::struct_new_desc(ty) => walk_number(names, Space::Ty, ty),
+        Instruction::struct_new_default_desc(ty) => walk_number(names, Space::Ty, ty),
+        Instruction::ref_get_desc(ty) => walk_number(names, Space::Ty, ty),
+        Instruction::cont_new(ty) => walk_number(names, Space::Ty, ty),
+        Instruction::cont_bind(arg) => walk_part(names, arg),
+        Instruction::suspend(tag) => walk_number(names, Space::Tag, tag),
+        Instruction::resume(arg) => walk_resume(names, labels, arg),
+        Instruction::resume_throw(arg) => walk_resume_throw(names, labels, arg),
+        Instruction::resume_throw_ref(arg) => walk_resume_throw_ref(names, labels, arg),
+        Instruction::switch(arg) => walk_part(names, arg),
+        Instruction::memory_discard(arg) => walk_number(names, Space::Memory, &mut arg.mem),
+        Instruction::Beyond(_) => Ok(()),
     }
 }
 

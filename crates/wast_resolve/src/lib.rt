@@ -6,7 +6,6 @@ mod clashes;
 mod constants;
 mod core_types;
 mod examples;
-mod func_types;
 mod gathers;
 mod imports;
 mod instrs;
@@ -17,6 +16,7 @@ mod matches;
 mod passes;
 mod resolution;
 mod resolver;
+mod shapes;
 mod spaces;
 mod walks;
 

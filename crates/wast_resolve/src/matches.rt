@@ -30,8 +30,10 @@ fn same_heap<'a>(cx: &Resolver<'a>, a: &HeapType<'a>, b: &HeapType<'a>) -> bool
             s == t && a == b
         }
         (HeapType::Concrete(i), HeapType::Concrete(j)) => cx.same_type(i, j),
-        (HeapType::Abstract { .. }, HeapType::Concrete(_)) => false,
-        (HeapType::Concrete(_), HeapType::Abstract { .. }) => false,
+        (HeapType::Exact(i), HeapType::Exact(j)) => cx.same_type(i, j),
+        (HeapType::Abstract { .. }, HeapType::Concrete(_) | HeapType::Exact(_)) => false,
+        (HeapType::Concrete(_), HeapType::Abstract { .. } | HeapType::Exact(_)) => false,
+        (HeapType::Exact(_), HeapType::Abstract { .. } | HeapType::Concrete(_)) => false,
     }
 }
 

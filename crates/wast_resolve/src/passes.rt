@@ -8,8 +8,8 @@ ghost use Rattle.wast_resolve.specs.Resolved.{resolved};
 ghost use Rattle.wast_resolve.specs.Resolvers.{known_of, scope_of};
 ghost use Rattle.wast_resolve.specs.Scopes.{scope};
 
-use crate::func_types::func_types;
 use crate::resolver::Resolver;
+use crate::shapes::type_shapes;
 use crate::spaces::name_spaces;
 use crate::walks::walk_fields;
 use std::alloc::Global;
@@ -23,8 +23,9 @@ use wast_tree::{Error, ModuleField, Seq, discard_fields};
 /// each one an index that wants one). The error is the first demand that is not met: in the order of the fields E2 at the
 /// second bearer of an id in a space, and directly after a type E3 at the second bearer of an id among the fields of its
 /// struct; after all of these, field by field, E4 at an id that denotes nothing, labels and locals of the body in which it
-/// stands among them; E6, E5 or E7 at an index whose type is not the inline type beside it; E2 at the second of two
-/// parameters and locals of one id; and E8 at a label of an `else` or an `end` that is not that of the innermost open block.
+/// stands and fields of a struct among them; E9 where a field is named of a type that is no struct with a named field; E6, E5
+/// or E7 at an index whose type is not the inline type beside it; E2 at the second of two parameters and locals of one id; and
+/// E8 at a label of an `else` or an `end` that is not that of the innermost open block.
 /// It is E12 where memory was refused, and E10 only where some space has 2^32 or more items, or some struct as many fields;
 /// or, where no items clash, where a function has as many parameters and locals, those without names too, or where as many
 /// blocks would be open at once. On an error the fields are dropped.
@@ -59,8 +60,8 @@ fn resolve_fields<'a>(
     ensures scope { IfOk result (λ r. scope_of r ≡ scope fields.old) }
     ensures refusal { IfErr result (IsUnnumbered fields.old) }
 {
-    let types = func_types(alloc, fields.as_slice())?;
     let spaces = name_spaces(alloc, fields.as_slice())?;
+    let types = type_shapes(alloc, fields.as_slice())?;
     let names = spaces.with_types(types);
     walk_fields(alloc, &names, fields)?;
     Ok(names)

@@ -18,7 +18,7 @@ use crate::passes;
 use crate::resolver::Resolver;
 use std::alloc::Global;
 use std::marker::Model;
-use wast_deinline::{deinline, written_laws};
+use wast_deinline::deinline;
 use wast_tree::{Error, Gensym, Index, ModuleField, Seq, Space};
 use wast_types::types;
 
@@ -120,12 +120,13 @@ impl<'a> Names<'a> {
 /// The error is the first demand that is not met: E1 at an import, also one in place, that stands behind a function, table,
 /// memory, global or tag of the module; after that, in the order of the fields, E2 at the second bearer of an id in a space,
 /// and directly after a type E3 at the second bearer of an id among the fields of its struct; after all of these, field by
-/// field, E4 at an id that denotes nothing; E6, E5 or E7 at an index whose type is not the inline type beside it; E2 at the
-/// second of two parameters and locals of one id; and E8 at a label at an `else` or an `end` that is not that of its block. It
-/// is E12 where memory was refused, and E10 only where some space has 2^32 or more items, where some struct has as many fields,
-/// where a function has as many parameters and locals or an expression as many open blocks (both only where no items clash),
-/// where as many bytes stand in place in a memory, or where the counter would pass the greatest `u64`. On an error the fields
-/// are dropped, and the counter stands where it stood or higher.
+/// field, E4 at an id that denotes nothing; E9 where a field is named of a type that is no struct with a named field; E6, E5
+/// or E7 at an index whose type is not the inline type beside it; E2 at the second of two parameters and locals of one id; and
+/// E8 at a label at an `else` or an `end` that is not that of its block. It is E12 where memory was refused, and E10 only
+/// where some space has 2^32 or more items, where some struct has as many fields, where a function has as many parameters and
+/// locals or an expression as many open blocks (both only where no items clash), where as many bytes stand in place in a
+/// memory, or where the counter would pass the greatest `u64`. On an error the fields are dropped, and the counter stands
+/// where it stood or higher.
 pub fn resolve<'a>(
     alloc: Global,
     fields: Seq<ModuleField<'a>>,
@@ -140,8 +141,6 @@ pub fn resolve<'a>(
     ensures counter { OnOk result (gensym.new ≡ gensym.old + ids_filled fields.entry) }
     ensures rising { gensym.old ≤ gensym.new }
 {
-    // of well formed fields none is exact where it is imported in place
-    written_laws();
     let fields = deinline::run(alloc, fields, gensym)?;
     let fields = in_order(fields)?;
     let fields = types::expand(alloc, fields, gensym)?;

@@ -1,22 +1,24 @@
 //! The name spaces of a module.
 
-ghost use Rattle.std.specs.Prelude.{◌≡◌, Some, IfOk, IfErr};
+ghost use Rattle.std.specs.Prelude.{◌≡◌, Some, option_map, IfOk, IfErr};
 ghost use Rattle.wast_base.specs.Ids.{name_of};
 ghost use Rattle.wast_resolve.specs.LookUps.{IsSettledFor, AnswersFor};
-ghost use Rattle.wast_resolve.specs.Resolved.{numbered_at};
+ghost use Rattle.wast_resolve.specs.Resolved.{numbered, numbered_at, numbering};
 ghost use Rattle.wast_namespace.specs.Namespaces.{number_in};
-ghost use Rattle.wast_resolve.specs.Scopes.{denoted, type_at, params_of, nameless};
+ghost use Rattle.wast_map.specs.Mapped.{mapped_access};
+ghost use Rattle.wast_resolve.specs.Scopes.{Function, Struct, Other, denoted, type_at, params_of, nameless, field_in};
 ghost use Rattle.wast_resolve.specs.Tree.space;
 ghost use Rattle.wast_resolve.specs.Matches.{same_type};
-ghost use Rattle.wast_resolve.specs.Demands.{first_unmet, match_demands};
+ghost use Rattle.wast_resolve.specs.Demands.{first_unmet, match_demands, field_at, access_demand};
 ghost use Rattle.wast_namespace.specs.Outcomes.{Outcome};
-ghost use Rattle.wast_resolve.specs.Resolvers.{space_of, space_in, known_of, scope_of, without_types, with_types};
+ghost use Rattle.wast_resolve.specs.Resolvers.{space_of, space_in, known_of, scope_of, read_shape, without_types, with_types, IsFieldsOf};
+ghost use Rattle.wast_resolve.specs.Walking.{Walks};
 
 use crate::matches::has_signature;
 use std::alloc::Global;
 use std::marker::Model;
 use wast_namespace::Namespace;
-use wast_tree::{Error, Fault, FunctionType, Id, Index, Space, TypeUse};
+use wast_tree::{Error, Fault, FunctionType, Id, Index, Space, StructAccess, TypeUse};
 use wast_types::FuncKey;
 
 /// A space of items that an index can stand for (text format, indices).
@@ -52,12 +54,62 @@ impl Ns {
     }
 }
 
-/// What the ids of a module denote in each space, and its function types (text format, indices and types).
+/// What is read of a type: of a function type its signature as it is written, of a struct type what the ids of its fields
+/// denote, if some field has one, and nothing of another type.
+#[derive(Drop)]
+pub(crate) struct TypeShape<'a> {
+    signature: Option<FuncKey<'a>>,
+    fields: Option<Namespace<'a>>,
+}
+
+impl<'a> TypeShape<'a> {
+    /// Of a type of which nothing is read.
+    pub(crate) fn other() -> Self
+        ensures { read_shape result ≡ Other }
+    {
+        TypeShape {
+            signature: None,
+            fields: None,
+        }
+    }
+
+    /// Of a function type of this signature.
+    pub(crate) fn of_func(key: FuncKey<'a>) -> Self
+        ensures { read_shape result ≡ Function key.entry }
+    {
+        TypeShape {
+            signature: Some(key),
+            fields: None,
+        }
+    }
+
+    /// The names of the fields, if it is of a struct type with a named field.
+    fn fields(&self) -> Option<&Namespace<'a>>
+        ensures { IsFieldsOf (Some (read_shape self.now)) (option_map (λ names. names.now) result) }
+    {
+        match &self.signature {
+            Some(_) => None,
+            None => self.fields.as_ref(),
+        }
+    }
+
+    /// Of a struct type whose fields have these names.
+    pub(crate) fn of_struct(names: Namespace<'a>) -> Self
+        ensures { read_shape result ≡ Struct (λ name. number_in names.entry name) }
+    {
+        TypeShape {
+            signature: None,
+            fields: Some(names),
+        }
+    }
+}
+
+/// What the ids of a module denote in each space, and its types (text format, indices and types).
 #[derive(Drop)]
 pub struct Resolver<'a> {
     spaces: Vec<Namespace<'a>>,
-    // by their positions, as they are written
-    types: Vec<Option<FuncKey<'a>>>,
+    // by their positions
+    types: Vec<TypeShape<'a>>,
 }
 
 impl<'a> Model for Resolver<'a> {
@@ -84,7 +136,7 @@ impl<'a> Resolver<'a> {
     }
 
     /// The same name spaces, and these types. It takes no memory.
-    pub(crate) fn with_types(self, types: Vec<Option<FuncKey<'a>>>) -> Self
+    pub(crate) fn with_types(self, types: Vec<TypeShape<'a>>) -> Self
         ensures { result ≡ with_types self.entry types.entry.items }
     {
         Resolver {
@@ -157,16 +209,60 @@ impl<'a> Resolver<'a> {
         let Some(number) = self.denoted(Space::Ty, idx) else {
             return Err(Error::new(idx.span(), Fault::OutOfBounds));
         };
-        match self.types.get(number as usize) {
-            None => Err(Error::new(idx.span(), Fault::OutOfBounds)),
-            Some(None) => Err(Error::new(idx.span(), Fault::NotFunc)),
-            Some(Some(key)) => {
-                if has_signature(self, inline, key) {
-                    Ok(())
-                } else {
-                    Err(Error::new(idx.span(), Fault::NoMatch))
-                }
-            }
+        let Some(shape) = self.types.get(number as usize) else {
+            return Err(Error::new(idx.span(), Fault::OutOfBounds));
+        };
+        let Some(key) = &shape.signature else {
+            return Err(Error::new(idx.span(), Fault::NotFunc));
+        };
+        if has_signature(self, inline, key) {
+            Ok(())
+        } else {
+            Err(Error::new(idx.span(), Fault::NoMatch))
+        }
+    }
+
+    /// Numbers an access to a field of a struct: the index of its type, and then that of the field; a number passes, and an id
+    /// that is known is replaced by its number, at the id's place.
+    ///
+    /// An unknown id of a type is E4 at its place. An id of a field is E9 at its place where the type is no struct with a named
+    /// field, or where there is none, and else E4 where it is unknown.
+    pub(crate) fn number_access(&self, access: &mut StructAccess<'a>) -> Result<(), Error<'a>>
+        ensures { Walks ⊥ ⊥ (access_demand (scope_of self.now) access.old.owner access.old.field)
+            (mapped_access (numbering (scope_of self.now)) access.old) access.new result }
+    {
+        let owner = self.number(&mut access.owner, Space::Ty)?;
+        self.number_field(owner, &mut access.field)?;
+        Ok(())
+    }
+
+    /// Numbers the index of a field of the struct type of this number: E9 at an id where that is no struct type with a named
+    /// field, and else E4 at one that is unknown.
+    fn number_field(&self, owner: u32, field: &mut Index<'a>) -> Result<(), Error<'a>>
+        ensures { Walks ⊥ ⊥ (field_at (scope_of self.now).types (Some owner) field.old)
+            (numbered (field_in (type_at (scope_of self.now).types (Some owner))) field.old) field.new result }
+    {
+        let id = match *field {
+            Index::Num(_, _) => return Ok(()),
+            Index::Id(id) => id,
+        };
+        let Some(names) = self.fields_of(owner) else {
+            return Err(Error::new(id.span(), Fault::NoNamedFields(id.name(), owner)));
+        };
+        let Some(number) = names.find(&id) else {
+            return Err(Error::new(id.span(), Fault::Unknown("field", id.name())));
+        };
+        *field = Index::Num(number, id.span());
+        Ok(())
+    }
+
+    /// The names of the fields of the struct type of this number, if it is one with a named field.
+    fn fields_of(&self, owner: u32) -> Option<&Namespace<'a>>
+        ensures { IsFieldsOf (type_at (scope_of self.now).types (Some owner)) (option_map (λ names. names.now) result) }
+    {
+        match self.types.get(owner as usize) {
+            Some(shape) => shape.fields(),
+            None => None,
         }
     }
 
@@ -184,15 +280,17 @@ impl<'a> Resolver<'a> {
 
     /// How many parameters the function type has that an index denotes; another type has none.
     fn params_at(&self, idx: &Index<'a>) -> usize
-        ensures { result ≡ params_of (type_at self.now.types (denoted ((known_of self.now).number space.Ty) idx.now)) }
+        ensures { result ≡ params_of (type_at (scope_of self.now).types (denoted ((known_of self.now).number space.Ty) idx.now)) }
     {
         let Some(number) = self.denoted(Space::Ty, idx) else {
             return 0;
         };
-        match self.types.get(number as usize) {
+        let Some(shape) = self.types.get(number as usize) else {
+            return 0;
+        };
+        match &shape.signature {
             None => 0,
-            Some(None) => 0,
-            Some(Some(key)) => key.0.len(),
+            Some(key) => key.0.len(),
         }
     }
 

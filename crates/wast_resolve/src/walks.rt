@@ -28,10 +28,11 @@ use crate::locals::name_locals;
 use crate::resolver::Resolver;
 use std::alloc::Global;
 use wast_tree::{
-    ArrayType, Error, Export, Func, FuncKind, FunctionType, GlobalType, HeapType, Id, Index,
-    InnerTypeKind, Local, MemArg, MemArgTarget, MemoryCopy, MemoryInit, ModuleField,
-    NameAnnotation, Rec, RefType, SelectTypes, Seq, Space, StorageType, StructField, StructType,
-    TableCopy, TableInit, TableType, Type, TypeDef, TypeUse, ValType, discard_said_inline,
+    ArrayCopy, ArrayNewData, ArrayNewElem, ArrayType, ContBind, Error, Export, Func, FuncKind,
+    FunctionType, GlobalType, HeapType, Id, Index, InnerTypeKind, LoadOrStoreLane, Local, MemArg,
+    MemArgTarget, MemoryCopy, MemoryInit, ModuleField, NameAnnotation, Rec, RefType, SelectTypes,
+    Seq, Space, StorageType, StructField, StructType, Switch, TableCopy, TableInit, TableType,
+    Type, TypeDef, TypeUse, ValType, discard_said_inline,
 };
 
 /// Walks over an index of a space. The error is E4 at an id that denotes nothing.
@@ -263,7 +264,19 @@ impl<'a> Walk<'a> for MemArg<'a> {
     fn walk(&mut self, names: &Resolver<'a>) -> Result<(), Error<'a>> {
         match &mut self.target {
             MemArgTarget::Memory(memory) => walk_index(names, Space::Memory, memory),
+            MemArgTarget::Array(ty) => walk_index(names, Space::Ty, ty),
         }
+    }
+}
+
+impl<'a> Walk<'a> for LoadOrStoreLane<'a> {
+    ghost asks = { λ a. in_mem_arg a.memarg };
+
+    ghost mapped = { λ f a. record a { memarg = mapped_mem_arg f.index a.memarg } };
+
+    fn walk(&mut self, names: &Resolver<'a>) -> Result<(), Error<'a>> {
+        self.memarg.walk(names)?;
+        Ok(())
     }
 }
 
@@ -324,6 +337,66 @@ impl<'a> Walk<'a> for TableCopy<'a> {
     fn walk(&mut self, names: &Resolver<'a>) -> Result<(), Error<'a>> {
         walk_index(names, Space::Table, &mut self.dst)?;
         walk_index(names, Space::Table, &mut self.src)?;
+        Ok(())
+    }
+}
+
+impl<'a> Walk<'a> for ArrayNewData<'a> {
+    ghost asks = { λ a. in_pair space.Ty a.array space.Data a.data_idx };
+
+    ghost mapped = { λ f a. record { array = f.index space.Ty a.array; data_idx = f.index space.Data a.data_idx } };
+
+    fn walk(&mut self, names: &Resolver<'a>) -> Result<(), Error<'a>> {
+        walk_index(names, Space::Ty, &mut self.array)?;
+        walk_index(names, Space::Data, &mut self.data_idx)?;
+        Ok(())
+    }
+}
+
+impl<'a> Walk<'a> for ArrayNewElem<'a> {
+    ghost asks = { λ a. in_pair space.Ty a.array space.Elem a.elem_idx };
+
+    ghost mapped = { λ f a. record { array = f.index space.Ty a.array; elem_idx = f.index space.Elem a.elem_idx } };
+
+    fn walk(&mut self, names: &Resolver<'a>) -> Result<(), Error<'a>> {
+        walk_index(names, Space::Ty, &mut self.array)?;
+        walk_index(names, Space::Elem, &mut self.elem_idx)?;
+        Ok(())
+    }
+}
+
+impl<'a> Walk<'a> for ArrayCopy<'a> {
+    ghost asks = { λ a. in_pair space.Ty a.dest_array space.Ty a.src_array };
+
+    ghost mapped = { λ f a. record { dest_array = f.index space.Ty a.dest_array; src_array = f.index space.Ty a.src_array } };
+
+    fn walk(&mut self, names: &Resolver<'a>) -> Result<(), Error<'a>> {
+        walk_index(names, Space::Ty, &mut self.dest_array)?;
+        walk_index(names, Space::Ty, &mut self.src_array)?;
+        Ok(())
+    }
+}
+
+impl<'a> Walk<'a> for ContBind<'a> {
+    ghost asks = { λ a. in_pair space.Ty a.argument_index space.Ty a.result_index };
+
+    ghost mapped = { λ f a. record { argument_index = f.index space.Ty a.argument_index; result_index = f.index space.Ty a.result_index } };
+
+    fn walk(&mut self, names: &Resolver<'a>) -> Result<(), Error<'a>> {
+        walk_index(names, Space::Ty, &mut self.argument_index)?;
+        walk_index(names, Space::Ty, &mut self.result_index)?;
+        Ok(())
+    }
+}
+
+impl<'a> Walk<'a> for Switch<'a> {
+    ghost asks = { λ a. in_pair space.Ty a.type_index space.Tag a.tag_index };
+
+    ghost mapped = { λ f a. record { type_index = f.index space.Ty a.type_index; tag_index = f.index space.Tag a.tag_index } };
+
+    fn walk(&mut self, names: &Resolver<'a>) -> Result<(), Error<'a>> {
+        walk_index(names, Space::Ty, &mut self.type_index)?;
+        walk_index(names, Space::Tag, &mut self.tag_index)?;
         Ok(())
     }
 }

@@ -1,5 +1,6 @@
 pub mod Answers
 pub mod Errors
+pub mod Forms
 pub mod Lines
 pub mod Numerals
 pub mod Runs

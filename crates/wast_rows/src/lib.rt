@@ -3,10 +3,12 @@
 
 mod answers;
 mod errors;
+mod forms;
 mod numbers;
 mod runs;
 mod samples;
 
 pub use errors::RunError;
+pub use forms::form_sample;
 pub use runs::run;
 pub use samples::sample;

@@ -1,15 +1,24 @@
 //! The fields of the worked rows about blocks and labels.
 
+ghost use Rattle.std.specs.Prelude.{◌≡◌};
+ghost use Rattle.wast_samples.specs.SampledForms.{plain_func};
+
 use crate::samples::{at, id, one, two};
 use std::alloc::Global;
 use wast_tree::{
-    BareOp, BlockKind, BlockType, Expression, Func, FunctionType, GlobalType, Id, Index,
-    InlineExport, Instruction, Maker, ModuleField, Plain, Seq, Tag, TagKind, TagType,
-    TryTableCatch, TryTableCatchKind, TypeUse, ValType,
+    AbstractHeapType, BareOp, BlockKind, BlockType, BrOnCast, Expression, Func, FunctionType,
+    GlobalType, HeapType, Id, Index, InlineExport, Instruction, Maker, ModuleField, Plain, RefType,
+    Seq, Tag, TagKind, TagType, TryTableCatch, TryTableCatchKind, TypeUse, ValType,
 };
 
 /// `(func ..)` of these instructions, at a place.
-fn func_of<'a>(alloc: Global, offset: usize, instrs: Seq<Instruction<'a>>) -> ModuleField<'a> {
+pub(crate) fn func_of<'a>(
+    alloc: Global,
+    offset: usize,
+    instrs: Seq<Instruction<'a>>,
+) -> ModuleField<'a>
+    ensures { result ≡ plain_func (record { offset = offset }) instrs.entry }
+{
     let none = TypeUse::none();
     let func = Func::new(alloc, at(offset), None, none, Seq::new(alloc), instrs);
     ModuleField::Func(func)
@@ -40,8 +49,14 @@ fn close<'a>(maker: &mut Maker, instrs: &mut Seq<Instruction<'a>>) {
 }
 
 /// An instruction without immediates at the end of a body.
-fn plain<'a>(maker: &mut Maker, instrs: &mut Seq<Instruction<'a>>, op: BareOp) {
+pub(crate) fn plain<'a>(maker: &mut Maker, instrs: &mut Seq<Instruction<'a>>, op: BareOp) {
     maker.push_instruction(instrs, Instruction::Plain(Plain::Bare(op)));
+}
+
+/// A reference to a type that no module defines.
+fn abstract_ref<'a>(nullable: bool, ty: AbstractHeapType) -> RefType<'a> {
+    let heap = HeapType::Abstract { shared: false, ty };
+    RefType { nullable, heap }
 }
 
 /// `(tag $e)` at the beginning of a module.
@@ -152,6 +167,21 @@ pub(crate) fn block_behind_an_end<'a>(alloc: Global, maker: &mut Maker) -> Seq<M
     close(maker, &mut instrs);
     open(maker, &mut instrs, id("l", 24));
     branch(maker, &mut instrs, id("l", 30));
+    close(maker, &mut instrs);
+    let func = func_of(alloc, 9, instrs);
+    one(alloc, maker, func)
+}
+
+/// `(module (func block br_on_cast 0 anyref (ref i31) end))`
+pub(crate) fn cast_out_of_a_block<'a>(alloc: Global, maker: &mut Maker) -> Seq<ModuleField<'a>> {
+    let cast = BrOnCast {
+        label: Index::Num(0, at(31)),
+        from_type: abstract_ref(true, AbstractHeapType::Any),
+        to_type: abstract_ref(false, AbstractHeapType::I31),
+    };
+    let mut instrs = Seq::new(alloc);
+    maker.push_block(&mut instrs, BlockKind::Block, labelled(None));
+    maker.push_instruction(&mut instrs, Instruction::br_on_cast(cast));
     close(maker, &mut instrs);
     let func = func_of(alloc, 9, instrs);
     one(alloc, maker, func)

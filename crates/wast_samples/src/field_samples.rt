@@ -1,5 +1,9 @@
 //! The fields of the worked rows about imports, tables, memories, globals, tags, start, elements and data.
 
+ghost use Rattle.std.specs.Prelude.{◌≡◌, None};
+ghost use Rattle.wast_tree.specs.declared.imports.ImportItems.TheVariants as import_items;
+ghost use Rattle.wast_tree.specs.declared.fields.ModuleField.TheVariants as field;
+
 use crate::samples::{at, func, id, one, three, two};
 use crate::type_samples::taking;
 use std::alloc::Global;
@@ -15,14 +19,19 @@ fn one_function_table<'a>() -> TableType<'a> {
 }
 
 /// `(import ..)` at a place, and its item at a place.
-fn import<'a>(
+pub(crate) fn import<'a>(
     offset: usize,
     module: &'a str,
     name: &'a str,
     sig_offset: usize,
     id: Option<Id<'a>>,
     kind: ItemKind<'a>,
-) -> ModuleField<'a> {
+) -> ModuleField<'a>
+    ensures { result ≡ field.Import (record {
+      span = record { offset = offset };
+      items = import_items.Single «module».entry name.entry (record { span = record { offset = sig_offset }; id = id.entry; name = None; kind = kind.entry });
+    }) }
+{
     let sig = ItemSig {
         span: at(sig_offset),
         id,

@@ -6,9 +6,12 @@
 
 mod block_samples;
 mod field_samples;
+mod form_samples;
 mod inline_samples;
 mod instr_samples;
 mod samples;
+mod struct_samples;
 mod type_samples;
 
+pub use form_samples::form_fields;
 pub use samples::sample_fields;

@@ -1,17 +1,23 @@
 //! The fields of the worked rows.
 
-ghost use Rattle.std.specs.Prelude.{◌≡◌, is_some, IfSome, IfErr};
+ghost use Rattle.std.specs.Prelude.{◌≡◌, [], ◌∷◌, None, is_some, IfSome, IfErr};
 ghost use Rattle.wast_base.specs.Faults.{out_of_memory};
+ghost use Rattle.wast_tree.specs.Makers.{Makes};
+ghost use Rattle.wast_tree.specs.WorkedModules.{plain_def};
 ghost use Rattle.wast_samples.specs.RowNumbers.{is_row};
 
-use crate::{block_samples, field_samples, inline_samples, instr_samples, type_samples};
+use crate::{
+    block_samples, field_samples, inline_samples, instr_samples, struct_samples, type_samples,
+};
 use std::alloc::Global;
 use wast_tree::{
     Error, Export, ExportKind, Func, FunctionType, Id, Index, InnerTypeKind, Instruction, Local,
     Maker, ModuleField, Rec, Seq, Span, Type, TypeDef, TypeUse, ValType,
 };
 
-pub(crate) fn at(offset: usize) -> Span {
+pub(crate) fn at(offset: usize) -> Span
+    ensures { result ≡ record { offset = offset } }
+{
     Span { offset }
 }
 
@@ -32,7 +38,9 @@ fn sub_type<'a>(alloc: Global, parents: Seq<Index<'a>>, final_type: bool) -> Typ
 }
 
 /// `(type .. (func))` at a place.
-pub(crate) fn empty_type<'a>(alloc: Global, id: Option<Id<'a>>, offset: usize) -> Type<'a> {
+pub(crate) fn empty_type<'a>(alloc: Global, id: Option<Id<'a>>, offset: usize) -> Type<'a>
+    ensures { result ≡ record { span = record { offset = offset }; id = id.entry; name = None; def = plain_def } }
+{
     let def = TypeDef::func(alloc, FunctionType::empty(alloc));
     Type::new(at(offset), id, def)
 }
@@ -59,7 +67,9 @@ pub(crate) fn one<'a>(
     alloc: Global,
     maker: &mut Maker,
     field: ModuleField<'a>,
-) -> Seq<ModuleField<'a>> {
+) -> Seq<ModuleField<'a>>
+    ensures { Makes maker.old maker.new (result ≡ field.entry ∷ []) }
+{
     let mut fields = Seq::new(alloc);
     maker.push_field(&mut fields, field);
     fields
@@ -71,7 +81,9 @@ pub(crate) fn two<'a>(
     maker: &mut Maker,
     first: ModuleField<'a>,
     second: ModuleField<'a>,
-) -> Seq<ModuleField<'a>> {
+) -> Seq<ModuleField<'a>>
+    ensures { Makes maker.old maker.new (result ≡ first.entry ∷ second.entry ∷ []) }
+{
     let mut fields = one(alloc, maker, first);
     maker.push_field(&mut fields, second);
     fields
@@ -210,12 +222,15 @@ fn fields_of_row<'a>(alloc: Global, maker: &mut Maker, n: u32) -> Option<Seq<Mod
         13 => Some(field_samples::unknown_start_before_a_clash(alloc, maker)),
         14 => Some(type_samples::results_for_parameters(alloc, maker)),
         15 => Some(block_samples::end_of_another_label(alloc, maker)),
+        16 => Some(struct_samples::field_of_an_empty_struct(alloc, maker)),
         17 => Some(type_samples::local_named_as_a_parameter(alloc, maker)),
+        19 => Some(instr_samples::wide_sum(alloc, maker)),
         21 => Some(field_samples::import_after_a_tag(alloc, maker)),
         22 => Some(type_samples::index_of_no_type(alloc, maker)),
         23 => Some(type_samples::function_of_a_struct(alloc, maker)),
         24 => Some(one_function(alloc, maker, None, TypeUse::of(Index::Num(5, at(20))))),
         25 => Some(block_samples::end_of_no_block(alloc, maker)),
+        26 => Some(struct_samples::unknown_field(alloc, maker)),
         27 => Some(exported_call(alloc, maker)),
         28 => Some(block_samples::branches_out_of_two(alloc, maker)),
         30 => Some(field_samples::started_import(alloc, maker)),
@@ -236,6 +251,9 @@ fn fields_of_row<'a>(alloc: Global, maker: &mut Maker, n: u32) -> Option<Seq<Mod
         45 => Some(instr_samples::memory_filled_by_a_segment(alloc, maker)),
         46 => Some(block_samples::block_of_two_results(alloc, maker)),
         47 => Some(instr_samples::load_of_another_memory(alloc, maker)),
+        48 => Some(struct_samples::field_of_a_null(alloc, maker)),
+        49 => Some(instr_samples::relaxed_swizzle(alloc, maker)),
+        50 => Some(block_samples::cast_out_of_a_block(alloc, maker)),
         55 => Some(block_samples::label_within_its_like(alloc, maker)),
         56 => Some(block_samples::block_behind_an_end(alloc, maker)),
         57 => Some(block_samples::global_of_a_block(alloc, maker)),
@@ -246,7 +264,7 @@ fn fields_of_row<'a>(alloc: Global, maker: &mut Maker, n: u32) -> Option<Seq<Mod
 
 /// The fields of the module of a worked row, or out of memory; `None` where there is no such row.
 ///
-/// The rows are 1 to 10, 12 to 15, 17, 21 to 25, 27, 28, 30 to 47, 55, 56, 57 and 65. Places are offsets in the text of the
+/// The rows are 1 to 10, 12 to 17, 19, 21 to 28, 30 to 50, 55, 56, 57 and 65. Places are offsets in the text of the
 /// row's module: of a field that of its keyword, of an id that of its `$`.
 pub fn sample_fields<'a>(alloc: Global, n: u32) -> Option<Result<Seq<ModuleField<'a>>, Error<'a>>>
     ensures there { is_some result ≡ is_row n }

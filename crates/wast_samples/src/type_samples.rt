@@ -34,7 +34,7 @@ fn function_type<'a>(
 }
 
 /// `(type ..)` of a struct of these fields, at a place.
-fn struct_type<'a>(
+pub(crate) fn struct_type<'a>(
     alloc: Global,
     id: Option<Id<'a>>,
     offset: usize,

@@ -54,7 +54,7 @@ fn signature(
 fn function_in<'k, 'a>(kind: &'k InnerTypeKind<'a>) -> Option<&'k FunctionType<'a>> {
     match kind {
         InnerTypeKind::Func(function) => Some(function),
-        InnerTypeKind::Struct(_) | InnerTypeKind::Array(_) => None,
+        _ => None,
     }
 }
 

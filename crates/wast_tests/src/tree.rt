@@ -13,31 +13,67 @@ fn at(offset: usize) -> Span {
     Span { offset }
 }
 
-/// `(import "m" "n" (func))`, whose item stands at 5
-fn import<'a>() -> Imports<'a> {
-    let sig = ItemSig {
-        span: at(5),
+/// `(func)`, at a place
+fn sig<'a>(offset: usize) -> ItemSig<'a> {
+    ItemSig {
+        span: at(offset),
         id: None,
         name: None,
         kind: ItemKind::Func(TypeUse::none()),
-    };
-    Imports::single(at(0), "m", "n", sig)
+    }
 }
 
-/// How many signatures there are.
-fn sig_count(rt: &impl Abort, alloc: Global, imports: &Imports<'_>) -> usize {
-    imports.item_sigs(alloc).expect(rt, "memory").len()
+/// `(import "m" ..)`
+fn group<'a>(items: ImportItems<'a>) -> Imports<'a> {
+    let span = at(0);
+    Imports { span, items }
+}
+
+/// The signatures of its items stand at these places.
+fn has_sigs(rt: &impl Abort, alloc: Global, imports: &Imports<'_>, places: &[usize]) {
+    let sigs = imports.item_sigs(alloc).expect(rt, "memory");
+    let mut found = Vec::new(alloc);
+    for sig in sigs {
+        found.push(sig.span.offset).expect(rt, "memory");
+    }
+    assert!(rt; found.as_slice() == places);
 }
 
 #[test]
-fn an_import_has_one_signature(rt: HostRuntime) {
-    let mut imports = import();
-    assert!(rt; sig_count(&rt, rt.alloc(), &imports) == 1);
-    assert!(rt; imports.unique_sigs() == 1);
-    imports.unique_sig_mut(0).span = at(6);
-    let ImportItems::Single { sig, .. } = &imports.items;
-    assert!(rt; sig.span == at(6));
-    discard_field(ModuleField::Import(imports));
+fn signatures_of_imports_are_told_and_changed(rt: HostRuntime) {
+    let alloc = rt.alloc();
+    let mut one = Imports::single(at(0), "m", "n", sig(5));
+    assert!(rt; one.unique_sigs() == 1);
+    one.unique_sig_mut(0).span = at(6);
+    has_sigs(&rt, alloc, &one, &[6]);
+    discard_field(ModuleField::Import(one));
+    let items = vec![in alloc; ("a", sig(5)), ("b", sig(6))].expect(&rt, "memory");
+    let mut own = group(ImportItems::Group1 {
+        module: "m",
+        items: Seq::from_vec(items),
+    });
+    assert!(rt; own.unique_sigs() == 2);
+    own.unique_sig_mut(1).span = at(7);
+    has_sigs(&rt, alloc, &own, &[5, 7]);
+    discard_field(ModuleField::Import(own));
+    let mut maker = Maker::new(alloc);
+    let mut shared = group(ImportItems::Group2 {
+        module: "m",
+        sig: sig(5),
+        items: maker.names(&["a", "b", "c"]),
+    });
+    assert!(rt; shared.unique_sigs() == 1);
+    shared.unique_sig_mut(0).span = at(8);
+    has_sigs(&rt, alloc, &shared, &[8, 8, 8]);
+    discard_field(ModuleField::Import(shared));
+    let none = group(ImportItems::Group2 {
+        module: "m",
+        sig: sig(5),
+        items: maker.names(&[]),
+    });
+    assert!(rt; none.unique_sigs() == 1 && !maker.is_refused());
+    has_sigs(&rt, alloc, &none, &[]);
+    discard_field(ModuleField::Import(none));
 }
 
 /// `i64.load`, of this offset.
@@ -72,6 +108,14 @@ fn a_memory_argument_is_changed_in_its_place(rt: HostRuntime) {
     discard_instruction(constant);
 }
 
+/// A list that a field is put into has one.
+fn has_one<'a>(rt: &impl Abort, alloc: Global, field: ModuleField<'a>) {
+    let mut fields = fields_with_capacity(alloc, 2).expect(rt, "memory");
+    push_field(&mut fields, field).expect(rt, "memory");
+    assert!(rt; fields.len() == 1);
+    discard_fields(fields);
+}
+
 #[test]
 fn lists_of_a_tree_are_made(rt: HostRuntime) {
     let alloc = rt.alloc();
@@ -79,11 +123,7 @@ fn lists_of_a_tree_are_made(rt: HostRuntime) {
     let expression = Expression::one(alloc, call).expect(&rt, "memory");
     assert!(rt; expression.instrs.len() == 1);
     discard_expression(expression);
-    let mut fields = fields_with_capacity(alloc, 2).expect(&rt, "memory");
-    let start = ModuleField::Start(Index::Num(0, at(2)));
-    push_field(&mut fields, start).expect(&rt, "memory");
-    assert!(rt; fields.len() == 1);
-    discard_fields(fields);
+    has_one(&rt, alloc, ModuleField::Start(Index::Num(0, at(2))));
     let mut maker = Maker::new(alloc);
     let mut pieces = Seq::new(alloc);
     maker.push_data(&mut pieces, DataVal::String(b"ab"));

@@ -1,14 +1,14 @@
 -- Which items bear a name.
 use Rattle.std.proofs.Common.{◌≡◌, ℕ, Bool, true, false, ◌||◌, ◌&&◌, ◌+◌, ◌<◌, length, get_or, drop, List, [], ◌∷◌, ◌++◌, Option, Some, refl, sym, ap, ◌∙◌}
 use Rattle.std.specs.Prelude.{is_some, if◌then◌else◌}
-use Rattle.std.specs.List.{list_any, position_from}
+use Rattle.std.specs.List.{list_any, position_from, flat_map}
 use Rattle.std.proofs.lemmas.Grind.{flat_map-append}
 use Rattle.std.proofs.lemmas.List.{drop_more}
 use Rattle.std.proofs.lemmas.Iterator.Adapters.{position_from-zero}
-use Rattle.wast_tree.specs.Tree.{Space, ModuleField}
+use Rattle.wast_tree.specs.Tree.{Space}
 use Rattle.wast_base.specs.Ids.{Name}
 use Rattle.wast_base.specs.Spaces.{same_space, name_if, is_called, is_borne}
-use Rattle.wast_tree.specs.Items.{Item, items_in, items}
+use Rattle.wast_tree.specs.Items.{Item}
 use Rattle.wast_tree.specs.Known.{name_in, names_in}
 
 any-append : {A : Type 0} (p : A → Bool) (a b : List A) → list_any p (a ++ b) ≡ list_any p a || list_any p b
@@ -52,10 +52,10 @@ borne_among s name (x ∷ xs) =
     ∙ (ap (λ b. b || is_borne name (names_in s xs)) (borne_if name (same_space s x.space) (name_if x.id)) ∙ ap (λ b. (same_space s x.space && is_called name (name_if x.id)) || b) (borne_among s name xs))
 
 -- the fields from one on: it bears the name, or those after it do
-pub borne_from : (s : Space) (name : Name) (fields : List ModuleField) (i : ℕ) (f : ModuleField) → i < length fields → f ≡ get_or fields i f
-    → is_borne name (names_in s (items (drop i fields))) ≡ is_borne name (names_in s (items_in f)) || is_borne name (names_in s (items (drop (i + 1) fields)))
-borne_from s name fields i f lt is =
-    ap (λ fs. is_borne name (names_in s (items fs))) (drop_more fields i f lt ∙ ap (λ x. x ∷ drop (i + 1) fields) (sym is)) ∙ borne_by_both s name (items_in f) (items (drop (i + 1) fields))
+pub borne_from : {T : Type 0} (items : T → List Item) (s : Space) (name : Name) (fields : List T) (i : ℕ) (f : T) → i < length fields → f ≡ get_or fields i f
+    → is_borne name (names_in s (flat_map items (drop i fields))) ≡ is_borne name (names_in s (items f)) || is_borne name (names_in s (flat_map items (drop (i + 1) fields)))
+borne_from items s name fields i f lt is =
+    ap (λ fs. is_borne name (names_in s (flat_map items fs))) (drop_more fields i f lt ∙ ap (λ x. x ∷ drop (i + 1) fields) (sym is)) ∙ borne_by_both s name (items f) (flat_map items (drop (i + 1) fields))
 
 -- one that does, and one that does not
 pub found_here : (b c x y : Bool) → x ≡ b || c → x ≡ y → b ≡ true → true ≡ y
@@ -67,12 +67,12 @@ passed true c x y e h t = cc
 passed false c x y e h t = sym e ∙ h
 
 -- the fields in two parts
-module _ (s : Space) (name : Name) (fields before after : List ModuleField) (parts : fields ≡ before ++ after) where
-  abbrev borne_in : List ModuleField → Bool
-  borne_in fs = is_borne name (names_in s (items fs))
+module _ {T : Type 0} (items : T → List Item) (s : Space) (name : Name) (fields before after : List T) (parts : fields ≡ before ++ after) where
+  abbrev borne_in : List T → Bool
+  borne_in fs = is_borne name (names_in s (flat_map items fs))
 
   borne_around : borne_in fields ≡ borne_in before || borne_in after
-  borne_around = ap borne_in parts ∙ (ap (λ xs. is_borne name (names_in s xs)) (flat_map-append items_in before after) ∙ borne_by_both s name (items before) (items after))
+  borne_around = ap borne_in parts ∙ (ap (λ xs. is_borne name (names_in s xs)) (flat_map-append items before after) ∙ borne_by_both s name (flat_map items before) (flat_map items after))
 
   pub borne_after : true ≡ borne_in after → true ≡ borne_in fields
   borne_after h = sym (borne_around ∙ (ap (λ b. borne_in before || b) (sym h) ∙ or_true (borne_in before)))

@@ -1,8 +1,10 @@
 -- What a visitor has made out of all that it was told.
-use Rattle.std.proofs.Common.{◌≡◌, ℕ, Bool, true, false, ◌&&◌, ◌||◌, List, [], ◌∷◌, refl, sym, ap, ◌∙◌, arith}
+use Rattle.std.proofs.Common.{◌≡◌, ℕ, Bool, true, false, ◌&&◌, ◌||◌, Option, Some, None, List, [], ◌∷◌, ◌++◌, flat_map, refl, sym, ap, ◌∙◌, arith}
 use Rattle.std.specs.Prelude.{map, max}
 use Rattle.std.specs.List.{list_all, list_any}
 use Rattle.wast_tree.specs.Generations.{greatest}
+use Rattle.wast_tree.specs.Tree.{Form}
+use Rattle.wast_tree.specs.Uncovered.{first_of}
 use Rattle.wast_tree.specs.Visits.{Tells, Visits}
 
 greatest_each : {V A : Type 0} (of : V → ℕ) (g : A → ℕ) (a b : V) (xs : List A) → Tells (λ old x new. of new ≡ max (of old) (g x)) a xs b → of b ≡ max (of a) (greatest (map g xs))
@@ -12,6 +14,24 @@ greatest_each of g a b (x ∷ xs) h = let e = greatest_each of g h.0 b xs h.1.1 
 -- the greatest of what was told
 pub greatest_told : {V A : Type 0} (of : V → ℕ) (g : A → ℕ) {a b : V} {xs : List A} → Visits (λ old x new. of new ≡ max (of old) (g x)) a xs b → of b ≡ max (of a) (greatest (map g xs))
 greatest_told of g {a} {b} {xs} h = greatest_each of g a b xs h.tells
+
+first_behind : (o : Option Form) (xs ys : List Form) → first_of (first_of o xs) ys ≡ first_of o (xs ++ ys)
+first_behind (Some f) xs ys = refl
+first_behind None [] ys = refl
+first_behind None (x ∷ xs) ys = refl
+
+first_each : {V A : Type 0} (of : V → Option Form) (g : A → List Form) (a b : V) (xs : List A) → Tells (λ old x new. of new ≡ first_of (of old) (g x)) a xs b → of b ≡ first_of (of a) (flat_map g xs)
+first_each of g a b [] h = ap of h ∙ sym (first_nothing (of a))
+  where
+    first_nothing : (o : Option Form) → first_of o [] ≡ o
+    first_nothing (Some f) = refl
+    first_nothing None = refl
+first_each of g a b (x ∷ xs) h =
+    first_each of g h.0 b xs h.1.1 ∙ (ap (λ o. first_of o (flat_map g xs)) h.1.0 ∙ first_behind (of a) (g x) (flat_map g xs))
+
+-- the first of what was told
+pub first_told : {V A : Type 0} (of : V → Option Form) (g : A → List Form) {a b : V} {xs : List A} → Visits (λ old x new. of new ≡ first_of (of old) (g x)) a xs b → of b ≡ first_of (of a) (flat_map g xs)
+first_told of g {a} {b} {xs} h = first_each of g a b xs h.tells
 
 -- a test that goes by what the visitor keeps
 module _ {V A C : Type 0} (keeps : V → C) (of : V → Bool) (p : C → A → Bool) where

@@ -7,9 +7,11 @@ use Rattle.std.specs.Prelude.{Option, Some, None, map}
 use Rattle.wast_base.specs.Blocks.{Blocks}
 use Rattle.wast_base.specs.Ids.{Name, Mark, marked}
 use Rattle.wast_base.specs.Spaces.{name_if}
-use Rattle.wast_tree.specs.Tree.{Id, Index, BrTableIndices, TryTable, TryTableCatch, Space, RefType, FunctionType, TypeUse, Instruction, Expression, Local}
+use Rattle.wast_tree.specs.Tree.{Id, Index, BrTableIndices, TryTable, TryTableCatch, Handle, ResumeTable, Space, RefType, FunctionType, TypeUse, Instruction, Expression, Local}
+use Rattle.wast_tree.specs.Tree.form
+use Rattle.wast_tree.specs.Tree.handle
 use Rattle.wast_tree.specs.Tree.func
-use Rattle.wast_tree.specs.Sites.{Ask, Wants, Within, Where, Site, Begins, Here, after_all, asking, at_index, if_there, in_id, in_index, in_use, in_ref, in_type_use, at_label, in_caught, in_catch, in_try_table, in_br_table, mark_asked, param_marks, in_constant, in_local, in_instr, in_instrs, in_expression, local_marks, declaring, body_here, in_func_kind, asked_in, asked}
+use Rattle.wast_tree.specs.Sites.{Ask, Wants, Within, Where, Site, Begins, Here, after_all, asking, at_index, if_there, in_id, in_index, in_use, in_ref, in_type_use, at_label, in_caught, in_catch, in_try_table, in_br_table, in_handle, in_handlers, uncovered, mark_asked, param_marks, in_constant, in_local, in_instr, in_instrs, in_expression, local_marks, declaring, body_here, in_func_kind, asked_in, asked}
 use Rattle.wast_tree.specs.Visits.{Tells, Visits}
 use Rattle.wast_tree.proofs.Behind.{instrs-append}
 
@@ -134,3 +136,29 @@ visits_next {told = told} {a} {c = c} h is n i d lt at before next =
     ap (in_instrs h) (take_more is n d lt ∙ ap (λ y. take n is ++ y ∷ []) (sym at))
     ∙ (instrs-append h (take n is) (i ∷ []) ∙ ap (λ ss. in_instrs h (take n is) ++ ss) (append-nil (in_instr there i))) in
     subst (λ asks. Visits told a asks c) (sym (ap asked more ∙ asked_both (in_instrs h (take n is)) (in_instr there i))) (visits_both before next)
+
+-- handlers of a resumption
+asked_handle : (blocks : Blocks) (h : Handle) → asked (in_handle blocks h) ≡ asked (in_handle [] h)
+asked_handle blocks (handle.OnLabel e l) = refl
+asked_handle blocks (handle.OnSwitch e) = refl
+
+asked_each_handle : (blocks : Blocks) (hs : List Handle) → asked (flat_map (in_handle blocks) hs) ≡ flat_map (λ h. asked (in_handle [] h)) hs
+asked_each_handle blocks [] = refl
+asked_each_handle blocks (h ∷ hs) =
+    asked_both (in_handle blocks h) (flat_map (in_handle blocks) hs)
+    ∙ (ap (λ asks. asks ++ asked (flat_map (in_handle blocks) hs)) (asked_handle blocks h) ∙ ap (λ asks. asked (in_handle [] h) ++ asks) (asked_each_handle blocks hs))
+
+pub asked_handlers : (blocks : Blocks) (t : ResumeTable) → asked (in_handlers blocks t) ≡ flat_map (λ h. asked (in_handle [] h)) t.handlers ++ uncovered form.StackSwitching
+asked_handlers blocks t =
+    asked_both (flat_map (in_handle blocks) t.handlers) (asking (uncovered form.StackSwitching)) ∙ ap (λ asks. asks ++ uncovered form.StackSwitching) (asked_each_handle blocks t.handlers)
+
+pub asked_anywhere_handlers : (blocks : Blocks) (t : ResumeTable) (front : List Site) → asked (front ++ in_handlers blocks t) ≡ asked (front ++ in_handlers [] t)
+asked_anywhere_handlers blocks t front =
+    asked_both front (in_handlers blocks t) ∙ (ap (λ asks. asked front ++ asks) (asked_handlers blocks t ∙ sym (asked_handlers [] t)) ∙ sym (asked_both front (in_handlers [] t)))
+
+-- parts, and behind them what else is asked
+pub asked_behind : (sites : List Site) (asks : List Ask) → asked (sites ++ asking asks) ≡ asked sites ++ asks
+asked_behind sites asks = asked_both sites (asking asks) ∙ ap (λ more. asked sites ++ more) (asked_asking asks)
+
+pub asked_list : {A : Type 0} (f : A → List Site) (xs : List A) (asks : List Ask) → asked (flat_map f xs ++ asking asks) ≡ flat_map (λ x. asked (f x)) xs ++ asks
+asked_list f xs asks = asked_behind (flat_map f xs) asks ∙ ap (λ more. more ++ asks) (asked_each f xs)

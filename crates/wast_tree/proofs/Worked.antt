@@ -1,7 +1,7 @@
 -- What the definitions say of worked modules, computed.
 use Rattle.std.proofs.Common.{refl}
 use Rattle.wast_base.specs.Blocks.{stays_open}
-use Rattle.wast_tree.specs.Private.Examples.{SameIds, StandsInRow27, StandsInFilledMemory, StandsEverywhere, StandsInPlace, StandsInSegments, StandsInBlocks, KnownInRows, WellFormedRows, SettledIndices, UnsettledIndices, WellFormedFuncs, WellFormedTypes, WellFormedSegments, WellFormedEntities, WellFormedInPlace, WellFormedBlocks, WrittenOutFields, GenerationsOfRows}
+use Rattle.wast_tree.specs.Private.Examples.{SameIds, StandsInRow27, StandsInFilledMemory, StandsEverywhere, StandsInPlace, StandsInSegments, StandsInBlocks, KnownInRows, WellFormedRows, SettledIndices, UnsettledIndices, WellFormedFuncs, WellFormedTypes, WellFormedSegments, WellFormedEntities, WellFormedInPlace, WellFormedBlocks, WrittenOutFields, GenerationsOfRows, StandsInAccess, UncoveredForms}
 
 pub same_ids : SameIds
 same_ids a b = (refl, refl, refl, refl, refl, refl, refl, refl)
@@ -66,3 +66,9 @@ written_out_fields a b c d e f = (refl, refl, refl, refl, refl, refl, refl)
 
 pub generations_of_rows : GenerationsOfRows
 generations_of_rows a b c d e f = (refl, refl, refl, refl, refl, refl, refl)
+
+pub stands_in_access : StandsInAccess
+stands_in_access a = refl
+
+pub uncovered_in_forms : UncoveredForms
+uncovered_in_forms a = (refl, refl, refl, refl, refl, refl, refl, refl, refl)

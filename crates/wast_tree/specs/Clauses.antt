@@ -26,11 +26,14 @@ is_func abstract.NoFunc = false
 is_func abstract.NoExtern = false
 is_func abstract.None = false
 is_func abstract.I31 = false
+is_func abstract.Cont = false
+is_func abstract.NoCont = false
 
 -- the heap type of functions
 abbrev pub is_func_heap : HeapType → Bool
 is_func_heap (heap.Abstract shared ty) = not shared && is_func ty
 is_func_heap (heap.Concrete i) = false
+is_func_heap (heap.Exact i) = false
 
 -- `funcref`
 abbrev pub is_funcref : RefType → Bool

@@ -4,7 +4,7 @@ use Rattle.wast_tree.specs.Tree.{Index, ModuleField}
 use Rattle.wast_tree.specs.Tree.index
 use Rattle.wast_base.specs.Ids.{Mark, name_of, generation_of}
 use Rattle.wast_tree.specs.Items.{Item, items}
-use Rattle.wast_tree.specs.Sites.{Ask, Wants, Within, Unasked, Clause, Supported, asked, in_module}
+use Rattle.wast_tree.specs.Sites.{Ask, Wants, Within, Unasked, Clause, Covered, asked, in_module}
 
 -- the greatest of some numbers, and 0 where there are none
 abbrev pub greatest : List ℕ → ℕ
@@ -27,7 +27,7 @@ generation_in (Wants s i) = generation_at i
 generation_in (Within i) = generation_at i
 generation_in (Unasked m) = generation_of m.0
 generation_in (Clause n holds) = 0
-generation_in (Supported holds) = 0
+generation_in (Covered f holds) = 0
 
 -- the greatest among the items
 abbrev pub greatest_item : List Item → ℕ

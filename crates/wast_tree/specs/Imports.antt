@@ -1,5 +1,5 @@
 -- The signatures of an import, and the fields behind which no import may stand (text format: imports, modules).
-use Rattle.std.specs.Prelude.{List, [], ◌∷◌, Option, Some, None}
+use Rattle.std.specs.Prelude.{List, [], ◌∷◌, map, Option, Some, None}
 use Rattle.wast_tree.specs.Tree.{Space, ItemSig, ImportItems, ModuleField}
 use Rattle.wast_tree.specs.Tree.space
 use Rattle.wast_tree.specs.Tree.import_items
@@ -8,10 +8,14 @@ use Rattle.wast_tree.specs.Tree.field
 -- the signatures, one for each item
 abbrev pub item_sigs : ImportItems → List ItemSig
 item_sigs (import_items.Single source name sig) = sig ∷ []
+item_sigs (import_items.Group1 source items) = map (λ p. p.1) items
+item_sigs (import_items.Group2 source sig names) = map (λ name. sig) names
 
 -- the signatures, one for each that is written
 abbrev pub unique_sigs : ImportItems → List ItemSig
 unique_sigs (import_items.Single source name sig) = sig ∷ []
+unique_sigs (import_items.Group1 source items) = map (λ p. p.1) items
+unique_sigs (import_items.Group2 source sig items) = sig ∷ []
 
 -- the space of the item that a field defines, of those that can be imported too
 abbrev pub defined_space : ModuleField → Option Space

@@ -33,13 +33,16 @@ turn_of i = turn_by (block_of i) (is_closer i)
 abbrev pub turns : List Instruction → List Turn
 turns is = map turn_of is
 
--- the memory argument of a load or a store
+-- the memory argument of an instruction that has one
 abbrev pub mem_arg_of : Instruction → Option MemArg
 mem_arg_of (instr.Mem op m) = Some m
+mem_arg_of (instr.MemLane op a) = Some a.memarg
 mem_arg_of i = None
 
 -- The number of data segments stands before the code where a body refers to one of them.
 abbrev pub needs_data_count : Instruction → Bool
 needs_data_count (instr.memory_init a) = true
 needs_data_count (instr.data_drop d) = true
+needs_data_count (instr.array_new_data a) = true
+needs_data_count (instr.array_init_data a) = true
 needs_data_count i = false

@@ -1,6 +1,6 @@
 -- The items of a module, in the order in which they are numbered (text format: modules).
 use Rattle.std.specs.Prelude.{List, [], ◌∷◌, Option, map, flat_map}
-use Rattle.wast_tree.specs.Tree.{Id, Space, StructField, InnerTypeKind, ItemKind, ImportItems, ModuleField}
+use Rattle.wast_tree.specs.Tree.{Id, Space, StructField, InnerTypeKind, ItemKind, ItemSig, ImportItems, ModuleField}
 use Rattle.wast_tree.specs.Tree.space
 use Rattle.wast_tree.specs.Tree.inner
 use Rattle.wast_tree.specs.Tree.ty
@@ -24,6 +24,7 @@ abbrev pub fields_of : InnerTypeKind → List StructField
 fields_of (inner.Func t) = []
 fields_of (inner.Struct t) = t.fields
 fields_of (inner.Array t) = []
+fields_of (inner.Cont t) = []
 
 -- an item of a space, by its id and its fields
 abbrev pub item : Space → Option Id → List StructField → Item
@@ -36,14 +37,21 @@ items_of_type t = item space.Ty t.id (fields_of t.def.kind) ∷ []
 -- the space of an imported item
 abbrev pub space_of_kind : ItemKind → Space
 space_of_kind (kind.Func u) = space.Func
+space_of_kind (kind.FuncExact u) = space.Func
 space_of_kind (kind.Table t) = space.Table
 space_of_kind (kind.Memory t) = space.Memory
 space_of_kind (kind.Global t) = space.Global
 space_of_kind (kind.Tag t) = space.Tag
 
--- what is imported is an item of its space
+-- what a signature is of is an item of its space
+abbrev pub item_of_sig : ItemSig → Item
+item_of_sig sig = item (space_of_kind sig.kind) sig.id []
+
+-- what is imported is an item for each name; in a group of one signature each has the id of that
 abbrev pub items_of_import : ImportItems → List Item
-items_of_import (import_items.Single source name sig) = item (space_of_kind sig.kind) sig.id [] ∷ []
+items_of_import (import_items.Single source name sig) = item_of_sig sig ∷ []
+items_of_import (import_items.Group1 source items) = flat_map (λ p. item_of_sig p.1 ∷ []) items
+items_of_import (import_items.Group2 source sig names) = flat_map (λ name. item_of_sig sig ∷ []) names
 
 -- the types of a group are items one by one
 abbrev pub items_in : ModuleField → List Item

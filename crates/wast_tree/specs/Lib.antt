@@ -14,6 +14,7 @@ pub mod Resolved
 pub mod Sites
 pub mod Tree
 pub mod Types
+pub mod Uncovered
 pub mod Visits
 pub mod WellFormed
 pub mod WrittenOut

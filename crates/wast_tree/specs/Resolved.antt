@@ -4,7 +4,7 @@ use Rattle.std.specs.List.{list_all}
 use Rattle.wast_base.specs.Ids.{is_number}
 use Rattle.wast_tree.specs.Tree.{ModuleField}
 use Rattle.wast_tree.specs.Types.{says_enough}
-use Rattle.wast_tree.specs.Sites.{Ask, Wants, Within, Unasked, Clause, Supported, Site, Asked, Used, Declared, LocalAt, LabelAt, Repeated, Begins, Ends, in_type_use, asked, in_module}
+use Rattle.wast_tree.specs.Sites.{Ask, Wants, Within, Unasked, Clause, Covered, Site, Asked, Used, Declared, LocalAt, FieldAt, LabelAt, Repeated, Begins, Ends, in_type_use, asked, in_module}
 
 -- no id is left where an index is wanted
 abbrev pub is_numbered : Ask → Bool
@@ -12,7 +12,7 @@ is_numbered (Wants s i) = is_number i
 is_numbered (Within i) = is_number i
 is_numbered (Unasked m) = true
 is_numbered (Clause n holds) = true
-is_numbered (Supported holds) = true
+is_numbered (Covered f holds) = true
 
 -- the same of a list
 abbrev pub are_numbered : List Ask → Bool
@@ -28,6 +28,7 @@ is_resolved_site (Asked a) = is_numbered a
 is_resolved_site (Used w u) = (is_some u.index || says_enough w u.inline) && are_numbered (in_type_use u)
 is_resolved_site (Declared before m) = true
 is_resolved_site (LocalAt locals i) = is_number i
+is_resolved_site (FieldAt owner i) = is_number owner && is_number i
 is_resolved_site (LabelAt blocks i) = is_number i
 is_resolved_site (Repeated blocks m) = true
 is_resolved_site (Begins blocks m) = true

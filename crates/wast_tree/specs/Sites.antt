@@ -1,8 +1,10 @@
 -- The one list of what stands in a module beside its items, in the order in which it is asked (text format: identifiers,
 -- indices): what stands in a type, and sites of fields and bodies, which carry what they may read of those before them.
-use Rattle.std.specs.Prelude.{ℕ, Bool, false, not, ◌==◌, is_none, length, List, [], ◌∷◌, ◌++◌, map, Option, Some, None, flat_map}
-use Rattle.wast_tree.specs.Tree.{Id, Index, NameAnnotation, Space, RefType, HeapType, ValType, StorageType, StructField, StructType, ArrayType, FunctionType, TypeUse, InnerTypeKind, TypeDef, Rec, BlockType, BrTableIndices, TryTable, TryTableCatch, TryTableCatchKind, MemArg, MemArgTarget, CallIndirect, SelectTypes, Instruction, Expression, Local, FuncKind, Func, TableType, GlobalType, TagType, ItemKind, ImportItems, TableKind, MemoryKind, GlobalKind, Global, ExportKind, ElemKind, ElemPayload, Elem, DataKind, ModuleField}
+use Rattle.std.specs.Prelude.{ℕ, Bool, true, false, not, ◌==◌, is_none, length, List, [], ◌∷◌, ◌++◌, map, Option, Some, None, flat_map}
+use Rattle.wast_tree.specs.Tree.{Id, Index, NameAnnotation, Space, RefType, HeapType, ValType, StorageType, StructField, StructType, ArrayType, FunctionType, TypeUse, InnerTypeKind, TypeDef, Rec, BlockType, BrTableIndices, TryTable, TryTableCatch, TryTableCatchKind, MemArg, MemArgTarget, CallIndirect, SelectTypes, StructAccess, Ordering, Handle, ResumeTable, AbstractHeapType, Form, Instruction, Expression, Local, FuncKind, Func, TableType, GlobalType, TagType, ItemKind, ItemSig, ImportItems, TableKind, MemoryKind, GlobalKind, Global, ExportKind, ElemKind, ElemPayload, Elem, DataKind, ModuleField}
 use Rattle.wast_tree.specs.Tree.space
+use Rattle.wast_tree.specs.Tree.form
+use Rattle.wast_tree.specs.Tree.abstract
 use Rattle.wast_tree.specs.Tree.heap
 use Rattle.wast_tree.specs.Tree.value
 use Rattle.wast_tree.specs.Tree.storage
@@ -10,6 +12,8 @@ use Rattle.wast_tree.specs.Tree.inner
 use Rattle.wast_tree.specs.Tree.ty
 use Rattle.wast_tree.specs.Tree.target
 use Rattle.wast_tree.specs.Tree.caught
+use Rattle.wast_tree.specs.Tree.ordering
+use Rattle.wast_tree.specs.Tree.handle
 use Rattle.wast_tree.specs.Tree.instr
 use Rattle.wast_tree.specs.Tree.func
 use Rattle.wast_tree.specs.Tree.tag
@@ -35,14 +39,14 @@ pub use Rattle.wast_tree.specs.Types.{Where, OfItem, OfCall, OfBlock}
 pub data Ask : Type 0 where
   -- an index, a number or an id, where one of this space is wanted
   Wants : Space → Index → Ask
-  -- an index, a number or an id, of what stands within a function: a local or a label
+  -- an index, a number or an id, of what stands within an item: a local, a label or a field
   Within : Index → Ask
   -- an id of which nothing is asked
   Unasked : Mark → Ask
   -- the clause of "well formed" of this number, and whether it holds here
   Clause : ℕ → Bool → Ask
-  -- whether what stands here is a form that the tree supports today
-  Supported : Bool → Ask
+  -- a form that no encoder covers, and whether what stands here is without it
+  Covered : Form → Bool → Ask
 
 -- the parameters and locals of a body: the type use of its function, whose type has the parameters that no inline type names,
 -- and the names of the parameters and locals behind them; a constant expression has none
@@ -60,6 +64,8 @@ pub data Site : Type 0 where
   Declared : List (Option Name) → Option Mark → Site
   -- an index of a local, among these
   LocalAt : Locals → Index → Site
+  -- an index of a struct type, and then an index of a field in that struct
+  FieldAt : Index → Index → Site
   -- an index of a label, among those of these open blocks
   LabelAt : Blocks → Index → Site
   -- a label that an `else` or an `end` repeats, where these blocks are open
@@ -84,6 +90,7 @@ after h (Asked a) = h
 after h (Used w u) = h
 after h (Declared before m) = h
 after h (LocalAt locals i) = h
+after h (FieldAt owner i) = h
 after h (LabelAt blocks i) = h
 after h (Repeated blocks m) = h
 after h (Begins blocks m) = record h { blocks = name_if m ∷ h.blocks }
@@ -115,10 +122,21 @@ at_index s i = asking (in_index s i)
 abbrev pub in_id : Id → List Ask
 in_id id = Unasked (mark_of id) ∷ []
 
--- what is referred to is not shared
+-- a form that no encoder covers stands here
+abbrev pub uncovered : Form → List Ask
+uncovered f = Covered f false ∷ []
+
+-- of continuations
+abbrev pub is_continuation : AbstractHeapType → Bool
+is_continuation abstract.Cont = true
+is_continuation abstract.NoCont = true
+is_continuation ty = false
+
+-- what is referred to: whether it is shared or a continuation; or an index, and whether it is that type alone
 abbrev pub in_heap : HeapType → List Ask
-in_heap (heap.Abstract shared ty) = Supported (not shared) ∷ []
+in_heap (heap.Abstract shared ty) = Covered form.Shared (not shared) ∷ Covered form.StackSwitching (not (is_continuation ty)) ∷ []
 in_heap (heap.Concrete i) = in_index space.Ty i
+in_heap (heap.Exact i) = in_index space.Ty i ++ uncovered form.Descriptor
 
 -- a reference type
 abbrev pub in_ref : RefType → List Ask
@@ -159,21 +177,22 @@ in_struct t = flat_map in_struct_field t.fields
 abbrev pub in_array : ArrayType → List Ask
 in_array t = in_storage t.ty
 
--- a composite type
+-- a composite type; a continuation is that of a type
 abbrev pub in_inner : InnerTypeKind → List Ask
 in_inner (inner.Func t) = in_signature t
 in_inner (inner.Struct t) = in_struct t
 in_inner (inner.Array t) = in_array t
+in_inner (inner.Cont t) = in_index space.Ty t.0 ++ uncovered form.StackSwitching
 
--- a type is without descriptor and describes, and it is not shared
+-- a descriptor, or what one describes
 abbrev pub in_descriptor : Index → List Ask
-in_descriptor i = in_index space.Ty i ++ Supported false ∷ []
+in_descriptor i = in_index space.Ty i ++ uncovered form.Descriptor
 
--- what a type is defined as: its parents, its descriptor, what it describes, and then the composite type
+-- what a type is defined as: its parents, its descriptor, what it describes, then the composite type, and whether it is shared
 abbrev pub in_def : TypeDef → List Ask
 in_def d =
     flat_map (in_index space.Ty) d.parents
-    ++ (if_there in_descriptor d.descriptor ++ (if_there in_descriptor d.describes ++ (in_inner d.kind ++ Supported (not d.shared) ∷ [])))
+    ++ (if_there in_descriptor d.descriptor ++ (if_there in_descriptor d.describes ++ (in_inner d.kind ++ Covered form.Shared (not d.shared) ∷ [])))
 
 -- a type
 abbrev pub in_type : ty.«Type» → List Ask
@@ -190,10 +209,11 @@ in_type_use u = if_there (in_index space.Ty) u.index ++ if_there in_signature u.
 -- what a memory argument reads or writes
 abbrev pub in_target : MemArgTarget → List Ask
 in_target (target.Memory i) = in_index space.Memory i
+in_target (target.Array i) = in_index space.Ty i ++ uncovered form.ArrayMemArg
 
--- a memory argument: its memory; its alignment is a power of two, and no ordering is written
+-- a memory argument: its memory, or the type of an array; its alignment is a power of two; and whether an ordering is written
 abbrev pub in_mem_arg : MemArg → List Ask
-in_mem_arg m = in_target m.target ++ Clause 1 (is_power_of_two m.align) ∷ Supported (is_none m.ordering) ∷ []
+in_mem_arg m = in_target m.target ++ Clause 1 (is_power_of_two m.align) ∷ Covered form.Ordering (is_none m.ordering) ∷ []
 
 -- two indices, the second behind the first
 abbrev pub in_pair : Space → Index → Space → Index → List Ask
@@ -238,10 +258,35 @@ in_try_table blocks t = in_use OfBlock t.block.ty ++ (flat_map (in_catch blocks)
 abbrev pub in_br_table : Blocks → BrTableIndices → List Site
 in_br_table blocks t = flat_map (at_label blocks) t.labels ++ at_label blocks t.default
 
+-- a field of a struct, with the type of the struct
+abbrev pub in_access : StructAccess → List Site
+in_access a = FieldAt a.owner a.field ∷ []
+
+-- a branch on a cast: its label, the type that is cast to, and the type that is cast from
+abbrev pub in_cast : Blocks → Index → (to from : RefType) → List Site
+in_cast blocks l to from = at_label blocks l ++ asking (in_ref to ++ in_ref from)
+
+-- a handler of a resumption: its tag, and then its label if it has one
+abbrev pub in_handle : Blocks → Handle → List Site
+in_handle blocks (handle.OnLabel e l) = at_index space.Tag e ++ at_label blocks l
+in_handle blocks (handle.OnSwitch e) = at_index space.Tag e
+
+-- the handlers of a resumption
+abbrev pub in_handlers : Blocks → ResumeTable → List Site
+in_handlers blocks t = flat_map (in_handle blocks) t.handlers ++ asking (uncovered form.StackSwitching)
+
+-- A fence is sequentially consistent where no ordering is written.
+abbrev pub is_sequential : Option Ordering → Bool
+is_sequential None = true
+is_sequential (Some ordering.SeqCst) = true
+is_sequential (Some ordering.AcqRel) = false
+
 -- an instruction, from where it stands; the label of `delegate` is read once its block has ended
 abbrev pub in_instr : Here → Instruction → List Site
 in_instr h (instr.Plain op) = []
 in_instr h (instr.Mem op m) = asking (in_mem_arg m)
+in_instr h (instr.Lane op a) = []
+in_instr h (instr.MemLane op a) = asking (in_mem_arg a.memarg)
 in_instr h (instr.block b) = in_block h.blocks b
 in_instr h (instr.loop_ b) = in_block h.blocks b
 in_instr h (instr.if_ b) = in_block h.blocks b
@@ -290,6 +335,51 @@ in_instr h (instr.f32_const n) = []
 in_instr h (instr.f64_const n) = []
 in_instr h (instr.ref_null t) = asking (in_heap t)
 in_instr h (instr.ref_func f) = at_index space.Func f
+in_instr h (instr.struct_new t) = at_index space.Ty t
+in_instr h (instr.struct_new_default t) = at_index space.Ty t
+in_instr h (instr.struct_get a) = in_access a
+in_instr h (instr.struct_get_s a) = in_access a
+in_instr h (instr.struct_get_u a) = in_access a
+in_instr h (instr.struct_set a) = in_access a
+in_instr h (instr.array_new t) = at_index space.Ty t
+in_instr h (instr.array_new_default t) = at_index space.Ty t
+in_instr h (instr.array_new_fixed a) = at_index space.Ty a.array
+in_instr h (instr.array_new_data a) = asking (in_pair space.Ty a.array space.Data a.data_idx)
+in_instr h (instr.array_new_elem a) = asking (in_pair space.Ty a.array space.Elem a.elem_idx)
+in_instr h (instr.array_get t) = at_index space.Ty t
+in_instr h (instr.array_get_s t) = at_index space.Ty t
+in_instr h (instr.array_get_u t) = at_index space.Ty t
+in_instr h (instr.array_set t) = at_index space.Ty t
+in_instr h (instr.array_fill a) = at_index space.Ty a.array
+in_instr h (instr.array_copy a) = asking (in_pair space.Ty a.dest_array space.Ty a.src_array)
+in_instr h (instr.array_init_data a) = asking (in_pair space.Ty a.array space.Data a.segment)
+in_instr h (instr.array_init_elem a) = asking (in_pair space.Ty a.array space.Elem a.segment)
+in_instr h (instr.ref_test a) = asking (in_ref a.rt)
+in_instr h (instr.ref_cast a) = asking (in_ref a.rt)
+in_instr h (instr.ref_cast_desc_eq a) = asking (in_ref a.rt ++ uncovered form.Descriptor)
+in_instr h (instr.br_on_cast a) = in_cast h.blocks a.label a.to_type a.from_type
+in_instr h (instr.br_on_cast_fail a) = in_cast h.blocks a.label a.to_type a.from_type
+in_instr h (instr.br_on_cast_desc_eq a) = in_cast h.blocks a.label a.to_type a.from_type ++ asking (uncovered form.Descriptor)
+in_instr h (instr.br_on_cast_desc_eq_fail a) = in_cast h.blocks a.label a.to_type a.from_type ++ asking (uncovered form.Descriptor)
+in_instr h (instr.v128_const c) = []
+in_instr h (instr.i8x16_shuffle lanes) = []
+in_instr h (instr.atomic_fence o) = asking (Covered form.Ordering (is_sequential o) ∷ [])
+in_instr h (instr.GlobalAtomic a) = asking (in_index space.Global a.inner ++ uncovered form.Atomic)
+in_instr h (instr.TableAtomic a) = asking (in_index space.Table a.inner.dst ++ uncovered form.Atomic)
+in_instr h (instr.StructAtomic a) = in_access a.inner ++ asking (uncovered form.Atomic)
+in_instr h (instr.ArrayAtomic a) = asking (in_index space.Ty a.inner ++ uncovered form.Atomic)
+in_instr h (instr.struct_new_desc t) = asking (in_index space.Ty t ++ uncovered form.Descriptor)
+in_instr h (instr.struct_new_default_desc t) = asking (in_index space.Ty t ++ uncovered form.Descriptor)
+in_instr h (instr.ref_get_desc t) = asking (in_index space.Ty t ++ uncovered form.Descriptor)
+in_instr h (instr.cont_new t) = asking (in_index space.Ty t ++ uncovered form.StackSwitching)
+in_instr h (instr.cont_bind a) = asking (in_pair space.Ty a.argument_index space.Ty a.result_index ++ uncovered form.StackSwitching)
+in_instr h (instr.suspend e) = asking (in_index space.Tag e ++ uncovered form.StackSwitching)
+in_instr h (instr.resume a) = at_index space.Ty a.type_index ++ in_handlers h.blocks a.table
+in_instr h (instr.resume_throw a) = asking (in_pair space.Ty a.type_index space.Tag a.tag_index) ++ in_handlers h.blocks a.table
+in_instr h (instr.resume_throw_ref a) = at_index space.Ty a.type_index ++ in_handlers h.blocks a.table
+in_instr h (instr.switch a) = asking (in_pair space.Ty a.type_index space.Tag a.tag_index ++ uncovered form.StackSwitching)
+in_instr h (instr.memory_discard a) = asking (in_index space.Memory a.mem ++ uncovered form.Beyond)
+in_instr h (instr.Beyond name) = asking (uncovered form.Beyond)
 
 -- where the next one stands
 abbrev pub behind : Here → Instruction → Here
@@ -302,7 +392,7 @@ in_instrs h (i ∷ is) = in_instr h i ++ in_instrs (behind h i) is
 
 -- without branch hints
 abbrev pub in_expression : Here → Expression → List Site
-in_expression h e = in_instrs h e.instrs ++ Asked (Supported (length e.branch_hints == 0)) ∷ []
+in_expression h e = in_instrs h e.instrs ++ Asked (Clause 2 (length e.branch_hints == 0)) ∷ []
 
 -- a local: its type, and its id
 abbrev pub in_local : Local → List Ask
@@ -326,9 +416,9 @@ declaring before (m ∷ ms) = Declared before m ∷ declaring (before ++ name_if
 abbrev pub body_here : TypeUse FunctionType → List (Option Mark) → Here
 body_here u marks = record { locals = record { owner = Some u; names = map name_if marks }; blocks = [] }
 
--- behind a type use: the types of the locals, what is declared, and then the body; an imported function is not exact
+-- behind a type use: the types of the locals, what is declared, and then the body; or whether what is imported is exact
 abbrev pub in_func_kind : TypeUse FunctionType → FuncKind → List Site
-in_func_kind u (func.Import import exact) = Asked (Supported (not exact)) ∷ []
+in_func_kind u (func.Import import exact) = Asked (Covered form.Descriptor (not exact)) ∷ []
 in_func_kind u (func.Inline locals e) =
     let marks = param_marks u.inline ++ local_marks locals in
     asking (flat_map in_local locals) ++ (declaring [] marks ++ in_expression (body_here u marks) e)
@@ -337,13 +427,13 @@ in_func_kind u (func.Inline locals e) =
 abbrev pub in_func : Func → List Site
 in_func f = in_use OfItem f.ty ++ in_func_kind f.ty f.kind
 
--- a table type, which is not shared
+-- a table type, and whether it is shared
 abbrev pub in_table_type : TableType → List Ask
-in_table_type t = in_ref t.elem ++ Supported (not t.shared) ∷ []
+in_table_type t = in_ref t.elem ++ Covered form.Shared (not t.shared) ∷ []
 
--- a global type, which is not shared
+-- a global type, and whether it is shared
 abbrev pub in_global_type : GlobalType → List Ask
-in_global_type t = in_val t.ty ++ Supported (not t.shared) ∷ []
+in_global_type t = in_val t.ty ++ Covered form.Shared (not t.shared) ∷ []
 
 -- a tag type
 abbrev pub in_tag_type : TagType → List Site
@@ -352,14 +442,21 @@ in_tag_type (tag.Exception u) = in_use OfItem u
 -- what is imported: its type
 abbrev pub in_item_kind : ItemKind → List Site
 in_item_kind (kind.Func u) = in_use OfItem u
+in_item_kind (kind.FuncExact u) = in_use OfItem u ++ asking (uncovered form.Descriptor)
 in_item_kind (kind.Table t) = asking (in_table_type t)
 in_item_kind (kind.Memory t) = []
 in_item_kind (kind.Global t) = asking (in_global_type t)
 in_item_kind (kind.Tag t) = in_tag_type t
 
--- an import
+-- a signature: its kind and type
+abbrev pub in_sig : ItemSig → List Site
+in_sig sig = in_item_kind sig.kind
+
+-- an import: each signature that is written, and whether it is of a group
 abbrev pub in_import : ImportItems → List Site
-in_import (import_items.Single source name sig) = in_item_kind sig.kind
+in_import (import_items.Single source name sig) = in_sig sig
+in_import (import_items.Group1 source items) = flat_map (λ p. in_sig p.1) items ++ asking (uncovered form.CompactImports)
+in_import (import_items.Group2 source sig items) = in_sig sig ++ asking (uncovered form.CompactImports)
 
 -- a constant expression stands alone, and closes as many blocks as it opens, none before it is open
 abbrev pub in_constant : Expression → List Site
@@ -374,7 +471,7 @@ in_payload (payload.Exprs ty es) = flat_map in_constant es ++ asking (in_ref ty)
 abbrev pub in_table_kind : TableKind → List Site
 in_table_kind (table.Import import ty) = asking (in_table_type ty)
 in_table_kind (table.Normal ty init) = asking (in_table_type ty) ++ if_there in_constant init
-in_table_kind (table.Inline ty is64 shared elements) = asking (in_ref ty) ++ (in_payload elements ++ Asked (Supported (not shared)) ∷ [])
+in_table_kind (table.Inline ty is64 shared elements) = asking (in_ref ty) ++ (in_payload elements ++ Asked (Covered form.Shared (not shared)) ∷ [])
 
 -- where bytes stand in place, a page has a size
 abbrev pub in_memory_kind : MemoryKind → List Site
@@ -444,6 +541,7 @@ asked_in (Asked a) = a ∷ []
 asked_in (Used w u) = in_type_use u
 asked_in (Declared before m) = []
 asked_in (LocalAt locals i) = Within i ∷ []
+asked_in (FieldAt owner i) = Wants space.Ty owner ∷ Within i ∷ []
 asked_in (LabelAt blocks i) = Within i ∷ []
 asked_in (Repeated blocks m) = mark_asked m
 asked_in (Begins blocks m) = mark_asked m

@@ -4,6 +4,8 @@ pub use Rattle.wast_base.specs.declared.ids.Id.{Id}
 pub use Rattle.wast_base.specs.declared.ids.Index.{Index}
 pub use Rattle.wast_base.specs.declared.ids.Index.TheVariants as index
 pub use Rattle.wast_base.specs.declared.ids.NameAnnotation.{NameAnnotation}
+pub use Rattle.wast_base.specs.declared.faults.Form.{Form}
+pub use Rattle.wast_base.specs.declared.faults.Form.TheVariants as form
 pub use Rattle.wast_base.specs.declared.spaces.Space.{Space}
 pub use Rattle.wast_base.specs.declared.spaces.Space.TheVariants as space
 pub use Rattle.wast_tree.specs.declared.types.ValType.{ValType}
@@ -19,6 +21,7 @@ pub use Rattle.wast_tree.specs.declared.types.StructField.{StructField}
 pub use Rattle.wast_tree.specs.declared.types.StructType.{StructType}
 pub use Rattle.wast_tree.specs.declared.types.ArrayType.{ArrayType}
 pub use Rattle.wast_tree.specs.declared.types.FunctionType.{FunctionType}
+pub use Rattle.wast_tree.specs.declared.types.ContType.{ContType}
 pub use Rattle.wast_tree.specs.declared.types.TypeUse.{TypeUse}
 pub use Rattle.wast_tree.specs.declared.types.InnerTypeKind.{InnerTypeKind}
 pub use Rattle.wast_tree.specs.declared.types.InnerTypeKind.TheVariants as inner
@@ -47,6 +50,36 @@ pub use Rattle.wast_tree.specs.declared.immediates.MemArg.{MemArg}
 pub use Rattle.wast_tree.specs.declared.immediates.MemArgTarget.{MemArgTarget}
 pub use Rattle.wast_tree.specs.declared.immediates.MemArgTarget.TheVariants as target
 pub use Rattle.wast_tree.specs.declared.immediates.MemArgOrdering.{MemArgOrdering}
+pub use Rattle.wast_tree.specs.declared.references.StructAccess.{StructAccess}
+pub use Rattle.wast_tree.specs.declared.references.ArrayNewFixed.{ArrayNewFixed}
+pub use Rattle.wast_tree.specs.declared.references.ArrayNewData.{ArrayNewData}
+pub use Rattle.wast_tree.specs.declared.references.ArrayNewElem.{ArrayNewElem}
+pub use Rattle.wast_tree.specs.declared.references.ArrayFill.{ArrayFill}
+pub use Rattle.wast_tree.specs.declared.references.ArrayCopy.{ArrayCopy}
+pub use Rattle.wast_tree.specs.declared.references.ArrayInit.{ArrayInit}
+pub use Rattle.wast_tree.specs.declared.references.RefTest.{RefTest}
+pub use Rattle.wast_tree.specs.declared.references.RefCast.{RefCast}
+pub use Rattle.wast_tree.specs.declared.references.RefCastDescEq.{RefCastDescEq}
+pub use Rattle.wast_tree.specs.declared.references.BrOnCast.{BrOnCast}
+pub use Rattle.wast_tree.specs.declared.references.BrOnCastFail.{BrOnCastFail}
+pub use Rattle.wast_tree.specs.declared.references.BrOnCastDescEq.{BrOnCastDescEq}
+pub use Rattle.wast_tree.specs.declared.references.BrOnCastDescEqFail.{BrOnCastDescEqFail}
+pub use Rattle.wast_tree.specs.declared.vectors.LaneArg.{LaneArg}
+pub use Rattle.wast_tree.specs.declared.vectors.LoadOrStoreLane.{LoadOrStoreLane}
+pub use Rattle.wast_tree.specs.declared.vectors.V128Const.{V128Const}
+pub use Rattle.wast_tree.specs.declared.vectors.I8x16Shuffle.{I8x16Shuffle}
+pub use Rattle.wast_tree.specs.declared.vectors.V128Const.TheVariants as v128
+pub use Rattle.wast_tree.specs.declared.continuations.ContBind.{ContBind}
+pub use Rattle.wast_tree.specs.declared.continuations.Switch.{Switch}
+pub use Rattle.wast_tree.specs.declared.continuations.Resume.{Resume}
+pub use Rattle.wast_tree.specs.declared.continuations.ResumeThrow.{ResumeThrow}
+pub use Rattle.wast_tree.specs.declared.continuations.ResumeThrowRef.{ResumeThrowRef}
+pub use Rattle.wast_tree.specs.declared.continuations.ResumeTable.{ResumeTable}
+pub use Rattle.wast_tree.specs.declared.continuations.Handle.{Handle}
+pub use Rattle.wast_tree.specs.declared.continuations.Handle.TheVariants as handle
+pub use Rattle.wast_tree.specs.declared.immediates.Ordering.{Ordering}
+pub use Rattle.wast_tree.specs.declared.immediates.Ordering.TheVariants as ordering
+pub use Rattle.wast_tree.specs.declared.immediates.Ordered.{Ordered}
 pub use Rattle.wast_tree.specs.declared.immediates.F32.{F32}
 pub use Rattle.wast_tree.specs.declared.immediates.F64.{F64}
 pub use Rattle.wast_tree.specs.declared.instrs.Instruction.{Instruction}

@@ -1,9 +1,9 @@
 //! Which item has an id.
 
-ghost use Rattle.std.specs.Prelude.{◌≡◌, ⊤, ◌<◌, ◌≤◌, ◌||◌, length, is_some, MatchOption};
+ghost use Rattle.std.specs.Prelude.{◌≡◌, ⊤, ◌<◌, ◌≤◌, ◌||◌, List, length, flat_map, is_some, MatchOption};
 ghost use Rattle.wast_base.specs.Ids.{name_of, marked};
 ghost use Rattle.wast_base.specs.Spaces.{is_borne, is_called, name_if};
-ghost use Rattle.wast_tree.specs.Items.{items_in, items};
+ghost use Rattle.wast_tree.specs.Items.{Item, items_in};
 ghost use Rattle.wast_tree.specs.Known.{names_in};
 ghost use Rattle.wast_tree.specs.Private.Bearers.{bears};
 
@@ -44,25 +44,37 @@ impl<'i, 'b, 'a> ItemVisitor<'a> for Bearer<'i, 'b> {
     }
 }
 
-/// Whether an item of the field stands in the space and has the id.
-fn has_bearer(field: &ModuleField<'_>, space: Space, id: &Id<'_>) -> bool
-    ensures { result ≡ is_borne (name_of id.now) (names_in space (items_in field.now)) }
-{
-    let mut bearer = Bearer {
-        sought: Sought { space, id },
-        found: false,
-    };
-    visit_items_in(field, &mut bearer);
-    bearer.found
+/// A field, of which its items are read. What looks for an id is generic in it: a proof would else compare the type of the
+/// whole tree with itself at each list of fields that is held or cut.
+pub(crate) trait HasItems {
+    /// Its items.
+    ghost items: { Self → List Item };
+
+    /// Whether an item of it stands in the space and has the id.
+    fn has_bearer(&self, space: Space, id: &Id<'_>) -> bool
+        ensures { result ≡ is_borne (name_of id.now) (names_in space (items self.now)) };
+}
+
+impl HasItems for ModuleField<'_> {
+    ghost items = { items_in };
+
+    fn has_bearer(&self, space: Space, id: &Id<'_>) -> bool {
+        let mut bearer = Bearer {
+            sought: Sought { space, id },
+            found: false,
+        };
+        visit_items_in(self, &mut bearer);
+        bearer.found
+    }
 }
 
 /// The first field with an item of the space that has the id.
-fn first_bearer(fields: &[ModuleField<'_>], space: Space, id: &Id<'_>) -> Option<usize>
-    ensures borne { is_some result ≡ is_borne (name_of id.now) (names_in space (items fields.now)) }
+fn first_bearer<T: HasItems>(fields: &[T], space: Space, id: &Id<'_>) -> Option<usize>
+    ensures borne { is_some result ≡ is_borne (name_of id.now) (names_in space (flat_map T.items fields.now)) }
     ensures below { MatchOption result ⊤ (λ i. i < length fields.now) }
 {
     for i in 0..fields.len() {
-        if has_bearer(&fields[i], space, id) {
+        if fields[i].has_bearer(space, id) {
             return Some(i);
         }
     }
@@ -70,14 +82,14 @@ fn first_bearer(fields: &[ModuleField<'_>], space: Space, id: &Id<'_>) -> Option
 }
 
 /// A field with an item of the space that has the id: the first one from a place on, or else from the start.
-pub(crate) fn bearer_from(
-    fields: &[ModuleField<'_>],
+pub(crate) fn bearer_from<T: HasItems>(
+    fields: &[T],
     start: usize,
     space: Space,
     id: &Id<'_>,
 ) -> Option<usize>
     requires { start ≤ length fields.now }
-    ensures borne { is_some result ≡ is_borne (name_of id.now) (names_in space (items fields.now)) }
+    ensures borne { is_some result ≡ is_borne (name_of id.now) (names_in space (flat_map T.items fields.now)) }
     ensures below { MatchOption result ⊤ (λ i. i < length fields.now) }
 {
     match first_bearer(&fields[start..], space, id) {

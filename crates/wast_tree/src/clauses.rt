@@ -3,8 +3,10 @@
 ghost use Rattle.std.specs.Prelude.{◌≡◌};
 ghost use Rattle.wast_base.specs.Blocks.{is_balanced};
 ghost use Rattle.wast_tree.specs.Instrs.{turns};
+ghost use Rattle.wast_tree.specs.Sites.{is_sequential};
 ghost use Rattle.wast_tree.specs.Clauses.{is_page_exponent, is_func, is_funcref, holds_functions, suits};
 
+use crate::immediates::Ordering;
 use crate::instrs::Instruction;
 use crate::segments::{ElemKind, ElemPayload};
 use crate::types::{AbstractHeapType, HeapType, RefType};
@@ -35,7 +37,9 @@ fn is_func(ty: AbstractHeapType) -> bool
         | AbstractHeapType::NoFunc
         | AbstractHeapType::NoExtern
         | AbstractHeapType::None
-        | AbstractHeapType::I31 => false,
+        | AbstractHeapType::I31
+        | AbstractHeapType::Cont
+        | AbstractHeapType::NoCont => false,
     }
 }
 
@@ -45,7 +49,7 @@ fn is_funcref(ty: &RefType<'_>) -> bool
 {
     match ty.heap {
         HeapType::Abstract { shared, ty: heap } => ty.nullable && !shared && is_func(heap),
-        HeapType::Concrete(_) => false,
+        HeapType::Concrete(_) | HeapType::Exact(_) => false,
     }
 }
 
@@ -86,4 +90,14 @@ pub(crate) fn is_balanced(instrs: &[Instruction<'_>]) -> bool
         }
     }
     open == 0
+}
+
+/// Whether a fence of this ordering is sequentially consistent; it is, where none is written.
+pub(crate) fn is_sequential(ordering: Option<Ordering>) -> bool
+    ensures { result ≡ is_sequential ordering }
+{
+    match ordering {
+        None | Some(Ordering::SeqCst) => true,
+        Some(Ordering::AcqRel) => false,
+    }
 }

@@ -1,6 +1,6 @@
 //! Worked modules, of which the definitions compute what they say.
 
-ghost use Rattle.wast_tree.specs.Private.Examples.{SameIds, StandsInRow27, StandsInFilledMemory, StandsEverywhere, StandsInPlace, StandsInSegments, StandsInBlocks, KnownInRows, WellFormedRows, SettledIndices, UnsettledIndices, WellFormedFuncs, WellFormedTypes, WellFormedSegments, WellFormedEntities, WellFormedInPlace, WellFormedBlocks, WrittenOutFields, GenerationsOfRows};
+ghost use Rattle.wast_tree.specs.Private.Examples.{SameIds, StandsInRow27, StandsInFilledMemory, StandsEverywhere, StandsInPlace, StandsInSegments, StandsInBlocks, KnownInRows, WellFormedRows, SettledIndices, UnsettledIndices, WellFormedFuncs, WellFormedTypes, WellFormedSegments, WellFormedEntities, WellFormedInPlace, WellFormedBlocks, WrittenOutFields, GenerationsOfRows, StandsInAccess, UncoveredForms};
 
 /// Which ids and indices are the same.
 #[tactic(auto, using(crate::proofs::Worked::same_ids))]
@@ -9,7 +9,7 @@ pub(crate) fn same_ids()
 {}
 
 /// What stands in small modules, in which order, and what they make known.
-#[tactic(auto, using(crate::proofs::Worked::stands_in_row27, crate::proofs::Worked::stands_in_filled_memory, crate::proofs::Worked::stands_everywhere, crate::proofs::Worked::stands_in_place, crate::proofs::Worked::stands_in_segments, crate::proofs::Worked::stands_in_blocks, crate::proofs::Worked::known_in_rows))]
+#[tactic(auto, using(crate::proofs::Worked::stands_in_row27, crate::proofs::Worked::stands_in_filled_memory, crate::proofs::Worked::stands_everywhere, crate::proofs::Worked::stands_in_place, crate::proofs::Worked::stands_in_segments, crate::proofs::Worked::stands_in_blocks, crate::proofs::Worked::stands_in_access, crate::proofs::Worked::known_in_rows))]
 pub(crate) fn occurrences()
     ensures row27 { StandsInRow27 }
     ensures filled_memory { StandsInFilledMemory }
@@ -17,6 +17,7 @@ pub(crate) fn occurrences()
     ensures in_place { StandsInPlace }
     ensures segments { StandsInSegments }
     ensures blocks { StandsInBlocks }
+    ensures access { StandsInAccess }
     ensures known { KnownInRows }
 {}
 
@@ -44,4 +45,10 @@ pub(crate) fn written_out()
 #[tactic(auto, using(crate::proofs::Worked::generations_of_rows))]
 pub(crate) fn generations()
     ensures { GenerationsOfRows }
+{}
+
+/// The forms in small modules that no encoder covers.
+#[tactic(auto, using(crate::proofs::Worked::uncovered_in_forms))]
+pub(crate) fn uncovered()
+    ensures { UncoveredForms }
 {}

@@ -1,22 +1,22 @@
 //! What stands in fields other than types and functions, as reading walks tell it.
 #![tactic(auto, using(crate::proofs::Visiting::visits_both, crate::proofs::Visiting::visits_one, crate::proofs::Visiting::visits_none, crate::proofs::Visiting::asked_asking, crate::proofs::Visiting::asked_both, crate::proofs::Visiting::asked_use, crate::proofs::Visiting::asked_if, crate::proofs::Visiting::asked_index_if, crate::proofs::Visiting::asked_each, crate::proofs::Visiting::asked_indices))]
 
-ghost use Rattle.wast_tree.specs.Sites.{in_index, in_table_type, in_global_type, in_tag_type, in_item_kind, in_import, in_table_kind, in_memory_kind, in_global_kind, in_global, exported_space, in_elem_kind, in_payload, in_elem, in_data_kind, asked};
+ghost use Rattle.wast_tree.specs.Sites.{in_index, in_table_type, in_global_type, in_tag_type, in_item_kind, in_sig, in_import, in_table_kind, in_memory_kind, in_global_kind, in_global, exported_space, in_elem_kind, in_payload, in_elem, in_data_kind, asked};
 
 use crate::clauses::{is_page_exponent, suits};
 use crate::entities::{GlobalType, TableType, TagType};
 use crate::fields::{Export, Global, GlobalKind, MemoryKind, TableKind};
-use crate::imports::{ImportItems, ItemKind};
+use crate::imports::{ImportItems, ItemKind, ItemSig};
 use crate::segments::{DataKind, Elem, ElemKind, ElemPayload};
 use crate::visits::{Visit, Visitor, visit_index, visit_indices};
-use wast_base::Space;
+use wast_base::{Form, Space};
 
 impl Visit for TableType<'_> {
     ghost asks = { in_table_type };
 
     fn visit<V: Visitor>(&self, visitor: &mut V) {
         self.elem.visit(visitor);
-        visitor.supported(!self.shared);
+        visitor.covered(Form::Shared, !self.shared);
     }
 }
 
@@ -25,7 +25,7 @@ impl Visit for GlobalType<'_> {
 
     fn visit<V: Visitor>(&self, visitor: &mut V) {
         self.ty.visit(visitor);
-        visitor.supported(!self.shared);
+        visitor.covered(Form::Shared, !self.shared);
     }
 }
 
@@ -45,6 +45,10 @@ impl Visit for ItemKind<'_> {
     fn visit<V: Visitor>(&self, visitor: &mut V) {
         match self {
             ItemKind::Func(ty) => ty.visit(visitor),
+            ItemKind::FuncExact(ty) => {
+                ty.visit(visitor);
+                visitor.covered(Form::Descriptor, false);
+            }
             ItemKind::Table(ty) => ty.visit(visitor),
             ItemKind::Memory(_) => {}
             ItemKind::Global(ty) => ty.visit(visitor),
@@ -53,12 +57,36 @@ impl Visit for ItemKind<'_> {
     }
 }
 
+impl Visit for ItemSig<'_> {
+    ghost asks = { λ s. asked (in_sig s) };
+
+    fn visit<V: Visitor>(&self, visitor: &mut V) {
+        self.kind.visit(visitor);
+    }
+}
+
+impl<'a> Visit for (&'a str, ItemSig<'a>) {
+    ghost asks = { λ p. asked (in_sig p.1) };
+
+    fn visit<V: Visitor>(&self, visitor: &mut V) {
+        self.1.visit(visitor);
+    }
+}
+
 impl Visit for ImportItems<'_> {
     ghost asks = { λ i. asked (in_import i) };
 
     fn visit<V: Visitor>(&self, visitor: &mut V) {
         match self {
-            ImportItems::Single { sig, .. } => sig.kind.visit(visitor),
+            ImportItems::Single { sig, .. } => sig.visit(visitor),
+            ImportItems::Group1 { items, .. } => {
+                items.visit(visitor);
+                visitor.covered(Form::CompactImports, false);
+            }
+            ImportItems::Group2 { sig, .. } => {
+                sig.visit(visitor);
+                visitor.covered(Form::CompactImports, false);
+            }
         }
     }
 }
@@ -81,7 +109,7 @@ impl Visit for TableKind<'_> {
             } => {
                 elem.visit(visitor);
                 payload.visit(visitor);
-                visitor.supported(!*shared);
+                visitor.covered(Form::Shared, !*shared);
             }
         }
     }

@@ -7,7 +7,7 @@ ghost use Rattle.wast_tree.specs.Generations.{generation_or_zero, generation_at,
 use crate::fields::ModuleField;
 use crate::types::StructField;
 use crate::visits::{ItemVisitor, Visitor, visit_fields, visit_items};
-use wast_base::{Id, Index, Space};
+use wast_base::{Form, Id, Index, Space};
 
 /// The greatest generation of the ids that it was told of.
 #[derive(Drop)]
@@ -59,7 +59,7 @@ impl Visitor for Greatest {
 
     fn clause(&mut self, _number: u8, _holds: bool) {}
 
-    fn supported(&mut self, _holds: bool) {}
+    fn covered(&mut self, _form: Form, _holds: bool) {}
 }
 
 /// The greatest generation of an id in the fields, and 0 where no id is generated. It takes no memory.

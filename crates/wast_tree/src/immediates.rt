@@ -138,6 +138,8 @@ pub struct MemArg<'a> {
 pub enum MemArgTarget<'a> {
     /// A memory.
     Memory(Index<'a>),
+    /// An array of a type.
+    Array(Index<'a>),
 }
 
 /// The ordering of a memory argument (threads).
@@ -156,6 +158,15 @@ pub enum Ordering {
     SeqCst,
     /// To acquire and to release.
     AcqRel,
+}
+
+/// An atomic access of what is no memory (shared-everything threads).
+#[derive(Clone, Copy, Debug, PartialEq, Eq)]
+pub struct Ordered<T> {
+    /// Its ordering.
+    pub ordering: Ordering,
+    /// What is accessed.
+    pub inner: T,
 }
 
 /// A number of 32 bits with a fraction, as its bits (text format, floating-point).

@@ -1,6 +1,6 @@
 //! Imports.
 
-ghost use Rattle.std.specs.Prelude.{◌≡◌, ◌<◌, length, map, slice_index_or, IfOk, IfErr};
+ghost use Rattle.std.specs.Prelude.{◌≡◌, ◌<◌, ◌++◌, length, map, slice_index_or, IfOk, IfErr, OnOk};
 ghost use Rattle.wast_base.specs.Faults.{out_of_memory};
 ghost use Rattle.wast_tree.specs.Imports.{item_sigs, unique_sigs};
 ghost use Rattle.wast_tree.specs.Items.{space_of_kind};
@@ -9,7 +9,7 @@ ghost use Rattle.wast_tree.specs.Tree.import_items;
 use crate::entities::{GlobalType, MemoryType, TableType, TagType};
 use crate::types::{FunctionType, TypeUse};
 use std::alloc::Global;
-use wast_base::{Error, Id, NameAnnotation, Space, Span};
+use wast_base::{Error, Id, NameAnnotation, Seq, Space, Span};
 
 /// Imports of one field: `(import "m" "n" (func $f))` (text format, imports).
 #[derive(Debug, Drop)]
@@ -32,6 +32,22 @@ pub enum ImportItems<'a> {
         /// What it is.
         sig: ItemSig<'a>,
     },
+    /// Items of one module, each with its name there (compact import section).
+    Group1 {
+        /// The name of the module that they come from.
+        module: &'a str,
+        /// The name of each, and what it is.
+        items: Seq<(&'a str, ItemSig<'a>)>,
+    },
+    /// Items of one module that are of one kind and type (compact import section).
+    Group2 {
+        /// The name of the module that they come from.
+        module: &'a str,
+        /// What each of them is.
+        sig: ItemSig<'a>,
+        /// The name of each.
+        items: Seq<&'a str>,
+    },
 }
 
 /// What an imported item is: `(func $f (type $t))` (text format, imports).
@@ -52,6 +68,8 @@ pub struct ItemSig<'a> {
 pub enum ItemKind<'a> {
     /// A function.
     Func(TypeUse<'a, FunctionType<'a>>),
+    /// A function of its type alone (custom descriptors).
+    FuncExact(TypeUse<'a, FunctionType<'a>>),
     /// A table.
     Table(TableType<'a>),
     /// A memory.
@@ -68,13 +86,42 @@ impl ItemKind<'_> {
         ensures { result ≡ space_of_kind self.now }
     {
         match self {
-            ItemKind::Func(_) => Space::Func,
+            ItemKind::Func(_) | ItemKind::FuncExact(_) => Space::Func,
             ItemKind::Table(_) => Space::Table,
             ItemKind::Memory(_) => Space::Memory,
             ItemKind::Global(_) => Space::Global,
             ItemKind::Tag(_) => Space::Tag,
         }
     }
+}
+
+/// Puts the signatures of items behind those that are there.
+fn push_sigs<'s, 'a, 'e>(
+    sigs: &mut Vec<&'s ItemSig<'a>>,
+    items: &'s [(&'a str, ItemSig<'a>)],
+) -> Result<(), Error<'e>>
+    ensures pushed { OnOk result (map (λ s. s.now) sigs.new.items ≡ map (λ s. s.now) sigs.old.items ++ map (λ p. p.1) items.now) }
+    ensures refusal { IfErr result (λ e. e ≡ out_of_memory) }
+{
+    for item in items {
+        sigs.push(&item.1)?;
+    }
+    Ok(())
+}
+
+/// Puts a signature behind those that are there, once for each name.
+fn push_shared<'s, 'a, 'e>(
+    sigs: &mut Vec<&'s ItemSig<'a>>,
+    sig: &'s ItemSig<'a>,
+    names: &[&'a str],
+) -> Result<(), Error<'e>>
+    ensures pushed { OnOk result (map (λ s. s.now) sigs.new.items ≡ map (λ s. s.now) sigs.old.items ++ map (λ name. sig.now) names.now) }
+    ensures refusal { IfErr result (λ e. e ≡ out_of_memory) }
+{
+    for _name in names {
+        sigs.push(sig)?;
+    }
+    Ok(())
 }
 
 impl<'a> Imports<'a> {
@@ -89,8 +136,8 @@ impl<'a> Imports<'a> {
         }
     }
 
-    /// The signatures of the items, one for each item, in order (text format, imports). It takes memory for a reference to
-    /// each. The only error is E12, where that is refused.
+    /// The signatures of the items, one for each item, in order: where items share one, it stands once for each of them (text
+    /// format, imports). It takes memory for a reference to each. The only error is E12, where that is refused.
     pub fn item_sigs<'s, 'e>(&'s self, alloc: Global) -> Result<Vec<&'s ItemSig<'a>>, Error<'e>>
         ensures sigs { IfOk result (λ v. map (λ s. s.now) v.items ≡ item_sigs self.now.items) }
         ensures refusal { IfErr result (λ e. e ≡ out_of_memory) }
@@ -98,16 +145,21 @@ impl<'a> Imports<'a> {
         let mut sigs = Vec::new(alloc);
         match &self.items {
             ImportItems::Single { sig, .. } => sigs.push(sig)?,
+            ImportItems::Group1 { items, .. } => push_sigs(&mut sigs, items.as_slice())?,
+            ImportItems::Group2 { sig, items, .. } => {
+                push_shared(&mut sigs, sig, items.as_slice())?;
+            }
         }
         Ok(sigs)
     }
 
-    /// How many signatures are written: one, which is that of the one item (text format, imports). It takes no memory.
+    /// How many signatures are written: those that items share count once (text format, imports). It takes no memory.
     pub fn unique_sigs(&self) -> usize
         ensures { result ≡ length (unique_sigs self.now.items) }
     {
         match &self.items {
-            ImportItems::Single { .. } => 1,
+            ImportItems::Single { .. } | ImportItems::Group2 { .. } => 1,
+            ImportItems::Group1 { items, .. } => items.len(),
         }
     }
 
@@ -119,6 +171,8 @@ impl<'a> Imports<'a> {
     {
         match &mut self.items {
             ImportItems::Single { sig, .. } => sig,
+            ImportItems::Group1 { items, .. } => &mut items.at_mut(i).1,
+            ImportItems::Group2 { sig, .. } => sig,
         }
     }
 }

@@ -4,13 +4,20 @@ ghost use Rattle.std.specs.Prelude.{◌≡◌, [], ◌∷◌, option_map, IfOk, 
 ghost use Rattle.wast_base.specs.Faults.{out_of_memory};
 ghost use Rattle.wast_tree.specs.Instrs.{mem_arg_of, needs_data_count, block_of, is_closer};
 
+use crate::continuations::{ContBind, Resume, ResumeThrow, ResumeThrowRef, Switch};
 use crate::immediates::{
     BlockType, BrTableIndices, CallIndirect, F32, F64, MemArg, MemoryArg, MemoryCopy, MemoryInit,
-    SelectTypes, TableArg, TableCopy, TableInit, TryTable,
+    Ordered, Ordering, SelectTypes, TableArg, TableCopy, TableInit, TryTable,
+};
+use crate::references::{
+    ArrayCopy, ArrayFill, ArrayInit, ArrayNewData, ArrayNewElem, ArrayNewFixed, BrOnCast,
+    BrOnCastDescEq, BrOnCastDescEqFail, BrOnCastFail, RefCast, RefCastDescEq, RefTest,
+    StructAccess,
 };
 use crate::types::HeapType;
+use crate::vectors::{I8x16Shuffle, LaneArg, LoadOrStoreLane, V128Const};
 use std::alloc::Global;
-use wast_base::{Boxed, Error, Id, Index, MemOp, Plain, Seq};
+use wast_base::{Boxed, Error, Id, Index, LaneOp, MemLaneOp, MemOp, Plain, Seq};
 
 /// An instruction (text format, instructions). Each variant but the classes has the name of its text, with `_` for `.`.
 #[allow(non_camel_case_types)]
@@ -18,8 +25,12 @@ use wast_base::{Boxed, Error, Id, Index, MemOp, Plain, Seq};
 pub enum Instruction<'a> {
     /// An instruction without immediates.
     Plain(Plain),
-    /// A load or a store: `i32.load $m`
+    /// An instruction with a memory argument: `i32.load $m`
     Mem(MemOp, MemArg<'a>),
+    /// An instruction on a lane of a vector: `i8x16.extract_lane_s 3`
+    Lane(LaneOp, LaneArg),
+    /// A load or a store of a lane of a vector: `v128.load8_lane $m 3`
+    MemLane(MemLaneOp, LoadOrStoreLane<'a>),
     /// `block $l (result i32)`
     block(Boxed<BlockType<'a>>),
     /// `loop $l`
@@ -116,6 +127,96 @@ pub enum Instruction<'a> {
     ref_null(HeapType<'a>),
     /// `ref.func $f`
     ref_func(Index<'a>),
+    /// `struct.new $t`
+    struct_new(Index<'a>),
+    /// `struct.new_default $t`
+    struct_new_default(Index<'a>),
+    /// `struct.get $t $x`
+    struct_get(StructAccess<'a>),
+    /// `struct.get_s $t $x`
+    struct_get_s(StructAccess<'a>),
+    /// `struct.get_u $t $x`
+    struct_get_u(StructAccess<'a>),
+    /// `struct.set $t $x`
+    struct_set(StructAccess<'a>),
+    /// `array.new $t`
+    array_new(Index<'a>),
+    /// `array.new_default $t`
+    array_new_default(Index<'a>),
+    /// `array.new_fixed $t 3`
+    array_new_fixed(ArrayNewFixed<'a>),
+    /// `array.new_data $t $d`
+    array_new_data(ArrayNewData<'a>),
+    /// `array.new_elem $t $e`
+    array_new_elem(ArrayNewElem<'a>),
+    /// `array.get $t`
+    array_get(Index<'a>),
+    /// `array.get_s $t`
+    array_get_s(Index<'a>),
+    /// `array.get_u $t`
+    array_get_u(Index<'a>),
+    /// `array.set $t`
+    array_set(Index<'a>),
+    /// `array.fill $t`
+    array_fill(ArrayFill<'a>),
+    /// `array.copy $to $from`
+    array_copy(ArrayCopy<'a>),
+    /// `array.init_data $t $d`
+    array_init_data(ArrayInit<'a>),
+    /// `array.init_elem $t $e`
+    array_init_elem(ArrayInit<'a>),
+    /// `ref.test (ref $t)`
+    ref_test(RefTest<'a>),
+    /// `ref.cast (ref $t)`
+    ref_cast(RefCast<'a>),
+    /// `ref.cast_desc_eq (ref $t)` (custom descriptors)
+    ref_cast_desc_eq(RefCastDescEq<'a>),
+    /// `br_on_cast $l anyref (ref $t)`
+    br_on_cast(BrOnCast<'a>),
+    /// `br_on_cast_fail $l anyref (ref $t)`
+    br_on_cast_fail(BrOnCastFail<'a>),
+    /// `br_on_cast_desc_eq $l anyref (ref $t)` (custom descriptors)
+    br_on_cast_desc_eq(BrOnCastDescEq<'a>),
+    /// `br_on_cast_desc_eq_fail $l anyref (ref $t)` (custom descriptors)
+    br_on_cast_desc_eq_fail(BrOnCastDescEqFail<'a>),
+    /// `v128.const i32x4 1 2 3 4`
+    v128_const(V128Const),
+    /// `i8x16.shuffle 0 1 2 3 4 5 6 7 8 9 10 11 12 13 14 31`
+    i8x16_shuffle(I8x16Shuffle),
+    /// `atomic.fence`, which is sequentially consistent where no ordering is written
+    atomic_fence(Option<Ordering>),
+    /// An atomic access of a global (shared-everything threads).
+    GlobalAtomic(Ordered<Index<'a>>),
+    /// An atomic access of a table (shared-everything threads).
+    TableAtomic(Ordered<TableArg<'a>>),
+    /// An atomic access of a field of a struct (shared-everything threads).
+    StructAtomic(Ordered<StructAccess<'a>>),
+    /// An atomic access of an array of a type (shared-everything threads).
+    ArrayAtomic(Ordered<Index<'a>>),
+    /// `struct.new_desc $t` (custom descriptors)
+    struct_new_desc(Index<'a>),
+    /// `struct.new_default_desc $t` (custom descriptors)
+    struct_new_default_desc(Index<'a>),
+    /// `ref.get_desc $t` (custom descriptors)
+    ref_get_desc(Index<'a>),
+    /// `cont.new $t` (stack switching)
+    cont_new(Index<'a>),
+    /// `cont.bind $a $r` (stack switching)
+    cont_bind(ContBind<'a>),
+    /// `suspend $e` (stack switching)
+    suspend(Index<'a>),
+    /// `resume $t (on $e $l)` (stack switching)
+    resume(Resume<'a>),
+    /// `resume_throw $t $x (on $e $l)` (stack switching)
+    resume_throw(ResumeThrow<'a>),
+    /// `resume_throw_ref $t (on $e $l)` (stack switching)
+    resume_throw_ref(ResumeThrowRef<'a>),
+    /// `switch $t $e` (stack switching)
+    switch(Switch<'a>),
+    /// `memory.discard $m` (memory control)
+    memory_discard(MemoryArg<'a>),
+    /// An instruction that no encoder knows, by its name: `i64.add128`
+    Beyond(&'a str),
 }
 
 impl<'a> Instruction<'a> {
@@ -125,12 +226,14 @@ impl<'a> Instruction<'a> {
     {
         match self {
             Instruction::Mem(_, arg) => Some(arg),
+            Instruction::MemLane(_, access) => Some(&mut access.memarg),
             _ => None,
         }
     }
 
     /// The label and the type of the block that it opens; `None` where it opens none (text format, control instructions).
     /// It takes no memory.
+    #[inline(always)]
     pub fn block_type(&self) -> Option<&BlockType<'a>>
         ensures { option_map (λ b. b.now) result ≡ block_of self.now }
     {
@@ -160,7 +263,10 @@ impl<'a> Instruction<'a> {
         ensures { result ≡ needs_data_count self.now }
     {
         match self {
-            Instruction::memory_init(_) | Instruction::data_drop(_) => true,
+            Instruction::memory_init(_)
+            | Instruction::data_drop(_)
+            | Instruction::array_new_data(_)
+            | Instruction::array_init_data(_) => true,
             _ => false,
         }
     }

@@ -5,53 +5,151 @@
 #![tactic(auto)]
 
 pub use wast_base::{
-    BareOp, Boxed, Error, F32Op, F64Op, Fault, Form, Gensym, I32Op, I64Op, Id, Index, IntoIter,
-    MemOp, NameAnnotation, Plain, RefOp, Seq, Space, Span,
+    AnyOp, ArrayOp, BareOp, Boxed, Error, ExternOp, F32Op, F32x4Op, F64Op, F64x2Op, Fault, Form,
+    Gensym, I8x16Op, I16x8Op, I31Op, I32Op, I32x4Op, I64Op, I64x2Op, Id, Index, IntoIter, LaneOp,
+    MemLaneOp, MemOp, NameAnnotation, Plain, RefOp, Seq, Space, Span, V128Op,
 };
 
 mod bearers;
 mod check;
 mod clauses;
+mod continuation_visits;
+mod continuations;
 mod entities;
 mod examples;
 mod field_visits;
 mod fields;
+mod forms;
 mod generations;
 mod immediates;
 mod imports;
 mod instrs;
 mod makers;
 mod moves;
+mod references;
 mod segments;
 mod types;
+mod vectors;
 mod visits;
 mod written_out;
 
 pub use check::well_formed;
-pub use entities::{GlobalType, Limits, MemoryType, TableType, TagType};
-pub use fields::{
-    Export, ExportKind, Func, FuncKind, Global, GlobalKind, InlineExport, InlineImport, Local,
-    Memory, MemoryKind, ModuleField, Table, TableKind, Tag, TagKind,
-};
+pub use continuations::ContBind;
+pub use continuations::Handle;
+pub use continuations::Resume;
+pub use continuations::ResumeTable;
+pub use continuations::ResumeThrow;
+pub use continuations::ResumeThrowRef;
+pub use continuations::Switch;
+pub use entities::GlobalType;
+pub use entities::Limits;
+pub use entities::MemoryType;
+pub use entities::TableType;
+pub use entities::TagType;
+pub use fields::Export;
+pub use fields::ExportKind;
+pub use fields::Func;
+pub use fields::FuncKind;
+pub use fields::Global;
+pub use fields::GlobalKind;
+pub use fields::InlineExport;
+pub use fields::InlineImport;
+pub use fields::Local;
+pub use fields::Memory;
+pub use fields::MemoryKind;
+pub use fields::ModuleField;
+pub use fields::Table;
+pub use fields::TableKind;
+pub use fields::Tag;
+pub use fields::TagKind;
+pub use forms::uncovered;
 pub use generations::gensym_bound;
-pub use immediates::{
-    BlockType, BrTableIndices, CallIndirect, F32, F64, MemArg, MemArgOrdering, MemArgTarget,
-    MemoryArg, MemoryCopy, MemoryInit, Ordering, SelectTypes, TableArg, TableCopy, TableInit,
-    TryTable, TryTableCatch, TryTableCatchKind,
-};
-pub use imports::{ImportItems, Imports, ItemKind, ItemSig};
-pub use instrs::{BranchHint, Expression, Instruction};
-pub use makers::{BlockKind, Maker};
-pub use moves::{
-    discard_data, discard_elem_payload, discard_exports, discard_expression, discard_field,
-    discard_fields, discard_func, discard_func_kind, discard_function_type, discard_instruction,
-    discard_item_kind, discard_said_inline, discard_tag_type, discard_type, discard_type_use,
-    fields_with_capacity, push_field, take_field,
-};
-pub use segments::{Data, DataKind, DataVal, Elem, ElemKind, ElemPayload};
-pub use types::{
-    AbstractHeapType, ArrayType, FunctionType, HeapType, InnerTypeKind, Rec, RefType, StorageType,
-    StructField, StructType, Type, TypeDef, TypeUse, ValType,
-};
-pub use visits::{ItemVisitor, visit_items};
+pub use immediates::BlockType;
+pub use immediates::BrTableIndices;
+pub use immediates::CallIndirect;
+pub use immediates::F32;
+pub use immediates::F64;
+pub use immediates::MemArg;
+pub use immediates::MemArgOrdering;
+pub use immediates::MemArgTarget;
+pub use immediates::MemoryArg;
+pub use immediates::MemoryCopy;
+pub use immediates::MemoryInit;
+pub use immediates::Ordered;
+pub use immediates::Ordering;
+pub use immediates::SelectTypes;
+pub use immediates::TableArg;
+pub use immediates::TableCopy;
+pub use immediates::TableInit;
+pub use immediates::TryTable;
+pub use immediates::TryTableCatch;
+pub use immediates::TryTableCatchKind;
+pub use imports::ImportItems;
+pub use imports::Imports;
+pub use imports::ItemKind;
+pub use imports::ItemSig;
+pub use instrs::BranchHint;
+pub use instrs::Expression;
+pub use instrs::Instruction;
+pub use makers::BlockKind;
+pub use makers::Maker;
+pub use moves::discard_data;
+pub use moves::discard_elem_payload;
+pub use moves::discard_exports;
+pub use moves::discard_expression;
+pub use moves::discard_field;
+pub use moves::discard_fields;
+pub use moves::discard_func;
+pub use moves::discard_func_kind;
+pub use moves::discard_function_type;
+pub use moves::discard_instruction;
+pub use moves::discard_item_kind;
+pub use moves::discard_said_inline;
+pub use moves::discard_tag_type;
+pub use moves::discard_type;
+pub use moves::discard_type_use;
+pub use moves::fields_with_capacity;
+pub use moves::push_field;
+pub use moves::take_field;
+pub use references::ArrayCopy;
+pub use references::ArrayFill;
+pub use references::ArrayInit;
+pub use references::ArrayNewData;
+pub use references::ArrayNewElem;
+pub use references::ArrayNewFixed;
+pub use references::BrOnCast;
+pub use references::BrOnCastDescEq;
+pub use references::BrOnCastDescEqFail;
+pub use references::BrOnCastFail;
+pub use references::RefCast;
+pub use references::RefCastDescEq;
+pub use references::RefTest;
+pub use references::StructAccess;
+pub use segments::Data;
+pub use segments::DataKind;
+pub use segments::DataVal;
+pub use segments::Elem;
+pub use segments::ElemKind;
+pub use segments::ElemPayload;
+pub use types::AbstractHeapType;
+pub use types::ArrayType;
+pub use types::ContType;
+pub use types::FunctionType;
+pub use types::HeapType;
+pub use types::InnerTypeKind;
+pub use types::Rec;
+pub use types::RefType;
+pub use types::StorageType;
+pub use types::StructField;
+pub use types::StructType;
+pub use types::Type;
+pub use types::TypeDef;
+pub use types::TypeUse;
+pub use types::ValType;
+pub use vectors::I8x16Shuffle;
+pub use vectors::LaneArg;
+pub use vectors::LoadOrStoreLane;
+pub use vectors::V128Const;
+pub use visits::ItemVisitor;
+pub use visits::visit_items;
 pub use written_out::is_written_out;

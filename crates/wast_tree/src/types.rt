@@ -1,6 +1,7 @@
 //! Types of the text format.
 
 ghost use Rattle.std.specs.Prelude.{◌≡◌, [], Some, None, true, false};
+ghost use Rattle.wast_tree.specs.Sites.{is_continuation};
 ghost use Rattle.wast_tree.specs.Tree.heap;
 ghost use Rattle.wast_tree.specs.Tree.abstract;
 ghost use Rattle.wast_tree.specs.Tree.inner;
@@ -70,8 +71,10 @@ pub enum HeapType<'a> {
         /// The type.
         ty: AbstractHeapType,
     },
-    /// A type of the module.
+    /// A type of the module, and those below it.
     Concrete(Index<'a>),
+    /// A type of the module alone: `(exact $t)` (custom descriptors)
+    Exact(Index<'a>),
 }
 
 /// A heap type that no module defines (text format, heap types).
@@ -101,6 +104,22 @@ pub enum AbstractHeapType {
     None,
     /// `i31`
     I31,
+    /// `cont` (stack switching)
+    Cont,
+    /// `nocont` (stack switching)
+    NoCont,
+}
+
+impl AbstractHeapType {
+    /// Whether it is of continuations.
+    pub(crate) fn is_continuation(self) -> bool
+        ensures { result ≡ is_continuation self }
+    {
+        match self {
+            AbstractHeapType::Cont | AbstractHeapType::NoCont => true,
+            _ => false,
+        }
+    }
 }
 
 /// What a field of a struct or an element of an array holds (text format, composite types).
@@ -142,6 +161,10 @@ pub struct ArrayType<'a> {
     /// What each holds.
     pub ty: StorageType<'a>,
 }
+
+/// A continuation, by the type of its function: `(cont $t)` (stack switching).
+#[derive(Clone, Copy, Debug, PartialEq, Eq)]
+pub struct ContType<'a>(pub Index<'a>);
 
 /// The parameters and results of a function: `(param $x i32) (result i64)` (text format, composite types).
 #[derive(Debug, Drop)]
@@ -221,6 +244,8 @@ pub enum InnerTypeKind<'a> {
     Struct(StructType<'a>),
     /// `(array ..)`
     Array(ArrayType<'a>),
+    /// `(cont $t)` (stack switching)
+    Cont(ContType<'a>),
 }
 
 /// What a type is defined as: a composite type, and how it stands to other types (text format, recursive types).

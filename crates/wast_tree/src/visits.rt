@@ -1,27 +1,31 @@
 //! Walks over the tree to read it: a visitor is told of each item, or of each id and index beside them, in order.
 #![tactic(auto, using(crate::proofs::Visiting::visits_both, crate::proofs::Visiting::visits_one, crate::proofs::Visiting::visits_none, crate::proofs::Visiting::asked_asking, crate::proofs::Visiting::asked_both, crate::proofs::Visiting::asked_use))]
 
-ghost use Rattle.std.specs.Prelude.{◌≡◌, Bool, List, [], map, Option};
+ghost use Rattle.std.specs.Prelude.{◌≡◌, ◌∷◌, ◌++◌, Bool, List, [], map, Option};
 ghost use Rattle.std.specs.Prelude.{flat_map};
 ghost use Rattle.wast_base.specs.Ids.{mark_of};
+ghost use Rattle.wast_base.specs.Blocks.{Blocks};
 ghost use Rattle.wast_tree.specs.Tree.{TypeUse, FunctionType};
-ghost use Rattle.wast_tree.specs.Items.{Item, item, fields_of, items_of_type, items_of_import, items_in, items};
-ghost use Rattle.wast_tree.specs.Sites.{Ask, Wants, Within, Unasked, Clause, Supported, Here, if_there, in_index, in_id, in_heap, in_ref, in_val, in_storage, in_param, in_signature, in_struct_field, in_struct, in_array, in_inner, in_descriptor, in_def, in_type, in_rec, in_type_use, in_block, in_caught, in_catch, in_try_table, in_br_table, in_mem_arg, in_pair, in_select, in_indirect, mark_asked, in_instr, in_instrs, in_expression, in_constant, in_local, in_func_kind, in_func, in_field, in_module, asked};
+ghost use Rattle.wast_tree.specs.Tree.form;
+ghost use Rattle.wast_tree.specs.Tree.space;
+ghost use Rattle.wast_tree.specs.Items.{Item, item, item_of_sig, fields_of, items_of_type, items_of_import, items_in, items};
+ghost use Rattle.wast_tree.specs.Sites.{Ask, Wants, Within, Unasked, Clause, Covered, Here, if_there, in_index, in_id, in_heap, in_ref, in_val, in_storage, in_param, in_signature, in_struct_field, in_struct, in_array, in_inner, in_descriptor, in_def, in_type, in_rec, in_type_use, in_block, in_caught, in_catch, in_try_table, in_br_table, in_target, in_mem_arg, in_pair, in_access, in_cast, uncovered, asking, in_select, in_indirect, mark_asked, in_instr, in_instrs, in_expression, in_constant, in_local, in_func_kind, in_func, in_field, in_module, asked};
 ghost use Rattle.wast_tree.specs.Visits.{Visits};
 
-use crate::clauses::is_balanced;
+use crate::clauses::{is_balanced, is_sequential};
 use crate::fields::{Func, FuncKind, Local, ModuleField};
 use crate::immediates::{
     BlockType, BrTableIndices, CallIndirect, MemArg, MemArgTarget, SelectTypes, TryTable,
     TryTableCatch, TryTableCatchKind,
 };
-use crate::imports::ImportItems;
+use crate::imports::{ImportItems, ItemSig};
 use crate::instrs::{Expression, Instruction};
+use crate::references::StructAccess;
 use crate::types::{
-    ArrayType, FunctionType, HeapType, InnerTypeKind, Rec, RefType, StorageType, StructField,
-    StructType, Type, TypeDef, TypeUse, ValType,
+    ArrayType, ContType, FunctionType, HeapType, InnerTypeKind, Rec, RefType, StorageType,
+    StructField, StructType, Type, TypeDef, TypeUse, ValType,
 };
-use wast_base::{Id, Index, NameAnnotation, Seq, Space};
+use wast_base::{Form, Id, Index, NameAnnotation, Seq, Space};
 
 /// What is told of the items of a module (text format, modules), as a count or a list of them.
 pub trait ItemVisitor<'a> {
@@ -42,7 +46,7 @@ pub(crate) trait Visitor {
     fn index(&mut self, space: Space, index: &Index<'_>)
         ensures { told self.old (Wants space index.now) self.new };
 
-    /// An index of a local or a label.
+    /// An index of a local, a label or a field.
     fn within(&mut self, index: &Index<'_>)
         ensures { told self.old (Within index.now) self.new };
 
@@ -54,9 +58,9 @@ pub(crate) trait Visitor {
     fn clause(&mut self, number: u8, holds: bool)
         ensures { told self.old (Clause number holds) self.new };
 
-    /// Whether a form is supported.
-    fn supported(&mut self, holds: bool)
-        ensures { told self.old (Supported holds) self.new };
+    /// A form that no encoder covers, and whether what stands here is without it.
+    fn covered(&mut self, form: Form, holds: bool)
+        ensures { told self.old (Covered form holds) self.new };
 }
 
 /// Tells a visitor of each item of the fields, also of those without an id, in the order in which they are numbered (text
@@ -94,7 +98,34 @@ fn visit_import<'a, V: ItemVisitor<'a>>(items: &ImportItems<'a>, visitor: &mut V
     ensures { Visits V.told visitor.old (items_of_import items.now) visitor.new }
 {
     match items {
-        ImportItems::Single { sig, .. } => visitor.item(sig.kind.space(), &sig.id, &[]),
+        ImportItems::Single { sig, .. } => visit_sig(sig, visitor),
+        ImportItems::Group1 { items, .. } => visit_sigs(items.as_slice(), visitor),
+        ImportItems::Group2 { sig, items, .. } => visit_shared(sig, items.as_slice(), visitor),
+    }
+}
+
+/// Tells a visitor of the item of a signature.
+fn visit_sig<'a, V: ItemVisitor<'a>>(sig: &ItemSig<'a>, visitor: &mut V)
+    ensures { Visits V.told visitor.old (item_of_sig sig.now ∷ []) visitor.new }
+{
+    visitor.item(sig.kind.space(), &sig.id, &[]);
+}
+
+/// Tells a visitor of an item for each of these names, with its signature.
+fn visit_sigs<'a, V: ItemVisitor<'a>>(items: &[(&'a str, ItemSig<'a>)], visitor: &mut V)
+    ensures { Visits V.told visitor.old (flat_map (λ p. item_of_sig p.1 ∷ []) items.now) visitor.new }
+{
+    for item in items {
+        visit_sig(&item.1, visitor);
+    }
+}
+
+/// Tells a visitor of an item for each of these names, all of one signature.
+fn visit_shared<'a, V: ItemVisitor<'a>>(sig: &ItemSig<'a>, names: &[&'a str], visitor: &mut V)
+    ensures { Visits V.told visitor.old (flat_map (λ name. item_of_sig sig.now ∷ []) names.now) visitor.new }
+{
+    for _name in names {
+        visit_sig(sig, visitor);
     }
 }
 
@@ -112,7 +143,7 @@ fn fields_of<'k, 'a>(kind: &'k InnerTypeKind<'a>) -> &'k [StructField<'a>]
     match kind {
         InnerTypeKind::Func(_) => &[],
         InnerTypeKind::Struct(ty) => ty.fields.as_slice(),
-        InnerTypeKind::Array(_) => &[],
+        InnerTypeKind::Array(_) | InnerTypeKind::Cont(_) => &[],
     }
 }
 
@@ -168,7 +199,7 @@ fn visit_descriptor<V: Visitor>(index: &Option<Index<'_>>, visitor: &mut V)
 {
     if let Some(index) = index {
         visitor.index(Space::Ty, index);
-        visitor.supported(false);
+        visitor.covered(Form::Descriptor, false);
     }
 }
 
@@ -203,8 +234,15 @@ impl Visit for HeapType<'_> {
 
     fn visit<V: Visitor>(&self, visitor: &mut V) {
         match self {
-            HeapType::Abstract { shared, .. } => visitor.supported(!*shared),
+            HeapType::Abstract { shared, ty } => {
+                visitor.covered(Form::Shared, !*shared);
+                visitor.covered(Form::StackSwitching, !ty.is_continuation());
+            }
             HeapType::Concrete(index) => visitor.index(Space::Ty, index),
+            HeapType::Exact(index) => {
+                visitor.index(Space::Ty, index);
+                visitor.covered(Form::Descriptor, false);
+            }
         }
     }
 }
@@ -287,6 +325,15 @@ impl Visit for ArrayType<'_> {
     }
 }
 
+impl Visit for ContType<'_> {
+    ghost asks = { λ t. in_index space.Ty t.0 ++ uncovered form.StackSwitching };
+
+    fn visit<V: Visitor>(&self, visitor: &mut V) {
+        visitor.index(Space::Ty, &self.0);
+        visitor.covered(Form::StackSwitching, false);
+    }
+}
+
 impl Visit for InnerTypeKind<'_> {
     ghost asks = { in_inner };
 
@@ -295,6 +342,7 @@ impl Visit for InnerTypeKind<'_> {
             InnerTypeKind::Func(ty) => ty.visit(visitor),
             InnerTypeKind::Struct(ty) => ty.visit(visitor),
             InnerTypeKind::Array(ty) => ty.visit(visitor),
+            InnerTypeKind::Cont(ty) => ty.visit(visitor),
         }
     }
 }
@@ -307,7 +355,7 @@ impl Visit for TypeDef<'_> {
         visit_descriptor(&self.descriptor, visitor);
         visit_descriptor(&self.describes, visitor);
         self.kind.visit(visitor);
-        visitor.supported(!self.shared);
+        visitor.covered(Form::Shared, !self.shared);
     }
 }
 
@@ -336,15 +384,27 @@ impl<'a> Visit for TypeUse<'a, FunctionType<'a>> {
     }
 }
 
+impl Visit for MemArgTarget<'_> {
+    ghost asks = { in_target };
+
+    fn visit<V: Visitor>(&self, visitor: &mut V) {
+        match self {
+            MemArgTarget::Memory(memory) => visitor.index(Space::Memory, memory),
+            MemArgTarget::Array(ty) => {
+                visitor.index(Space::Ty, ty);
+                visitor.covered(Form::ArrayMemArg, false);
+            }
+        }
+    }
+}
+
 impl Visit for MemArg<'_> {
     ghost asks = { in_mem_arg };
 
     fn visit<V: Visitor>(&self, visitor: &mut V) {
-        match &self.target {
-            MemArgTarget::Memory(memory) => visitor.index(Space::Memory, memory),
-        }
+        self.target.visit(visitor);
         visitor.clause(1, self.align.is_power_of_two());
-        visitor.supported(self.ordering.is_none());
+        visitor.covered(Form::Ordering, self.ordering.is_none());
     }
 }
 
@@ -441,13 +501,61 @@ fn visit_pair<V: Visitor>(
     visitor.index(other_space, other);
 }
 
+/// Tells a visitor of an index of a space, in a form that no encoder covers.
+fn visit_uncovered_index<V: Visitor>(space: Space, index: &Index<'_>, form: Form, visitor: &mut V)
+    ensures { Visits V.told visitor.old (in_index space index.now ++ uncovered form) visitor.new }
+{
+    visitor.index(space, index);
+    visitor.covered(form, false);
+}
+
+/// Tells a visitor of a part of a form that no encoder covers.
+fn visit_uncovered<T: Visit, V: Visitor>(part: &T, form: Form, visitor: &mut V)
+    ensures { Visits V.told visitor.old (T.asks part.now ++ uncovered form) visitor.new }
+{
+    part.visit(visitor);
+    visitor.covered(form, false);
+}
+
+impl Visit for StructAccess<'_> {
+    ghost asks = { λ a. asked (in_access a) };
+
+    fn visit<V: Visitor>(&self, visitor: &mut V) {
+        visitor.index(Space::Ty, &self.owner);
+        visitor.within(&self.field);
+    }
+}
+
+/// Tells a visitor of a branch on a cast.
+fn visit_cast<V: Visitor>(label: &Index<'_>, to: &RefType<'_>, from: &RefType<'_>, visitor: &mut V)
+    ensures { (blocks : Blocks) → Visits V.told visitor.old (asked (in_cast blocks label.now to.now from.now)) visitor.new }
+{
+    visitor.within(label);
+    to.visit(visitor);
+    from.visit(visitor);
+}
+
+/// Tells a visitor of a branch on a cast, of a form that no encoder covers.
+fn visit_uncovered_cast<V: Visitor>(
+    label: &Index<'_>,
+    to: &RefType<'_>,
+    from: &RefType<'_>,
+    visitor: &mut V,
+)
+    ensures { (blocks : Blocks) → Visits V.told visitor.old (asked (in_cast blocks label.now to.now from.now ++ asking (uncovered form.Descriptor))) visitor.new }
+{
+    visit_cast(label, to, from, visitor);
+    visitor.covered(Form::Descriptor, false);
+}
+
 /// Tells a visitor of an instruction.
 fn visit_instr<V: Visitor>(instr: &Instruction<'_>, visitor: &mut V)
     ensures { (h : Here) → Visits V.told visitor.old (asked (in_instr h instr.now)) visitor.new }
 {
     match instr {
-        Instruction::Plain(_) => {}
+        Instruction::Plain(_) | Instruction::Lane(_, _) => {}
         Instruction::Mem(_, arg) => arg.visit(visitor),
+        Instruction::MemLane(_, access) => access.memarg.visit(visitor),
         Instruction::block(block)
         | Instruction::loop_(block)
         | Instruction::if_(block)
@@ -472,10 +580,94 @@ fn visit_instr<V: Visitor>(instr: &Instruction<'_>, visitor: &mut V)
         Instruction::call_indirect(call) | Instruction::return_call_indirect(call) => {
             call.visit(visitor)
         }
-        Instruction::call_ref(ty) | Instruction::return_call_ref(ty) => visitor.index(
-            Space::Ty,
-            ty,
-        ),
+        Instruction::call_ref(ty)
+        | Instruction::return_call_ref(ty)
+        | Instruction::struct_new(ty)
+        | Instruction::struct_new_default(ty)
+        | Instruction::array_new(ty)
+        | Instruction::array_new_default(ty)
+        | Instruction::array_get(ty)
+        | Instruction::array_get_s(ty)
+        | Instruction::array_get_u(ty)
+        | Instruction::array_set(ty) => visitor.index(Space::Ty, ty),
+        Instruction::struct_get(access)
+        | Instruction::struct_get_s(access)
+        | Instruction::struct_get_u(access)
+        | Instruction::struct_set(access) => access.visit(visitor),
+        Instruction::array_new_fixed(arg) => visitor.index(Space::Ty, &arg.array),
+        Instruction::array_new_data(arg) => {
+            visit_pair(visitor, Space::Ty, &arg.array, Space::Data, &arg.data_idx)
+        }
+        Instruction::array_new_elem(arg) => {
+            visit_pair(visitor, Space::Ty, &arg.array, Space::Elem, &arg.elem_idx)
+        }
+        Instruction::array_fill(arg) => visitor.index(Space::Ty, &arg.array),
+        Instruction::array_copy(arg) => {
+            visit_pair(
+                visitor,
+                Space::Ty,
+                &arg.dest_array,
+                Space::Ty,
+                &arg.src_array,
+            )
+        }
+        Instruction::array_init_data(arg) => {
+            visit_pair(visitor, Space::Ty, &arg.array, Space::Data, &arg.segment)
+        }
+        Instruction::array_init_elem(arg) => {
+            visit_pair(visitor, Space::Ty, &arg.array, Space::Elem, &arg.segment)
+        }
+        Instruction::ref_test(arg) => arg.rt.visit(visitor),
+        Instruction::ref_cast(arg) => arg.rt.visit(visitor),
+        Instruction::ref_cast_desc_eq(arg) => visit_uncovered(&arg.rt, Form::Descriptor, visitor),
+        Instruction::br_on_cast(arg) => {
+            visit_cast(&arg.label, &arg.to_type, &arg.from_type, visitor)
+        }
+        Instruction::br_on_cast_fail(arg) => {
+            visit_cast(&arg.label, &arg.to_type, &arg.from_type, visitor)
+        }
+        Instruction::br_on_cast_desc_eq(arg) => {
+            visit_uncovered_cast(&arg.label, &arg.to_type, &arg.from_type, visitor)
+        }
+        Instruction::br_on_cast_desc_eq_fail(arg) => {
+            visit_uncovered_cast(&arg.label, &arg.to_type, &arg.from_type, visitor)
+        }
+        Instruction::v128_const(_) | Instruction::i8x16_shuffle(_) => {}
+        Instruction::atomic_fence(ordering) => {
+            visitor.covered(Form::Ordering, is_sequential(*ordering))
+        }
+        Instruction::GlobalAtomic(access) => {
+            visit_uncovered_index(Space::Global, &access.inner, Form::Atomic, visitor)
+        }
+        Instruction::TableAtomic(access) => {
+            visit_uncovered_index(Space::Table, &access.inner.dst, Form::Atomic, visitor)
+        }
+        Instruction::StructAtomic(access) => {
+            visit_uncovered(&access.inner, Form::Atomic, visitor)
+        }
+        Instruction::ArrayAtomic(access) => {
+            visit_uncovered_index(Space::Ty, &access.inner, Form::Atomic, visitor)
+        }
+        Instruction::struct_new_desc(ty)
+        | Instruction::struct_new_default_desc(ty)
+        | Instruction::ref_get_desc(ty) => {
+            visit_uncovered_index(Space::Ty, ty, Form::Descriptor, visitor)
+        }
+        Instruction::cont_new(ty) => {
+            visit_uncovered_index(Space::Ty, ty, Form::StackSwitching, visitor)
+        }
+        Instruction::cont_bind(arg) => arg.visit(visitor),
+        Instruction::suspend(tag) => {
+            visit_uncovered_index(Space::Tag, tag, Form::StackSwitching, visitor)
+        }
+        Instruction::resume(arg) => arg.visit(visitor),
+        Instruction::resume_throw(arg) => arg.visit(visitor),
+        Instruction::resume_throw_ref(arg) => arg.visit(visitor),
+        Instruction::switch(arg) => arg.visit(visitor),
+        Instruction::memory_discard(arg) => {
+            visit_uncovered_index(Space::Memory, &arg.mem, Form::Beyond, visitor)
+        }
+        Instruction::Beyond(_) => visitor.covered(Form::Beyond, false),
         Instruction::select(types) => types.visit(visitor),
         Instruction::global_get(global) | Instruction::global_set(global) => {
             visitor.index(Space::Global, global)
@@ -525,7 +717,7 @@ fn visit_expression<V: Visitor>(expression: &Expression<'_>, visitor: &mut V)
     ensures { (h : Here) → Visits V.told visitor.old (asked (in_expression h expression.now)) visitor.new }
 {
     visit_instrs(expression.instrs.as_slice(), visitor);
-    visitor.supported(expression.branch_hints.is_empty());
+    visitor.clause(2, expression.branch_hints.is_empty());
 }
 
 /// A constant expression.
@@ -553,7 +745,7 @@ fn visit_func_kind<V: Visitor>(kind: &FuncKind<'_>, visitor: &mut V)
     ensures { (u : TypeUse FunctionType) → Visits V.told visitor.old (asked (in_func_kind u kind.now)) visitor.new }
 {
     match kind {
-        FuncKind::Import(_, exact) => visitor.supported(!*exact),
+        FuncKind::Import(_, exact) => visitor.covered(Form::Descriptor, !*exact),
         FuncKind::Inline { locals, expression } => {
             locals.visit(visitor);
             visit_expression(expression, visitor);

@@ -7,14 +7,16 @@ use Rattle.wast_base.specs.Ids.{Name, Mark, marked, generated}
 use Rattle.wast_base.specs.Spaces.{name_if}
 use Rattle.wast_base.specs.Blocks.{Blocks, is_balanced}
 use Rattle.wast_tree.specs.Instrs.{turns}
-use Rattle.wast_tree.specs.Sites.{Ask, Clause, OfItem, OfBlock, Site, Asked, Begins, Here, start, asking, at_index, at_label, in_caught, in_catch, in_block, in_try_table, in_br_table, in_heap, in_mem_arg, in_select, in_type, in_rec, in_instr, behind, in_instrs, in_expression, in_constant, in_local, param_marks, local_marks, declaring, body_here, in_func_kind, in_use, in_func, in_payload, in_field}
-use Rattle.wast_types.specs.Tree.{Index, BlockType, BrTableIndices, TryTable, TryTableCatch, FunctionType, TypeUse, SelectTypes, Instruction, Expression, Local, FuncKind, Func, Table, Global, ElemPayload, Elem, Data, Rec}
+use Rattle.wast_tree.specs.Sites.{Ask, Clause, OfItem, OfBlock, Site, Asked, Begins, Here, start, asking, at_index, at_label, in_index, in_caught, in_catch, in_handle, in_handlers, in_cast, in_ref, uncovered, in_block, in_try_table, in_br_table, in_heap, in_pair, in_mem_arg, in_select, in_type, in_rec, in_instr, behind, in_instrs, in_expression, in_constant, in_local, param_marks, local_marks, declaring, body_here, in_func_kind, in_use, in_func, in_payload, in_sig, in_field}
+use Rattle.wast_types.specs.Tree.{Index, RefType, Handle, ResumeTable, BlockType, BrTableIndices, TryTable, TryTableCatch, FunctionType, TypeUse, SelectTypes, Instruction, Expression, Local, FuncKind, Func, Table, Global, ElemPayload, Elem, Data, Rec, ItemSig}
+use Rattle.wast_types.specs.Tree.form
+use Rattle.wast_types.specs.Tree.handle
 use Rattle.wast_types.specs.Tree.space
 use Rattle.wast_types.specs.Tree.ty
 use Rattle.wast_types.specs.Tree.instr
 use Rattle.wast_types.specs.Tree.func
 use Rattle.wast_types.specs.Tree.field
-use Rattle.wast_map.specs.Mapped.{mapped_select, mapped_block, mapped_catch, mapped_try_table, mapped_br_table, mapped_instr, mapped_instrs, mapped_expression, mapped_constant, mapped_local, mapped_func_kind}
+use Rattle.wast_map.specs.Mapped.{mapped_select, mapped_block, mapped_catch, mapped_try_table, mapped_br_table, mapped_instr, mapped_instrs, mapped_expression, mapped_constant, mapped_local, mapped_func_kind, mapped_handle, mapped_handlers}
 use Rattle.wast_map.proofs.Types.{val_at}
 use Rattle.wast_map.proofs.Fields.{select_at, caught_at}
 use Rattle.wast_types.specs.Signatures.{Signature, signature_of}
@@ -44,6 +46,13 @@ needed_declaring : (before : List (Option Name)) (marks : List (Option Mark)) �
 needed_declaring before [] = refl
 needed_declaring before (m ∷ ms) = needed_declaring (before ++ name_if m ∷ []) ms
 
+pub needed_besides : (xs : List Site) (asks : List Ask) → needed_in (xs ++ asking asks) ≡ needed_in xs
+needed_besides xs asks = needed_both xs (asking asks) ∙ (ap (λ ss. needed_in xs ++ ss) (needed_asking asks) ∙ append-nil (needed_in xs))
+
+-- Each item of a group needs what it needs alone.
+pub needed_group : {A : Type 0} (items : List (A × ItemSig)) → needed_in (flat_map (λ p. in_sig p.1) items ++ asking (uncovered form.CompactImports)) ≡ flat_map (λ p. needed_in (in_sig p.1)) items
+needed_group items = needed_besides (flat_map (λ p. in_sig p.1) items) (uncovered form.CompactImports) ∙ needed_each (λ p. in_sig p.1) items
+
 -- No more do labels.
 needed_label : (blocks : Blocks) (l : Index) → needed_in (at_label blocks l) ≡ []
 needed_label blocks l = refl
@@ -55,6 +64,21 @@ pub needed_br_table : (blocks : Blocks) (t : BrTableIndices) → needed_in (in_b
 needed_br_table blocks t =
     needed_both (flat_map (at_label blocks) t.labels) (at_label blocks t.default)
     ∙ (append-nil (needed_in (flat_map (at_label blocks) t.labels)) ∙ (needed_each (at_label blocks) t.labels ∙ each_none (needed_label blocks) t.labels))
+
+needed_handle : (blocks : Blocks) (x : Handle) → needed_in (in_handle blocks x) ≡ []
+needed_handle blocks (handle.OnLabel e l) = refl
+needed_handle blocks (handle.OnSwitch e) = refl
+
+pub needed_handlers : (blocks : Blocks) (t : ResumeTable) → needed_in (in_handlers blocks t) ≡ []
+needed_handlers blocks t =
+    needed_both (flat_map (in_handle blocks) t.handlers) (asking (uncovered form.StackSwitching))
+    ∙ (append-nil (needed_in (flat_map (in_handle blocks) t.handlers)) ∙ (needed_each (in_handle blocks) t.handlers ∙ each_none (needed_handle blocks) t.handlers))
+
+pub needed_resume : (blocks : Blocks) (asks : List Ask) (t : ResumeTable) → needed_in (asking asks ++ in_handlers blocks t) ≡ []
+needed_resume blocks asks t = needed_both (asking asks) (in_handlers blocks t) ∙ (ap (λ ss. ss ++ needed_in (in_handlers blocks t)) (needed_asking asks) ∙ needed_handlers blocks t)
+
+pub needed_cast : (blocks : Blocks) (l : Index) (to from : RefType) → needed_in (in_cast blocks l to from) ≡ []
+needed_cast blocks l to from = needed_asking (in_ref to ++ in_ref from)
 
 -- A block needs the type that its type use needs, and one that catches no more.
 pub needed_block : (blocks : Blocks) (b : BlockType) → needed_in (in_block blocks b) ≡ needed_in (in_use OfBlock b.ty)
@@ -73,6 +97,9 @@ needed_try_table blocks t =
 instr_anywhere : (h : Here) (i : Instruction) → needed_in (in_instr h i) ≡ needed_in (in_instr start i)
 instr_anywhere h (instr.try_table t) = needed_try_table h.blocks t ∙ sym (needed_try_table [] t)
 instr_anywhere h (instr.br_table t) = needed_br_table h.blocks t ∙ sym (needed_br_table [] t)
+instr_anywhere h (instr.resume a) = needed_resume h.blocks (in_index space.Ty a.type_index) a.table ∙ sym (needed_resume [] (in_index space.Ty a.type_index) a.table)
+instr_anywhere h (instr.resume_throw_ref a) = needed_resume h.blocks (in_index space.Ty a.type_index) a.table ∙ sym (needed_resume [] (in_index space.Ty a.type_index) a.table)
+instr_anywhere h (instr.resume_throw a) = needed_resume h.blocks (in_pair space.Ty a.type_index space.Tag a.tag_index) a.table ∙ sym (needed_resume [] (in_pair space.Ty a.type_index space.Tag a.tag_index) a.table)
 instr_anywhere h i = refl
 
 instrs_anywhere : (h : Here) (is : List Instruction) → needed_in (in_instrs h is) ≡ flat_map (λ i. needed_in (in_instr start i)) is
@@ -183,3 +210,15 @@ rec_none r = needed_asking (in_rec r)
 -- the type that is made for a signature, with its id
 abbrev pub made_type : ℕ → Signature → ty.«Type»
 made_type n s = record { span = start_of_text; id = Some (generated n start_of_text); name = None; def = def_of s false }
+
+-- The handlers of a resumption stay.
+handle_stays : (find : LookUp) (blocks : Blocks) (x : Handle) → mapped_handle (binding find) blocks x ≡ x
+handle_stays find blocks (handle.OnLabel e l) = refl
+handle_stays find blocks (handle.OnSwitch e) = refl
+
+handles_stay : (find : LookUp) (blocks : Blocks) (xs : List Handle) → map (mapped_handle (binding find) blocks) xs ≡ xs
+handles_stay find blocks [] = refl
+handles_stay find blocks (x ∷ xs) = λ i. handle_stays find blocks x i ∷ handles_stay find blocks xs i
+
+pub handlers_stay : (find : LookUp) (blocks : Blocks) (t : ResumeTable) → mapped_handlers (binding find) blocks t ≡ t
+handlers_stay find blocks t = ap (λ (xs : List Handle). record { handlers = xs }) (handles_stay find blocks t.handlers)

@@ -4,7 +4,7 @@ use Rattle.std.proofs.Common.{◌≡◌, List, [], ◌∷◌, ◌++◌, map, ref
 use Rattle.std.specs.List.{list_all}
 use Rattle.std.specs.Cmp.{first_so, second_so}
 use Rattle.std.proofs.lemmas.List.Folds.{list_all-append}
-use Rattle.wast_tree.specs.Sites.{Where, OfItem, OfCall, OfBlock, Ask, Wants, Within, Unasked, Clause, Supported, Site, Asked, Used, Declared, LocalAt, LabelAt, Repeated, Begins, Ends, asking, in_type, in_rec, in_field, in_module}
+use Rattle.wast_tree.specs.Sites.{Where, OfItem, OfCall, OfBlock, Ask, Wants, Within, Unasked, Clause, Covered, Site, Asked, Used, Declared, LocalAt, FieldAt, LabelAt, Repeated, Begins, Ends, asking, in_type, in_rec, in_field, in_module}
 use Rattle.wast_tree.specs.Types.{is_short}
 use Rattle.wast_types.specs.Tree.{Index, FunctionType, Rec, ModuleField}
 use Rattle.wast_types.specs.Tree.ty
@@ -37,6 +37,7 @@ says (Used w u) = is_said w u.index u.inline
 says (Asked a) = true
 says (Declared before m) = true
 says (LocalAt locals i) = true
+says (FieldAt owner i) = true
 says (LabelAt blocks i) = true
 says (Repeated blocks m) = true
 says (Begins blocks m) = true
@@ -69,9 +70,10 @@ module _ (find : LookUp) where
   site_stays (Asked (Within i)) h e = tt
   site_stays (Asked (Unasked m)) h e = tt
   site_stays (Asked (Clause n holds)) h e = tt
-  site_stays (Asked (Supported holds)) h e = tt
+  site_stays (Asked (Covered form holds)) h e = tt
   site_stays (Declared before m) h e = tt
   site_stays (LocalAt locals i) h e = refl
+  site_stays (FieldAt owner i) h e = (refl, refl)
   site_stays (LabelAt blocks i) h e = refl
   site_stays (Repeated blocks m) h e = tt
   site_stays (Begins blocks m) h e = tt
@@ -130,6 +132,7 @@ module _ (find : LookUp) where
   site_bound (Used w u) h = index_bound w u.index u.inline h
   site_bound (Declared before m) h = refl
   site_bound (LocalAt locals i) h = refl
+  site_bound (FieldAt owner i) h = refl
   site_bound (LabelAt blocks i) h = refl
   site_bound (Repeated blocks m) h = refl
   site_bound (Begins blocks m) h = refl
@@ -162,6 +165,7 @@ module _ (find : LookUp) where
   bound_says (Asked a) = refl
   bound_says (Declared before m) = refl
   bound_says (LocalAt locals i) = refl
+  bound_says (FieldAt owner i) = refl
   bound_says (LabelAt blocks i) = refl
   bound_says (Repeated blocks m) = refl
   bound_says (Begins blocks m) = refl

@@ -71,6 +71,7 @@ binding_of (inner.Func t) None = []
 binding_of (inner.Func t) (Some id) = (signature_of t, index.Id id) ∷ []
 binding_of (inner.Struct t) id = []
 binding_of (inner.Array t) id = []
+binding_of (inner.Cont t) id = []
 
 -- what a field binds: a function type of its own, to its id
 abbrev pub bindings_in : ModuleField → BoundSignatures
@@ -108,7 +109,7 @@ bound_use find w u = record { index = bound_index find w u.index u.inline; inlin
 
 -- no other index changes, and no id
 abbrev pub binding : LookUp → Change
-binding find = record { index = λ s i. i; used = λ w u. bound_use find w u; local = λ l i. i; label = λ b i. i; id = λ o. o }
+binding find = record { index = λ s i. i; used = λ w u. bound_use find w u; local = λ l i. i; field = λ o i. i; label = λ b i. i; id = λ o. o }
 
 -- a field, its type uses bound
 abbrev pub bound_field : LookUp → ModuleField → ModuleField

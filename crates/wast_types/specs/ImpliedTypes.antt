@@ -14,6 +14,7 @@ abbrev pub written_kind : InnerTypeKind → List Signature
 written_kind (inner.Func t) = signature_of t ∷ []
 written_kind (inner.Struct t) = []
 written_kind (inner.Array t) = []
+written_kind (inner.Cont t) = []
 
 -- a member of a group is no field of its own
 abbrev pub written_in : ModuleField → List Signature

@@ -1,7 +1,7 @@
 -- The type uses that have no index, and the signatures that they need (text format, type uses: abbreviations).
 use Rattle.std.specs.Prelude.{Bool, true, false, not, List, [], ◌∷◌, flat_map, Option, Some, None}
 use Rattle.wast_types.specs.Tree.{Index, FunctionType, TypeUse, ModuleField}
-use Rattle.wast_tree.specs.Sites.{Where, OfItem, OfCall, OfBlock, Site, Asked, Used, Declared, LocalAt, LabelAt, Repeated, Begins, Ends, in_module}
+use Rattle.wast_tree.specs.Sites.{Where, OfItem, OfCall, OfBlock, Site, Asked, Used, Declared, LocalAt, FieldAt, LabelAt, Repeated, Begins, Ends, in_module}
 use Rattle.wast_tree.specs.Types.{is_short}
 use Rattle.wast_types.specs.Signatures.{Signature, signature_of, empty_signature}
 
@@ -36,6 +36,7 @@ needed_at (Asked a) = []
 needed_at (Used w u) = needed_by_use w u
 needed_at (Declared before m) = []
 needed_at (LocalAt locals i) = []
+needed_at (FieldAt owner i) = []
 needed_at (LabelAt blocks i) = []
 needed_at (Repeated blocks m) = []
 needed_at (Begins blocks m) = []

@@ -48,8 +48,13 @@ rank_is a = refl
 heap_is : (a b : HeapType) → same_heap a b ≡ heaps.ghosts.eq a b
 heap_is (heap.Abstract s a) (heap.Abstract t b) = λ i. beq s t && rank_is a i == rank_is b i
 heap_is (heap.Concrete i) (heap.Concrete j) = index_is i j
+heap_is (heap.Exact i) (heap.Exact j) = index_is i j
 heap_is (heap.Abstract s a) (heap.Concrete j) = refl
+heap_is (heap.Abstract s a) (heap.Exact j) = refl
 heap_is (heap.Concrete i) (heap.Abstract t b) = refl
+heap_is (heap.Concrete i) (heap.Exact j) = refl
+heap_is (heap.Exact i) (heap.Abstract t b) = refl
+heap_is (heap.Exact i) (heap.Concrete j) = refl
 
 ref_is : (r q : RefType) → same_ref r q ≡ refs.ghosts.eq r q
 ref_is r q = ap (λ same. beq r.nullable q.nullable && same) (heap_is r.heap q.heap)

@@ -38,13 +38,20 @@ heap_rank abstract.NoFunc = 8
 heap_rank abstract.NoExtern = 9
 heap_rank abstract.None = 10
 heap_rank abstract.I31 = 11
+heap_rank abstract.Cont = 12
+heap_rank abstract.NoCont = 13
 
 -- Equality of types, by how two indices are compared.
 abbrev pub same_heap_by : (Index → Index → Bool) → HeapType → HeapType → Bool
 same_heap_by same (heap.Abstract s a) (heap.Abstract t b) = beq s t && heap_rank a == heap_rank b
 same_heap_by same (heap.Concrete i) (heap.Concrete j) = same i j
+same_heap_by same (heap.Exact i) (heap.Exact j) = same i j
 same_heap_by same (heap.Abstract s a) (heap.Concrete j) = false
+same_heap_by same (heap.Abstract s a) (heap.Exact j) = false
 same_heap_by same (heap.Concrete i) (heap.Abstract t b) = false
+same_heap_by same (heap.Concrete i) (heap.Exact j) = false
+same_heap_by same (heap.Exact i) (heap.Abstract t b) = false
+same_heap_by same (heap.Exact i) (heap.Concrete j) = false
 
 -- of reference types
 abbrev pub same_ref_by : (Index → Index → Bool) → RefType → RefType → Bool

@@ -71,3 +71,8 @@ pub use Rattle.wast_tree.specs.declared.fields.Func.{Func}
 pub use Rattle.wast_tree.specs.declared.fields.Export.{Export}
 pub use Rattle.wast_tree.specs.declared.fields.ModuleField.{ModuleField}
 pub use Rattle.wast_tree.specs.declared.fields.ModuleField.TheVariants as field
+pub use Rattle.wast_tree.specs.declared.continuations.ResumeTable.{ResumeTable}
+pub use Rattle.wast_tree.specs.declared.continuations.Handle.{Handle}
+pub use Rattle.wast_tree.specs.declared.continuations.Handle.TheVariants as handle
+pub use Rattle.wast_base.specs.declared.faults.Form.TheVariants as form
+pub use Rattle.wast_tree.specs.declared.imports.ItemSig.{ItemSig}

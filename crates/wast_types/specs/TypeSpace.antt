@@ -14,6 +14,7 @@ abbrev pub taken_kind : InnerTypeKind → Option Signature
 taken_kind (inner.Func t) = Some (signature_of t)
 taken_kind (inner.Struct t) = None
 taken_kind (inner.Array t) = None
+taken_kind (inner.Cont t) = None
 
 -- the members of a group stand one by one, and no use takes them
 abbrev pub types_in : ModuleField → List (Option Signature)

@@ -5,7 +5,7 @@ ghost use Rattle.wast_base.specs.Ids.{generated};
 ghost use Rattle.wast_base.specs.Faults.{out_of_memory};
 ghost use Rattle.wast_types.specs.Tree.index;
 ghost use Rattle.wast_types.specs.Signatures.{Signature};
-ghost use Rattle.wast_tree.specs.Sites.{OfItem, OfBlock, start, in_block, in_try_table, in_instr, in_indirect, in_constant, in_func_kind, in_use, in_func, in_tag_type, in_item_kind, in_import, in_field};
+ghost use Rattle.wast_tree.specs.Sites.{OfItem, OfBlock, start, in_block, in_try_table, in_instr, in_indirect, in_constant, in_func_kind, in_use, in_func, in_tag_type, in_item_kind, in_sig, in_import, in_field};
 ghost use Rattle.wast_tree.specs.Types.{is_short};
 ghost use Rattle.wast_map.specs.Mapped.{mapped_block, mapped_try_table, mapped_indirect, mapped_instr, mapped_constant, mapped_func_kind, mapped_func, mapped_tag_type, mapped_item_kind, mapped_sig, mapped_import_items, mapped_import, mapped_tag};
 ghost use Rattle.wast_types.specs.NeedingUses.{needed_in, inline_signature};
@@ -153,12 +153,38 @@ impl<'a> Bind<'a> for ImportItems<'a> {
                 sig.bind(alloc, cx, implied, gensym)?;
                 Ok(())
             }
+            ImportItems::Group1 { items, .. } => {
+                bind_each(items, alloc, cx, implied, gensym)?;
+                Ok(())
+            }
+            ImportItems::Group2 { sig, .. } => {
+                sig.bind(alloc, cx, implied, gensym)?;
+                Ok(())
+            }
         }
     }
 }
 
+/// An item of a group, behind its name.
+impl<'a> Bind<'a> for (&'a str, ItemSig<'a>) {
+    ghost needed = { λ p. needed_in (in_sig p.1) };
+
+    ghost bound = { λ find p. (p.0, mapped_sig (binding find) p.1) };
+
+    fn bind(
+        &mut self,
+        alloc: Global,
+        cx: &mut Expander<'a>,
+        implied: &mut Seq<ModuleField<'a>>,
+        gensym: &mut Gensym,
+    ) -> Result<(), Error<'a>> {
+        self.1.bind(alloc, cx, implied, gensym)?;
+        Ok(())
+    }
+}
+
 impl<'a> Bind<'a> for ItemSig<'a> {
-    ghost needed = { λ s. needed_in (in_item_kind s.kind) };
+    ghost needed = { λ s. needed_in (in_sig s) };
 
     ghost bound = { λ find. mapped_sig (binding find) };
 
@@ -188,6 +214,10 @@ impl<'a> Bind<'a> for ItemKind<'a> {
     ) -> Result<(), Error<'a>> {
         match self {
             ItemKind::Func(ty) => {
+                ty.bind(alloc, cx, implied, gensym)?;
+                Ok(())
+            }
+            ItemKind::FuncExact(ty) => {
                 ty.bind(alloc, cx, implied, gensym)?;
                 Ok(())
             }
@@ -313,6 +343,8 @@ impl<'a> Bind<'a> for Instruction<'a> {
         match self {
             Instruction::Plain(_) => Ok(()),
             Instruction::Mem(..) => Ok(()),
+            Instruction::Lane(..) => Ok(()),
+            Instruction::MemLane(..) => Ok(()),
             Instruction::block(block) => {
                 block.get_mut().bind(alloc, cx, implied, gensym)?;
                 Ok(())
@@ -382,6 +414,51 @@ impl<'a> Bind<'a> for Instruction<'a> {
             Instruction::f64_const(_) => Ok(()),
             Instruction::ref_null(_) => Ok(()),
             Instruction::ref_func(_) => Ok(()),
+            Instruction::struct_new(_) => Ok(()),
+            Instruction::struct_new_default(_) => Ok(()),
+            Instruction::struct_get(_) => Ok(()),
+            Instruction::struct_get_s(_) => Ok(()),
+            Instruction::struct_get_u(_) => Ok(()),
+            Instruction::struct_set(_) => Ok(()),
+            Instruction::array_new(_) => Ok(()),
+            Instruction::array_new_default(_) => Ok(()),
+            Instruction::array_new_fixed(_) => Ok(()),
+            Instruction::array_new_data(_) => Ok(()),
+            Instruction::array_new_elem(_) => Ok(()),
+            Instruction::array_get(_) => Ok(()),
+            Instruction::array_get_s(_) => Ok(()),
+            Instruction::array_get_u(_) => Ok(()),
+            Instruction::array_set(_) => Ok(()),
+            Instruction::array_fill(_) => Ok(()),
+            Instruction::array_copy(_) => Ok(()),
+            Instruction::array_init_data(_) => Ok(()),
+            Instruction::array_init_elem(_) => Ok(()),
+            Instruction::ref_test(_) => Ok(()),
+            Instruction::ref_cast(_) => Ok(()),
+            Instruction::ref_cast_desc_eq(_) => Ok(()),
+            Instruction::br_on_cast(_) => Ok(()),
+            Instruction::br_on_cast_fail(_) => Ok(()),
+            Instruction::br_on_cast_desc_eq(_) => Ok(()),
+            Instruction::br_on_cast_desc_eq_fail(_) => Ok(()),
+            Instruction::v128_const(_) => Ok(()),
+            Instruction::i8x16_shuffle(_) => Ok(()),
+            Instruction::atomic_fence(_) => Ok(()),
+            Instruction::GlobalAtomic(_) => Ok(()),
+            Instruction::TableAtomic(_) => Ok(()),
+            Instruction::StructAtomic(_) => Ok(()),
+            Instruction::ArrayAtomic(_) => Ok(()),
+            Instruction::struct_new_desc(_) => Ok(()),
+            Instruction::struct_new_default_desc(_) => Ok(()),
+            Instruction::ref_get_desc(_) => Ok(()),
+            Instruction::cont_new(_) => Ok(()),
+            Instruction::cont_bind(_) => Ok(()),
+            Instruction::suspend(_) => Ok(()),
+            Instruction::resume(_) => Ok(()),
+            Instruction::resume_throw(_) => Ok(()),
+            Instruction::resume_throw_ref(_) => Ok(()),
+            Instruction::switch(_) => Ok(()),
+            Instruction::memory_discard(_) => Ok(()),
+            Instruction::Beyond(_) => Ok(()),
         }
     }
 }

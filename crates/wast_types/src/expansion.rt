@@ -172,7 +172,7 @@ fn bind_kind<'a>(
             Ok(())
         }
         (InnerTypeKind::Func(_), None) => Ok(()),
-        (InnerTypeKind::Struct(_) | InnerTypeKind::Array(_), _) => Ok(()),
+        (InnerTypeKind::Struct(_) | InnerTypeKind::Array(_) | InnerTypeKind::Cont(_), _) => Ok(()),
     }
 }
 

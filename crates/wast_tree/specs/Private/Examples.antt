@@ -1,8 +1,9 @@
 -- What the definitions say of worked modules.
 use Rattle.std.specs.Prelude.{◌≡◌, ℕ, pos, Bool, true, false, List, [], ◌∷◌, map, Option, Some, None, codes}
-use Rattle.wast_tree.specs.Tree.{Id, Index, Space, RefType, ValType, StructField, FunctionType, TypeUse, TypeDef, BlockType, Instruction, Expression, TableType, GlobalType, InlineImport, Func, ElemPayload, ModuleField}
+use Rattle.wast_tree.specs.Tree.{Id, Index, Space, RefType, ValType, StructField, FunctionType, TypeUse, TypeDef, BlockType, Instruction, Expression, TableType, GlobalType, InlineImport, Func, ElemPayload, Form, ModuleField}
 use Rattle.wast_tree.specs.Tree.index
 use Rattle.wast_tree.specs.Tree.space
+use Rattle.wast_tree.specs.Tree.form
 use Rattle.wast_tree.specs.Tree.heap
 use Rattle.wast_tree.specs.Tree.abstract
 use Rattle.wast_tree.specs.Tree.value
@@ -11,6 +12,7 @@ use Rattle.wast_tree.specs.Tree.inner
 use Rattle.wast_tree.specs.Tree.bare
 use Rattle.wast_tree.specs.Tree.plain
 use Rattle.wast_tree.specs.Tree.caught
+use Rattle.wast_tree.specs.Tree.ordering
 use Rattle.wast_tree.specs.Tree.instr
 use Rattle.wast_tree.specs.Tree.func
 use Rattle.wast_tree.specs.Tree.table
@@ -22,8 +24,9 @@ use Rattle.wast_tree.specs.Tree.bytes
 use Rattle.wast_tree.specs.Tree.field
 use Rattle.wast_base.specs.Ids.{Name, Written, Generated, Mark, mark_of, generated, same_id, same_index}
 use Rattle.wast_tree.specs.Items.{items}
-use Rattle.wast_tree.specs.Sites.{Wants, Unasked, Clause, Supported, Site, OfItem, OfBlock, Asked, Used, Declared, LocalAt, LabelAt, Repeated, Begins, Ends, in_module, asked}
+use Rattle.wast_tree.specs.Sites.{Wants, Unasked, Clause, Covered, Site, OfItem, OfBlock, Asked, Used, Declared, LocalAt, FieldAt, LabelAt, Repeated, Begins, Ends, in_module, asked}
 use Rattle.wast_tree.specs.Known.{known}
+use Rattle.wast_tree.specs.Uncovered.{uncovered_forms}
 use Rattle.wast_tree.specs.WellFormed.{is_well_formed}
 use Rattle.wast_tree.specs.WrittenOut.{is_written_out}
 use Rattle.wast_tree.specs.Generations.{generation_or_zero, generation_in, greatest_generation}
@@ -128,9 +131,17 @@ everywhere_generated a =
 abbrev pub wanted : Space → Index → Site
 wanted s i = Asked (Wants s i)
 
--- a form that is supported, or not
-abbrev pub supported : Bool → Site
-supported holds = Asked (Supported holds)
+-- a form that is covered, or not
+abbrev pub covers : Form → Bool → Site
+covers f holds = Asked (Covered f holds)
+
+-- what may be shared, and is not
+abbrev pub unshared : Bool → Site
+unshared holds = covers form.Shared holds
+
+-- an expression without branch hints, or with some
+abbrev pub hintless : Bool → Site
+hintless holds = Asked (Clause 2 holds)
 
 -- a constant expression that closes what it opens, or not
 abbrev pub balanced : Bool → Site
@@ -145,17 +156,17 @@ StandsInRow27 = (a b c d e f : Address) →
     ∷ record { space = space.Func; id = Some (Written (codes "f"), place 31); fields = [] }
     ∷ [])
     × (in_module (row27 a b c d e f)
-    ≡ supported true
+    ≡ unshared true
     ∷ Used OfItem (record { index = Some (by_id d (codes "t") 40); inline = None })
     ∷ wanted space.Func (by_id e (codes "f") 49)
-    ∷ supported true
+    ∷ hintless true
     ∷ wanted space.Func (by_id f (codes "f") 71)
     ∷ [])
     × (in_module (row27_with a b c (by_number 0 40) (by_number 1 49) (by_number 2 71))
-    ≡ supported true
+    ≡ unshared true
     ∷ Used OfItem (record { index = Some (by_number 0 40); inline = None })
     ∷ wanted space.Func (by_number 1 49)
-    ∷ supported true
+    ∷ hintless true
     ∷ wanted space.Func (by_number 2 71)
     ∷ [])
 
@@ -169,10 +180,10 @@ StandsInFilledMemory = (a b c d e : Address) →
     ∷ record { space = space.Data; id = None; fields = [] }
     ∷ [])
     × (in_module (filled_memory a b c d e)
-    ≡ supported true
+    ≡ unshared true
     ∷ wanted space.Memory (by_id d (codes "m") 69)
     ∷ wanted space.Global (by_id e (codes "g") 92)
-    ∷ supported true
+    ∷ hintless true
     ∷ balanced true
     ∷ [])
     × (is_well_formed (filled_memory a b c d e) ≡ true)
@@ -192,18 +203,18 @@ StandsEverywhere = (a : Address) →
     × (in_module (everywhere_generated a)
     ≡ wanted space.Ty (made_index 3)
     ∷ wanted space.Ty (made_index 4)
-    ∷ supported false
+    ∷ covers form.Descriptor false
     ∷ wanted space.Ty (made_index 5)
-    ∷ supported false
+    ∷ covers form.Descriptor false
     ∷ Asked (Unasked (made_mark 2))
     ∷ wanted space.Ty (made_index 12)
     ∷ wanted space.Ty (made_index 13)
-    ∷ supported true
+    ∷ unshared true
     ∷ Asked (Unasked (made_mark 15))
     ∷ wanted space.Ty (made_index 16)
-    ∷ supported true
+    ∷ unshared true
     ∷ wanted space.Ty (made_index 18)
-    ∷ supported true
+    ∷ unshared true
     ∷ Used OfItem used_everywhere
     ∷ wanted space.Ty (made_index 19)
     ∷ Asked (Unasked (made_mark 7))
@@ -225,7 +236,7 @@ StandsEverywhere = (a : Address) →
     ∷ Ends
     ∷ Ends
     ∷ LabelAt [] (made_index 31)
-    ∷ supported true
+    ∷ hintless true
     ∷ wanted space.Func (made_index 11)
     ∷ [])
 
@@ -294,40 +305,40 @@ abbrev pub is_well_formed_def : TypeDef → Bool
 is_well_formed_def def = is_well_formed (def_alone def)
 
 -- `(func (type 0))` is well formed, and so are `(func)`, one with a local, also with an id, and one with an inline type
--- beside its index or alone, and one with an inline export, or imported in place; not so where that is exact, nor one with a
--- local or a result of a shared type, or a branch hint.
+-- beside its index or alone, and one with an inline export, or imported in place, also where that is exact, and one with a
+-- local or a result of a shared type; not so one with a branch hint.
 abbrev pub WellFormedFuncs : Type 0
 WellFormedFuncs = (a : Address) →
     (is_well_formed_func nameless_func ≡ true)
     × (is_well_formed_func (record nameless_func { ty = record { index = None; inline = None } }) ≡ true)
     × (is_well_formed_func (record nameless_func { exports = record { names = text a (codes "a") ∷ [] } }) ≡ true)
     × (is_well_formed_func (record nameless_func { kind = func.Import (from_m a) false }) ≡ true)
-    × (is_well_formed_func (record nameless_func { kind = func.Import (from_m a) true }) ≡ false)
+    × (is_well_formed_func (record nameless_func { kind = func.Import (from_m a) true }) ≡ true)
     × (is_well_formed_func (record nameless_func { kind = func.Inline (record { id = None; name = None; ty = value.I32 } ∷ []) (expression_of (instr.Plain (plain.Bare bare.drop) ∷ [])) }) ≡ true)
     × (is_well_formed_func (record nameless_func { kind = func.Inline (record { id = Some (id_at a (codes "x") 20); name = Some (record { name = text a (codes "x") }); ty = value.I32 } ∷ []) (expression_of []) }) ≡ true)
-    × (is_well_formed_func (record nameless_func { kind = func.Inline (record { id = None; name = None; ty = ref_func true } ∷ []) (expression_of []) }) ≡ false)
+    × (is_well_formed_func (record nameless_func { kind = func.Inline (record { id = None; name = None; ty = ref_func true } ∷ []) (expression_of []) }) ≡ true)
     × (is_well_formed_func (record nameless_func { ty = record { index = Some (by_number 0 20); inline = Some (record { params = []; results = ref_func false ∷ [] }) } }) ≡ true)
     × (is_well_formed_func (record nameless_func { ty = record { index = None; inline = Some (record { params = []; results = [] }) } }) ≡ true)
-    × (is_well_formed_func (record nameless_func { ty = record { index = None; inline = Some (record { params = []; results = ref_func true ∷ [] }) } }) ≡ false)
+    × (is_well_formed_func (record nameless_func { ty = record { index = None; inline = Some (record { params = []; results = ref_func true ∷ [] }) } }) ≡ true)
     × (is_well_formed_func (record nameless_func { kind = func.Inline [] (record { instrs = []; branch_hints = record { instr_index = 0; value = 1 } ∷ [] }) }) ≡ false)
 
 -- `(func (param i32) (result i32))` is well formed, also open, with a parent, with references and with names; so are
--- structs and arrays, also where a field has an id. Not so a shared type, one with a descriptor or what it describes, or one
--- that refers to a shared heap type.
+-- structs and arrays, also where a field has an id, a shared type, one with a descriptor or what it describes, and one that
+-- refers to a shared heap type.
 abbrev pub WellFormedTypes : Type 0
 WellFormedTypes = (a : Address) →
     (is_well_formed_def (record plain_def { kind = inner.Func (record { params = (None, None, ref_func false) ∷ []; results = ref_to (by_number 0 20) ∷ [] }) }) ≡ true)
     × (is_well_formed_def (record plain_def { final_type = Some false; parents = by_number 0 20 ∷ [] }) ≡ true)
-    × (is_well_formed_def (record plain_def { shared = true }) ≡ false)
-    × (is_well_formed_def (record plain_def { descriptor = Some (by_number 0 20) }) ≡ false)
-    × (is_well_formed_def (record plain_def { describes = Some (by_number 0 20) }) ≡ false)
+    × (is_well_formed_def (record plain_def { shared = true }) ≡ true)
+    × (is_well_formed_def (record plain_def { descriptor = Some (by_number 0 20) }) ≡ true)
+    × (is_well_formed_def (record plain_def { describes = Some (by_number 0 20) }) ≡ true)
     × (is_well_formed_def (record plain_def { kind = inner.Func (record { params = (Some (id_at a (codes "x") 20), None, value.I32) ∷ []; results = [] }) }) ≡ true)
     × (is_well_formed_def (record plain_def { kind = inner.Func (record { params = (None, Some (record { name = text a (codes "x") }), value.I32) ∷ []; results = [] }) }) ≡ true)
-    × (is_well_formed_def (record plain_def { kind = inner.Func (record { params = []; results = ref_func true ∷ [] }) }) ≡ false)
+    × (is_well_formed_def (record plain_def { kind = inner.Func (record { params = []; results = ref_func true ∷ [] }) }) ≡ true)
     × (is_well_formed_def (record plain_def { kind = inner.Struct (record { fields = field_of None (ref_func false) ∷ [] }) }) ≡ true)
     × (is_well_formed_def (record plain_def { kind = inner.Struct (record { fields = field_of (Some (id_at a (codes "x") 20)) value.I32 ∷ [] }) }) ≡ true)
     × (is_well_formed_def (record plain_def { kind = inner.Array (record { mutable = false; ty = storage.I8 }) }) ≡ true)
-    × (is_well_formed_def (record plain_def { kind = inner.Array (record { mutable = false; ty = storage.Val (ref_func true) }) }) ≡ false)
+    × (is_well_formed_def (record plain_def { kind = inner.Array (record { mutable = false; ty = storage.Val (ref_func true) }) }) ≡ true)
 
 -- an active segment of no expressions of this type
 abbrev pub elems_of : Option Index → RefType → ModuleField
@@ -340,7 +351,7 @@ WellFormedSegments =
     × (is_well_formed (elems_of None (record { nullable = false; heap = heap.Abstract false abstract.Func }) ∷ []) ≡ false)
     × (is_well_formed (elems_of None (record { nullable = true; heap = heap.Abstract false abstract.Extern }) ∷ []) ≡ false)
     × (is_well_formed (elems_of (Some (by_number 0 20)) (record { nullable = true; heap = heap.Abstract false abstract.Extern }) ∷ []) ≡ true)
-    × (is_well_formed (elems_of (Some (by_number 0 20)) (record { nullable = true; heap = heap.Abstract true abstract.Extern }) ∷ []) ≡ false)
+    × (is_well_formed (elems_of (Some (by_number 0 20)) (record { nullable = true; heap = heap.Abstract true abstract.Extern }) ∷ []) ≡ true)
 
 -- a global of this type
 abbrev pub global_of : GlobalType → ModuleField
@@ -354,13 +365,13 @@ table_of ty = field.Table (record { span = place 1; id = None; name = None; expo
 abbrev pub plain_table_type : TableType
 plain_table_type = record { limits = record { is64 = false; min = 1; max = None }; elem = record { nullable = true; heap = heap.Abstract false abstract.Func }; shared = false }
 
--- A memory may be shared; a global or a table may not.
+-- A memory, a global and a table may be shared.
 abbrev pub WellFormedEntities : Type 0
 WellFormedEntities =
     (is_well_formed (global_of plain_global_type ∷ []) ≡ true)
-    × (is_well_formed (global_of (record plain_global_type { shared = true }) ∷ []) ≡ false)
+    × (is_well_formed (global_of (record plain_global_type { shared = true }) ∷ []) ≡ true)
     × (is_well_formed (table_of plain_table_type ∷ []) ≡ true)
-    × (is_well_formed (table_of (record plain_table_type { shared = true }) ∷ []) ≡ false)
+    × (is_well_formed (table_of (record plain_table_type { shared = true }) ∷ []) ≡ true)
     × (is_well_formed (field.Memory (record (plain_memory None 0) { kind = memory.Normal (record plain_memory_type { shared = true }) }) ∷ []) ≡ true)
 
 -- `(table funcref (elem ..))`
@@ -383,19 +394,19 @@ StandsInPlace = (a : Address) →
     ≡ wanted space.Ty (made_index 1)
     ∷ wanted space.Func (made_index 2)
     ∷ wanted space.Func (made_index 3)
-    ∷ supported true
+    ∷ unshared true
     ∷ [])
     × (in_module (table_in_place funcref true (payload.Exprs (record { nullable = true; heap = heap.Concrete (made_index 2) }) (expression_of (instr.ref_func (made_index 1) ∷ []) ∷ [])) ∷ [])
-    ≡ supported true
+    ≡ unshared true ∷ covers form.StackSwitching true
     ∷ wanted space.Func (made_index 1)
-    ∷ supported true
+    ∷ hintless true
     ∷ balanced true
     ∷ wanted space.Ty (made_index 2)
-    ∷ supported false
+    ∷ unshared false
     ∷ [])
     × (in_module (func_alone (record nameless_func { kind = func.Import (from_m a) false; ty = record { index = Some (made_index 1); inline = None } }))
     ≡ Used OfItem (record { index = Some (made_index 1); inline = None })
-    ∷ supported true
+    ∷ covers form.Descriptor true
     ∷ [])
     × (in_module (memory_in_place a None ∷ []) ≡ Asked (Clause 3 true) ∷ [])
 
@@ -413,10 +424,10 @@ StandsInSegments =
     }) ∷ [])
     ≡ wanted space.Table (made_index 1)
     ∷ wanted space.Global (made_index 2)
-    ∷ supported true
+    ∷ hintless true
     ∷ balanced true
     ∷ wanted space.Func (made_index 3)
-    ∷ supported true
+    ∷ hintless true
     ∷ balanced true
     ∷ wanted space.Ty (made_index 4)
     ∷ Asked (Clause 4 true)
@@ -428,7 +439,7 @@ StandsInSegments =
       exports = record { names = [] };
       kind = table.Normal (record plain_table_type { elem = record { nullable = true; heap = heap.Concrete (made_index 1) } }) (Some (expression_of (instr.ref_func (made_index 2) ∷ [])));
     }) ∷ [])
-    ≡ wanted space.Ty (made_index 1) ∷ supported true ∷ wanted space.Func (made_index 2) ∷ supported true ∷ balanced true ∷ [])
+    ≡ wanted space.Ty (made_index 1) ∷ unshared true ∷ wanted space.Func (made_index 2) ∷ hintless true ∷ balanced true ∷ [])
     × (in_module (field.Global (record {
       span = place 1;
       id = None;
@@ -437,7 +448,7 @@ StandsInSegments =
       ty = record plain_global_type { ty = ref_to (made_index 1) };
       kind = global.Inline (expression_of (instr.global_get (made_index 2) ∷ []));
     }) ∷ [])
-    ≡ wanted space.Ty (made_index 1) ∷ supported true ∷ wanted space.Global (made_index 2) ∷ supported true ∷ balanced true ∷ [])
+    ≡ wanted space.Ty (made_index 1) ∷ unshared true ∷ wanted space.Global (made_index 2) ∷ hintless true ∷ balanced true ∷ [])
 
 -- `$l`, which is written at n
 abbrev pub label_at : Address → ℕ → Id
@@ -469,7 +480,7 @@ StandsInBlocks = (a : Address) →
     ∷ LabelAt (Some (Written (codes "l")) ∷ []) (index.Id (label_at a 50))
     ∷ Repeated (Some (Written (codes "l")) ∷ []) (Some (Written (codes "l"), place 60))
     ∷ Ends
-    ∷ supported true
+    ∷ hintless true
     ∷ [])
     × (in_module (func_alone (func_of nothing_used (instr.try_ (block_of (Some (label_at a 30)) nothing_used) ∷ instr.delegate (index.Id (label_at a 40)) ∷ [])))
     ≡ Used OfItem nothing_used
@@ -477,7 +488,7 @@ StandsInBlocks = (a : Address) →
     ∷ Begins [] (Some (Written (codes "l"), place 30))
     ∷ Ends
     ∷ LabelAt [] (index.Id (label_at a 40))
-    ∷ supported true
+    ∷ hintless true
     ∷ [])
 
 -- a global whose value is this
@@ -506,8 +517,8 @@ WellFormedBlocks =
 abbrev pub WellFormedInPlace : Type 0
 WellFormedInPlace = (a : Address) →
     (is_well_formed (table_in_place (record { nullable = true; heap = heap.Abstract false abstract.Extern }) false (payload.Exprs (record { nullable = true; heap = heap.Abstract false abstract.Extern }) []) ∷ []) ≡ true)
-    × (is_well_formed (table_in_place funcref true (payload.Indices []) ∷ []) ≡ false)
-    × (is_well_formed (table_in_place (record { nullable = true; heap = heap.Abstract true abstract.Func }) false (payload.Indices []) ∷ []) ≡ false)
+    × (is_well_formed (table_in_place funcref true (payload.Indices []) ∷ []) ≡ true)
+    × (is_well_formed (table_in_place (record { nullable = true; heap = heap.Abstract true abstract.Func }) false (payload.Indices []) ∷ []) ≡ true)
     × (is_well_formed (table_in_place funcref false (payload.Indices (made_index 1 ∷ [])) ∷ []) ≡ false)
     × (is_well_formed (memory_in_place a None ∷ []) ≡ true)
     × (is_well_formed (memory_in_place a (Some 63) ∷ []) ≡ true)
@@ -535,3 +546,29 @@ GenerationsOfRows = (a b c d e f : Address) →
     × (greatest_generation [] ≡ 0)
     × (map (λ x. generation_or_zero x.id) (items (everywhere_generated a)) ≡ 1 ∷ 14 ∷ 17 ∷ 6 ∷ [])
     × (map generation_in (asked (in_module (everywhere_generated a))) ≡ 3 ∷ 4 ∷ 0 ∷ 5 ∷ 0 ∷ 2 ∷ 12 ∷ 13 ∷ 0 ∷ 15 ∷ 16 ∷ 0 ∷ 18 ∷ 0 ∷ 9 ∷ 10 ∷ 19 ∷ 7 ∷ 8 ∷ 21 ∷ 22 ∷ 23 ∷ 20 ∷ 24 ∷ 25 ∷ 26 ∷ 27 ∷ 28 ∷ 29 ∷ 30 ∷ 31 ∷ 0 ∷ 11 ∷ [])
+
+-- the forms in a function of these instructions that no encoder covers
+abbrev pub uncovered_by : List Instruction → List Form
+uncovered_by instrs = uncovered_forms (func_alone (func_of (record { index = Some (by_number 0 20); inline = None }) instrs))
+
+-- `(struct.get 0 $x)`: the field is that of the struct of the type at the index.
+abbrev pub StandsInAccess : Type 0
+StandsInAccess = (a : Address) →
+    (in_module (func_alone (func_of nothing_used (instr.struct_get (record { owner = by_number 0 20; field = by_id a (codes "x") 30 }) ∷ [])))
+    ≡ Used OfItem nothing_used
+    ∷ FieldAt (by_number 0 20) (by_id a (codes "x") 30)
+    ∷ hintless true
+    ∷ [])
+
+-- Types, entities and instructions that no encoder covers, each by its form; of two the first is named first.
+abbrev pub UncoveredForms : Type 0
+UncoveredForms = (a : Address) →
+    (uncovered_forms (def_alone (record plain_def { shared = true })) ≡ form.Shared ∷ [])
+    × (uncovered_forms (def_alone (record plain_def { descriptor = Some (by_number 0 20); describes = Some (by_number 0 20) })) ≡ form.Descriptor ∷ form.Descriptor ∷ [])
+    × (uncovered_forms (def_alone (record plain_def { kind = inner.Cont (record { 0 = by_number 0 20 }) })) ≡ form.StackSwitching ∷ [])
+    × (uncovered_forms (table_of (record plain_table_type { shared = true }) ∷ []) ≡ form.Shared ∷ [])
+    × (uncovered_forms (func_alone (record nameless_func { kind = func.Import (from_m a) true })) ≡ form.Descriptor ∷ [])
+    × (uncovered_by [] ≡ [])
+    × (uncovered_by (instr.atomic_fence None ∷ instr.atomic_fence (Some ordering.SeqCst) ∷ instr.atomic_fence (Some ordering.AcqRel) ∷ []) ≡ form.Ordering ∷ [])
+    × (uncovered_by (instr.ref_null (heap.Exact (by_number 0 20)) ∷ instr.suspend (by_number 0 20) ∷ []) ≡ form.Descriptor ∷ form.StackSwitching ∷ [])
+    × (uncovered_by (instr.Beyond (text a (codes "i64.add128")) ∷ []) ≡ form.Beyond ∷ [])

@@ -11,8 +11,8 @@ returns-in_default-clause-err c =
     let k = section_kind c.args.kind in
     (refl, λ all. c.in_default.ensures.none refl (subst (λ es. InRangeU32 (length es)) (sym c.section_fields-there.ensures.same) (counted_in_range k (entries k c.args.fields.now) all)))
 
-pub length_of-requires : goal.length_of-requires
-length_of-requires c = c.section_fields-there.ensures.ready c.requires.ready
+pub counted_size-requires : goal.counted_size-requires
+counted_size-requires c = c.section_fields-there.ensures.ready c.requires.ready
 
 pub returns-in_err-size-clause-err : goal.returns-in_err-size-clause-err
 returns-in_err-size-clause-err c =
@@ -22,4 +22,4 @@ returns-in_err-size-clause-err c =
 
 pub returns-clause-ok : goal.returns-clause-ok
 returns-clause-ok c =
-    extent_is (section_kind c.args.kind) c.args.fields.now _ c.in-Some.count c.in_ok-size.size c.section_fields-there.ensures.same c.in-Some.ensures.some c.if-count-eq0.false c.in_ok-size.ensures.ok.0
+    extent_is (section_kind c.args.kind) c.args.fields.now _ c.in-Some.count c.in_ok-size.size c.section_fields-there.ensures.same c.in-Some.ensures.some c.if-count-eq0.false c.in_ok-size.ensures.ok

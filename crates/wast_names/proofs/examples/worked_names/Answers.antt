@@ -36,3 +36,9 @@ returns-clause-tag_parameter c = computed.tag_parameter
 
 pub returns-clause-labels : goal.returns-clause-labels
 returns-clause-labels c = computed.named_labels
+
+pub returns-clause-grouped_import : goal.returns-clause-grouped_import
+returns-clause-grouped_import c = computed.grouped_import
+
+pub returns-clause-shared_signature : goal.returns-clause-shared_signature
+returns-clause-shared_signature c = computed.shared_signature

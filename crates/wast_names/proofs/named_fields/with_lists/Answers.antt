@@ -37,4 +37,4 @@ pub returns : goal.returns
 returns c =
     let w = c.args.within in
     let fields = c.args.fields.now in
-    all_there (lists_within fields w) (has_lists w) fields c.reach_within-reach.result (no_lists_elsewhere fields w) (c.reach_within-reach.ensures fields c.requires)
+    λ types. all_there (lists_within types w) (has_lists w) fields c.reach_within-reach.result (no_lists_elsewhere types w) (c.reach_within-reach.ensures fields c.requires)

@@ -1,12 +1,10 @@
 use Rattle.std.proofs.Common.{subst, refl}
-use Rattle.std.specs.List.{flat_map}
-use Rattle.std.proofs.lemmas.List.{map-id}
 use Rattle.wasm_ops.specs.Sinks.{Writes}
 use Rattle.wasm_out.specs.NameSectionBytes.{subsection_id, name_entry, map_entry, InRangeNameEntry, InRangeMapEntry}
 use Rattle.wast_names.specs.GivenNames.{named_from}
 use Rattle.wast_names.specs.FoundNames.{map_bytes, InRangeMap}
 use Rattle.wast_names.specs.ModuleNames.{named_of, named_items, named_within, named_lists}
-use Rattle.wast_names.specs.WithinItems.{lists_within}
+use Rattle.wast_names.specs.WithinItems.{types_of}
 use Rattle.wast_names.proofs.NameMaps.{direct_written, indirect_written}
 use Rattle.wast_names.proofs.names_payload.put_subsection.Goals as goal
 
@@ -26,5 +24,4 @@ returns-in-Within g c =
     let r = c.put_lists.result in
     let id = subsection_id (named_within w) in
     rw c.in-Within.is (indirect_written rules c.args.out.now c.put_lists.new.out (named_within w) (named_lists w fields) id r refl
-    (subst (λ xs. Writes rules (InRangeMap map_entry InRangeMapEntry (named_from 0 xs)) c.args.out.now c.put_lists.new.out (map_bytes id map_entry (named_from 0 xs)) r) c.with_lists-there.ensures
-    (subst (λ fs. Writes rules (InRangeMap map_entry InRangeMapEntry (named_from 0 (flat_map (lists_within fs w) c.with_lists-there.result.now))) c.args.out.now c.put_lists.new.out (map_bytes id map_entry (named_from 0 (flat_map (lists_within fs w) c.with_lists-there.result.now))) r) (map-id fields) c.put_lists.ensures)))
+    (subst (λ xs. Writes rules (InRangeMap map_entry InRangeMapEntry (named_from 0 xs)) c.args.out.now c.put_lists.new.out (map_bytes id map_entry (named_from 0 xs)) r) (c.with_lists-there.ensures (types_of fields)) c.put_lists.ensures))

@@ -9,7 +9,7 @@ returns-in-Some g c =
 
 pub returns-then-count_each-eq0 : goal.returns-then-count_each-eq0
 returns-then-count_each-eq0 g c =
-    rw (c.none.ensures, c.in_default.is) (nothing_named (arity_at (g.A.Arities.fields c.args.arities.now) c.args.ty.now.index) c.args.locals.now c.count_each.result c.count_each.ensures c.if-count_each-eq0.true)
+    rw (c.none.ensures, c.in_default.is) (nothing_named (arity_at (g.A.Arities.types c.args.arities.now) c.args.ty.now.index) c.args.locals.now c.count_each.result c.count_each.ensures c.if-count_each-eq0.true)
 
 pub returns-in-Some-arity_at : goal.returns-in-Some-arity_at
 returns-in-Some-arity_at g c =

@@ -6,7 +6,7 @@ use Rattle.wast_base.specs.Blocks.{Blocks}
 use Rattle.wast_base.specs.Faults.{told}
 use Rattle.wast_labels.specs.OpenBlocks.{OpenBlocks}
 use Rattle.wast_map.specs.Mapped.{mapped_instrs}
-use Rattle.wast_tree.specs.Sites.{Here, Site, Asked, Supported, in_instrs, in_expression}
+use Rattle.wast_tree.specs.Sites.{Here, Site, Asked, Clause, in_instrs, in_expression}
 use Rattle.wast_resolve.specs.Tree.{Instruction}
 use Rattle.wast_resolve.specs.Demands.{first_unmet, site_demands, open_counts_at, open_counts, HasMany, Answers}
 use Rattle.wast_resolve.specs.Openable.{begin}
@@ -21,7 +21,7 @@ returns-in_err-walk_instrs c l numbers =
     let s = scope_of c.args.names.now in
     let h = begin l in
     let e = told c.in_err-walk_instrs.field-0.0 in
-    let last = Supported (length x.branch_hints == 0) in
+    let last = Clause 2 (length x.branch_hints == 0) in
     let p = err_from_is_err_and c.from_residual-in_err-walk_instrs.result c.from_residual-in_err-walk_instrs.ensures.1 in
     let failed = subst (λ (bs : Blocks). let g = record h { blocks = bs } in Answers ⊤ (HasMany (open_counts (in_instrs g x.instrs))) e (first_unmet (site_demands s (in_instrs g x.instrs))))
     c.in_ok-labels.ensures.none_open (c.in_err-walk_instrs.ensures l numbers) in
@@ -35,4 +35,4 @@ returns c l numbers =
     let h = begin l in
     let done = subst (λ (bs : Blocks). let g = record h { blocks = bs } in (first_unmet (site_demands s (in_instrs g x.instrs)) ≡ None) × (c.walk_instrs.new.instrs ≡ mapped_instrs (numbering s) g x.instrs))
     c.in_ok-labels.ensures.none_open (c.in_ok-walk_instrs.ensures l numbers) in
-    (ap first_unmet (all_but_last s (in_instrs h x.instrs) (Supported (length x.branch_hints == 0)) refl) ∙ done.0, ap (λ (is : List Instruction). record x { instrs = is }) done.1)
+    (ap first_unmet (all_but_last s (in_instrs h x.instrs) (Clause 2 (length x.branch_hints == 0)) refl) ∙ done.0, ap (λ (is : List Instruction). record x { instrs = is }) done.1)

@@ -1,4 +1,4 @@
-use Rattle.wast_resolve.proofs.PartsOfTypes.{type_part, def_part, signature_part}
+use Rattle.wast_resolve.proofs.PartsOfTypes.{type_part, def_part, signature_part, val_part, ref_part, heap_part, storage_part}
 use Rattle.wast_resolve.proofs.CallingNames.{by_resolver, needs_of_resolver}
 use Rattle.wast_resolve.proofs.laws.core_type_laws.Goals as goal
 
@@ -19,3 +19,15 @@ returns-clause-defs_needs c = needs_of_resolver def_part
 
 pub returns-clause-functions_needs : goal.returns-clause-functions_needs
 returns-clause-functions_needs c = needs_of_resolver signature_part
+
+pub returns-clause-values : goal.returns-clause-values
+returns-clause-values c = by_resolver val_part
+
+pub returns-clause-references : goal.returns-clause-references
+returns-clause-references c = by_resolver ref_part
+
+pub returns-clause-heaps : goal.returns-clause-heaps
+returns-clause-heaps c = by_resolver heap_part
+
+pub returns-clause-storages : goal.returns-clause-storages
+returns-clause-storages c = by_resolver storage_part

@@ -1,12 +1,13 @@
 use mir.Val.{SFits}
 use Rattle.std.specs.Int.{w32, w64}
 use Rattle.std.proofs.lemmas.Int.{to_z-of_z}
-use Rattle.wast_tree.specs.Sites.{in_heap, in_mem_arg, in_select}
+use Rattle.wast_tree.specs.Sites.{is_sequential, in_heap, in_ref, in_mem_arg, in_select}
 use Rattle.wasm_ops.specs.ConstantInstrs.{i32_const_instr, i64_const_instr}
 use Rattle.wasm_ops.specs.Sinks.{Writes}
 use Rattle.wasm_ops.specs.Table.{instr, InRangeInstr}
 use Rattle.std.proofs.Common.{rules, ◌≡◌, true, sym, ◌∙◌, subst}
 use Rattle.wast_conv.specs.Encodable.{is_encodable_instr}
+use Rattle.wast_conv.proofs.EachPasses.{both_pass}
 use Rattle.wast_conv.proofs.Standing.{asking_passes}
 use Rattle.wast_conv.proofs.instr_values.ResolvedSpellInstruction.spell.Goals as goal
 
@@ -42,6 +43,36 @@ put_select-requires g c = sym (asking_passes (in_select c.in-select.types)) ∙ 
 
 pub put_null-requires : goal.put_null-requires
 put_null-requires g c = sym (asking_passes (in_heap c.in-ref_null.ty)) ∙ subst (λ i. is_encodable_instr i ≡ true) c.in-ref_null.is c.requires
+
+pub put_mem_lane-requires : goal.put_mem_lane-requires
+put_mem_lane-requires g c = sym (asking_passes (in_mem_arg c.in-MemLane.arg.memarg)) ∙ subst (λ i. is_encodable_instr i ≡ true) c.in-MemLane.is c.requires
+
+pub put_access-requires : goal.put_access-requires
+put_access-requires g c = subst (λ i. is_encodable_instr i ≡ true) c.in-struct_get.is c.requires
+
+pub put_access-requires-in-struct_get_s : goal.put_access-requires-in-struct_get_s
+put_access-requires-in-struct_get_s g c = subst (λ i. is_encodable_instr i ≡ true) c.in-struct_get_s.is c.requires
+
+pub put_access-requires-in-struct_get_u : goal.put_access-requires-in-struct_get_u
+put_access-requires-in-struct_get_u g c = subst (λ i. is_encodable_instr i ≡ true) c.in-struct_get_u.is c.requires
+
+pub put_access-requires-in-struct_set : goal.put_access-requires-in-struct_set
+put_access-requires-in-struct_set g c = subst (λ i. is_encodable_instr i ≡ true) c.in-struct_set.is c.requires
+
+pub put_cast-requires : goal.put_cast-requires
+put_cast-requires g c = sym (asking_passes (in_ref c.in-ref_test.arg.rt)) ∙ subst (λ i. is_encodable_instr i ≡ true) c.in-ref_test.is c.requires
+
+pub put_cast-requires-in-ref_cast : goal.put_cast-requires-in-ref_cast
+put_cast-requires-in-ref_cast g c = sym (asking_passes (in_ref c.in-ref_cast.arg.rt)) ∙ subst (λ i. is_encodable_instr i ≡ true) c.in-ref_cast.is c.requires
+
+pub put_br_cast-requires : goal.put_br_cast-requires
+put_br_cast-requires g c = subst (λ i. is_encodable_instr i ≡ true) c.in-br_on_cast.is c.requires
+
+pub put_br_cast-requires-in-br_on_cast_fail : goal.put_br_cast-requires-in-br_on_cast_fail
+put_br_cast-requires-in-br_on_cast_fail g c = subst (λ i. is_encodable_instr i ≡ true) c.in-br_on_cast_fail.is c.requires
+
+pub put_fence-requires : goal.put_fence-requires
+put_fence-requires g c = (both_pass (is_sequential c.in-atomic_fence.ordering) true (subst (λ i. is_encodable_instr i ≡ true) c.in-atomic_fence.is c.requires)).0
 
 pub returns-in-Mem : goal.returns-in-Mem
 returns-in-Mem g c = rw c.in-Mem.is c.put_mem.ensures
@@ -193,3 +224,87 @@ returns-in-ref_null g c = rw c.in-ref_null.is c.put_null.ensures
 
 pub returns-in-ref_func : goal.returns-in-ref_func
 returns-in-ref_func g c = rw c.in-ref_func.is c.put_index-in-ref_func.ensures
+
+pub returns-in-Lane : goal.returns-in-Lane
+returns-in-Lane g c = rw c.in-Lane.is c.put_lane.ensures
+
+pub returns-in-MemLane : goal.returns-in-MemLane
+returns-in-MemLane g c = rw c.in-MemLane.is c.put_mem_lane.ensures
+
+pub returns-in-struct_new : goal.returns-in-struct_new
+returns-in-struct_new g c = rw c.in-struct_new.is c.put_index-in-struct_new.ensures
+
+pub returns-in-struct_new_default : goal.returns-in-struct_new_default
+returns-in-struct_new_default g c = rw c.in-struct_new_default.is c.put_index-in-struct_new_default.ensures
+
+pub returns-in-struct_get : goal.returns-in-struct_get
+returns-in-struct_get g c = rw c.in-struct_get.is c.put_access.ensures
+
+pub returns-in-struct_get_s : goal.returns-in-struct_get_s
+returns-in-struct_get_s g c = rw c.in-struct_get_s.is c.put_access-in-struct_get_s.ensures
+
+pub returns-in-struct_get_u : goal.returns-in-struct_get_u
+returns-in-struct_get_u g c = rw c.in-struct_get_u.is c.put_access-in-struct_get_u.ensures
+
+pub returns-in-struct_set : goal.returns-in-struct_set
+returns-in-struct_set g c = rw c.in-struct_set.is c.put_access-in-struct_set.ensures
+
+pub returns-in-array_new : goal.returns-in-array_new
+returns-in-array_new g c = rw c.in-array_new.is c.put_index-in-array_new.ensures
+
+pub returns-in-array_new_default : goal.returns-in-array_new_default
+returns-in-array_new_default g c = rw c.in-array_new_default.is c.put_index-in-array_new_default.ensures
+
+pub returns-in-array_new_fixed : goal.returns-in-array_new_fixed
+returns-in-array_new_fixed g c = rw c.in-array_new_fixed.is c.put_new_fixed.ensures
+
+pub returns-in-array_new_data : goal.returns-in-array_new_data
+returns-in-array_new_data g c = rw c.in-array_new_data.is c.put_pair-in-array_new_data.ensures
+
+pub returns-in-array_new_elem : goal.returns-in-array_new_elem
+returns-in-array_new_elem g c = rw c.in-array_new_elem.is c.put_pair-in-array_new_elem.ensures
+
+pub returns-in-array_get : goal.returns-in-array_get
+returns-in-array_get g c = rw c.in-array_get.is c.put_index-in-array_get.ensures
+
+pub returns-in-array_get_s : goal.returns-in-array_get_s
+returns-in-array_get_s g c = rw c.in-array_get_s.is c.put_index-in-array_get_s.ensures
+
+pub returns-in-array_get_u : goal.returns-in-array_get_u
+returns-in-array_get_u g c = rw c.in-array_get_u.is c.put_index-in-array_get_u.ensures
+
+pub returns-in-array_set : goal.returns-in-array_set
+returns-in-array_set g c = rw c.in-array_set.is c.put_index-in-array_set.ensures
+
+pub returns-in-array_fill : goal.returns-in-array_fill
+returns-in-array_fill g c = rw c.in-array_fill.is c.put_index-in-array_fill.ensures
+
+pub returns-in-array_copy : goal.returns-in-array_copy
+returns-in-array_copy g c = rw c.in-array_copy.is c.put_pair-in-array_copy.ensures
+
+pub returns-in-array_init_data : goal.returns-in-array_init_data
+returns-in-array_init_data g c = rw c.in-array_init_data.is c.put_pair-in-array_init_data.ensures
+
+pub returns-in-array_init_elem : goal.returns-in-array_init_elem
+returns-in-array_init_elem g c = rw c.in-array_init_elem.is c.put_pair-in-array_init_elem.ensures
+
+pub returns-in-ref_test : goal.returns-in-ref_test
+returns-in-ref_test g c = rw c.in-ref_test.is c.put_cast.ensures
+
+pub returns-in-ref_cast : goal.returns-in-ref_cast
+returns-in-ref_cast g c = rw c.in-ref_cast.is c.put_cast-in-ref_cast.ensures
+
+pub returns-in-br_on_cast : goal.returns-in-br_on_cast
+returns-in-br_on_cast g c = rw c.in-br_on_cast.is c.put_br_cast.ensures
+
+pub returns-in-br_on_cast_fail : goal.returns-in-br_on_cast_fail
+returns-in-br_on_cast_fail g c = rw c.in-br_on_cast_fail.is c.put_br_cast-in-br_on_cast_fail.ensures
+
+pub returns-in-v128_const : goal.returns-in-v128_const
+returns-in-v128_const g c = rw c.in-v128_const.is c.put_v128.ensures
+
+pub returns-in-i8x16_shuffle : goal.returns-in-i8x16_shuffle
+returns-in-i8x16_shuffle g c = rw c.in-i8x16_shuffle.is c.encode-in-i8x16_shuffle.ensures
+
+pub returns-in-atomic_fence : goal.returns-in-atomic_fence
+returns-in-atomic_fence g c = rw c.in-atomic_fence.is c.put_fence.ensures

@@ -1,13 +1,16 @@
-use Rattle.std.proofs.Common.{◌≡◌, [], ap, sym, ◌∙◌, subst}
-use Rattle.wast_tree.specs.Sites.{start, in_select, in_instr}
+use Rattle.std.proofs.Common.{◌≡◌, [], ◌++◌, ap, sym, ◌∙◌, subst}
+use Rattle.wast_tree.specs.Sites.{start, uncovered, in_index, in_ref, in_pair, in_cast, in_select, in_instr}
 use Rattle.wast_map.specs.Mapped.{mapped_block, mapped_instr}
+use Rattle.wast_types.specs.Tree.{ResumeTable}
+use Rattle.wast_types.specs.Tree.form
+use Rattle.wast_types.specs.Tree.space
 use Rattle.wast_types.specs.Tree.instr
 use Rattle.wast_types.specs.Expanded.{binding}
 use Rattle.wast_types.specs.Expanders.{index_of, with_more}
 use Rattle.wast_types.specs.NeedingUses.{needed_in}
 use Rattle.wast_types.specs.Binding.{state}
 use Rattle.wast_types.proofs.Adding.{adds_nothing}
-use Rattle.wast_types.proofs.Needing.{select_stays, needed_asking, needed_br_table}
+use Rattle.wast_types.proofs.Needing.{select_stays, needed_asking, needed_besides, needed_cast, needed_resume, handlers_stay, needed_br_table}
 use Rattle.wast_types.proofs.binding.InstructionBind.bind.Goals as goal
 
 pub returns-in-select-clause-bound : goal.returns-in-select-clause-bound
@@ -54,3 +57,61 @@ returns-in_ok-bind-in-try_table-clause-bound c = λ more.
 pub returns-in-br_table-clause-adds : goal.returns-in-br_table-clause-adds
 returns-in-br_table-clause-adds c =
     adds_nothing (state c.args.cx.now c.args.implied.now c.args.gensym.now) (ap (λ i. needed_in (in_instr start i)) c.in-br_table.is ∙ needed_br_table [] c.in-br_table.field-0)
+
+pub returns-in-br_on_cast-clause-adds : goal.returns-in-br_on_cast-clause-adds
+returns-in-br_on_cast-clause-adds c =
+    adds_nothing (state c.args.cx.now c.args.implied.now c.args.gensym.now) (ap (λ i. needed_in (in_instr start i)) c.in-br_on_cast.is ∙ needed_cast [] c.in-br_on_cast.field-0.label c.in-br_on_cast.field-0.to_type c.in-br_on_cast.field-0.from_type)
+
+pub returns-in-br_on_cast_fail-clause-adds : goal.returns-in-br_on_cast_fail-clause-adds
+returns-in-br_on_cast_fail-clause-adds c =
+    adds_nothing (state c.args.cx.now c.args.implied.now c.args.gensym.now) (ap (λ i. needed_in (in_instr start i)) c.in-br_on_cast_fail.is ∙ needed_cast [] c.in-br_on_cast_fail.field-0.label c.in-br_on_cast_fail.field-0.to_type c.in-br_on_cast_fail.field-0.from_type)
+
+pub returns-in-br_on_cast_desc_eq-clause-adds : goal.returns-in-br_on_cast_desc_eq-clause-adds
+returns-in-br_on_cast_desc_eq-clause-adds c =
+    adds_nothing (state c.args.cx.now c.args.implied.now c.args.gensym.now) (ap (λ i. needed_in (in_instr start i)) c.in-br_on_cast_desc_eq.is ∙ (needed_besides (in_cast [] c.in-br_on_cast_desc_eq.field-0.label c.in-br_on_cast_desc_eq.field-0.to_type c.in-br_on_cast_desc_eq.field-0.from_type) (uncovered form.Descriptor) ∙ needed_cast [] c.in-br_on_cast_desc_eq.field-0.label c.in-br_on_cast_desc_eq.field-0.to_type c.in-br_on_cast_desc_eq.field-0.from_type))
+
+pub returns-in-br_on_cast_desc_eq_fail-clause-adds : goal.returns-in-br_on_cast_desc_eq_fail-clause-adds
+returns-in-br_on_cast_desc_eq_fail-clause-adds c =
+    adds_nothing (state c.args.cx.now c.args.implied.now c.args.gensym.now) (ap (λ i. needed_in (in_instr start i)) c.in-br_on_cast_desc_eq_fail.is ∙ (needed_besides (in_cast [] c.in-br_on_cast_desc_eq_fail.field-0.label c.in-br_on_cast_desc_eq_fail.field-0.to_type c.in-br_on_cast_desc_eq_fail.field-0.from_type) (uncovered form.Descriptor) ∙ needed_cast [] c.in-br_on_cast_desc_eq_fail.field-0.label c.in-br_on_cast_desc_eq_fail.field-0.to_type c.in-br_on_cast_desc_eq_fail.field-0.from_type))
+
+pub returns-in-resume-clause-adds : goal.returns-in-resume-clause-adds
+returns-in-resume-clause-adds c =
+    adds_nothing (state c.args.cx.now c.args.implied.now c.args.gensym.now) (ap (λ i. needed_in (in_instr start i)) c.in-resume.is ∙ needed_resume [] (in_index space.Ty c.in-resume.field-0.type_index) c.in-resume.field-0.table)
+
+pub returns-in-resume_throw_ref-clause-adds : goal.returns-in-resume_throw_ref-clause-adds
+returns-in-resume_throw_ref-clause-adds c =
+    adds_nothing (state c.args.cx.now c.args.implied.now c.args.gensym.now) (ap (λ i. needed_in (in_instr start i)) c.in-resume_throw_ref.is ∙ needed_resume [] (in_index space.Ty c.in-resume_throw_ref.field-0.type_index) c.in-resume_throw_ref.field-0.table)
+
+pub returns-in-resume_throw-clause-adds : goal.returns-in-resume_throw-clause-adds
+returns-in-resume_throw-clause-adds c =
+    adds_nothing (state c.args.cx.now c.args.implied.now c.args.gensym.now) (ap (λ i. needed_in (in_instr start i)) c.in-resume_throw.is ∙ needed_resume [] (in_pair space.Ty c.in-resume_throw.field-0.type_index space.Tag c.in-resume_throw.field-0.tag_index) c.in-resume_throw.field-0.table)
+
+pub returns-in-ref_test-clause-adds : goal.returns-in-ref_test-clause-adds
+returns-in-ref_test-clause-adds c =
+    adds_nothing (state c.args.cx.now c.args.implied.now c.args.gensym.now) (ap (λ i. needed_in (in_instr start i)) c.in-ref_test.is ∙ needed_asking (in_ref c.in-ref_test.field-0.rt))
+
+pub returns-in-ref_cast-clause-adds : goal.returns-in-ref_cast-clause-adds
+returns-in-ref_cast-clause-adds c =
+    adds_nothing (state c.args.cx.now c.args.implied.now c.args.gensym.now) (ap (λ i. needed_in (in_instr start i)) c.in-ref_cast.is ∙ needed_asking (in_ref c.in-ref_cast.field-0.rt))
+
+pub returns-in-ref_cast_desc_eq-clause-adds : goal.returns-in-ref_cast_desc_eq-clause-adds
+returns-in-ref_cast_desc_eq-clause-adds c =
+    adds_nothing (state c.args.cx.now c.args.implied.now c.args.gensym.now) (ap (λ i. needed_in (in_instr start i)) c.in-ref_cast_desc_eq.is ∙ needed_asking (in_ref c.in-ref_cast_desc_eq.field-0.rt ++ uncovered form.Descriptor))
+
+pub returns-in-resume-clause-bound : goal.returns-in-resume-clause-bound
+returns-in-resume-clause-bound c = λ more.
+    let find = with_more (index_of c.args.cx.now) more in
+    let x = c.in-resume.field-0 in
+    subst (λ i. i ≡ mapped_instr (binding find) start i) (sym c.in-resume.is) (ap (λ (t : ResumeTable). instr.resume (record { type_index = x.type_index; table = t })) (sym (handlers_stay find [] x.table)))
+
+pub returns-in-resume_throw-clause-bound : goal.returns-in-resume_throw-clause-bound
+returns-in-resume_throw-clause-bound c = λ more.
+    let find = with_more (index_of c.args.cx.now) more in
+    let x = c.in-resume_throw.field-0 in
+    subst (λ i. i ≡ mapped_instr (binding find) start i) (sym c.in-resume_throw.is) (ap (λ (t : ResumeTable). instr.resume_throw (record { type_index = x.type_index; tag_index = x.tag_index; table = t })) (sym (handlers_stay find [] x.table)))
+
+pub returns-in-resume_throw_ref-clause-bound : goal.returns-in-resume_throw_ref-clause-bound
+returns-in-resume_throw_ref-clause-bound c = λ more.
+    let find = with_more (index_of c.args.cx.now) more in
+    let x = c.in-resume_throw_ref.field-0 in
+    subst (λ i. i ≡ mapped_instr (binding find) start i) (sym c.in-resume_throw_ref.is) (ap (λ (t : ResumeTable). instr.resume_throw_ref (record { type_index = x.type_index; table = t })) (sym (handlers_stay find [] x.table)))

@@ -1,0 +1,124 @@
+//! Tests and casts of references, branches on casts, and fences.
+
+ghost use Rattle.std.specs.Prelude.{◌≡◌, ◌&&◌, true};
+ghost use Rattle.wasm_ops.specs.CastInstrs.{cast_key, cast_instr, br_cast_key, br_cast_instr, fence_instr, nullables};
+ghost use Rattle.wasm_ops.specs.Covered.{is_covered_heap_type, is_covered_ref_type};
+ghost use Rattle.wasm_ops.specs.Memargs.{is_covered_ordering};
+ghost use Rattle.wasm_ops.specs.Opcodes.{opcode_of};
+ghost use Rattle.wasm_ops.specs.Table.{instr, InRangeInstr};
+
+use crate::encode::Encode;
+use crate::memargs::Ordering;
+use crate::opcodes::Opcode;
+use crate::ref_types::RefType;
+use crate::sink::{Refusal, Sink};
+
+/// A test or a cast of a reference (binary format, reference instructions). The number of a variant is its key for
+/// references that are not null; that for others is the next one.
+#[derive(Clone, Copy, Debug, PartialEq, Eq)]
+pub enum CastOp {
+    /// `ref.test`
+    Test = 0xfb0014,
+    /// `ref.cast`
+    Cast = 0xfb0016,
+}
+
+impl CastOp {
+    /// The opcode that stands before the heap type, by whether a reference may be null (binary format, reference
+    /// instructions).
+    pub fn opcode(self, nullable: bool) -> Opcode
+        ensures { result ≡ opcode_of (cast_key self nullable) }
+    {
+        Opcode::of(self as u32 + u32::from(nullable))
+    }
+}
+
+/// A test or a cast of a reference to a type: `ref.test (ref i31)` (binary format, reference instructions).
+#[derive(Clone, Copy, Debug, PartialEq, Eq)]
+pub struct CastInstr {
+    /// Which instruction it is.
+    pub op: CastOp,
+    /// The type.
+    pub ty: RefType,
+}
+
+impl Encode for CastInstr {
+    ghost spelling = { λ i. instr (cast_instr i.op i.ty) };
+
+    ghost in_range = { λ i. InRangeInstr (cast_instr i.op i.ty) };
+
+    ghost is_ready = { λ i. is_covered_ref_type i.ty };
+
+    fn encode<S: Sink>(&self, out: &mut S) -> Result<(), Refusal> {
+        (self.op.opcode(self.ty.nullable), self.ty.heap_type).encode(out)
+    }
+}
+
+/// A branch on a cast (binary format, control instructions). The number of a variant is its key.
+#[derive(Clone, Copy, Debug, PartialEq, Eq)]
+pub enum BrCastOp {
+    /// `br_on_cast`
+    Succeeds = 0xfb0018,
+    /// `br_on_cast_fail`
+    Fails,
+}
+
+impl BrCastOp {
+    /// The opcode that stands before the flags (binary format, control instructions).
+    pub fn opcode(self) -> Opcode
+        ensures { result ≡ opcode_of (br_cast_key self) }
+    {
+        Opcode::of(self as u32)
+    }
+}
+
+/// A branch on a cast from one type to another: `br_on_cast 0 anyref (ref i31)` (binary format, control instructions).
+#[derive(Clone, Copy, Debug, PartialEq, Eq)]
+pub struct BrCastInstr {
+    /// Which instruction it is.
+    pub op: BrCastOp,
+    /// The label.
+    pub label: u32,
+    /// The type of what is cast.
+    pub from: RefType,
+    /// The type that it is cast to.
+    pub to: RefType,
+}
+
+/// The byte that says of two types whether references to them may be null.
+fn nullables(from: bool, to: bool) -> u8
+    ensures { result ≡ nullables from to }
+{
+    u8::from(from) + 2 * u8::from(to)
+}
+
+/// A byte says which of the two types are nullable; of each its heap type follows.
+impl Encode for BrCastInstr {
+    ghost spelling = { λ i. instr (br_cast_instr i.op i.label i.from i.to) };
+
+    ghost in_range = { λ i. InRangeInstr (br_cast_instr i.op i.label i.from i.to) };
+
+    ghost is_ready = { λ i. is_covered_ref_type i.from && is_covered_ref_type i.to };
+
+    fn encode<S: Sink>(&self, out: &mut S) -> Result<(), Refusal> {
+        let flags = nullables(self.from.nullable, self.to.nullable);
+        let types = (self.from.heap_type, self.to.heap_type);
+        (self.op.opcode(), (flags, (self.label, types))).encode(out)
+    }
+}
+
+/// A fence of an ordering: `atomic.fence` (binary format, atomic memory instructions).
+#[derive(Clone, Copy, Debug, PartialEq, Eq)]
+pub struct Fence(pub Ordering);
+
+impl Encode for Fence {
+    ghost spelling = { λ f. instr (fence_instr f.0) };
+
+    ghost in_range = { λ f. InRangeInstr (fence_instr f.0) };
+
+    ghost is_ready = { λ f. is_covered_ordering f.0 };
+
+    fn encode<S: Sink>(&self, out: &mut S) -> Result<(), Refusal> {
+        (0xfeu8, (3u32, self.0)).encode(out)
+    }
+}

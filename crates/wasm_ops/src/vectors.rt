@@ -1,0 +1,98 @@
+//! Instructions on vectors: constants, lanes, and loads and stores of lanes.
+
+ghost use Rattle.std.specs.Prelude.{◌≡◌, ◌&&◌, true};
+ghost use Rattle.wasm_ops.specs.Memargs.{is_aligned, is_covered_memarg};
+ghost use Rattle.wasm_ops.specs.VectorInstrs.{lanes_key, lanes_instr, lane_instr, mem_lane_instr};
+ghost use Rattle.wasm_ops.specs.Opcodes.{opcode_of};
+ghost use Rattle.wasm_ops.specs.Table.{instr, InRangeInstr};
+
+use crate::encode::{Encode, Raw};
+use crate::memargs::MemArg;
+use crate::opcodes::{Opcode, lane_opcode, mem_lane_opcode};
+use crate::sink::{Refusal, Sink};
+use wast_base::{LaneOp, MemLaneOp};
+
+/// An instruction whose immediate is sixteen bytes (binary format, vector instructions). The number of a variant is its key.
+#[derive(Clone, Copy, Debug, PartialEq, Eq)]
+pub enum LanesOp {
+    /// `v128.const`, of the bytes of a vector, the lowest first
+    Const = 0xfd000c,
+    /// `i8x16.shuffle`, of the numbers of lanes
+    Shuffle,
+}
+
+impl LanesOp {
+    /// The opcode that stands before the bytes (binary format, vector instructions).
+    pub fn opcode(self) -> Opcode
+        ensures { result ≡ opcode_of (lanes_key self) }
+    {
+        Opcode::of(self as u32)
+    }
+}
+
+/// An instruction with sixteen bytes: `i8x16.shuffle 0 1 2 3 4 5 6 7 8 9 10 11 12 13 14 31` (binary format, vector
+/// instructions).
+#[derive(Clone, Copy, Debug, PartialEq, Eq)]
+pub struct LanesInstr {
+    /// Which instruction it is.
+    pub op: LanesOp,
+    /// The bytes.
+    pub lanes: [u8; 16],
+}
+
+impl Encode for LanesInstr {
+    ghost spelling = { λ i. instr (lanes_instr i.op i.lanes) };
+
+    ghost in_range = { λ i. InRangeInstr (lanes_instr i.op i.lanes) };
+
+    ghost is_ready = { λ _. true };
+
+    fn encode<S: Sink>(&self, out: &mut S) -> Result<(), Refusal> {
+        let lanes = self.lanes;
+        (self.op.opcode(), Raw(&lanes)).encode(out)
+    }
+}
+
+/// An instruction with the number of a lane: `i8x16.extract_lane_s 3` (binary format, vector instructions).
+#[derive(Clone, Copy, Debug, PartialEq, Eq)]
+pub struct LaneInstr {
+    /// Which instruction it is.
+    pub op: LaneOp,
+    /// The lane.
+    pub lane: u8,
+}
+
+impl Encode for LaneInstr {
+    ghost spelling = { λ i. instr (lane_instr i.op i.lane) };
+
+    ghost in_range = { λ i. InRangeInstr (lane_instr i.op i.lane) };
+
+    ghost is_ready = { λ _. true };
+
+    fn encode<S: Sink>(&self, out: &mut S) -> Result<(), Refusal> {
+        (lane_opcode(self.op), self.lane).encode(out)
+    }
+}
+
+/// A load of a lane, or a store of one: `v128.load8_lane offset=4 3` (binary format, vector instructions).
+#[derive(Clone, Copy, Debug, PartialEq, Eq)]
+pub struct MemLaneInstr {
+    /// Which instruction it is.
+    pub op: MemLaneOp,
+    /// How the memory is accessed.
+    pub memarg: MemArg,
+    /// The lane.
+    pub lane: u8,
+}
+
+impl Encode for MemLaneInstr {
+    ghost spelling = { λ i. instr (mem_lane_instr i.op i.memarg i.lane) };
+
+    ghost in_range = { λ i. InRangeInstr (mem_lane_instr i.op i.memarg i.lane) };
+
+    ghost is_ready = { λ i. is_aligned i.memarg && is_covered_memarg i.memarg };
+
+    fn encode<S: Sink>(&self, out: &mut S) -> Result<(), Refusal> {
+        (mem_lane_opcode(self.op), (self.memarg, self.lane)).encode(out)
+    }
+}

@@ -1,0 +1,180 @@
+//! The fields of small modules, each with one form that no encoder covers.
+
+ghost use Rattle.std.specs.Prelude.{◌≡◌, [], None, is_some, IfSome, IfOk, IfErr};
+ghost use Rattle.wast_base.specs.Faults.{out_of_memory};
+ghost use Rattle.wast_tree.specs.Makers.{Makes};
+ghost use Rattle.wast_base.specs.declared.faults.Form.TheVariants as form;
+ghost use Rattle.wast_tree.specs.declared.fields.ModuleField.TheVariants as field;
+ghost use Rattle.wast_samples.specs.SampledForms.{is_sampled, HoldsAlone};
+
+use crate::block_samples::func_of;
+use crate::field_samples::import;
+use crate::instr_samples::{one_instruction, wide_sum};
+use crate::samples::{at, empty_type, id, one, two};
+use std::alloc::Global;
+use wast_tree::{
+    ArrayType, ContType, Error, Form, FunctionType, GlobalType, Id, ImportItems, Imports, Index,
+    InnerTypeKind, Instruction, ItemKind, ItemSig, Maker, MemArg, MemArgTarget, MemOp, ModuleField,
+    Ordered, Ordering, Seq, StorageType, Type, TypeDef, TypeUse, ValType,
+};
+
+/// `(type ..)` of a composite type, at a place.
+fn type_of<'a>(
+    alloc: Global,
+    id: Option<Id<'a>>,
+    offset: usize,
+    kind: InnerTypeKind<'a>,
+    shared: bool,
+) -> ModuleField<'a>
+    ensures { result ≡ field.Ty (record {
+      span = record { offset = offset };
+      id = id.entry;
+      name = None;
+      def = record { kind = kind.entry; shared = shared; parents = []; descriptor = None; describes = None; final_type = None };
+    }) }
+{
+    let def = TypeDef {
+        kind,
+        shared,
+        parents: Seq::new(alloc),
+        descriptor: None,
+        describes: None,
+        final_type: None,
+    };
+    ModuleField::Ty(Type::new(at(offset), id, def))
+}
+
+/// `(module (type $f (func)) (type (cont $f)))`
+fn continuation<'a>(alloc: Global, maker: &mut Maker) -> Seq<ModuleField<'a>>
+    ensures { Makes maker.old maker.new (HoldsAlone form.StackSwitching result) }
+{
+    let cont = InnerTypeKind::Cont(ContType(Index::Id(id("f", 37))));
+    two(
+        alloc,
+        maker,
+        ModuleField::Ty(empty_type(alloc, Some(id("f", 14)), 9)),
+        type_of(alloc, None, 26, cont, false),
+    )
+}
+
+/// `(module (type (shared (func))))`
+fn shared_type<'a>(alloc: Global, maker: &mut Maker) -> Seq<ModuleField<'a>>
+    ensures { Makes maker.old maker.new (HoldsAlone form.Shared result) }
+{
+    let func = InnerTypeKind::Func(FunctionType::empty(alloc));
+    one(alloc, maker, type_of(alloc, None, 9, func, true))
+}
+
+/// `(module (func atomic.fence acq_rel))`
+fn ordered_fence<'a>(alloc: Global, maker: &mut Maker) -> Seq<ModuleField<'a>>
+    ensures { Makes maker.old maker.new (HoldsAlone form.Ordering result) }
+{
+    one_instruction(
+        alloc,
+        maker,
+        Instruction::atomic_fence(Some(Ordering::AcqRel)),
+    )
+}
+
+/// `(module (global $g (mut i32) (i32.const 0)) (func global.atomic.get seq_cst $g))`
+fn atomic_global<'a>(alloc: Global, maker: &mut Maker) -> Seq<ModuleField<'a>>
+    ensures { Makes maker.old maker.new (HoldsAlone form.Atomic result) }
+{
+    let value = maker.one_instruction(Instruction::i32_const(0));
+    let ty = GlobalType::new(ValType::I32, true);
+    let global = wast_tree::Global::new(alloc, at(9), Some(id("g", 16)), ty, value);
+    let access = Ordered {
+        ordering: Ordering::SeqCst,
+        inner: Index::Id(id("g", 76)),
+    };
+    let mut instrs = Seq::new(alloc);
+    maker.push_instruction(&mut instrs, Instruction::GlobalAtomic(access));
+    let func = func_of(alloc, 45, instrs);
+    two(alloc, maker, ModuleField::Global(global), func)
+}
+
+/// `(module (type $t (func)) (import "m" "f" (func (exact (type $t)))))`
+fn exact_import<'a>(alloc: Global, maker: &mut Maker) -> Seq<ModuleField<'a>>
+    ensures { Makes maker.old maker.new (HoldsAlone form.Descriptor result) }
+{
+    let exact = ItemKind::FuncExact(TypeUse::of(Index::Id(id("t", 60))));
+    two(
+        alloc,
+        maker,
+        ModuleField::Ty(empty_type(alloc, Some(id("t", 14)), 9)),
+        import(26, "m", "f", 42, None, exact),
+    )
+}
+
+/// `(module (import "m" (item "a") (item "b") (func)))`
+fn grouped_import<'a>(alloc: Global, maker: &mut Maker) -> Seq<ModuleField<'a>>
+    ensures { Makes maker.old maker.new (HoldsAlone form.CompactImports result) }
+{
+    let sig = ItemSig {
+        span: at(43),
+        id: None,
+        name: None,
+        kind: ItemKind::Func(TypeUse::none()),
+    };
+    let names: [&'a str; 2] = ["a", "b"];
+    let items = ImportItems::Group2 {
+        module: "m",
+        sig,
+        items: maker.names(&names),
+    };
+    let span = at(9);
+    one(alloc, maker, ModuleField::Import(Imports { span, items }))
+}
+
+/// An array type `$a`, and a function that loads from an array of it.
+fn array_load<'a>(alloc: Global, maker: &mut Maker) -> Seq<ModuleField<'a>>
+    ensures { Makes maker.old maker.new (HoldsAlone form.ArrayMemArg result) }
+{
+    let array = InnerTypeKind::Array(ArrayType {
+        mutable: true,
+        ty: StorageType::Val(ValType::I32),
+    });
+    let arg = MemArg {
+        align: 4,
+        offset: 0,
+        target: MemArgTarget::Array(Index::Id(id("a", 57))),
+        ordering: None,
+    };
+    let mut instrs = Seq::new(alloc);
+    maker.push_instruction(&mut instrs, Instruction::Mem(MemOp::i32_load, arg));
+    let written = type_of(alloc, Some(id("a", 14)), 9, array, false);
+    let func = func_of(alloc, 37, instrs);
+    two(alloc, maker, written, func)
+}
+
+/// The fields of a module that holds this form, where there is such a module.
+fn fields_of_form<'a>(alloc: Global, maker: &mut Maker, form: Form) -> Option<Seq<ModuleField<'a>>>
+    ensures there { is_some result ≡ is_sampled form }
+    ensures alone { IfSome result (λ fields. Makes maker.old maker.new (HoldsAlone form fields)) }
+{
+    match form {
+        Form::StackSwitching => Some(continuation(alloc, maker)),
+        Form::Shared => Some(shared_type(alloc, maker)),
+        Form::Ordering => Some(ordered_fence(alloc, maker)),
+        Form::Atomic => Some(atomic_global(alloc, maker)),
+        Form::Descriptor => Some(exact_import(alloc, maker)),
+        Form::CompactImports => Some(grouped_import(alloc, maker)),
+        Form::ArrayMemArg => Some(array_load(alloc, maker)),
+        Form::TargetArch => None,
+        Form::Beyond => Some(wide_sum(alloc, maker)),
+    }
+}
+
+/// The fields of a small module that holds this form and no other that the encoder does not cover, or out of memory; `None`
+/// for the target architecture, which stands in custom sections alone.
+pub fn form_fields<'a>(alloc: Global, form: Form) -> Option<Result<Seq<ModuleField<'a>>, Error<'a>>>
+    ensures there { is_some result ≡ is_sampled form }
+    ensures alone { IfSome result (λ made. IfOk made (λ fields. HoldsAlone form fields)) }
+    ensures refusal { IfSome result (λ made. IfErr made (λ e. e ≡ out_of_memory)) }
+{
+    let mut maker = Maker::new(alloc);
+    match fields_of_form(alloc, &mut maker, form) {
+        Some(fields) => Some(maker.finish(fields)),
+        None => None,
+    }
+}
