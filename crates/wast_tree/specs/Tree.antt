@@ -128,5 +128,16 @@ pub use Rattle.wast_tree.specs.declared.fields.TagKind.TheVariants as tag_kind
 pub use Rattle.wast_tree.specs.declared.fields.ExportKind.{ExportKind}
 pub use Rattle.wast_tree.specs.declared.fields.ExportKind.TheVariants as export
 pub use Rattle.wast_tree.specs.declared.fields.Export.{Export}
+pub use Rattle.wast_tree.specs.declared.customs.Custom.{Custom}
+pub use Rattle.wast_tree.specs.declared.customs.Custom.TheVariants as custom
+pub use Rattle.wast_tree.specs.declared.customs.RawCustomSection.{RawCustomSection}
+pub use Rattle.wast_tree.specs.declared.customs.CustomPlace.{CustomPlace}
+pub use Rattle.wast_tree.specs.declared.customs.CustomPlace.TheVariants as custom_place
+pub use Rattle.wast_tree.specs.declared.customs.CustomPlaceAnchor.{CustomPlaceAnchor}
+pub use Rattle.wast_tree.specs.declared.customs.CustomPlaceAnchor.TheVariants as anchor
+pub use Rattle.wast_tree.specs.declared.customs.Producers.{Producers}
+pub use Rattle.wast_tree.specs.declared.customs.Dylink0.{Dylink0}
+pub use Rattle.wast_tree.specs.declared.customs.Dylink0Subsection.{Dylink0Subsection}
+pub use Rattle.wast_tree.specs.declared.customs.Dylink0Subsection.TheVariants as dylink
 pub use Rattle.wast_tree.specs.declared.fields.ModuleField.{ModuleField}
 pub use Rattle.wast_tree.specs.declared.fields.ModuleField.TheVariants as field

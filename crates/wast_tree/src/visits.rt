@@ -37,8 +37,12 @@ pub trait ItemVisitor<'a> {
         ensures { told self.old (item space id.now fields.now) self.new };
 }
 
-/// What is told of what stands in a module beside its items.
-pub(crate) trait Visitor {
+/// What is told of what stands in a module beside its items (text format: identifiers, indices), as a count of indices, a
+/// look for an id, or a test of each.
+///
+/// Its calls come in the order in which what stands there is asked, field by field, and within a body instruction by
+/// instruction.
+pub trait Visitor {
     /// How it stands before and after one of them.
     ghost told: { Self → Ask → Self → Type 0 };
 
@@ -90,6 +94,7 @@ pub(crate) fn visit_items_in<'a, V: ItemVisitor<'a>>(field: &ModuleField<'a>, vi
         ModuleField::Elem(elem) => visitor.item(Space::Elem, &elem.id, &[]),
         ModuleField::Data(data) => visitor.item(Space::Data, &data.id, &[]),
         ModuleField::Tag(tag) => visitor.item(Space::Tag, &tag.id, &[]),
+        ModuleField::Custom(_) => {}
     }
 }
 
@@ -779,12 +784,14 @@ impl Visit for ModuleField<'_> {
             ModuleField::Elem(elem) => elem.visit(visitor),
             ModuleField::Data(data) => data.kind.visit(visitor),
             ModuleField::Tag(tag) => tag.ty.visit(visitor),
+            ModuleField::Custom(custom) => custom.visit(visitor),
         }
     }
 }
 
-/// Tells a visitor of what stands in the fields beside their items.
-pub(crate) fn visit_fields<V: Visitor>(fields: &[ModuleField<'_>], visitor: &mut V)
+/// Tells a visitor of what stands in the fields beside their items: indices and ids, clauses of "well formed", and forms that
+/// no encoder covers (text format, modules). It takes no memory.
+pub fn visit_fields<V: Visitor>(fields: &[ModuleField<'_>], visitor: &mut V)
     ensures { Visits V.told visitor.old (asked (in_module fields.now)) visitor.new }
 {
     for field in fields {
