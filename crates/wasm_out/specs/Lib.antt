@@ -8,5 +8,6 @@ pub mod WorkedBytes
 pub mod WorkedInstrs
 pub mod NameSectionBytes
 pub mod Parts
+pub mod Producers
 pub mod Readable
 pub mod Reads

@@ -11,6 +11,7 @@ mod laws;
 mod locals;
 mod modules;
 mod names;
+mod producers;
 mod sections;
 mod worked_bytes;
 
@@ -31,4 +32,5 @@ pub use laws::{building_law, part_spelling_law, reading_laws};
 pub use locals::{LocalType, Locals};
 pub use modules::{HEADER, Module};
 pub use names::{Direct, IndexedNames, Indirect, IndirectNameMap, NameMap, NameSection};
+pub use producers::{ProducersField, ProducersSection};
 pub use sections::{Build, CustomSection, DataCountSection, Section, StartSection};

@@ -1,3 +1,4 @@
+pub mod Customs
 pub mod Tree
 pub mod Values
 pub mod FieldEntries

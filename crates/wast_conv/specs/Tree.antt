@@ -97,3 +97,7 @@ pub use Rattle.wast_tree.specs.declared.immediates.MemArgOrdering.{MemArgOrderin
 pub use Rattle.wast_tree.specs.declared.immediates.MemArgOrdering.TheVariants as access
 pub use Rattle.wast_base.specs.declared.faults.Form.{Form}
 pub use Rattle.wast_base.specs.declared.faults.Form.TheVariants as form
+pub use Rattle.wast_tree.specs.declared.customs.Custom.{Custom}
+pub use Rattle.wast_tree.specs.declared.customs.Custom.TheVariants as custom
+pub use Rattle.wast_tree.specs.declared.customs.Dylink0Subsection.{Dylink0Subsection}
+pub use Rattle.wast_tree.specs.declared.customs.Dylink0Subsection.TheVariants as dylink

@@ -7,6 +7,7 @@ mod conv_handles;
 mod conv_immediates;
 mod conv_segments;
 mod conv_vectors;
+mod custom_values;
 mod field_items;
 mod field_values;
 mod instr_values;
@@ -15,5 +16,6 @@ mod segment_items;
 mod segment_values;
 mod values;
 
+pub use custom_values::{CustomPayload, SubsectionContent};
 pub use section_items::{FuncSectionTy, RecOrType, SectionItem};
 pub use values::Resolved;

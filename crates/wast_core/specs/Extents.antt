@@ -5,8 +5,7 @@ use Rattle.wasm_ops.specs.Spelling.{vec}
 use Rattle.wasm_out.specs.Parts.{SectionKind, Entry, entry}
 use Rattle.wast_core.specs.Tree.{ModuleField}
 use Rattle.wast_core.specs.DataCounts.{needs_count}
-use Rattle.wast_core.specs.Meaning.{entries}
-use Rattle.wast_names.specs.ModuleNames.{name_subsections}
+use Rattle.wast_core.specs.Meaning.{entries, subsections_of}
 use Rattle.wast_names.specs.NamesPart.{names_payload_of}
 
 -- what stands behind the length of a section; nothing where it has no entries and is left out
@@ -25,7 +24,7 @@ is_extent kind fields count size = (count == length (entries kind fields)) && (s
 
 -- the name section of a module with this name has so many bytes behind its length
 abbrev pub is_names_size : Option (List ℕ) → List ModuleField → ℕ → Bool
-is_names_size name fields size = size == length (names_payload_of (name_subsections name fields))
+is_names_size name fields size = size == length (names_payload_of (subsections_of name fields))
 
 -- it is told rightly whether these fields need a data count
 abbrev pub is_counted : List ModuleField → Bool → Bool

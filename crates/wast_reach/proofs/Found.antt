@@ -5,6 +5,10 @@ use Rattle.std.proofs.lemmas.Bool.{eqb-true, eqb-false}
 use Rattle.std.proofs.lemmas.List.{get_or-set_same, get_or-set_other}
 use Rattle.std.proofs.lemmas.List.Folds.{list_all_at}
 use Rattle.wast_tree.specs.declared.fields.ModuleField.{ModuleField}
+use Rattle.wast_tree.specs.Tree.{CustomPlace, CustomPlaceAnchor}
+use Rattle.wast_tree.specs.Tree.anchor
+use Rattle.wast_tree.specs.Tree.custom_place as at
+use Rattle.wast_tree.specs.Customs.{anchor_rank, place_rank}
 use Rattle.wast_reach.specs.declared.finding.Reaches.{Reaches}
 use Rattle.wast_reach.specs.declared.kinds.FieldKind.{FieldKind}
 use Rattle.wast_reach.specs.declared.kinds.FieldKind.TheVariants as kind
@@ -48,12 +52,36 @@ each_passes p ks i d lt h = by_test (p (get_or ks i d)) (λ e. list_all_at p ks 
     by_test false f h = let e = f refl in cc
 
 -- each kind stands at its rank
+before_at_rank : (a : CustomPlaceAnchor) → get_or kinds (kind_rank (kind.Custom (at.Before a))) kind.Ty ≡ kind.Custom (at.Before a)
+before_at_rank anchor.Ty = refl
+before_at_rank a = refl
+
+after_at_rank : (a : CustomPlaceAnchor) → get_or kinds (kind_rank (kind.Custom (at.After a))) kind.Ty ≡ kind.Custom (at.After a)
+after_at_rank anchor.Ty = refl
+after_at_rank a = refl
+
+place_at_rank : (p : CustomPlace) → get_or kinds (kind_rank (kind.Custom p)) kind.Ty ≡ kind.Custom p
+place_at_rank at.BeforeFirst = refl
+place_at_rank at.AfterLast = refl
+place_at_rank (at.Before a) = before_at_rank a
+place_at_rank (at.After a) = after_at_rank a
+
 at_rank : (k : FieldKind) → get_or kinds (kind_rank k) kind.Ty ≡ k
-at_rank kind.Ty = refl
+at_rank (kind.Custom p) = place_at_rank p
 at_rank k = refl
 
-rank_below : (k : FieldKind) → kind_rank k < 12
-rank_below kind.Ty = omega arith
+anchor_below : (a : CustomPlaceAnchor) → anchor_rank a < 12
+anchor_below anchor.Ty = omega arith
+anchor_below a = omega arith
+
+place_below : (p : CustomPlace) → place_rank p < 26
+place_below at.BeforeFirst = omega arith
+place_below at.AfterLast = omega arith
+place_below (at.Before a) = omega (arith, anchor_below a)
+place_below (at.After a) = omega (arith, anchor_below a)
+
+rank_below : (k : FieldKind) → kind_rank k < 38
+rank_below (kind.Custom p) = omega (arith, place_below p)
 rank_below k = omega arith
 
 -- and back

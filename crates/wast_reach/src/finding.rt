@@ -13,7 +13,7 @@ use wast_tree::ModuleField;
 #[derive(Clone, Copy)]
 pub struct Reaches {
     /// By the ranks of the kinds.
-    by_rank: [Reach; 12],
+    by_rank: [Reach; 38],
 }
 
 impl Reaches {
@@ -22,7 +22,7 @@ impl Reaches {
         ensures { IsTrue (are_reaches fields.now result) }
     {
         let mut reaches = Reaches {
-            by_rank: [Reach { first: 0, end: 0 }; 12],
+            by_rank: [Reach { first: 0, end: 0 }; 38],
         };
         for i in 0..fields.len() {
             reaches.add(i, &fields[i]);

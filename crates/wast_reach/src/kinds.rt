@@ -3,9 +3,10 @@
 ghost use Rattle.std.specs.Prelude.{◌≡◌, ◌<◌};
 ghost use Rattle.wast_reach.specs.Kinds.{kind_in, kind_rank};
 
-use wast_tree::ModuleField;
+use wast_tree::{CustomPlace, ModuleField};
 
-/// A kind of fields: one for each variant of [`ModuleField`] (text format, modules).
+/// A kind of fields: one for each variant of [`ModuleField`] (text format, modules), and of custom sections one for each
+/// place.
 #[derive(Clone, Copy)]
 pub enum FieldKind {
     /// `(type ..)`
@@ -32,6 +33,8 @@ pub enum FieldKind {
     Data,
     /// `(tag ..)`
     Tag,
+    /// `(@custom ..)` and its like, of a place in the module.
+    Custom(CustomPlace),
 }
 
 impl FieldKind {
@@ -52,13 +55,14 @@ impl FieldKind {
             ModuleField::Elem(_) => FieldKind::Elem,
             ModuleField::Data(_) => FieldKind::Data,
             ModuleField::Tag(_) => FieldKind::Tag,
+            ModuleField::Custom(custom) => FieldKind::Custom(custom.place()),
         }
     }
 
-    /// The number of the kind, below 12. It takes no memory.
+    /// The number of the kind, below 38. It takes no memory.
     pub fn rank(self) -> usize
         ensures same { result ≡ kind_rank self }
-        ensures within { result < 12 }
+        ensures within { result < 38 }
     {
         match self {
             FieldKind::Ty => 0,
@@ -73,6 +77,7 @@ impl FieldKind {
             FieldKind::Elem => 9,
             FieldKind::Data => 10,
             FieldKind::Tag => 11,
+            FieldKind::Custom(place) => 12 + place.rank(),
         }
     }
 }

@@ -1,7 +1,7 @@
 //! Custom sections that are written in a module.
 
-ghost use Rattle.std.specs.Prelude.{◌≡◌};
-ghost use Rattle.wast_tree.specs.Customs.{custom_name, custom_place, subsection_id};
+ghost use Rattle.std.specs.Prelude.{◌≡◌, ◌<◌};
+ghost use Rattle.wast_tree.specs.Customs.{custom_name, custom_place, anchor_rank, place_rank, stands_at, subsection_id};
 
 use wast_base::{Seq, Span};
 
@@ -39,6 +39,13 @@ impl<'a> Custom<'a> {
             Custom::Dylink0(_) => CustomPlace::BeforeFirst,
         }
     }
+
+    /// Whether the section stands in a place (text format, custom annotations). It takes no memory.
+    pub fn stands_at(&self, place: CustomPlace) -> bool
+        ensures { result ≡ stands_at place self.now }
+    {
+        place.rank() == self.place().rank()
+    }
 }
 
 /// A custom section of any bytes: `(@custom "a" (after func) "x")` (text format, custom annotations).
@@ -65,6 +72,21 @@ pub enum CustomPlace {
     After(CustomPlaceAnchor),
     /// After all other sections but that of the names.
     AfterLast,
+}
+
+impl CustomPlace {
+    /// The number of the place, below 26. It takes no memory.
+    pub fn rank(self) -> usize
+        ensures same { result ≡ place_rank self }
+        ensures within { result < 26 }
+    {
+        match self {
+            CustomPlace::BeforeFirst => 0,
+            CustomPlace::AfterLast => 1,
+            CustomPlace::Before(anchor) => 2 + anchor.rank(),
+            CustomPlace::After(anchor) => 14 + anchor.rank(),
+        }
+    }
 }
 
 /// A section beside which a custom section can stand (text format, custom annotations).
@@ -94,6 +116,29 @@ pub enum CustomPlaceAnchor {
     Code,
     /// Segments of data.
     Data,
+}
+
+impl CustomPlaceAnchor {
+    /// The number of the section, below 12. It takes no memory.
+    pub fn rank(self) -> usize
+        ensures same { result ≡ anchor_rank self }
+        ensures within { result < 12 }
+    {
+        match self {
+            CustomPlaceAnchor::Ty => 0,
+            CustomPlaceAnchor::Import => 1,
+            CustomPlaceAnchor::Func => 2,
+            CustomPlaceAnchor::Table => 3,
+            CustomPlaceAnchor::Memory => 4,
+            CustomPlaceAnchor::Tag => 5,
+            CustomPlaceAnchor::Global => 6,
+            CustomPlaceAnchor::Export => 7,
+            CustomPlaceAnchor::Start => 8,
+            CustomPlaceAnchor::Elem => 9,
+            CustomPlaceAnchor::Code => 10,
+            CustomPlaceAnchor::Data => 11,
+        }
+    }
 }
 
 /// What a module was made with: `(@producers (language "R" "1"))` (tool conventions, producers section).
