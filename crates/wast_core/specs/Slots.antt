@@ -44,4 +44,4 @@ order =
     ++ (slot.DataCount
     ∷ slot.Custom (at.Before anchor.Code) ∷ slot.Hints ∷ slot.Section kind.Code ∷ slot.Custom (at.After anchor.Code)
     ∷ (around anchor.Data (slot.Section kind.Data)
-    ++ (slot.Custom at.AfterLast ∷ slot.Names ∷ []))))))))))))))
+    ++ (slot.Custom at.AfterLast ∷ slot.Names ∷ [])))))))))))))
