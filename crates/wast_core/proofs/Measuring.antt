@@ -7,8 +7,7 @@ use Rattle.wast_conv.specs.Encodable.{is_encodable}
 use Rattle.wast_core.specs.DataCounts.{needs_count}
 use Rattle.wast_core.specs.Extents.{payload_of, IsExtent, is_extent, is_counted}
 use Rattle.wast_core.specs.Measured.{are_measures}
-use Rattle.wast_core.specs.Meaning.{entries}
-use Rattle.wast_names.specs.ModuleNames.{name_subsections}
+use Rattle.wast_core.specs.Meaning.{entries, subsections_of}
 use Rattle.wast_names.specs.NamesPart.{names_payload_of}
 use Rattle.wast_core.specs.declared.sections.Measures.{Measures}
 use Rattle.wast_conv.proofs.EachPasses.{both_pass}
@@ -34,7 +33,7 @@ pub record Extents (name : Option (List ℕ)) (fields : List ModuleField) (m : M
   pub code : IsExtent Code fields m.code.count m.code.size
   pub «data» : IsExtent Data fields m.«data».count m.«data».size
   pub counts : m.is_counted ≡ needs_count fields
-  pub names : m.names ≡ length (names_payload_of (name_subsections name fields))
+  pub names : m.names ≡ length (names_payload_of (subsections_of name fields))
 
 pub measured_extents : (name : Option (List ℕ)) (fields : List ModuleField) (m : Measures) → are_measures name fields m ≡ true → Extents name fields m
 measured_extents name fields m h =
@@ -65,5 +64,5 @@ measured_extents name fields m h =
       code = extent_is Code fields m.code.count m.code.size of_code.0;
       «data» = extent_is Data fields m.«data».count m.«data».size of_data.0;
       counts = as_told fields m.is_counted of_counts.0;
-      names = eqb-true m.names (length (names_payload_of (name_subsections name fields))) of_counts.1;
+      names = eqb-true m.names (length (names_payload_of (subsections_of name fields))) of_counts.1;
     }

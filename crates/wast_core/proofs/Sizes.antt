@@ -88,8 +88,8 @@ pub module_size : (name : Option (List ℕ)) (fields : List ModuleField) (sum : 
 module_size name fields sum is =
     omega (arith, is, ap (λ (bs : List ℕ). length bs) (flat_in_flat part (in_slot name fields) order), length-append header (flat_map part (parts name fields)))
 
--- what each field gives one after another, as parts
-pub each_part_written : {S A X : Type 0} (rules : SinkRules S) (f : X → List Part) (xs : List X) (a b : S) (r : Result A Refusal)
-    → Writes rules (All (λ x. All InRangePart (f x)) xs) a b (flat_map (λ x. flat_map part (f x)) xs) r → Writes rules (All InRangePart (flat_map f xs)) a b (flat_map part (flat_map f xs)) r
-each_part_written rules f xs a b r p =
-    written_as rules (All (λ x. All InRangePart (f x)) xs) (All InRangePart (flat_map f xs)) a b (flat_map (λ x. flat_map part (f x)) xs) (flat_map part (flat_map f xs)) r (all_in_flat InRangePart f xs) (all_of_flat InRangePart f xs) (flat_in_flat part f xs) p
+-- what each field gives one after another, in one list
+pub each_written : {S A X Y : Type 0} (rules : SinkRules S) (P : Y → Type 0) (g : Y → List ℕ) (f : X → List Y) (xs : List X) (a b : S) (r : Result A Refusal)
+    → Writes rules (All (λ x. All P (f x)) xs) a b (flat_map (λ x. flat_map g (f x)) xs) r → Writes rules (All P (flat_map f xs)) a b (flat_map g (flat_map f xs)) r
+each_written rules P g f xs a b r p =
+    written_as rules (All (λ x. All P (f x)) xs) (All P (flat_map f xs)) a b (flat_map (λ x. flat_map g (f x)) xs) (flat_map g (flat_map f xs)) r (all_in_flat P f xs) (all_of_flat P f xs) (flat_in_flat g f xs) p

@@ -16,8 +16,8 @@ loop-slot-preserved c =
     let f : Slot → List ℕ = λ s. flat_map part (in_slot (text_seen c.args.name) c.args.fields.now s) in
     let xs = c.args.slots.now in
     let k = c.loop-slot.slot-index in
-    let x = get_or xs k slot.BeforeFirst in
-    c.saturating_add-sum.ensures ∙ bytes_more (flat_map f (take k xs)) (f x) (flat_map f (take (k + 1) xs)) c.loop-slot.sum c.size_in.result (each_more f xs k x (f x) c.loop-slot-test.true (get_or_default xs k slot.BeforeFirst x c.loop-slot-test.true) refl) c.loop-slot.invariant c.size_in.ensures
+    let x = get_or xs k slot.Hints in
+    c.saturating_add-sum.ensures ∙ bytes_more (flat_map f (take k xs)) (f x) (flat_map f (take (k + 1) xs)) c.loop-slot.sum c.size_in.result (each_more f xs k x (f x) c.loop-slot-test.true (get_or_default xs k slot.Hints x c.loop-slot-test.true) refl) c.loop-slot.invariant c.size_in.ensures
 
 pub returns : goal.returns
 returns c =
