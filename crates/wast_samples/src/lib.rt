@@ -5,6 +5,7 @@
 #![tactic(auto)]
 
 mod block_samples;
+mod custom_samples;
 mod field_samples;
 mod form_samples;
 mod inline_samples;
