@@ -1,5 +1,5 @@
 -- The names and places of custom sections (text format: custom annotations).
-use Rattle.std.specs.Prelude.{ℕ, ◌+◌, ◌==◌, Bool, List, [], ◌∷◌, ◌++◌, map, codes, if◌then◌else◌}
+use Rattle.std.specs.Prelude.{ℕ, ◌+◌, ◌==◌, Bool, false, List, [], ◌∷◌, ◌++◌, map, codes, if◌then◌else◌}
 use Rattle.std.specs.List.{flat_map}
 use Rattle.std.specs.Str.{bytes_eq}
 use Rattle.wast_tree.specs.Tree.{Custom, CustomPlace, CustomPlaceAnchor, Dylink0Subsection, ModuleField}
