@@ -13,6 +13,8 @@ mod control;
 #[cfg(test)]
 mod conversions;
 #[cfg(test)]
+mod customs;
+#[cfg(test)]
 mod forms;
 #[cfg(test)]
 mod holders;
