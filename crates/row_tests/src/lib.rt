@@ -13,7 +13,11 @@ mod control;
 #[cfg(test)]
 mod conversions;
 #[cfg(test)]
+mod customs;
+#[cfg(test)]
 mod forms;
+#[cfg(test)]
+mod hints;
 #[cfg(test)]
 mod holders;
 #[cfg(test)]
@@ -26,6 +30,8 @@ mod lines;
 mod made;
 #[cfg(test)]
 mod modules;
+#[cfg(test)]
+mod names;
 #[cfg(test)]
 mod order;
 #[cfg(test)]

@@ -2,7 +2,7 @@
 use Rattle.std.proofs.Common.{refl}
 use Rattle.wasm_ops.specs.Leb128.{unsigned, unsigned_in, signed, signed_in}
 use Rattle.wast_base.specs.Blocks.{stays_open}
-use Rattle.wasm_out.specs.WorkedBytes.{RunsOfLocals, Spelled, ItemsSpelled, SegmentsSpelled}
+use Rattle.wasm_out.specs.WorkedBytes.{RunsOfLocals, Spelled, ItemsSpelled, SegmentsSpelled, ProducersSpelled, HintsSpelled}
 use Rattle.wasm_out.specs.WorkedInstrs.{InstrsSpelled, BodySpelled, ExpressionSpelled, AreNoExpressions}
 
 pub runs_of_locals : RunsOfLocals
@@ -20,6 +20,14 @@ worked_items = refl
 pub worked_segments : SegmentsSpelled
 unfolding unsigned unsigned_in signed signed_in
 worked_segments = refl
+
+pub worked_producers : ProducersSpelled
+unfolding unsigned unsigned_in
+worked_producers = refl
+
+pub worked_hints : HintsSpelled
+unfolding unsigned unsigned_in
+worked_hints = refl
 
 pub worked_instrs : InstrsSpelled
 unfolding unsigned unsigned_in signed signed_in

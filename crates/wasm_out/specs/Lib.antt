@@ -6,7 +6,9 @@ pub mod DataSegments
 pub mod ElementSegments
 pub mod WorkedBytes
 pub mod WorkedInstrs
+pub mod Hints
 pub mod NameSectionBytes
 pub mod Parts
+pub mod Producers
 pub mod Readable
 pub mod Reads

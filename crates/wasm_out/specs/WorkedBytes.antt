@@ -16,7 +16,9 @@ use Rattle.wasm_ops.specs.Table.{Instr}
 use Rattle.wasm_out.specs.Bodies.{locals}
 use Rattle.wasm_out.specs.DataSegments.{Kept, Placed}
 use Rattle.wasm_out.specs.ElementSegments.{ElementItems, Indices, Expressions, Passive, Declared, Active}
+use Rattle.wasm_out.specs.Hints.{hints}
 use Rattle.wasm_out.specs.Parts.{Types, Imports, Functions, Tables, Memories, Tags, Globals, Exports, Elements, Code, Data, Single, Custom, Listed, Part, part}
+use Rattle.wasm_out.specs.Producers.{producers}
 use Rattle.wasm_out.specs.Reads.{header, Reads}
 
 -- runs of locals: two of i32, one of i64
@@ -147,3 +149,18 @@ wide_bytes = 0x00 ∷ 0x61 ∷ 0x73 ∷ 0x6d ∷ 0x01 ∷ 0x00 ∷ 0x00 ∷ 0x00
 -- they are read as no module
 abbrev pub IsNoModule : Type 0
 IsNoModule = (parts : List Part) → Reads wide_bytes parts → ⊥
+
+-- (@producers (language "R" "1")): what stands behind the name of the section
+abbrev pub ProducersSpelled : Type 0
+ProducersSpelled =
+    producers ((codes "language", (codes "R", codes "1") ∷ []) ∷ [])
+    ≡ 0x01 ∷ 0x08 ∷ 0x6c ∷ 0x61 ∷ 0x6e ∷ 0x67 ∷ 0x75 ∷ 0x61 ∷ 0x67 ∷ 0x65 ∷ 0x01 ∷ 0x01 ∷ 0x52 ∷ 0x01 ∷ 0x31 ∷ []
+
+-- Branch hints: what stands behind the name of the section. Function 0 has one at its byte 5, likely taken; function 3 has two, of
+-- which the second stands behind more than 127 bytes.
+abbrev pub HintsSpelled : Type 0
+HintsSpelled =
+    hints ((0, record { branch_func_offset = 5; branch_hint_value = 1 } ∷ [])
+    ∷ (3, record { branch_func_offset = 2; branch_hint_value = 0 } ∷ record { branch_func_offset = 200; branch_hint_value = 1 } ∷ [])
+    ∷ [])
+    ≡ 0x02 ∷ 0x00 ∷ 0x01 ∷ 0x05 ∷ 0x01 ∷ 0x01 ∷ 0x03 ∷ 0x02 ∷ 0x02 ∷ 0x01 ∷ 0x00 ∷ 0xc8 ∷ 0x01 ∷ 0x01 ∷ 0x01 ∷ []

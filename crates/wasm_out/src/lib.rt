@@ -7,10 +7,12 @@ mod built_items;
 mod data_segments;
 mod elements;
 mod entity_sections;
+mod hints;
 mod laws;
 mod locals;
 mod modules;
 mod names;
+mod producers;
 mod sections;
 mod worked_bytes;
 
@@ -27,8 +29,10 @@ pub use entity_sections::{
     GlobalSection, Globals, ImportSection, Imports, Memories, MemorySection, TableSection, Tables,
     TagSection, Tags,
 };
+pub use hints::{BranchHint, BranchHints};
 pub use laws::{building_law, part_spelling_law, reading_laws};
 pub use locals::{LocalType, Locals};
 pub use modules::{HEADER, Module};
 pub use names::{Direct, IndexedNames, Indirect, IndirectNameMap, NameMap, NameSection};
+pub use producers::{ProducersField, ProducersSection};
 pub use sections::{Build, CustomSection, DataCountSection, Section, StartSection};

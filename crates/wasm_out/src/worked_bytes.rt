@@ -1,6 +1,6 @@
 //! Worked examples with their bytes, which the definitions compute.
 
-ghost use Rattle.wasm_out.specs.WorkedBytes.{RunsOfLocals, Spelled, ItemsSpelled, SegmentsSpelled, IsNoModule};
+ghost use Rattle.wasm_out.specs.WorkedBytes.{RunsOfLocals, Spelled, ItemsSpelled, SegmentsSpelled, ProducersSpelled, HintsSpelled, IsNoModule};
 ghost use Rattle.wasm_out.specs.WorkedInstrs.{InstrsSpelled, BodySpelled, ExpressionSpelled, AreNoExpressions};
 
 /// Locals are spelled by runs of one type.
@@ -21,6 +21,16 @@ pub(crate) fn worked_items()
 /// Segments of elements and of data have the bytes of each of their forms.
 pub(crate) fn worked_segments()
     ensures { SegmentsSpelled }
+{}
+
+/// A field of producers has the bytes of the worked section.
+pub(crate) fn worked_producers()
+    ensures { ProducersSpelled }
+{}
+
+/// The hints of two functions have the bytes of the worked section.
+pub(crate) fn worked_hints()
+    ensures { HintsSpelled }
 {}
 
 /// Instructions of each kind of immediates have the bytes of the worked ones.

@@ -17,10 +17,11 @@ use wasm_ops::{
     TableType, TagType, ValType,
 };
 use wasm_out::{
-    Build, CodeSection, CustomSection, DataCountSection, DataSection, ElementSection, Elements,
-    ExportSection, Function, FunctionSection, GlobalSection, ImportSection, IndirectNameMap,
-    MemorySection, Module, NameMap, NameSection, StartSection, TableSection, TagSection,
-    TypeSection, building_law, part_spelling_law, reading_laws,
+    BranchHint, BranchHints, Build, CodeSection, CustomSection, DataCountSection, DataSection,
+    ElementSection, Elements, ExportSection, Function, FunctionSection, GlobalSection,
+    ImportSection, IndirectNameMap, MemorySection, Module, NameMap, NameSection, ProducersField,
+    ProducersSection, StartSection, TableSection, TagSection, TypeSection, building_law,
+    part_spelling_law, reading_laws,
 };
 use wast_base::{Error, Seq};
 
@@ -294,6 +295,50 @@ fn each_section_has_its_bytes(rt: HostRuntime) {
         \x02\x01\x78\x04\x04\x01\x02\x01\x78\x05\x04\x01\x02\x01\x78\x06\x04\x01\x02\x01\x78\x07\x04\x01\
         \x02\x01\x78\x08\x04\x01\x02\x01\x78\x09\x04\x01\x02\x01\x78\x0a\x06\x01\x03\x01\x02\x01\x78\x0b\
         \x04\x01\x02\x01\x78\x0c\x06\x01\x03\x01\x02\x01\x78\x0d\x06\x01\x03\x01\x02\x01\x78";
+    assert!(rt; whole.finish().as_slice() == expected.as_slice());
+}
+
+/// One value of one field.
+fn producers(rt: &impl Abort, alloc: Global) -> ProducersSection {
+    let mut values = ProducersField::new(alloc);
+    assert!(rt; values.is_empty() && values.value("R", "1").is_ok());
+    let mut section = ProducersSection::new(alloc);
+    assert!(rt; section.is_empty() && section.field("language", &values).is_ok());
+    section
+}
+
+/// A hint that the branch is likely taken, and two hints of another function.
+fn hints(rt: &impl Abort, alloc: Global) -> BranchHints {
+    let mut section = BranchHints::new(alloc);
+    assert!(rt; section.is_empty());
+    let first = [BranchHint {
+        branch_func_offset: 5,
+        branch_hint_value: 1,
+    }];
+    assert!(rt; section.function_hints(0, &first).is_ok());
+    let others = [
+        BranchHint {
+            branch_func_offset: 2,
+            branch_hint_value: 0,
+        },
+        BranchHint {
+            branch_func_offset: 200,
+            branch_hint_value: 1,
+        },
+    ];
+    assert!(rt; section.function_hints(3, &others).is_ok());
+    section
+}
+
+#[test]
+fn custom_sections_that_are_built_have_their_bytes(rt: HostRuntime) {
+    let alloc = rt.alloc();
+    let mut whole = Module::new(alloc).expect(&rt, "memory");
+    assert!(rt; whole.section(&hints(&rt, alloc)).is_ok());
+    assert!(rt; whole.section(&producers(&rt, alloc)).is_ok());
+    let expected =
+        b"\x00\x61\x73\x6d\x01\x00\x00\x00\x00\x29\x19metadata.code.branch_hint\x02\x00\x01\x05\x01\x01\
+        \x03\x02\x02\x01\x00\xc8\x01\x01\x01\x00\x19\x09producers\x01\x08language\x01\x01R\x011";
     assert!(rt; whole.finish().as_slice() == expected.as_slice());
 }
 

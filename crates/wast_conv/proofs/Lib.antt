@@ -9,5 +9,7 @@ pub mod Rows
 pub mod Expressions
 pub mod MemArgs
 pub mod Spelled
+pub mod CustomsSpelled
 pub mod Segmented
 pub mod SegmentsReady
+pub mod Hinting

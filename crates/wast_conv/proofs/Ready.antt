@@ -4,7 +4,7 @@ use Rattle.std.proofs.Common.{◌≡◌, Bool, true, false, ◌&&◌, ◌||◌, 
 use Rattle.std.specs.Prelude.{is_some, Option, Some, None}
 use Rattle.std.specs.List.{flat_map, list_all}
 use Rattle.wast_base.specs.Ids.{is_number}
-use Rattle.wast_tree.specs.Clauses.{suits}
+use Rattle.wast_tree.specs.Clauses.{hints_stand, suits}
 use Rattle.wast_tree.specs.Types.{says_enough}
 use Rattle.wast_tree.specs.Sites.{Ask, Wants, Within, Unasked, Clause, Covered, OfItem, OfCall, Site, Asked, Used, Declared, LocalAt, FieldAt, LabelAt, start, asking, if_there, at_index, in_type, in_rec, in_ref, in_type_use, in_use, in_indirect, in_local, in_func, in_func_kind, in_expression, in_table_type, in_global_type, in_tag_type, in_import, in_constant, in_payload, in_table_kind, in_memory_kind, in_global_kind, in_global, in_elem_kind, in_elem, in_data_kind, in_field, in_module, asked_in, asked}
 use Rattle.wast_tree.specs.Known.{Known}
@@ -23,8 +23,9 @@ use Rattle.wast_conv.specs.Tree.payload
 use Rattle.wast_conv.specs.Tree.data_kind
 use Rattle.wast_conv.specs.Tree.field
 use Rattle.wast_conv.specs.Encodable.{is_encodable_ask, are_encodable, is_encodable_site, encodable, is_entered_site, are_entered, is_number_if, is_encodable_code, is_encodable_expression, is_encodable_type, is_encodable_type_use, is_encodable_kind, is_encodable_import, is_encodable_init, is_encodable_table_kind, is_encodable_table, is_encodable_memory, is_encodable_global_kind, is_encodable_global, is_encodable_tag, is_encodable_elem_kind, is_encodable_payload, is_encodable_elem, is_encodable_data_kind, is_encodable_data, is_encodable_field, is_encodable, is_met, is_at_rest, are_resolved}
+use Rattle.wast_conv.specs.Hints.{are_encodable_hints}
 use Rattle.wast_conv.proofs.EachPasses.{both_pass, both_true, both_lists, each_passes, each_by, each_then}
-use Rattle.wast_conv.proofs.Standing.{asking_passes, asked_then, encodable_at, code_ready, constant_ready, body_tells}
+use Rattle.wast_conv.proofs.Standing.{asking_passes, asked_then, encodable_at, code_ready, code_hinted, constant_ready, body_tells}
 
 -- ---- well formed, resolved and written out
 
@@ -161,6 +162,12 @@ body_ready u (func.Inline locals x) e written =
     let both = both_pass asks (encodable (in_expression start x)) (sym (body_tells u locals x) ∙ e) in
     both_true asks (is_encodable_code x) both.0 (code_ready x both.1)
 
+body_hinted : (u : TypeUse FunctionType) (k : FuncKind) → encodable (in_func_kind u k) ≡ true → is_written_func k ≡ true → are_encodable_hints k ≡ true
+body_hinted u (func.Import import exact) e written = written
+body_hinted u (func.Inline locals x) e written =
+    let both = both_pass (are_encodable (flat_map in_local locals)) (encodable (in_expression start x)) (sym (body_tells u locals x) ∙ e) in
+    both_true (is_encodable_kind (func.Inline locals x)) (hints_stand x) (body_ready u (func.Inline locals x) e written) (code_hinted x both.1)
+
 -- whether anything is exported in place is nothing to its section
 first_and_last : (a b c : Bool) → (a && (b && c)) ≡ true → (a ≡ true) × (c ≡ true)
 first_and_last a b c e = let outer = both_pass a (b && c) e in (outer.0, (both_pass b c outer.1).1)
@@ -170,6 +177,11 @@ func_ready f e =
     let whole = first_and_last (encodable (in_func f)) (exports_nothing f.exports) (is_written_func f.kind) e in
     let parts = both_lists is_encodable_site (in_use OfItem f.ty) (in_func_kind f.ty f.kind) whole.0 in
     (use_ready f.ty parts.0, body_ready f.ty f.kind parts.1 whole.1)
+
+pub hints_ready : (f : Func) → is_encodable_field (field.Func f) ≡ true → are_encodable_hints f.kind ≡ true
+hints_ready f e =
+    let whole = first_and_last (encodable (in_func f)) (exports_nothing f.exports) (is_written_func f.kind) e in
+    body_hinted f.ty f.kind (both_lists is_encodable_site (in_use OfItem f.ty) (in_func_kind f.ty f.kind) whole.0).1 whole.1
 
 init_ready : (init : Option Expression) → encodable (if_there in_constant init) ≡ true → is_encodable_init init ≡ true
 init_ready None e = refl

@@ -1,11 +1,12 @@
 -- What the encoder takes of lists of what stands in a part: of what is asked alone, of indices, of instructions and bodies.
-use Rattle.std.proofs.Common.{◌≡◌, Bool, true, false, ◌&&◌, ◌==◌, length, List, [], ◌∷◌, ◌++◌, refl, sym, ap, ◌∙◌}
+use Rattle.std.proofs.Common.{◌≡◌, Bool, true, false, ◌&&◌, List, [], ◌∷◌, ◌++◌, refl, sym, ap, ◌∙◌}
 use Rattle.std.specs.Prelude.{Option, Some, None}
 use Rattle.std.specs.List.{flat_map, list_all}
 use Rattle.std.proofs.lemmas.List.Folds.{list_all-append}
 use Rattle.wast_base.specs.Blocks.{Blocks, is_balanced}
 use Rattle.wast_base.specs.Ids.{Name, Mark, marked, is_number}
 use Rattle.wast_base.specs.Spaces.{name_if}
+use Rattle.wast_tree.specs.Clauses.{hints_stand}
 use Rattle.wast_tree.specs.Instrs.{turns}
 use Rattle.wast_tree.specs.Sites.{Ask, Wants, Clause, OfBlock, Site, Asked, Used, LabelAt, Begins, Here, start, behind, body_here, param_marks, local_marks, declaring, asking, if_there, in_id, in_index, at_index, in_local, at_label, in_use, in_caught, in_catch, in_try_table, in_br_table, in_ref, in_access, in_cast, in_handle, in_handlers, uncovered, in_instr, in_instrs, in_expression, in_constant, in_func_kind}
 use Rattle.wast_tree.specs.Resolved.{is_numbered, are_numbered}
@@ -126,21 +127,25 @@ instrs_pass h (i ∷ is) =
     ∙ (ap (λ b. b && encodable (in_instrs (behind h i) is)) (anywhere h start i)
     ∙ ap (λ b. is_encodable_instr i && b) (instrs_pass (behind h i) is))
 
--- An expression: its instructions, and that it is without branch hints.
+-- The expression of a function: its instructions, and that its branch hints stand on them.
 expression_tells : (h : Here) (e : Expression)
-    → encodable (in_expression h e) ≡ (list_all is_encodable_instr e.instrs && encodable (Asked (Clause 2 (length e.branch_hints == 0)) ∷ []))
+    → encodable (in_expression h e) ≡ (list_all is_encodable_instr e.instrs && encodable (Asked (Clause 2 (hints_stand e)) ∷ []))
 expression_tells h e =
-    let hints = Asked (Clause 2 (length e.branch_hints == 0)) ∷ [] in
+    let hints = Asked (Clause 2 (hints_stand e)) ∷ [] in
     list_all-append is_encodable_site (in_instrs h e.instrs) hints ∙ ap (λ b. b && encodable hints) (instrs_pass h e.instrs)
 
 -- An expression as the encoder takes it: its instructions alone; of a constant expression, they are balanced.
 pub code_ready : (e : Expression) → encodable (in_expression start e) ≡ true → is_encodable_code e ≡ true
 code_ready e p = (both_lists is_encodable_site (in_instrs start e.instrs) _ p).0
 
+-- of the body of a function, its hints stand on its instructions
+pub code_hinted : (e : Expression) → encodable (in_expression start e) ≡ true → hints_stand e ≡ true
+code_hinted e p = (both_pass (hints_stand e) true (both_lists is_encodable_site (in_instrs start e.instrs) _ p).1).0
+
 pub constant_ready : (e : Expression) → encodable (in_constant e) ≡ true → is_encodable_expression e ≡ true
 constant_ready e p =
-    let both = both_lists is_encodable_site (in_expression start e) _ p in
-    both_true (is_encodable_code e) (is_balanced (turns e.instrs)) (code_ready e both.0) (both_pass (is_balanced (turns e.instrs)) true both.1).0
+    let both = both_lists is_encodable_site (in_instrs start e.instrs) _ p in
+    both_true (is_encodable_code e) (is_balanced (turns e.instrs)) both.0 (both_pass (is_balanced (turns e.instrs)) true both.1).0
 
 pub ready_instrs : (e : Expression) → is_encodable_expression e ≡ true → list_all is_encodable_instr e.instrs ≡ true
 ready_instrs e p = sym (instrs_pass start e.instrs) ∙ (both_pass (is_encodable_code e) (is_balanced (turns e.instrs)) p).0

@@ -1,7 +1,9 @@
+pub mod Customs
 pub mod Tree
 pub mod Values
 pub mod FieldEntries
 pub mod Meaning
 pub mod Encodable
+pub mod Hints
 pub mod Entries
 pub mod Segments

@@ -46,6 +46,7 @@ pub use Rattle.wast_tree.specs.declared.immediates.F32.{F32}
 pub use Rattle.wast_tree.specs.declared.immediates.F64.{F64}
 pub use Rattle.wast_tree.specs.declared.instrs.Instruction.{Instruction}
 pub use Rattle.wast_tree.specs.declared.instrs.Instruction.TheVariants as instr
+pub use Rattle.wast_tree.specs.declared.instrs.BranchHint.{BranchHint}
 pub use Rattle.wast_tree.specs.declared.instrs.Expression.{Expression}
 pub use Rattle.wast_tree.specs.declared.entities.TableType.{TableType}
 pub use Rattle.wast_tree.specs.declared.entities.MemoryType.{MemoryType}
@@ -97,3 +98,7 @@ pub use Rattle.wast_tree.specs.declared.immediates.MemArgOrdering.{MemArgOrderin
 pub use Rattle.wast_tree.specs.declared.immediates.MemArgOrdering.TheVariants as access
 pub use Rattle.wast_base.specs.declared.faults.Form.{Form}
 pub use Rattle.wast_base.specs.declared.faults.Form.TheVariants as form
+pub use Rattle.wast_tree.specs.declared.customs.Custom.{Custom}
+pub use Rattle.wast_tree.specs.declared.customs.Custom.TheVariants as custom
+pub use Rattle.wast_tree.specs.declared.customs.Dylink0Subsection.{Dylink0Subsection}
+pub use Rattle.wast_tree.specs.declared.customs.Dylink0Subsection.TheVariants as dylink

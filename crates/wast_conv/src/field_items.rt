@@ -17,12 +17,14 @@ use std::alloc::Global;
 use wasm_ops::{Sink, Spell};
 use wasm_out::{GlobalSection, ImportSection, MemorySection, TableSection, TagSection};
 use wast_tree::{
-    Error, Expression, GlobalKind, GlobalType, ImportItems, Imports, Memory, MemoryKind, Table,
-    TableKind, TableType, Tag,
+    CustomPlaceAnchor, Error, Expression, GlobalKind, GlobalType, ImportItems, Imports, Memory,
+    MemoryKind, Table, TableKind, TableType, Tag,
 };
 
 impl SectionItem for Imports<'_> {
     type Section = ImportSection;
+
+    const ANCHOR: CustomPlaceAnchor = CustomPlaceAnchor::Import;
 
     ghost spelling = { λ item. import_entry (meaning.as_import item) };
 
@@ -69,6 +71,8 @@ fn add_table<'e>(
 impl SectionItem for Table<'_> {
     type Section = TableSection;
 
+    const ANCHOR: CustomPlaceAnchor = CustomPlaceAnchor::Table;
+
     ghost spelling = { λ item. table_entry (meaning.as_table item) };
 
     ghost in_range = { λ item. InRangeTable (meaning.as_table item) };
@@ -89,6 +93,8 @@ impl SectionItem for Table<'_> {
 
 impl SectionItem for Memory<'_> {
     type Section = MemorySection;
+
+    const ANCHOR: CustomPlaceAnchor = CustomPlaceAnchor::Memory;
 
     ghost spelling = { λ item. entities.memory_type (meaning.as_memory item) };
 
@@ -128,6 +134,8 @@ fn add_global<'e>(
 impl SectionItem for wast_tree::Global<'_> {
     type Section = GlobalSection;
 
+    const ANCHOR: CustomPlaceAnchor = CustomPlaceAnchor::Global;
+
     ghost spelling = { λ item. global_entry (meaning.as_global item) };
 
     ghost in_range = { λ item. InRangeGlobal (meaning.as_global item) };
@@ -148,6 +156,8 @@ impl SectionItem for wast_tree::Global<'_> {
 
 impl SectionItem for Tag<'_> {
     type Section = TagSection;
+
+    const ANCHOR: CustomPlaceAnchor = CustomPlaceAnchor::Tag;
 
     ghost spelling = { λ item. entities.tag_type (meaning.as_tag item) };
 

@@ -16,7 +16,7 @@ use crate::values::Resolved;
 use std::alloc::Global;
 use wasm_ops::{Counted, Encode, Refusal, Sink, Spell};
 use wasm_out::{Build, ExportSection, FunctionSection, TypeSection};
-use wast_tree::{Error, Export, FunctionType, Rec, Type, TypeUse};
+use wast_tree::{CustomPlaceAnchor, Error, Export, FunctionType, Rec, Type, TypeUse};
 
 /// An item of a section.
 ///
@@ -26,6 +26,9 @@ use wast_tree::{Error, Export, FunctionType, Rec, Type, TypeUse};
 pub trait SectionItem {
     /// The section that holds such items.
     type Section: Build;
+
+    /// That section, as custom sections stand beside it (text format, custom annotations).
+    const ANCHOR: CustomPlaceAnchor;
 
     /// Its spelling.
     ghost spelling: { Self → List ℕ };
@@ -57,6 +60,8 @@ pub trait SectionItem {
 
 impl<T: SectionItem> SectionItem for &T {
     type Section = T::Section;
+
+    const ANCHOR: CustomPlaceAnchor = T::ANCHOR;
 
     ghost spelling = { λ item. T.spelling item.now };
 
@@ -102,6 +107,8 @@ impl Encode for RecOrType<'_, '_> {
 impl SectionItem for RecOrType<'_, '_> {
     type Section = TypeSection;
 
+    const ANCHOR: CustomPlaceAnchor = CustomPlaceAnchor::Ty;
+
     ghost use Rattle.wast_conv.specs.Entries.{as_type_entry, is_encodable_entry};
 
     ghost spelling = { λ item. type_entry (as_type_entry item) };
@@ -132,6 +139,8 @@ pub struct FuncSectionTy<'b, 'a>(pub &'b TypeUse<'a, FunctionType<'a>>);
 impl SectionItem for FuncSectionTy<'_, '_> {
     type Section = FunctionSection;
 
+    const ANCHOR: CustomPlaceAnchor = CustomPlaceAnchor::Func;
+
     ghost spelling = { λ item. unsigned (meaning.type_index item.0.now) };
 
     ghost in_range = { λ item. InRangeU32 (meaning.type_index item.0.now) };
@@ -149,6 +158,8 @@ impl SectionItem for FuncSectionTy<'_, '_> {
 
 impl SectionItem for Export<'_> {
     type Section = ExportSection;
+
+    const ANCHOR: CustomPlaceAnchor = CustomPlaceAnchor::Export;
 
     ghost spelling = { λ item. export_entry (meaning.as_export item) };
 

@@ -17,7 +17,7 @@ use crate::values::Resolved;
 use std::alloc::Global;
 use wasm_ops::{Sink, Spell};
 use wasm_out::{DataSection, ElementSection, Elements};
-use wast_tree::{Data, DataKind, Elem, ElemKind, Error};
+use wast_tree::{CustomPlaceAnchor, Data, DataKind, Elem, ElemKind, Error};
 
 /// Adds a segment of elements.
 fn add_elements<'e>(
@@ -46,6 +46,8 @@ fn add_elements<'e>(
 
 impl SectionItem for Elem<'_> {
     type Section = ElementSection;
+
+    const ANCHOR: CustomPlaceAnchor = CustomPlaceAnchor::Elem;
 
     ghost spelling = { λ item. element_entry (meaning.as_element item) };
 
@@ -86,6 +88,8 @@ fn add_data<'e>(
 
 impl SectionItem for Data<'_> {
     type Section = DataSection;
+
+    const ANCHOR: CustomPlaceAnchor = CustomPlaceAnchor::Data;
 
     ghost spelling = { λ item. segments.data_entry (meaning.as_data item) };
 

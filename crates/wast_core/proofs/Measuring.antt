@@ -5,10 +5,10 @@ use Rattle.wasm_out.specs.Parts.{SectionKind, Types, Imports, Functions, Tables,
 use Rattle.wast_core.specs.Tree.{ModuleField}
 use Rattle.wast_conv.specs.Encodable.{is_encodable}
 use Rattle.wast_core.specs.DataCounts.{needs_count}
-use Rattle.wast_core.specs.Extents.{payload_of, IsExtent, is_extent, is_counted}
+use Rattle.wast_core.specs.Extents.{payload_of, IsExtent, is_extent, IsHintsExtent, is_hints_extent, is_counted}
+use Rattle.wast_core.specs.Hints.{hinted, hints_payload_of}
 use Rattle.wast_core.specs.Measured.{are_measures}
-use Rattle.wast_core.specs.Meaning.{entries}
-use Rattle.wast_names.specs.ModuleNames.{name_subsections}
+use Rattle.wast_core.specs.Meaning.{entries, subsections_of}
 use Rattle.wast_names.specs.NamesPart.{names_payload_of}
 use Rattle.wast_core.specs.declared.sections.Measures.{Measures}
 use Rattle.wast_conv.proofs.EachPasses.{both_pass}
@@ -19,6 +19,11 @@ extent_is : (k : SectionKind) (fields : List ModuleField) (count size : ℕ) →
 extent_is k fields count size h =
     let both = both_pass (count == length (entries k fields)) (size == length (payload_of k (entries k fields))) h in
     record { counted = eqb-true count (length (entries k fields)) both.0; sized = eqb-true size (length (payload_of k (entries k fields))) both.1 }
+
+hints_are : (fields : List ModuleField) (count size : ℕ) → is_hints_extent fields count size ≡ true → IsHintsExtent fields count size
+hints_are fields count size h =
+    let both = both_pass (count == length (hinted fields)) (size == length (hints_payload_of (hinted fields))) h in
+    record { counted = eqb-true count (length (hinted fields)) both.0; sized = eqb-true size (length (hints_payload_of (hinted fields))) both.1 }
 
 pub record Extents (name : Option (List ℕ)) (fields : List ModuleField) (m : Measures) : Type 0 where
   pub reaches : are_reaches fields m.reaches ≡ true
@@ -34,7 +39,8 @@ pub record Extents (name : Option (List ℕ)) (fields : List ModuleField) (m : M
   pub code : IsExtent Code fields m.code.count m.code.size
   pub «data» : IsExtent Data fields m.«data».count m.«data».size
   pub counts : m.is_counted ≡ needs_count fields
-  pub names : m.names ≡ length (names_payload_of (name_subsections name fields))
+  pub hints : IsHintsExtent fields m.hints.count m.hints.size
+  pub names : m.names ≡ length (names_payload_of (subsections_of name fields))
 
 pub measured_extents : (name : Option (List ℕ)) (fields : List ModuleField) (m : Measures) → are_measures name fields m ≡ true → Extents name fields m
 measured_extents name fields m h =
@@ -51,6 +57,7 @@ measured_extents name fields m h =
     let of_code = both_pass (is_extent Code fields m.code.count m.code.size) _ of_elements.1 in
     let of_data = both_pass (is_extent Data fields m.«data».count m.«data».size) _ of_code.1 in
     let of_counts = both_pass (is_counted fields m.is_counted) _ of_data.1 in
+    let of_hints = both_pass (is_hints_extent fields m.hints.count m.hints.size) _ of_counts.1 in
     record {
       reaches = of_reaches.0;
       types = extent_is Types fields m.types.count m.types.size of_types.0;
@@ -65,5 +72,6 @@ measured_extents name fields m h =
       code = extent_is Code fields m.code.count m.code.size of_code.0;
       «data» = extent_is Data fields m.«data».count m.«data».size of_data.0;
       counts = as_told fields m.is_counted of_counts.0;
-      names = eqb-true m.names (length (names_payload_of (name_subsections name fields))) of_counts.1;
+      hints = hints_are fields m.hints.count m.hints.size of_hints.0;
+      names = eqb-true m.names (length (names_payload_of (subsections_of name fields))) of_hints.1;
     }

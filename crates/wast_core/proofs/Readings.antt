@@ -1,6 +1,6 @@
 -- The bytes of an encoded module are read as its parts.
 use Rattle.std.proofs.Common.{◌≡◌, ◌<◌, ℕ, Bool, true, false, List, [], ◌∷◌, ◌++◌, map, length, Option, Some, None, option_map, refl}
-use Rattle.std.specs.Prelude.{All, IsTrue, codes}
+use Rattle.std.specs.Prelude.{All, IsTrue, codes, if◌then◌else◌}
 use Rattle.std.specs.List.{flat_map}
 use Rattle.std.specs.Str.{is_utf8}
 use Rattle.std.proofs.lemmas.List.Elements.{All-nil, All-map}
@@ -12,7 +12,7 @@ use Rattle.wasm_out.specs.NameSectionBytes.{NameSubsection}
 use Rattle.wasm_out.specs.Parts.{SectionKind, Types, Imports, Functions, Tables, Memories, Tags, Globals, Exports, Elements, Code, Data, Single, Entry, Listed, DataCount, InRangePart}
 use Rattle.wasm_out.specs.Readable.{is_covered_init, HasRowsInit, is_balanced_init, is_covered_entry, HasRows, is_balanced_entry, HasUtf8Name, IsReadable, IsReadablePart}
 use Rattle.wasm_out.specs.Reads.{Reads}
-use Rattle.wast_core.specs.Tree.{Index, Expression, FuncKind, Func, GlobalType, ImportItems, TableKind, Table, Memory, GlobalKind, Global, Tag, Rec, Export, Elem, ModuleField}
+use Rattle.wast_core.specs.Tree.{Index, Expression, FuncKind, Func, GlobalType, ImportItems, TableKind, Table, Memory, GlobalKind, Global, Tag, Rec, Export, Elem, Custom, ModuleField}
 use Rattle.wast_core.specs.Tree as tree
 use Rattle.wast_core.specs.Tree.ty
 use Rattle.wast_core.specs.Tree.func
@@ -28,9 +28,14 @@ use Rattle.wast_conv.specs.Encodable.{are_encodable, is_entered_site, are_entere
 use Rattle.wast_conv.specs.FieldEntries.{imported, table_of, value_of}
 use Rattle.wast_core.specs.DataCounts.{needs_count, count_parts}
 use Rattle.wast_core.specs.Meaning as meaning
-use Rattle.wast_core.specs.Meaning.{Contribution, of_type, of_rec, of_import, of_func, of_table, of_memory, of_global, of_export, of_start, of_elem, of_data, of_tag, of_kind, contributed, entries_in, entries, listed, start_part, starts_in, in_slot, parts}
+use Rattle.wasm_out.specs.Hints.{hints_name}
+use Rattle.wast_conv.specs.Hints.{HintedBody}
+use Rattle.wast_core.specs.Hints.{hinted, hints_part}
+use Rattle.wast_core.specs.Meaning.{Contribution, nothing, subsections_of, of_type, of_rec, of_import, of_func, of_table, of_memory, of_global, of_export, of_start, of_elem, of_data, of_tag, of_kind, contributed, entries_in, entries, listed, start_part, starts_in, in_slot, parts}
 use Rattle.wast_core.specs.Utf8Names.{HasUtf8Items, HasUtf8Names}
-use Rattle.wast_names.specs.ModuleNames.{name_subsections}
+use Rattle.wast_tree.specs.Customs.{stands_at, customs_in, customs_at}
+use Rattle.wast_core.specs.Tree.{CustomPlace}
+use Rattle.wast_conv.specs.Customs.{custom_part}
 use Rattle.wast_names.specs.NamesPart.{names_part}
 use Rattle.wast_core.specs.Slots.{section_kind, order}
 use Rattle.wast_conv.proofs.EachPasses.{both_pass, both_true, both_lists}
@@ -152,6 +157,10 @@ tag_readable : (t : Tag) → AreReadable (of_tag t)
 tag_readable t Tags = plain Tags (meaning.as_tag t) refl tt refl tt
 tag_readable t k = nothing_more k
 
+nothing_readable : AreReadable nothing
+nothing_readable Types = nothing_more Types
+nothing_readable k = nothing_more k
+
 field_readable : (f : ModuleField) → IsTrue (is_encodable_field f) → HasUtf8Names f → AreReadable (contributed f)
 field_readable (field.Ty t) e h = type_readable t (type_ready t e)
 field_readable (field.Rec r) e h = rec_readable r (group_ready r e)
@@ -165,6 +174,7 @@ field_readable (field.Start i) e h = start_readable i
 field_readable (field.Elem x) e h = elem_readable x (elem_ready x e)
 field_readable (field.Data d) e h = data_readable d (data_ready d e)
 field_readable (field.Tag t) e h = tag_readable t
+field_readable (field.Custom c) e h = nothing_readable
 
 entries_readable : (k : SectionKind) (fields : List ModuleField) → IsTrue (is_encodable fields) → All HasUtf8Names fields → All (IsReadable k) (entries k fields)
 entries_readable k fields e h = all_in_flat (IsReadable k) (entries_in k) fields
@@ -189,18 +199,34 @@ names_readable : (ss : List NameSubsection) → All IsReadablePart (names_part s
 names_readable [] = All-nil IsReadablePart
 names_readable (s ∷ ss) = all_one IsReadablePart _ name_is_text
 
+hints_name_is_text : is_utf8 hints_name ≡ true
+unfolding encode
+hints_name_is_text = is_utf8-from_IsUtf8 hints_name (codes "metadata.code.branch_hint", (refl, refl))
+
+hints_readable : (functions : List (ℕ × HintedBody)) → All IsReadablePart (hints_part functions)
+hints_readable [] = All-nil IsReadablePart
+hints_readable (f ∷ fs) = all_one IsReadablePart _ hints_name_is_text
+
+customs_readable : (place : CustomPlace) (fields : List ModuleField) → All HasUtf8Names fields → All IsReadablePart (map custom_part (customs_at place fields))
+customs_readable place fields h =
+    All-map IsReadablePart custom_part (customs_at place fields)
+    (all_in_flat (λ c. IsReadablePart (custom_part c)) (customs_in place) fields (all_both HasUtf8Names HasUtf8Names (λ f. All (λ c. IsReadablePart (custom_part c)) (customs_in place f)) (λ f p q. each f p) fields h h))
+  where
+    where_so : (b : Bool) (c : Custom) → IsReadablePart (custom_part c) → All (λ c. IsReadablePart (custom_part c)) (if b then c ∷ [] else [])
+    where_so true c h = all_one (λ c. IsReadablePart (custom_part c)) c h
+    where_so false c h = All-nil (λ c. IsReadablePart (custom_part c))
+
+    each : (f : ModuleField) → HasUtf8Names f → All (λ c. IsReadablePart (custom_part c)) (customs_in place f)
+    each (field.Custom c) h = where_so (stands_at place c) c h
+    each f h = All-nil (λ c. IsReadablePart (custom_part c))
+
 slot_readable : (name : Option (List ℕ)) (fields : List ModuleField) → IsTrue (is_encodable fields) → All HasUtf8Names fields → (s : Slot) → All IsReadablePart (in_slot name fields s)
-slot_readable name fields e h slot.BeforeFirst = All-nil IsReadablePart
-slot_readable name fields e h (slot.Before k) = All-nil IsReadablePart
+slot_readable name fields e h (slot.Custom place) = customs_readable place fields h
 slot_readable name fields e h (slot.Section k) = listed_readable (section_kind k) (entries (section_kind k) fields) (entries_readable (section_kind k) fields e h)
-slot_readable name fields e h slot.BeforeStart = All-nil IsReadablePart
 slot_readable name fields e h slot.Start = starts_readable fields
-slot_readable name fields e h slot.AfterStart = All-nil IsReadablePart
 slot_readable name fields e h slot.DataCount = counts_readable (needs_count fields) (length (entries Data fields))
-slot_readable name fields e h slot.Hints = All-nil IsReadablePart
-slot_readable name fields e h (slot.After k) = All-nil IsReadablePart
-slot_readable name fields e h slot.AfterLast = All-nil IsReadablePart
-slot_readable name fields e h slot.Names = names_readable (name_subsections name fields)
+slot_readable name fields e h slot.Hints = hints_readable (hinted fields)
+slot_readable name fields e h slot.Names = names_readable (subsections_of name fields)
 
 pub reads_module : (name : Option (List ℕ)) (fields : List ModuleField) (bytes : List ℕ) → IsTrue (is_encodable fields) → All HasUtf8Names fields → InRangeModule name fields → bytes ≡ bytes_of name fields → All (λ x. x < 256) bytes → Reads bytes (parts name fields)
 reads_module name fields bytes e h r is small = record {

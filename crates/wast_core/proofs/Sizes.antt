@@ -1,5 +1,5 @@
 -- How long a module is, of how long the payloads of its sections are.
-use Rattle.std.proofs.Common.{◌≡◌, ◌<◌, ◌≤◌, ◌+◌, ℕ, Bool, List, [], ◌∷◌, ◌++◌, length, Option, Result, sym, ap, ◌∙◌, arith, length-append, take}
+use Rattle.std.proofs.Common.{◌≡◌, ◌<◌, ◌≤◌, ◌+◌, ℕ, Bool, List, [], ◌∷◌, ◌++◌, map, length, Option, Result, sym, ap, ◌∙◌, arith, length-append, take}
 use Rattle.std.specs.Prelude.{All, codes}
 use Rattle.std.specs.List.{flat_map}
 use Rattle.std.proofs.lemmas.Bool.{ne_eqb}
@@ -16,6 +16,10 @@ use Rattle.wasm_out.specs.Parts.{SectionKind, Data, Entry, entry, Custom, Listed
 use Rattle.wasm_out.specs.Reads.{header}
 use Rattle.wast_core.specs.Tree.{ModuleField}
 use Rattle.wast_core.specs.Bounded.{bytes_of}
+use Rattle.wasm_out.specs.Hints.{hints, hints_name, hints_payload}
+use Rattle.wast_conv.specs.Hints.{HintedBody}
+use Rattle.wast_core.specs.Hints.{as_function_hints, hints_part, hints_payload_of}
+use Rattle.wast_core.proofs.Hinting.{hints_are_these}
 use Rattle.wast_core.specs.Extents.{payload_of, IsExtent, section_size}
 use Rattle.wast_names.specs.FoundNames.{counted}
 use Rattle.wast_core.specs.DataCounts.{needs_count, count_parts}
@@ -50,12 +54,24 @@ names_part_size (s ∷ ss) size is =
     ap (λ (bs : List ℕ). length bs) (flat_one part here)
     ∙ size_of_some 0 (name_payload rest) size is (omega (arith, length-append (unsigned (length text) ++ text) rest, length-append (unsigned (length text)) text, unsigned-nonempty (length text)))
 
+hints_part_size : (functions : List (ℕ × HintedBody)) (size : ℕ) → size ≡ length (hints_payload_of functions) → length (flat_map part (hints_part functions)) ≡ section_size size
+hints_part_size [] size is = ap section_size (sym is)
+hints_part_size (f ∷ fs) size is =
+    let rest = hints (map as_function_hints (f ∷ fs)) in
+    let here : Part = record { kind = Custom; items = record { name = hints_name; bytes = rest } } in
+    ap (λ (bs : List ℕ). length bs) (flat_one part here)
+    ∙ size_of_some 0 (hints_payload rest) size (is ∙ ap (λ (bs : List ℕ). length (hints_payload bs)) (hints_are_these (f ∷ fs)))
+    (omega (arith, length-append (unsigned (length hints_name) ++ hints_name) rest, length-append (unsigned (length hints_name)) hints_name, unsigned-nonempty (length hints_name)))
+
 -- what is at most so long is counted whole
 short : (n : ℕ) → n ≤ 4294967306 → n ≡ counted n
 short n le = omega arith
 
 pub listed_counted : (k : SectionKind) (fields : List ModuleField) (count size bytes : ℕ) → IsExtent k fields count size → bytes ≡ section_size size → bytes ≤ 4294967306 → bytes ≡ counted (length (flat_map part (listed k (entries k fields))))
 listed_counted k fields count size bytes e is le = short bytes le ∙ ap counted (is ∙ sym (listed_size k (entries k fields) size e.sized))
+
+pub hints_counted : (functions : List (ℕ × HintedBody)) (size bytes : ℕ) → size ≡ length (hints_payload_of functions) → bytes ≡ section_size size → bytes ≤ 4294967306 → bytes ≡ counted (length (flat_map part (hints_part functions)))
+hints_counted functions size bytes e is le = short bytes le ∙ ap counted (is ∙ sym (hints_part_size functions size e))
 
 pub names_counted : (subsections : List NameSubsection) (size bytes : ℕ) → size ≡ length (names_payload_of subsections) → bytes ≡ section_size size → bytes ≤ 4294967306 → bytes ≡ counted (length (flat_map part (names_part subsections)))
 names_counted subsections size bytes e is le = short bytes le ∙ ap counted (is ∙ sym (names_part_size subsections size e))
@@ -88,8 +104,8 @@ pub module_size : (name : Option (List ℕ)) (fields : List ModuleField) (sum : 
 module_size name fields sum is =
     omega (arith, is, ap (λ (bs : List ℕ). length bs) (flat_in_flat part (in_slot name fields) order), length-append header (flat_map part (parts name fields)))
 
--- what each field gives one after another, as parts
-pub each_part_written : {S A X : Type 0} (rules : SinkRules S) (f : X → List Part) (xs : List X) (a b : S) (r : Result A Refusal)
-    → Writes rules (All (λ x. All InRangePart (f x)) xs) a b (flat_map (λ x. flat_map part (f x)) xs) r → Writes rules (All InRangePart (flat_map f xs)) a b (flat_map part (flat_map f xs)) r
-each_part_written rules f xs a b r p =
-    written_as rules (All (λ x. All InRangePart (f x)) xs) (All InRangePart (flat_map f xs)) a b (flat_map (λ x. flat_map part (f x)) xs) (flat_map part (flat_map f xs)) r (all_in_flat InRangePart f xs) (all_of_flat InRangePart f xs) (flat_in_flat part f xs) p
+-- what each field gives one after another, in one list
+pub each_written : {S A X Y : Type 0} (rules : SinkRules S) (P : Y → Type 0) (g : Y → List ℕ) (f : X → List Y) (xs : List X) (a b : S) (r : Result A Refusal)
+    → Writes rules (All (λ x. All P (f x)) xs) a b (flat_map (λ x. flat_map g (f x)) xs) r → Writes rules (All P (flat_map f xs)) a b (flat_map g (flat_map f xs)) r
+each_written rules P g f xs a b r p =
+    written_as rules (All (λ x. All P (f x)) xs) (All P (flat_map f xs)) a b (flat_map (λ x. flat_map g (f x)) xs) (flat_map g (flat_map f xs)) r (all_in_flat P f xs) (all_of_flat P f xs) (flat_in_flat g f xs) p

@@ -41,7 +41,7 @@ same_given None (Some id) = by_name (name_of id) refl
 same_types : (ts : List ty.«Type») → map type_name (map (mapped_type stripping) ts) ≡ map type_name ts
 same_types ts = each_alike (mapped_type stripping) type_name (λ t i. (space.Ty, same_given t.name t.id i)) ts
 
-same_space_of : (k : ItemKind) → space_of_kind (mapped_item_kind stripping k) ≡ space_of_kind k
+pub same_space_of : (k : ItemKind) → space_of_kind (mapped_item_kind stripping k) ≡ space_of_kind k
 same_space_of k = grind (arith, common_steps)
 
 -- an item of a group, with its name there
@@ -55,7 +55,7 @@ abbrev stripped_item : Named → Named
 stripped_item p = (p.0, mapped_sig stripping p.1)
 
 -- the signatures of what is imported are changed one by one
-sigs_changed : (x : ImportItems) → item_sigs (mapped_import_items stripping x) ≡ map (mapped_sig stripping) (item_sigs x)
+pub sigs_changed : (x : ImportItems) → item_sigs (mapped_import_items stripping x) ≡ map (mapped_sig stripping) (item_sigs x)
 sigs_changed (import_items.Single source name sig) = refl
 sigs_changed (import_items.Group1 source items) = pairs items
   where

@@ -25,9 +25,12 @@ use Rattle.wast_core.specs.Tree.{ModuleField}
 use Rattle.wast_core.specs.declared.slots.Slot.{Slot}
 use Rattle.wast_core.specs.declared.slots.Slot.TheVariants as slot
 use Rattle.wast_core.specs.Bounded.{InRangeHeld, InRangeSlot, InRangeModule, IsBounded}
-use Rattle.wast_core.specs.Meaning.{in_slot, parts, meaning}
+use Rattle.wast_core.specs.Hints.{hinted, InRangeHinted, InRangeHints}
+use Rattle.wast_core.specs.Meaning.{in_slot, subsections_of, parts, meaning}
 use Rattle.wast_core.specs.Utf8Names.{HasUtf8Names}
-use Rattle.wast_names.specs.ModuleNames.{InRangeNames, name_subsections}
+use Rattle.wast_tree.specs.Customs.{customs_at}
+use Rattle.wast_core.specs.Tree.{CustomPlace}
+use Rattle.wast_conv.specs.Customs.{InRangeCustomBytes}
 use Rattle.wast_core.specs.Slots.{order}
 use Rattle.wast_core.specs.WorkedMeanings.{Row1, Row2, Row8, Row24, Row27, AnnotatedFunction, SecondNamed, LongSection}
 use Rattle.wast_core.proofs.Readings.{reads_module}
@@ -50,24 +53,19 @@ one : {A : Type 0} (P : A → Type 0) (x : A) → P x → InRangeVec P (x ∷ []
 one P x h = (omega arith, all_one P x h)
 
 -- what is in range in the parts and in the names is so in each place
-each_place : (name : Option (List ℕ)) (fields : List ModuleField) → All InRangePart (parts name fields) → InRangeNames name fields → InRangeModule name fields
-each_place name fields h names = all_both (λ s. All InRangePart (in_slot name fields s)) (InRangeHeld name fields) (InRangeSlot name fields) (λ s p q. (p, q)) order (all_of_flat InRangePart (in_slot name fields) order h) (all_each (InRangeHeld name fields) held order)
+each_place : (name : Option (List ℕ)) (fields : List ModuleField) → All InRangePart (parts name fields) → ((place : CustomPlace) → All InRangeCustomBytes (customs_at place fields)) → InRangeHints (hinted fields) → All InRangeNameSubsection (subsections_of name fields) → InRangeModule name fields
+each_place name fields h customs hints names = all_both (λ s. All InRangePart (in_slot name fields s)) (InRangeHeld name fields) (InRangeSlot name fields) (λ s p q. (p, q)) order (all_of_flat InRangePart (in_slot name fields) order h) (all_each (InRangeHeld name fields) held order)
   where
     held : (s : Slot) → InRangeHeld name fields s
-    held slot.BeforeFirst = tt
-    held (slot.Before kind) = tt
+    held (slot.Custom place) = customs place
     held (slot.Section kind) = tt
-    held slot.BeforeStart = tt
     held slot.Start = tt
-    held slot.AfterStart = tt
     held slot.DataCount = tt
-    held slot.Hints = tt
-    held (slot.After kind) = tt
-    held slot.AfterLast = tt
+    held slot.Hints = hints
     held slot.Names = names
 
 pub row1 : Row1
-row1 = (record { spaces = not_crowded [] refl refl; counter = omega arith; writable = record { in_range = each_place None [] (All-nil InRangePart) (All-nil InRangeNameSubsection); length = omega arith } }, refl)
+row1 = (record { spaces = not_crowded [] refl refl; counter = omega arith; writable = record { in_range = each_place None [] (All-nil InRangePart) (λ place. All-nil InRangeCustomBytes) (none InRangeHinted) (All-nil InRangeNameSubsection); length = omega arith } }, refl)
 
 parts27 : All InRangePart out.worked_parts
 unfolding unsigned unsigned_in
@@ -85,9 +83,9 @@ parts27 = All-from_recursion InRangePart out.worked_parts (
   ),
 )
 
-names27 : (a b c d e f : Address) → InRangeNames None (resolved (by_positions (worked.row27 a b c d e f)))
+names27 : (a b c d e f : Address) → All InRangeNameSubsection (subsections_of None (resolved (by_positions (worked.row27 a b c d e f))))
 unfolding unsigned unsigned_in
-names27 a b c d e f = All-from_recursion InRangeNameSubsection (name_subsections None (resolved (by_positions (worked.row27 a b c d e f)))) (
+names27 a b c d e f = All-from_recursion InRangeNameSubsection (subsections_of None (resolved (by_positions (worked.row27 a b c d e f)))) (
   (omega arith, one InRangeNameEntry _ (omega arith, omega arith)),
   ((omega arith, one InRangeNameEntry _ (omega arith, omega arith)), tt),
 )
@@ -103,7 +101,7 @@ bounded27 : (a b c d e f : Address) → IsBounded 1 None (worked.row27 a b c d e
 unfolding unsigned unsigned_in
 bounded27 a b c d e f =
     let fields = worked.row27 a b c d e f in
-    record { spaces = not_crowded (explicit fields) refl refl; counter = omega arith; writable = record { in_range = each_place None (resolved (by_positions fields)) parts27 (names27 a b c d e f); length = omega arith } }
+    record { spaces = not_crowded (explicit fields) refl refl; counter = omega arith; writable = record { in_range = each_place None (resolved (by_positions fields)) parts27 (λ place. All-nil InRangeCustomBytes) (none InRangeHinted) (names27 a b c d e f); length = omega arith } }
 
 reads27 : (a b c d e f : Address) → Reads out.worked_bytes (meaning None (worked.row27 a b c d e f))
 unfolding unsigned unsigned_in

@@ -7,29 +7,27 @@ use Rattle.wast_resolve.specs.Explicit.{explicit, by_positions, ids_filled}
 use Rattle.wast_resolve.specs.Demands.{IsCrowded}
 use Rattle.wast_resolve.specs.Resolved.{resolved}
 use Rattle.wast_core.specs.Tree.{ModuleField}
-use Rattle.wast_core.specs.Meaning.{in_slot, parts}
+use Rattle.wast_core.specs.Hints.{hinted, InRangeHints}
+use Rattle.wast_core.specs.Meaning.{in_slot, parts, subsections_of}
 use Rattle.wast_core.specs.Slots.{order}
 use Rattle.wast_core.specs.declared.slots.Slot.{Slot}
 use Rattle.wast_core.specs.declared.slots.Slot.TheVariants as slot
-use Rattle.wast_names.specs.ModuleNames.{InRangeNames}
+use Rattle.wasm_out.specs.NameSectionBytes.{InRangeNameSubsection}
+use Rattle.wast_conv.specs.Customs.{InRangeCustomBytes}
+use Rattle.wast_tree.specs.Customs.{customs_at}
 
 -- the bytes of a resolved list, of a module with this name
 abbrev pub bytes_of : Option (List ℕ) → List ModuleField → List ℕ
 bytes_of name fields = header ++ flat_map part (parts name fields)
 
--- the numbers, counts and lengths in a place are in range, those in the payload of the name section too
+-- the numbers, counts and lengths in the bytes of custom sections, of branch hints and of the name section are in range
 abbrev pub InRangeHeld : Option (List ℕ) → List ModuleField → Slot → Type 0
-InRangeHeld name fields slot.BeforeFirst = Unit {0}
-InRangeHeld name fields (slot.Before kind) = Unit {0}
+InRangeHeld name fields (slot.Custom place) = All InRangeCustomBytes (customs_at place fields)
 InRangeHeld name fields (slot.Section kind) = Unit {0}
-InRangeHeld name fields slot.BeforeStart = Unit {0}
 InRangeHeld name fields slot.Start = Unit {0}
-InRangeHeld name fields slot.AfterStart = Unit {0}
 InRangeHeld name fields slot.DataCount = Unit {0}
-InRangeHeld name fields slot.Hints = Unit {0}
-InRangeHeld name fields (slot.After kind) = Unit {0}
-InRangeHeld name fields slot.AfterLast = Unit {0}
-InRangeHeld name fields slot.Names = InRangeNames name fields
+InRangeHeld name fields slot.Hints = InRangeHints (hinted fields)
+InRangeHeld name fields slot.Names = All InRangeNameSubsection (subsections_of name fields)
 
 -- the numbers, counts and lengths in the parts of a place are in range, and those held there
 abbrev pub InRangeSlot : Option (List ℕ) → List ModuleField → Slot → Type 0

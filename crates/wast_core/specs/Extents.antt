@@ -5,8 +5,8 @@ use Rattle.wasm_ops.specs.Spelling.{vec}
 use Rattle.wasm_out.specs.Parts.{SectionKind, Entry, entry}
 use Rattle.wast_core.specs.Tree.{ModuleField}
 use Rattle.wast_core.specs.DataCounts.{needs_count}
-use Rattle.wast_core.specs.Meaning.{entries}
-use Rattle.wast_names.specs.ModuleNames.{name_subsections}
+use Rattle.wast_core.specs.Hints.{hinted, hints_payload_of}
+use Rattle.wast_core.specs.Meaning.{entries, subsections_of}
 use Rattle.wast_names.specs.NamesPart.{names_payload_of}
 
 -- what stands behind the length of a section; nothing where it has no entries and is left out
@@ -23,9 +23,18 @@ pub record IsExtent (kind : SectionKind) (fields : List ModuleField) (count size
 abbrev pub is_extent : SectionKind → List ModuleField → ℕ → ℕ → Bool
 is_extent kind fields count size = (count == length (entries kind fields)) && (size == length (payload_of kind (entries kind fields)))
 
+-- the section of branch hints has so many functions, and so many bytes stand behind its length
+pub record IsHintsExtent (fields : List ModuleField) (count size : ℕ) : Type 0 where
+  pub counted : count ≡ length (hinted fields)
+  pub sized : size ≡ length (hints_payload_of (hinted fields))
+
+-- the same, as a test
+abbrev pub is_hints_extent : List ModuleField → ℕ → ℕ → Bool
+is_hints_extent fields count size = (count == length (hinted fields)) && (size == length (hints_payload_of (hinted fields)))
+
 -- the name section of a module with this name has so many bytes behind its length
 abbrev pub is_names_size : Option (List ℕ) → List ModuleField → ℕ → Bool
-is_names_size name fields size = size == length (names_payload_of (name_subsections name fields))
+is_names_size name fields size = size == length (names_payload_of (subsections_of name fields))
 
 -- it is told rightly whether these fields need a data count
 abbrev pub is_counted : List ModuleField → Bool → Bool

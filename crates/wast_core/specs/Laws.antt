@@ -1,8 +1,13 @@
--- What resolving leaves of a text module is what the module means; and what is too large to be resolved.
-use Rattle.std.specs.Prelude.{◌≡◌, ℕ, ◌<◌, List, Option}
+-- What resolving leaves of a text module is what the module means; what is too large to be resolved; and where custom
+-- sections stand.
+use Rattle.std.specs.Prelude.{◌≡◌, ℕ, ◌<◌, List, [], ◌∷◌, Option}
+use Rattle.std.specs.List.{filter}
+use Rattle.wast_tree.specs.Customs.{custom_place}
 use Rattle.wast_tree.specs.Generations.{greatest_generation}
 use Rattle.wast_resolve.specs.Finished.{finished}
-use Rattle.wast_core.specs.Tree.{ModuleField}
+use Rattle.wast_core.specs.Tree.{Custom, ModuleField}
+use Rattle.wast_core.specs.Slots.{order, is_place}
+use Rattle.wast_core.specs.declared.slots.Slot.TheVariants as slot
 use Rattle.wast_resolve.specs.Demands.{IsTooLarge}
 use Rattle.wast_core.specs.Bounded.{IsBounded}
 use Rattle.wast_core.specs.Headline.{IsMet}
@@ -15,3 +20,7 @@ MeansWhatIsWritten = (n : ℕ) (name : Option (List ℕ)) (fields : List ModuleF
 -- Fields that are too large to be resolved are too large to be encoded.
 abbrev pub TooLargeIsUnbounded : Type 0
 TooLargeIsUnbounded = (n : ℕ) (name : Option (List ℕ)) (fields : List ModuleField) → IsTooLarge n fields → IsBounded n name fields → ⊥
+
+-- Each custom section stands in one place of a module alone, which is its own.
+abbrev pub CustomsStandOnce : Type 0
+CustomsStandOnce = (c : Custom) → filter (is_place (custom_place c)) order ≡ slot.Custom (custom_place c) ∷ []

@@ -3,6 +3,8 @@ pub mod Slots
 pub mod Uncovered
 pub mod Bounded
 pub mod Headline
+pub mod Hints
+pub mod HintPlaces
 pub mod Laws
 pub mod Meaning
 pub mod Modules
@@ -12,6 +14,8 @@ pub mod WorkedEntries
 pub mod WorkedAbbreviations
 pub mod WorkedCounts
 pub mod WorkedBlocks
+pub mod WorkedHints
+pub mod WorkedCustoms
 pub mod Tree
 pub mod Wats
 pub mod Writing

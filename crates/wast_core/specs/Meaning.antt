@@ -1,8 +1,8 @@
 -- What a text module means: its parts, in the order of the sections, with the numbers of its resolved list (binary format, modules).
-use Rattle.std.specs.Prelude.{ℕ, List, [], ◌∷◌, map, length, Option}
-use Rattle.std.specs.List.{flat_map}
+use Rattle.std.specs.Prelude.{ℕ, Bool, List, [], ◌∷◌, map, length, codes, Option, if◌then◌else◌}
+use Rattle.std.specs.List.{flat_map, list_any}
 use Rattle.wast_core.specs.Tree as tree
-use Rattle.wast_core.specs.Tree.{Rec, Func, Table, Memory, Global, Tag, Export, Index, Elem, ModuleField}
+use Rattle.wast_core.specs.Tree.{Rec, Func, Table, Memory, Global, Tag, Export, Index, Elem, Custom, ModuleField}
 use Rattle.wast_core.specs.Tree.ty
 use Rattle.wast_core.specs.Tree.field
 use Rattle.wasm_ops.specs.declared.entities.MemoryType.{MemoryType}
@@ -10,14 +10,18 @@ use Rattle.wasm_ops.specs.declared.entities.TagType.{TagType}
 use Rattle.wasm_out.specs.Bodies.{Body}
 use Rattle.wasm_out.specs.DataSegments.{DataEntry}
 use Rattle.wasm_out.specs.ElementSegments.{ElementEntry}
-use Rattle.wasm_out.specs.Parts.{SectionKind, Types, Imports, Functions, Tables, Memories, Tags, Globals, Exports, Elements, Code, Data, Entry, TypeEntry, Single, ImportEntry, TableEntry, GlobalEntry, ExportEntry, Start, Listed, Part}
+use Rattle.wasm_out.specs.Parts.{SectionKind, Types, Imports, Functions, Tables, Memories, Tags, Globals, Exports, Elements, Code, Data, Entry, TypeEntry, Single, ImportEntry, TableEntry, GlobalEntry, ExportEntry, Start, Listed, Part, part}
 use Rattle.wast_resolve.specs.Explicit.{by_positions}
 use Rattle.wast_resolve.specs.Resolved.{resolved}
+use Rattle.wast_tree.specs.Customs.{customs_at, is_custom_called}
+use Rattle.wast_conv.specs.Customs.{custom_part}
+use Rattle.wasm_out.specs.NameSectionBytes.{NameSubsection}
 use Rattle.wast_names.specs.ModuleNames.{name_subsections}
 use Rattle.wast_names.specs.NamesPart.{names_part}
 use Rattle.wast_core.specs.declared.slots.Slot.{Slot}
 use Rattle.wast_core.specs.declared.slots.Slot.TheVariants as slot
 use Rattle.wast_core.specs.DataCounts.{needs_count, count_parts}
+use Rattle.wast_core.specs.Hints.{hinted, hints_part}
 use Rattle.wast_core.specs.Slots.{section_kind, order}
 pub use Rattle.wast_conv.specs.Values.{number, as_abstract_type, as_heap_type, as_ref_type, as_val_type, as_storage_type, as_field_type, as_struct_type, as_array_type, as_func_type, as_inner_type, as_sub_type, type_index, as_table_type, as_memory_type, as_global_type, as_tag_type, as_entity_type, as_instr, as_expression, body_of, as_body, as_export_kind}
 pub use Rattle.wast_conv.specs.FieldEntries.{as_group, as_import, as_table, as_memory, as_global, as_tag, as_export, as_element_items, as_element_mode, as_element, as_data_mode, as_data}
@@ -116,6 +120,7 @@ contributed (field.Start i) = of_start i
 contributed (field.Elem e) = of_elem e
 contributed (field.Data d) = of_data d
 contributed (field.Tag t) = of_tag t
+contributed (field.Custom c) = nothing
 
 -- what is put into the section of a kind
 abbrev pub of_kind : (kind : SectionKind) → Contribution → List (Entry kind)
@@ -156,19 +161,26 @@ starts_in f = map start_part (contributed f).starts
 abbrev pub data_counts : List ModuleField → List Part
 data_counts fields = count_parts (needs_count fields) (length (entries Data fields))
 
+-- the bytes of a custom section
+abbrev pub custom_section : Custom → List ℕ
+custom_section c = part (custom_part c)
+
+-- whether a custom section is called name
+abbrev pub has_own_names : List ModuleField → Bool
+has_own_names fields = list_any (is_custom_called (codes "name")) fields
+
+-- the subsections of names; where a custom section is called name, there are none
+abbrev pub subsections_of : Option (List ℕ) → List ModuleField → List NameSubsection
+subsections_of name fields = if has_own_names fields then [] else name_subsections name fields
+
 -- the parts in a place of a module with this name, of these fields
 abbrev pub in_slot : Option (List ℕ) → List ModuleField → Slot → List Part
-in_slot name fields slot.BeforeFirst = []
-in_slot name fields (slot.Before kind) = []
+in_slot name fields (slot.Custom place) = map custom_part (customs_at place fields)
 in_slot name fields (slot.Section kind) = listed (section_kind kind) (entries (section_kind kind) fields)
-in_slot name fields slot.BeforeStart = []
 in_slot name fields slot.Start = flat_map starts_in fields
-in_slot name fields slot.AfterStart = []
 in_slot name fields slot.DataCount = data_counts fields
-in_slot name fields slot.Hints = []
-in_slot name fields (slot.After kind) = []
-in_slot name fields slot.AfterLast = []
-in_slot name fields slot.Names = names_part (name_subsections name fields)
+in_slot name fields slot.Hints = hints_part (hinted fields)
+in_slot name fields slot.Names = names_part (subsections_of name fields)
 
 -- the parts of a resolved list, of a module with this name
 abbrev pub parts : Option (List ℕ) → List ModuleField → List Part

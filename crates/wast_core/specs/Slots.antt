@@ -1,6 +1,10 @@
 -- The places of sections in a module, in the order of the binary format (binary format, modules).
-use Rattle.std.specs.Prelude.{List, [], ◌∷◌}
+use Rattle.std.specs.Prelude.{◌==◌, Bool, false, List, [], ◌∷◌, ◌++◌}
 use Rattle.wasm_out.specs.Parts as parts
+use Rattle.wast_tree.specs.Customs.{place_rank}
+use Rattle.wast_core.specs.Tree.{CustomPlace, CustomPlaceAnchor}
+use Rattle.wast_core.specs.Tree.anchor
+use Rattle.wast_core.specs.Tree.custom_place as at
 use Rattle.wast_core.specs.declared.slots.SectionKind.{SectionKind}
 use Rattle.wast_core.specs.declared.slots.SectionKind.TheVariants as kind
 use Rattle.wast_core.specs.declared.slots.Slot.{Slot}
@@ -20,23 +24,30 @@ section_kind kind.Elements = parts.Elements
 section_kind kind.Code = parts.Code
 section_kind kind.Data = parts.Data
 
--- what stands before a section, the section, and what stands behind it
+-- the custom sections directly before a section, the section, and those directly behind it
+abbrev pub around : CustomPlaceAnchor → Slot → List Slot
+around a s = slot.Custom (at.Before a) ∷ s ∷ slot.Custom (at.After a) ∷ []
+
+-- the places, one behind the other
 abbrev pub order : List Slot
 order =
-    slot.BeforeFirst
-    ∷ slot.Before kind.Types ∷ slot.Section kind.Types ∷ slot.After kind.Types
-    ∷ slot.Before kind.Imports ∷ slot.Section kind.Imports ∷ slot.After kind.Imports
-    ∷ slot.Before kind.Functions ∷ slot.Section kind.Functions ∷ slot.After kind.Functions
-    ∷ slot.Before kind.Tables ∷ slot.Section kind.Tables ∷ slot.After kind.Tables
-    ∷ slot.Before kind.Memories ∷ slot.Section kind.Memories ∷ slot.After kind.Memories
-    ∷ slot.Before kind.Tags ∷ slot.Section kind.Tags ∷ slot.After kind.Tags
-    ∷ slot.Before kind.Globals ∷ slot.Section kind.Globals ∷ slot.After kind.Globals
-    ∷ slot.Before kind.Exports ∷ slot.Section kind.Exports ∷ slot.After kind.Exports
-    ∷ slot.BeforeStart ∷ slot.Start ∷ slot.AfterStart
-    ∷ slot.Before kind.Elements ∷ slot.Section kind.Elements ∷ slot.After kind.Elements
-    ∷ slot.DataCount
-    ∷ slot.Before kind.Code ∷ slot.Hints ∷ slot.Section kind.Code ∷ slot.After kind.Code
-    ∷ slot.Before kind.Data ∷ slot.Section kind.Data ∷ slot.After kind.Data
-    ∷ slot.AfterLast
-    ∷ slot.Names
-    ∷ []
+    slot.Custom at.BeforeFirst
+    ∷ (around anchor.Ty (slot.Section kind.Types)
+    ++ (around anchor.Import (slot.Section kind.Imports)
+    ++ (around anchor.Func (slot.Section kind.Functions)
+    ++ (around anchor.Table (slot.Section kind.Tables)
+    ++ (around anchor.Memory (slot.Section kind.Memories)
+    ++ (around anchor.Tag (slot.Section kind.Tags)
+    ++ (around anchor.Global (slot.Section kind.Globals)
+    ++ (around anchor.Export (slot.Section kind.Exports)
+    ++ (around anchor.Start slot.Start
+    ++ (around anchor.Elem (slot.Section kind.Elements)
+    ++ (slot.DataCount
+    ∷ slot.Custom (at.Before anchor.Code) ∷ slot.Hints ∷ slot.Section kind.Code ∷ slot.Custom (at.After anchor.Code)
+    ∷ (around anchor.Data (slot.Section kind.Data)
+    ++ (slot.Custom at.AfterLast ∷ slot.Names ∷ [])))))))))))))
+
+-- whether it is this place of custom sections
+abbrev pub is_place : CustomPlace → Slot → Bool
+is_place place (slot.Custom other) = place_rank other == place_rank place
+is_place place s = false

@@ -24,6 +24,7 @@ pub use Rattle.wast_tree.specs.declared.immediates.BlockType.{BlockType}
 pub use Rattle.wast_tree.specs.declared.immediates.TryTableCatch.{TryTableCatch}
 pub use Rattle.wast_tree.specs.declared.instrs.Instruction.{Instruction}
 pub use Rattle.wast_tree.specs.declared.instrs.Instruction.TheVariants as instr
+pub use Rattle.wast_tree.specs.declared.instrs.BranchHint.{BranchHint}
 pub use Rattle.wast_tree.specs.declared.instrs.Expression.{Expression}
 pub use Rattle.wast_tree.specs.declared.entities.TableType.{TableType}
 pub use Rattle.wast_tree.specs.declared.entities.GlobalType.{GlobalType}
@@ -61,5 +62,12 @@ pub use Rattle.wast_tree.specs.declared.fields.Tag.{Tag}
 pub use Rattle.wast_tree.specs.declared.fields.TagKind.TheVariants as tag_kind
 pub use Rattle.wast_tree.specs.declared.fields.Export.{Export}
 pub use Rattle.wast_tree.specs.declared.fields.ExportKind.TheVariants as export
+pub use Rattle.wast_tree.specs.declared.customs.Custom.{Custom}
+pub use Rattle.wast_tree.specs.declared.customs.Custom.TheVariants as custom
+pub use Rattle.wast_tree.specs.declared.customs.CustomPlace.{CustomPlace}
+pub use Rattle.wast_tree.specs.declared.customs.CustomPlace.TheVariants as custom_place
+pub use Rattle.wast_tree.specs.declared.customs.CustomPlaceAnchor.{CustomPlaceAnchor}
+pub use Rattle.wast_tree.specs.declared.customs.CustomPlaceAnchor.TheVariants as anchor
+pub use Rattle.wast_tree.specs.declared.customs.Dylink0Subsection.TheVariants as dylink
 pub use Rattle.wast_tree.specs.declared.fields.ModuleField.{ModuleField}
 pub use Rattle.wast_tree.specs.declared.fields.ModuleField.TheVariants as field

@@ -1,6 +1,7 @@
 -- Which names in fields are UTF-8: those that they put into the import and export sections (binary format, values: names).
 use Rattle.std.specs.Prelude.{IsTrue}
 use Rattle.std.specs.Str.{is_utf8}
+use Rattle.wast_tree.specs.Customs.{custom_name}
 use Rattle.wast_core.specs.Tree.{ImportItems, ModuleField}
 use Rattle.wast_core.specs.Tree.import_items
 use Rattle.wast_core.specs.Tree.field
@@ -25,3 +26,4 @@ HasUtf8Names (field.Start i) = Unit {0}
 HasUtf8Names (field.Elem e) = Unit {0}
 HasUtf8Names (field.Data d) = Unit {0}
 HasUtf8Names (field.Tag t) = Unit {0}
+HasUtf8Names (field.Custom c) = IsTrue (is_utf8 (custom_name c))

@@ -34,7 +34,7 @@ fn encode_fields<'e>(
     ensures refusal { IfErr result (IsRefused (IsWritable (text_seen name.entry) fields.now)) }
 {
     let measures = measure(fields, name)?;
-    let mut room = Room::reserve(alloc, size(fields, name, &measures) as usize)?;
+    let mut room = Room::reserve(alloc, size(fields, name, &measures)? as usize)?;
     put_measured(fields, name, &measures, &mut room)?;
     let bytes = room.finish();
     Ok(bytes)

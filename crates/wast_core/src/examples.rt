@@ -4,7 +4,9 @@ ghost use Rattle.wast_core.specs.WorkedMeanings.{Row1, Row2, Row8, Row24, Row27,
 ghost use Rattle.wast_core.specs.WorkedAbbreviations.{Row4, Row5, Row6, Row44};
 ghost use Rattle.wast_core.specs.WorkedEntries.{ImportedEntities, MemoryAndData, TableAndElements, TwoStarts};
 ghost use Rattle.wast_core.specs.WorkedCounts.{CountedData, CountedNone, UncountedData};
+ghost use Rattle.wast_core.specs.WorkedHints.{Row11, Row54};
 ghost use Rattle.wast_core.specs.WorkedBlocks.{Row28, Row55, Row56};
+ghost use Rattle.wast_core.specs.WorkedCustoms.{OwnNames, Row29, Row51, Row52, Row53};
 
 /// The modules of the rows 1 and 27 are bounded and read from their bytes; an implied type is written without a
 /// name, also beside a group; a written number stays; a name annotation stands before an id; an item without a name
@@ -52,4 +54,21 @@ pub(crate) fn worked_blocks()
     ensures row28 { Row28 }
     ensures row55 { Row55 }
     ensures row56 { Row56 }
+{}
+
+/// A custom section stands beside the place of a section that is not written, where its place says and not where the text
+/// has it; one called `name` leaves out the names; and producers and what a linker wants have their own bytes.
+pub(crate) fn worked_customs()
+    ensures own_names { OwnNames }
+    ensures row29 { Row29 }
+    ensures row51 { Row51 }
+    ensures row52 { Row52 }
+    ensures row53 { Row53 }
+{}
+
+/// The offset of a branch hint counts the locals of its body and the instructions before its own, and imported functions are
+/// counted in the index of the function.
+pub(crate) fn worked_hints()
+    ensures row11 { Row11 }
+    ensures row54 { Row54 }
 {}

@@ -1,6 +1,7 @@
 //! Laws of text modules, for callers to cite.
 
-ghost use Rattle.wast_core.specs.Laws.{MeansWhatIsWritten, TooLargeIsUnbounded};
+ghost use Rattle.wast_core.specs.HintPlaces.{HintsPointAtInstructions};
+ghost use Rattle.wast_core.specs.Laws.{MeansWhatIsWritten, TooLargeIsUnbounded, CustomsStandOnce};
 
 use wast_resolve::resolved_laws;
 
@@ -19,4 +20,19 @@ pub fn meaning_law()
 /// is not bounded. It does nothing.
 pub fn bounded_law()
     ensures { TooLargeIsUnbounded }
+{}
+
+/// Each custom section stands in one place of a module alone, which is its own (text format, custom annotations): so in what
+/// a module means each field of that kind has one part, and those of one place stand in the order of the fields. It does
+/// nothing.
+pub fn customs_law()
+    ensures { CustomsStandOnce }
+{}
+
+/// Branch hints point at their instructions (branch hinting): where bytes are read as the parts of fields, as those of
+/// [`EncodeOptions::encode_module`](crate::EncodeOptions::encode_module) are read as what the module means, the offset of each hint,
+/// counted from the first byte behind the size of the body in the code section, is where the spelling of its instruction begins;
+/// and the section of hints has the function by its index. It does nothing.
+pub fn hint_places()
+    ensures { HintsPointAtInstructions }
 {}

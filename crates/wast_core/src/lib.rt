@@ -2,19 +2,23 @@
 #![tactic(auto)]
 
 mod counts;
+mod customs;
 mod encode;
 mod entries;
 mod examples;
+mod hints;
 mod items;
 mod laws;
 mod module;
 mod sections;
 mod slots;
+mod spelled;
 mod utf8_names;
 mod wat;
 
 pub use encode::EncodeOptions;
-pub use laws::{bounded_law, meaning_law};
+pub use laws::{bounded_law, customs_law, hint_places, meaning_law};
 pub use module::{Module, ModuleKind, discard_module};
+pub use spelled::Encode;
 pub use wast_conv::{FuncSectionTy, RecOrType, SectionItem, conv};
 pub use wat::Wat;

@@ -67,7 +67,8 @@ impl<'a> Module<'a> {
     /// Whether the module can be resolved and encoded. It takes no memory.
     ///
     /// Binary and refused modules are well formed. Fields are, where each generated id that stands for an index is
-    /// borne by an item of its space, none stands for a local, a label or a field, no expression has hints, the alignment
+    /// borne by an item of its space, none stands for a local, a label or a field, the branch hints in the body of a function
+    /// stand on its instructions, each behind the one before it, and have value 0 or 1, the alignment
     /// of a memory argument is a power of two, a constant expression closes as many blocks as it opens, and none before
     /// it is open, expressions of an active element segment without a table are of type `funcref`, and the page exponent
     /// of a memory with bytes in place is below 64. Forms that no encoder covers are well formed too.

@@ -7,17 +7,21 @@ ghost use Rattle.wasm_ops.specs.declared.sink.Refusal.TheVariants as refusal;
 ghost use Rattle.wasm_out.specs.Parts.{part, InRangePart};
 ghost use Rattle.wast_core.specs.Bounded.{bytes_of, InRangeSlot, InRangeModule};
 ghost use Rattle.wast_conv.specs.Encodable.{is_encodable};
-ghost use Rattle.wast_core.specs.Extents.{IsExtent, section_size};
+ghost use Rattle.wast_core.specs.Extents.{IsExtent, section_size, is_names_size};
+ghost use Rattle.wast_reach.specs.Reaches.{are_reaches};
 ghost use Rattle.wast_core.specs.Measured.{are_measures};
 ghost use Rattle.wast_core.specs.Tree.{ModuleField};
 ghost use Rattle.wast_core.specs.Meaning.{in_slot};
 ghost use Rattle.wast_names.specs.FoundNames.{counted, text_seen};
 ghost use Rattle.wast_core.specs.Slots.{section_kind};
+ghost use Rattle.wast_core.specs.declared.slots.Slot.TheVariants as slot;
 
 use crate::counts::{count_size, is_counted, put_count};
+use crate::customs::{customs_size, has_own_names, put_customs, whole_size};
 use crate::entries::{Extent, extent_of, put_section, put_starts, start_fields, starts_size};
+use crate::hints::{hints_extent, put_hints};
 use crate::slots::{ORDER, SectionKind, Slot};
-use wasm_ops::{Encode, Raw, Refusal, Sink, width};
+use wasm_ops::{Encode, Raw, Refusal, Sink};
 use wasm_out::HEADER;
 use wast_names::{names_size, put_names};
 use wast_reach::Reaches;
@@ -40,6 +44,7 @@ pub(crate) struct Measures {
     code: Extent,
     data: Extent,
     is_counted: bool,
+    hints: Extent,
     names: u32,
 }
 
@@ -51,7 +56,7 @@ fn section_size(payload: u32) -> u64
     if payload == 0 {
         return 0;
     }
-    1 + (width(u64::from(payload)) + u64::from(payload))
+    whole_size(payload)
 }
 
 /// What is measured of a module of this name and these resolved fields: its fields of each kind are found, and its sections
@@ -80,8 +85,39 @@ pub(crate) fn measure(fields: &[ModuleField], name: Option<&str>) -> Result<Meas
         code: extent_of(SectionKind::Code, fields, &reaches)?,
         data: extent_of(SectionKind::Data, fields, &reaches)?,
         is_counted: is_counted(fields, &reaches),
-        names: names_size(fields, name, &reaches)?,
+        hints: hints_extent(fields, &reaches)?,
+        names: given_size(fields, name, &reaches)?,
     })
+}
+
+/// How long what stands behind the length of the name section is; 0 where the module has no names, or where a custom section
+/// is called `name`.
+fn given_size(fields: &[ModuleField], name: Option<&str>, reaches: &Reaches) -> Result<u32, Refusal>
+    requires { IsTrue (are_reaches fields.now reaches.now) }
+    ensures ok { IfOk result (λ n. IsTrue (is_names_size (text_seen name.entry) fields.now n)) }
+    ensures err { IfErr result (λ e. (e ≡ refusal.TooLarge) × (InRangeSlot (text_seen name.entry) fields.now slot.Names → ⊥)) }
+{
+    if has_own_names(fields, reaches) {
+        return Ok(0);
+    }
+    names_size(fields, name, reaches)
+}
+
+/// The name section, where it is not left out.
+fn put_given_names<'b, S: Sink>(
+    fields: &[ModuleField],
+    name: Option<&str>,
+    measures: &Measures,
+    out: &'b mut S,
+) -> Result<(), Refusal>
+    requires { IsTrue (are_measures (text_seen name) fields.now measures.now) }
+    ensures { Writes S.rules (InRangeSlot (text_seen name.entry) fields.now slot.Names)
+        out.old out.new (flat_map part (in_slot (text_seen name.entry) fields.now slot.Names)) result }
+{
+    if measures.names == 0 {
+        return Ok(());
+    }
+    put_names(fields, name, &measures.reaches, measures.names, out)
 }
 
 /// The extent of the section of a kind.
@@ -104,41 +140,61 @@ fn extent(measures: &Measures, kind: SectionKind) -> Extent
     }
 }
 
-/// How many bytes stand in a place, up to the greatest `u64`.
-fn size_in(fields: &[ModuleField], name: Option<&str>, measures: &Measures, slot: &Slot) -> u64
+/// How many bytes stand in a place, up to the greatest `u64`. It refuses as too large, where a count or length in a custom
+/// section is out of range.
+fn size_in(
+    fields: &[ModuleField],
+    name: Option<&str>,
+    measures: &Measures,
+    slot: &Slot,
+) -> Result<u64, Refusal>
     requires { IsTrue (are_measures (text_seen name) fields.now measures.now) }
-    ensures { result ≡ counted (length (flat_map part (in_slot (text_seen name.entry) fields.now slot.now))) }
+    ensures ok { IfOk result (λ n. n ≡ counted (length (flat_map part (in_slot (text_seen name.entry) fields.now slot.now)))) }
+    ensures err { IfErr result (λ e. (e ≡ refusal.TooLarge) × (InRangeSlot (text_seen name.entry) fields.now slot.now → ⊥)) }
 {
     match slot {
-        Slot::Section(kind) => section_size(extent(measures, *kind).size),
-        Slot::Start => starts_size(start_fields(fields, &measures.reaches)),
-        Slot::DataCount => count_size(measures.is_counted, measures.data.count),
-        Slot::Names => section_size(measures.names),
-        Slot::BeforeFirst | Slot::Before(_) | Slot::After(_) | Slot::AfterLast => 0,
-        Slot::BeforeStart | Slot::AfterStart | Slot::Hints => 0,
+        Slot::Custom(place) => customs_size(*place, fields, &measures.reaches),
+        Slot::Section(kind) => Ok(section_size(extent(measures, *kind).size)),
+        Slot::Start => Ok(starts_size(start_fields(fields, &measures.reaches))),
+        Slot::DataCount => Ok(count_size(measures.is_counted, measures.data.count)),
+        Slot::Names => Ok(section_size(measures.names)),
+        Slot::Hints => Ok(section_size(measures.hints.size)),
     }
 }
 
 /// How many bytes stand in places, one after another, up to the greatest `u64`.
-fn sum_of(fields: &[ModuleField], name: Option<&str>, measures: &Measures, slots: &[Slot]) -> u64
+fn sum_of(
+    fields: &[ModuleField],
+    name: Option<&str>,
+    measures: &Measures,
+    slots: &[Slot],
+) -> Result<u64, Refusal>
     requires { IsTrue (are_measures (text_seen name) fields.now measures.now) }
-    ensures { result ≡ counted (length
-        (flat_map (λ s. flat_map part (in_slot (text_seen name.entry) fields.now s)) slots.now)) }
+    ensures ok { IfOk result (λ n. n ≡ counted (length
+        (flat_map (λ s. flat_map part (in_slot (text_seen name.entry) fields.now s)) slots.now))) }
+    ensures err { IfErr result (λ e. (e ≡ refusal.TooLarge) × (All (InRangeSlot (text_seen name.entry) fields.now) slots.now → ⊥)) }
 {
     let mut sum = 0u64;
     for slot in slots {
-        sum = sum.saturating_add(size_in(fields, name, measures, slot));
+        sum = sum.saturating_add(size_in(fields, name, measures, slot)?);
     }
-    sum
+    Ok(sum)
 }
 
-/// How many bytes the module has, up to the greatest `u64`.
-pub(crate) fn size(fields: &[ModuleField], name: Option<&str>, measures: &Measures) -> u64
+/// How many bytes the module has, up to the greatest `u64`. It refuses as too large, where a count or length in a custom
+/// section is out of range.
+pub(crate) fn size(
+    fields: &[ModuleField],
+    name: Option<&str>,
+    measures: &Measures,
+) -> Result<u64, Refusal>
     requires { IsTrue (are_measures (text_seen name) fields.now measures.now) }
-    ensures { result ≡ counted (length (bytes_of (text_seen name.entry) fields.now)) }
+    ensures ok { IfOk result (λ n. n ≡ counted (length (bytes_of (text_seen name.entry) fields.now))) }
+    ensures err { IfErr result (λ e. (e ≡ refusal.TooLarge) × (InRangeModule (text_seen name.entry) fields.now → ⊥)) }
 {
     let slots = ORDER;
-    (HEADER.len() as u64).saturating_add(sum_of(fields, name, measures, &slots))
+    let sum = sum_of(fields, name, measures, &slots)?;
+    Ok((HEADER.len() as u64).saturating_add(sum))
 }
 
 /// Appends what stands in a place.
@@ -154,6 +210,7 @@ fn put_slot<'b, S: Sink>(
         out.old out.new (flat_map part (in_slot (text_seen name.entry) fields.now slot.now)) result }
 {
     match slot {
+        Slot::Custom(place) => put_customs(*place, fields, &measures.reaches, out),
         Slot::Section(kind) => {
             put_section(
                 *kind,
@@ -165,9 +222,8 @@ fn put_slot<'b, S: Sink>(
         }
         Slot::Start => put_starts(start_fields(fields, &measures.reaches), out),
         Slot::DataCount => put_count(measures.is_counted, measures.data.count, out),
-        Slot::Names => put_names(fields, name, &measures.reaches, measures.names, out),
-        Slot::BeforeFirst | Slot::Before(_) | Slot::After(_) | Slot::AfterLast => Ok(()),
-        Slot::BeforeStart | Slot::AfterStart | Slot::Hints => Ok(()),
+        Slot::Names => put_given_names(fields, name, measures, out),
+        Slot::Hints => put_hints(fields, &measures.reaches, measures.hints, out),
     }
 }
 

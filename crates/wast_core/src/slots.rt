@@ -4,6 +4,8 @@ ghost use Rattle.std.specs.Prelude.{◌≡◌};
 ghost use Rattle.wasm_out.specs.Parts.{section_id};
 ghost use Rattle.wast_core.specs.Slots.{section_kind};
 
+use wast_tree::{CustomPlace, CustomPlaceAnchor};
+
 /// A kind of sections that are lists (binary format, modules: sections).
 #[derive(Clone, Copy)]
 pub(crate) enum SectionKind {
@@ -52,75 +54,64 @@ impl SectionKind {
     }
 }
 
-/// A place for sections in a module. Custom sections, which stand around the others, and branch hints are not in the
-/// tree yet: their places are empty.
+/// A place for sections in a module.
 #[derive(Clone, Copy)]
 pub(crate) enum Slot {
-    /// Custom sections before all others.
-    BeforeFirst,
-    /// Custom sections directly before a kind.
-    Before(SectionKind),
+    /// Custom sections.
+    Custom(CustomPlace),
     /// A section with a list.
     Section(SectionKind),
-    /// Custom sections directly before the start sections.
-    BeforeStart,
     /// Start sections, one for each start field.
     Start,
-    /// Custom sections directly behind the start sections.
-    AfterStart,
     /// A data count, where a body needs it.
     DataCount,
-    /// Branch hints.
+    /// Branch hints, where a body has some.
     Hints,
-    /// Custom sections directly behind a kind.
-    After(SectionKind),
-    /// Custom sections behind all others.
-    AfterLast,
     /// Names.
     Names,
 }
 
 /// The order of the binary format (binary format, modules).
 pub(crate) const ORDER: [Slot; 41] = [
-    Slot::BeforeFirst,
-    Slot::Before(SectionKind::Types),
+    Slot::Custom(CustomPlace::BeforeFirst),
+    Slot::Custom(CustomPlace::Before(CustomPlaceAnchor::Ty)),
     Slot::Section(SectionKind::Types),
-    Slot::After(SectionKind::Types),
-    Slot::Before(SectionKind::Imports),
+    Slot::Custom(CustomPlace::After(CustomPlaceAnchor::Ty)),
+    Slot::Custom(CustomPlace::Before(CustomPlaceAnchor::Import)),
     Slot::Section(SectionKind::Imports),
-    Slot::After(SectionKind::Imports),
-    Slot::Before(SectionKind::Functions),
+    Slot::Custom(CustomPlace::After(CustomPlaceAnchor::Import)),
+    Slot::Custom(CustomPlace::Before(CustomPlaceAnchor::Func)),
     Slot::Section(SectionKind::Functions),
-    Slot::After(SectionKind::Functions),
-    Slot::Before(SectionKind::Tables),
+    Slot::Custom(CustomPlace::After(CustomPlaceAnchor::Func)),
+    Slot::Custom(CustomPlace::Before(CustomPlaceAnchor::Table)),
     Slot::Section(SectionKind::Tables),
-    Slot::After(SectionKind::Tables),
-    Slot::Before(SectionKind::Memories),
+    Slot::Custom(CustomPlace::After(CustomPlaceAnchor::Table)),
+    Slot::Custom(CustomPlace::Before(CustomPlaceAnchor::Memory)),
     Slot::Section(SectionKind::Memories),
-    Slot::After(SectionKind::Memories),
-    Slot::Before(SectionKind::Tags),
+    Slot::Custom(CustomPlace::After(CustomPlaceAnchor::Memory)),
+    Slot::Custom(CustomPlace::Before(CustomPlaceAnchor::Tag)),
     Slot::Section(SectionKind::Tags),
-    Slot::After(SectionKind::Tags),
-    Slot::Before(SectionKind::Globals),
+    Slot::Custom(CustomPlace::After(CustomPlaceAnchor::Tag)),
+    Slot::Custom(CustomPlace::Before(CustomPlaceAnchor::Global)),
     Slot::Section(SectionKind::Globals),
-    Slot::After(SectionKind::Globals),
-    Slot::Before(SectionKind::Exports),
+    Slot::Custom(CustomPlace::After(CustomPlaceAnchor::Global)),
+    Slot::Custom(CustomPlace::Before(CustomPlaceAnchor::Export)),
     Slot::Section(SectionKind::Exports),
-    Slot::After(SectionKind::Exports),
-    Slot::BeforeStart,
+    Slot::Custom(CustomPlace::After(CustomPlaceAnchor::Export)),
+    Slot::Custom(CustomPlace::Before(CustomPlaceAnchor::Start)),
     Slot::Start,
-    Slot::AfterStart,
-    Slot::Before(SectionKind::Elements),
+    Slot::Custom(CustomPlace::After(CustomPlaceAnchor::Start)),
+    Slot::Custom(CustomPlace::Before(CustomPlaceAnchor::Elem)),
     Slot::Section(SectionKind::Elements),
-    Slot::After(SectionKind::Elements),
+    Slot::Custom(CustomPlace::After(CustomPlaceAnchor::Elem)),
     Slot::DataCount,
-    Slot::Before(SectionKind::Code),
+    Slot::Custom(CustomPlace::Before(CustomPlaceAnchor::Code)),
     Slot::Hints,
     Slot::Section(SectionKind::Code),
-    Slot::After(SectionKind::Code),
-    Slot::Before(SectionKind::Data),
+    Slot::Custom(CustomPlace::After(CustomPlaceAnchor::Code)),
+    Slot::Custom(CustomPlace::Before(CustomPlaceAnchor::Data)),
     Slot::Section(SectionKind::Data),
-    Slot::After(SectionKind::Data),
-    Slot::AfterLast,
+    Slot::Custom(CustomPlace::After(CustomPlaceAnchor::Data)),
+    Slot::Custom(CustomPlace::AfterLast),
     Slot::Names,
 ];

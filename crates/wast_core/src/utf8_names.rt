@@ -35,6 +35,7 @@ fn field_law(field: &ModuleField)
         ModuleField::Table(_) | ModuleField::Memory(_) | ModuleField::Global(_) => {}
         ModuleField::Start(_) | ModuleField::Elem(_) | ModuleField::Data(_) => {}
         ModuleField::Tag(_) => {}
+        ModuleField::Custom(custom) => text_law(custom.name()),
     }
 }
 

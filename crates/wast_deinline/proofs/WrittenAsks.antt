@@ -68,11 +68,11 @@ module _ (ok : Ask → Bool) (clause : (n : ℕ) → ok (Clause n true) ≡ true
   all_fields [] = refl
   all_fields (x ∷ xs) = both_parts (in_field x) (in_module xs) ∙ ap (λ b. passes x && b) (all_fields xs)
 
-  -- a segment begins at a number, without branch hints and blocks
+  -- a segment begins at a number, without blocks
   offset_passes : (is64 : Bool) → pass (in_constant (at_zero is64)) ≡ true
   unfolding stays_open
-  offset_passes false = both_true (clause 2) (both_true (clause 5) refl)
-  offset_passes true = both_true (clause 2) (both_true (clause 5) refl)
+  offset_passes false = both_true (clause 5) refl
+  offset_passes true = both_true (clause 5) refl
 
   func_passes : (f : Func) (k : FuncKind) → pass (in_func (record f { kind = k })) ≡ true → list_all passes (func_alone f k ∷ []) ≡ true
   func_passes f (func.Import source false) h = both_true (parted (in_use OfItem f.ty) (Asked (Covered form.Descriptor true) ∷ []) h).0 refl

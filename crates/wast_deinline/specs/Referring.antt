@@ -41,6 +41,7 @@ wants_id (field.Export e) = false
 wants_id (field.Start i) = false
 wants_id (field.Elem e) = false
 wants_id (field.Data d) = false
+wants_id (field.Custom c) = false
 wants_id (field.Tag t) = exports_some t.exports && is_none t.id
 
 -- with the id of a generation, at the place of the field
@@ -56,4 +57,5 @@ with_item_id n (field.Export e) = field.Export e
 with_item_id n (field.Start i) = field.Start i
 with_item_id n (field.Elem e) = field.Elem e
 with_item_id n (field.Data d) = field.Data d
+with_item_id n (field.Custom c) = field.Custom c
 with_item_id n (field.Tag t) = field.Tag (record t { id = Some (generated n t.span) })

@@ -89,4 +89,5 @@ overflows (field.Export e) = false
 overflows (field.Start i) = false
 overflows (field.Elem e) = false
 overflows (field.Data d) = false
+overflows (field.Custom c) = false
 overflows (field.Tag t) = false

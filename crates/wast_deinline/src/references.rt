@@ -73,6 +73,7 @@ fn name_item<'a>(field: &mut ModuleField<'a>, gensym: &mut Gensym) -> Result<(),
         ModuleField::Start(_) => Ok(()),
         ModuleField::Elem(_) => Ok(()),
         ModuleField::Data(_) => Ok(()),
+        ModuleField::Custom(_) => Ok(()),
     }
 }
 

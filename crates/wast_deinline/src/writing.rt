@@ -162,7 +162,8 @@ fn count_for(field: &ModuleField<'_>) -> usize
         | ModuleField::Export(_)
         | ModuleField::Start(_)
         | ModuleField::Elem(_)
-        | ModuleField::Data(_) => 1,
+        | ModuleField::Data(_)
+        | ModuleField::Custom(_) => 1,
     }
 }
 

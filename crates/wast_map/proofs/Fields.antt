@@ -1,8 +1,8 @@
 -- The laws of the map at each instruction and each field.
 use Rattle.std.specs.Borrow.{Bor}
 use Rattle.std.specs.Int.{is_power_of_two}
-use Rattle.std.specs.Prelude.{is_none, ◌==◌, ◌&&◌, not, Option, Some, None, option_map, length}
-use Rattle.std.proofs.Common.{◌≡◌, ℕ, List, [], ◌∷◌, ◌++◌, refl, sym, ap, ◌∙◌, map, arith}
+use Rattle.std.specs.Prelude.{is_none, ◌&&◌, not, Option, Some, None, option_map, length}
+use Rattle.std.proofs.Common.{◌≡◌, ℕ, false, List, [], ◌∷◌, ◌++◌, refl, sym, ap, ◌∙◌, map, arith}
 use Rattle.std.specs.List.{flat_map}
 use Rattle.std.proofs.lemmas.Grind.{common_steps}
 use Rattle.std.proofs.lemmas.List.{map-append}
@@ -27,9 +27,12 @@ use Rattle.wast_map.specs.Tree.elem
 use Rattle.wast_map.specs.Tree.payload
 use Rattle.wast_map.specs.Tree.data_kind
 use Rattle.wast_map.specs.Tree.field
-use Rattle.wast_tree.specs.Clauses.{is_func_heap, suits}
+use Rattle.wast_map.specs.Tree.{Custom, Dylink0Subsection}
+use Rattle.wast_map.specs.Tree.custom
+use Rattle.wast_map.specs.Tree.dylink
+use Rattle.wast_tree.specs.Clauses.{is_func_heap, hints_stand, stand_from, suits}
 use Rattle.wast_tree.specs.Instrs.{turn_of, turns}
-use Rattle.wast_tree.specs.Sites.{Locals, Here, start, OfItem, OfCall, OfBlock, Site, Asked, Used, Declared, LocalAt, FieldAt, LabelAt, Repeated, Begins, Ends, Clause, Covered, uncovered, after, after_all, asking, at_index, if_there, in_heap, at_label, in_block, in_caught, in_catch, in_try_table, in_br_table, in_ref, in_pair, in_cast, in_handle, in_handlers, in_target, in_mem_arg, in_select, in_indirect, in_instr, behind, in_instrs, in_expression, in_constant, in_local, local_marks, param_marks, declaring, body_here, in_func_kind, in_use, in_func, in_item_kind, in_sig, in_import, exported_space, in_payload, in_table_kind, in_memory_kind, in_global_kind, in_elem_kind, in_elem, in_data_kind, in_field}
+use Rattle.wast_tree.specs.Sites.{Locals, Here, start, OfItem, OfCall, OfBlock, Site, Asked, Used, Declared, LocalAt, FieldAt, LabelAt, Repeated, Begins, Ends, Clause, Covered, uncovered, after, after_all, asking, at_index, if_there, in_heap, at_label, in_block, in_caught, in_catch, in_try_table, in_br_table, in_ref, in_pair, in_cast, in_handle, in_handlers, in_target, in_mem_arg, in_select, in_indirect, in_instr, behind, in_instrs, in_expression, in_constant, in_local, local_marks, param_marks, declaring, body_here, in_func_kind, in_use, in_func, in_item_kind, in_sig, in_import, exported_space, in_payload, in_table_kind, in_memory_kind, in_global_kind, in_elem_kind, in_elem, in_data_kind, in_subsection, in_custom, in_field}
 use Rattle.wast_map.specs.Mapped.{Change, same, mapped_locals, mapped_here, mapped_site, KeepsMarks, Joins, AreJoint, Each, mapped_heap, mapped_ref, mapped_handle, mapped_handlers, mapped_block, mapped_caught, mapped_catch, mapped_try_table, mapped_br_table, mapped_target, mapped_mem_arg, mapped_select, mapped_indirect, mapped_instr, mapped_instrs, mapped_expression, mapped_constant, mapped_local, mapped_func_kind, mapped_func, mapped_item_kind, mapped_sig, mapped_import_items, mapped_payload, mapped_table_kind, mapped_global_kind, mapped_elem_kind, mapped_elem, mapped_data_kind, mapped}
 use Rattle.wast_map.proofs.Ways.{In, At, each_first, each_rest, index_in, index_at, mark_in, label_at, asked_at, item_id_at, use_at, fixed_at, both_at, made_at, tested_at, behind_at, option_at, list_at}
 use Rattle.wast_map.proofs.Types.{heap_at, ref_at, val_at, type_at, rec_at, table_type_at, global_type_at, tag_type_at}
@@ -242,15 +245,21 @@ pub turns_still : (f : Change) (h : Here) (is : List Instruction) → turns (map
 turns_still f h [] = refl
 turns_still f h (i ∷ is) = λ t. turn_still f h i t ∷ turns_still f (behind h i) is t
 
--- an expression, in the changed body
+-- there are as many instructions
+length_still : (f : Change) (h : Here) (is : List Instruction) → length (mapped_instrs f h is) ≡ length is
+length_still f h [] = refl
+length_still f h (i ∷ is) = omega (arith, length_still f (behind h i) is)
+
+-- the expression of a function, in the changed body
 pub expression_stands : (f : Change) → KeepsMarks f → (h : Here) (e : Expression) → in_expression (mapped_here f h) (mapped_expression f h e) ≡ map (mapped_site f) (in_expression h e)
 expression_stands f k h e =
-    let hints = Asked (Clause 2 (length e.branch_hints == 0)) ∷ [] in
-    ap (λ z. z ++ hints) (instrs_stand f k h e.instrs) ∙ sym (map-append (mapped_site f) (in_instrs h e.instrs) hints)
+    let hints = Asked (Clause 2 (hints_stand e)) ∷ [] in
+    ap (λ n. in_instrs (mapped_here f h) (mapped_instrs f h e.instrs) ++ Asked (Clause 2 (stand_from n 0 e.branch_hints)) ∷ []) (length_still f h e.instrs)
+    ∙ (ap (λ z. z ++ hints) (instrs_stand f k h e.instrs) ∙ sym (map-append (mapped_site f) (in_instrs h e.instrs) hints))
 
 expression_joins : (x g f : Change) → AreJoint x g f → (h : Here) (e : Expression) → Each (Joins x g f) (in_expression h e) → mapped_expression g (mapped_here x h) (mapped_expression x h e) ≡ mapped_expression f h e
 expression_joins x g f j h e q =
-    let hints = Asked (Clause 2 (length e.branch_hints == 0)) ∷ [] in
+    let hints = Asked (Clause 2 (hints_stand e)) ∷ [] in
     ap (λ (is : List Instruction). record e { instrs = is }) (instrs_join x g f j h e.instrs (each_first (Joins x g f) (in_instrs h e.instrs) hints q))
 
 expression_still : (h : Here) (e : Expression) → mapped_expression same h e ≡ e
@@ -262,9 +271,9 @@ constant_at e =
     let own = Asked (Clause 5 (is_balanced (turns e.instrs))) ∷ [] in
     record {
       stands = λ f k.
-          ap (λ ts. in_expression start (mapped_expression f start e) ++ Asked (Clause 5 (is_balanced ts)) ∷ []) (turns_still f start e.instrs)
-          ∙ (ap (λ z. z ++ own) (expression_stands f k start e) ∙ sym (map-append (mapped_site f) (in_expression start e) own));
-      joins = λ x g f j q. expression_joins x g f j start e (each_first (Joins x g f) (in_expression start e) own q);
+          ap (λ ts. in_instrs start (mapped_instrs f start e.instrs) ++ Asked (Clause 5 (is_balanced ts)) ∷ []) (turns_still f start e.instrs)
+          ∙ (ap (λ z. z ++ own) (instrs_stand f k start e.instrs) ∙ sym (map-append (mapped_site f) (in_instrs start e.instrs) own));
+      joins = λ x g f j q. ap (λ (is : List Instruction). record e { instrs = is }) (instrs_join x g f j start e.instrs (each_first (Joins x g f) (in_instrs start e.instrs) own q));
       still = expression_still start e;
     }
 
@@ -402,6 +411,16 @@ data_kind_at (data_kind.Active memory offset) =
     made_at (λ (q : Index × Expression). data_kind.Active q.0 q.1) (λ y. refl) (λ f y. refl) (memory, offset) (both_at memory offset (index_at space.Memory memory) (constant_at offset))
 data_kind_at d = fixed_at d (λ f. refl) (λ f. refl)
 
+-- nothing in a custom section changes
+subsections_still : (f : Change) (ss : List Dylink0Subsection) → map (mapped_site f) (asking (flat_map in_subsection ss)) ≡ asking (flat_map in_subsection ss)
+subsections_still f [] = refl
+subsections_still f (dylink.TargetArch text ∷ ss) = ap (λ sites. Asked (Covered form.TargetArch false) ∷ sites) (subsections_still f ss)
+subsections_still f (s ∷ ss) = subsections_still f ss
+
+custom_still : (f : Change) (c : Custom) → map (mapped_site f) (in_custom c) ≡ in_custom c
+custom_still f (custom.Dylink0 info) = subsections_still f info.subsections
+custom_still f c = refl
+
 pub field_at : (x : ModuleField) → At in_field mapped x
 field_at (field.Ty t) = made_at field.Ty (λ y. refl) (λ f y. refl) t (asked_at t (type_at t))
 field_at (field.Rec r) = made_at field.Rec (λ y. refl) (λ f y. refl) r (asked_at r (rec_at r))
@@ -419,3 +438,4 @@ field_at (field.Start i) = made_at field.Start (λ y. refl) (λ f y. refl) i (in
 field_at (field.Elem e) = made_at field.Elem (λ y. refl) (λ f y. refl) e (elem_at e)
 field_at (field.Data d) = made_at (λ (q : Option Id × DataKind). field.Data (record d { id = q.0; kind = q.1 })) (λ y. refl) (λ f y. refl) (d.id, d.kind) (both_at d.id d.kind (item_id_at d.id) (data_kind_at d.kind))
 field_at (field.Tag t) = made_at (λ (q : Option Id × TagType). field.Tag (record t { id = q.0; ty = q.1 })) (λ y. refl) (λ f y. refl) (t.id, t.ty) (both_at t.id t.ty (item_id_at t.id) (tag_type_at t.ty))
+field_at (field.Custom c) = fixed_at (field.Custom c) (λ f. refl) (λ f. custom_still f c)

@@ -436,6 +436,7 @@ mapped f (field.Start i) = field.Start (f.index space.Func i)
 mapped f (field.Elem e) = field.Elem (mapped_elem f e)
 mapped f (field.Data d) = field.Data (mapped_data f d)
 mapped f (field.Tag t) = field.Tag (mapped_tag f t)
+mapped f (field.Custom c) = field.Custom c
 
 -- What stands in a mapped part.
 abbrev pub mapped_ask : Indices → Ask → Ask

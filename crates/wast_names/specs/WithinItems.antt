@@ -79,6 +79,7 @@ types_within (field.Export e) = []
 types_within (field.Start i) = []
 types_within (field.Elem e) = []
 types_within (field.Data d) = []
+types_within (field.Custom c) = []
 types_within (field.Tag t) = []
 
 -- the type space of these fields
@@ -215,4 +216,5 @@ lists_within types w (field.Export e) = []
 lists_within types w (field.Start i) = []
 lists_within types w (field.Elem e) = []
 lists_within types w (field.Data d) = []
+lists_within types w (field.Custom c) = []
 lists_within types w (field.Tag t) = lists_in_tag w t.ty

@@ -78,7 +78,7 @@ fn items_of<'b, 'a>(field: &'b ModuleField<'a>) -> Items<'b, 'a>
         ModuleField::Elem(elem) => Items::One(Space::Elem, given_name(&elem.name, &elem.id)),
         ModuleField::Data(data) => Items::One(Space::Data, given_name(&data.name, &data.id)),
         ModuleField::Tag(tag) => Items::One(Space::Tag, given_name(&tag.name, &tag.id)),
-        ModuleField::Export(_) | ModuleField::Start(_) => Items::Nothing,
+        ModuleField::Export(_) | ModuleField::Start(_) | ModuleField::Custom(_) => Items::Nothing,
     }
 }
 

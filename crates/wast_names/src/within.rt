@@ -104,7 +104,8 @@ fn types_within<'b, 'a>(field: &'b ModuleField<'a>) -> &'b [Type<'a>]
         | ModuleField::Start(_)
         | ModuleField::Elem(_)
         | ModuleField::Data(_)
-        | ModuleField::Tag(_) => &[],
+        | ModuleField::Tag(_)
+        | ModuleField::Custom(_) => &[],
     }
 }
 
@@ -295,7 +296,8 @@ fn lists_in<'b, 'a, A: Arities>(
         | ModuleField::Export(_)
         | ModuleField::Start(_)
         | ModuleField::Elem(_)
-        | ModuleField::Data(_) => Lists::One(None),
+        | ModuleField::Data(_)
+        | ModuleField::Custom(_) => Lists::One(None),
     }
 }
 

@@ -1,7 +1,8 @@
 -- The kinds of fields (text format, modules).
-use Rattle.std.specs.Prelude.{ℕ, ◌==◌, Bool, List, [], ◌∷◌}
+use Rattle.std.specs.Prelude.{ℕ, ◌+◌, ◌==◌, Bool, List, ◌∷◌, map}
 use Rattle.wast_tree.specs.declared.fields.ModuleField.{ModuleField}
 use Rattle.wast_tree.specs.declared.fields.ModuleField.TheVariants as field
+use Rattle.wast_tree.specs.Customs.{custom_place, place_rank, places}
 use Rattle.wast_reach.specs.declared.kinds.FieldKind.{FieldKind}
 use Rattle.wast_reach.specs.declared.kinds.FieldKind.TheVariants as kind
 
@@ -19,8 +20,9 @@ kind_in (field.Start i) = kind.Start
 kind_in (field.Elem e) = kind.Elem
 kind_in (field.Data d) = kind.Data
 kind_in (field.Tag t) = kind.Tag
+kind_in (field.Custom c) = kind.Custom (custom_place c)
 
--- the place of a kind among the twelve
+-- the place of a kind among all; custom sections of each place are a kind of their own
 abbrev pub kind_rank : FieldKind → ℕ
 kind_rank kind.Ty = 0
 kind_rank kind.Rec = 1
@@ -34,10 +36,11 @@ kind_rank kind.Start = 8
 kind_rank kind.Elem = 9
 kind_rank kind.Data = 10
 kind_rank kind.Tag = 11
+kind_rank (kind.Custom place) = 12 + place_rank place
 
 -- all of them, by their ranks
 abbrev pub kinds : List FieldKind
-kinds = kind.Ty ∷ kind.Rec ∷ kind.Import ∷ kind.Func ∷ kind.Table ∷ kind.Memory ∷ kind.Global ∷ kind.Export ∷ kind.Start ∷ kind.Elem ∷ kind.Data ∷ kind.Tag ∷ []
+kinds = kind.Ty ∷ kind.Rec ∷ kind.Import ∷ kind.Func ∷ kind.Table ∷ kind.Memory ∷ kind.Global ∷ kind.Export ∷ kind.Start ∷ kind.Elem ∷ kind.Data ∷ kind.Tag ∷ map kind.Custom places
 
 -- whether two kinds are the same
 abbrev pub same_kind : FieldKind → FieldKind → Bool

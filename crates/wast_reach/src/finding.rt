@@ -1,9 +1,11 @@
 //! The stretches of all kinds of fields, found in one walk.
 
-ghost use Rattle.std.specs.Prelude.{◌≡◌, ◌<◌, [], ◌∷◌, ◌++◌, length, List, IsTrue};
+ghost use Rattle.std.specs.Prelude.{◌≡◌, ◌<◌, false, [], ◌∷◌, ◌++◌, length, List, IsTrue};
 ghost use Rattle.wast_tree.specs.declared.fields.ModuleField.{ModuleField};
 ghost use Rattle.wast_reach.specs.Kinds.{is_of};
-ghost use Rattle.wast_reach.specs.Reaches.{is_reach, reach_of, are_reaches};
+ghost use Rattle.wast_reach.specs.Reaches.{none_pass, is_reach, reach_of, are_reaches};
+ghost use Rattle.wast_reach.specs.declared.kinds.FieldKind.TheVariants as kind;
+ghost use Rattle.wast_tree.specs.declared.customs.CustomPlace.{CustomPlace};
 
 use crate::kinds::FieldKind;
 use crate::stretches::Reach;
@@ -13,7 +15,7 @@ use wast_tree::ModuleField;
 #[derive(Clone, Copy)]
 pub struct Reaches {
     /// By the ranks of the kinds.
-    by_rank: [Reach; 12],
+    by_rank: [Reach; 38],
 }
 
 impl Reaches {
@@ -22,7 +24,7 @@ impl Reaches {
         ensures { IsTrue (are_reaches fields.now result) }
     {
         let mut reaches = Reaches {
-            by_rank: [Reach { first: 0, end: 0 }; 12],
+            by_rank: [Reach { first: 0, end: 0 }; 38],
         };
         for i in 0..fields.len() {
             reaches.add(i, &fields[i]);
@@ -35,8 +37,20 @@ impl Reaches {
         requires { place < 18446744073709551615 }
         ensures { (k : FieldKind) (before : List ModuleField) → length before ≡ place → IsTrue (is_reach (is_of k) before (reach_of self.old k)) → IsTrue (is_reach (is_of k) (before ++ field.now ∷ []) (reach_of self.new k)) }
     {
-        let rank = FieldKind::of(field).rank();
+        let rank = FieldKind::rank_of(field);
         self.by_rank[rank] = self.by_rank[rank].with(place);
+    }
+
+    /// Whether a custom section stands in the list in which these were found. Where it says no, none does. It takes no memory.
+    pub fn has_customs(&self) -> bool
+        ensures { result ≡ false → (fields : List ModuleField) (place : CustomPlace) → IsTrue (are_reaches fields self.now) → IsTrue (none_pass (is_of (kind.Custom place)) fields) }
+    {
+        for rank in 12..38 {
+            if self.by_rank[rank].end != 0 {
+                return true;
+            }
+        }
+        false
     }
 
     /// Where the fields of a kind stand, in the list in which they were found. It takes no memory.

@@ -3,9 +3,10 @@
 ghost use Rattle.std.specs.Prelude.{◌≡◌, ◌<◌};
 ghost use Rattle.wast_reach.specs.Kinds.{kind_in, kind_rank};
 
-use wast_tree::ModuleField;
+use wast_tree::{CustomPlace, ModuleField};
 
-/// A kind of fields: one for each variant of [`ModuleField`] (text format, modules).
+/// A kind of fields: one for each variant of [`ModuleField`] (text format, modules), and of custom sections one for each
+/// place.
 #[derive(Clone, Copy)]
 pub enum FieldKind {
     /// `(type ..)`
@@ -32,33 +33,37 @@ pub enum FieldKind {
     Data,
     /// `(tag ..)`
     Tag,
+    /// `(@custom ..)` and its like, of a place in the module.
+    Custom(CustomPlace),
 }
 
 impl FieldKind {
-    /// The kind of a field. It takes no memory.
-    pub fn of(field: &ModuleField) -> FieldKind
-        ensures { result ≡ kind_in field.now }
+    /// The number of the kind of a field, below 38. It takes no memory.
+    pub fn rank_of(field: &ModuleField<'_>) -> usize
+        ensures same { result ≡ kind_rank (kind_in field.now) }
+        ensures within { result < 38 }
     {
         match field {
-            ModuleField::Ty(_) => FieldKind::Ty,
-            ModuleField::Rec(_) => FieldKind::Rec,
-            ModuleField::Import(_) => FieldKind::Import,
-            ModuleField::Func(_) => FieldKind::Func,
-            ModuleField::Table(_) => FieldKind::Table,
-            ModuleField::Memory(_) => FieldKind::Memory,
-            ModuleField::Global(_) => FieldKind::Global,
-            ModuleField::Export(_) => FieldKind::Export,
-            ModuleField::Start(_) => FieldKind::Start,
-            ModuleField::Elem(_) => FieldKind::Elem,
-            ModuleField::Data(_) => FieldKind::Data,
-            ModuleField::Tag(_) => FieldKind::Tag,
+            ModuleField::Ty(_) => 0,
+            ModuleField::Rec(_) => 1,
+            ModuleField::Import(_) => 2,
+            ModuleField::Func(_) => 3,
+            ModuleField::Table(_) => 4,
+            ModuleField::Memory(_) => 5,
+            ModuleField::Global(_) => 6,
+            ModuleField::Export(_) => 7,
+            ModuleField::Start(_) => 8,
+            ModuleField::Elem(_) => 9,
+            ModuleField::Data(_) => 10,
+            ModuleField::Tag(_) => 11,
+            ModuleField::Custom(custom) => 12 + custom.place().rank(),
         }
     }
 
-    /// The number of the kind, below 12. It takes no memory.
+    /// The number of the kind, below 38. It takes no memory.
     pub fn rank(self) -> usize
         ensures same { result ≡ kind_rank self }
-        ensures within { result < 12 }
+        ensures within { result < 38 }
     {
         match self {
             FieldKind::Ty => 0,
@@ -73,6 +78,7 @@ impl FieldKind {
             FieldKind::Elem => 9,
             FieldKind::Data => 10,
             FieldKind::Tag => 11,
+            FieldKind::Custom(place) => 12 + place.rank(),
         }
     }
 }

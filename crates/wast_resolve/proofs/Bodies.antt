@@ -1,16 +1,16 @@
 -- In a list of fields each local stands in the function of its field, whose type use is asked there; and beside indices of
 -- locals and labels nothing is asked that stands within a function.
 use Rattle.std.specs.Prelude.{⊤}
-use Rattle.std.proofs.Common.{◌≡◌, not, List, [], ◌∷◌, ◌++◌, map, Option, Some, None, refl, ap, subst}
+use Rattle.std.proofs.Common.{◌≡◌, false, not, List, [], ◌∷◌, ◌++◌, map, Option, Some, None, refl, ap, subst}
 use Rattle.std.specs.List.{flat_map}
 use Rattle.wast_base.specs.Ids.{Name, Mark}
 use Rattle.wast_base.specs.Spaces.{name_if}
 use Rattle.wast_tree.specs.Clauses.{suits}
-use Rattle.wast_tree.specs.Sites.{Ask, Clause, Covered, Site, Asked, Declared, LocalAt, OfItem, asking, if_there, at_index, in_ref, in_val, in_id, in_type, in_type_use, in_use, in_expression, in_constant, in_local, declaring, param_marks, local_marks, body_here, in_func_kind, in_tag_type, in_item_kind, in_sig, in_import, uncovered, in_payload, in_table_kind, in_memory_kind, in_global_kind, in_elem_kind, in_data_kind, in_field, in_module, asked}
+use Rattle.wast_tree.specs.Sites.{Ask, Clause, Covered, Site, Asked, Declared, LocalAt, OfItem, asking, if_there, at_index, in_ref, in_val, in_id, in_type, in_type_use, in_use, in_expression, in_constant, in_local, declaring, param_marks, local_marks, body_here, in_func_kind, in_tag_type, in_item_kind, in_sig, in_import, uncovered, in_payload, in_table_kind, in_memory_kind, in_global_kind, in_elem_kind, in_data_kind, in_subsection, in_custom, in_field, in_module, asked}
 use Rattle.wast_tree.proofs.Visiting.{asked_both}
 use Rattle.wast_map.specs.Mapped.{Each}
 use Rattle.wast_map.proofs.Ways.{each_first, each_rest}
-use Rattle.wast_resolve.specs.Tree.{Index, FunctionType, TypeUse, Expression, Local, FuncKind, TagType, ItemKind, ImportItems, TableKind, MemoryKind, GlobalKind, ElemKind, ElemPayload, DataKind, ModuleField}
+use Rattle.wast_resolve.specs.Tree.{Index, FunctionType, TypeUse, Expression, Local, FuncKind, TagType, ItemKind, ImportItems, TableKind, MemoryKind, GlobalKind, ElemKind, ElemPayload, DataKind, Custom, Dylink0Subsection, ModuleField}
 use Rattle.wast_resolve.specs.Tree.space
 use Rattle.wast_resolve.specs.Tree.form
 use Rattle.wast_resolve.specs.Tree.func
@@ -23,6 +23,8 @@ use Rattle.wast_resolve.specs.Tree.global
 use Rattle.wast_resolve.specs.Tree.elem
 use Rattle.wast_resolve.specs.Tree.payload
 use Rattle.wast_resolve.specs.Tree.data_kind
+use Rattle.wast_resolve.specs.Tree.custom
+use Rattle.wast_resolve.specs.Tree.dylink
 use Rattle.wast_resolve.specs.Tree.field
 use Rattle.wast_resolve.proofs.OwnLocals.{outer, own, Fixed, fixed_both, fixed_each, fixed_asks, fixed_form, expression_fixed, constant_fixed}
 use Rattle.wast_resolve.proofs.TypeParts.{as_type, both_typed, id_part, list_part}
@@ -104,6 +106,16 @@ data_fixed : (k : DataKind) → Fixed None (in_data_kind k)
 data_fixed data_kind.Passive = refl
 data_fixed (data_kind.Active memory offset) = fixed_both None (at_index space.Memory memory) (in_constant offset) refl (constant_fixed offset)
 
+-- no type stands in a custom section
+custom_typed : (ss : List Dylink0Subsection) → map as_type (flat_map in_subsection ss) ≡ flat_map in_subsection ss
+custom_typed [] = refl
+custom_typed (dylink.TargetArch text ∷ ss) = ap (λ asks. Covered form.TargetArch false ∷ asks) (custom_typed ss)
+custom_typed (s ∷ ss) = custom_typed ss
+
+custom_fixed : (c : Custom) → Fixed None (in_custom c)
+custom_fixed (custom.Dylink0 info) = fixed_asks None (flat_map in_subsection info.subsections) (custom_typed info.subsections)
+custom_fixed c = refl
+
 -- the type use of a function
 abbrev owner_of : ModuleField → Option (TypeUse FunctionType)
 owner_of (field.Func f) = Some f.ty
@@ -126,6 +138,7 @@ field_fixed (field.Elem e) =
     fixed_both None (in_elem_kind e.kind) (in_payload e.payload ++ suited) (elem_fixed e.kind) (fixed_both None (in_payload e.payload) suited (payload_fixed e.payload) refl)
 field_fixed (field.Data d) = data_fixed d.kind
 field_fixed (field.Tag t) = tag_fixed t.ty
+field_fixed (field.Custom c) = custom_fixed c
 
 each_both : {S : Type 0} (p : S → Type 0) (xs ys : List S) → Each p xs → Each p ys → Each p (xs ++ ys)
 each_both p [] ys h k = k

@@ -50,6 +50,7 @@ pub mod Stepping
 pub mod Trying
 pub mod Turned
 pub mod TwoSteps
+pub mod CustomsAsk
 pub mod TypeParts
 pub mod Unmet
 pub mod Within

@@ -1,11 +1,12 @@
 -- An instruction reads the locals of the body that it stands in, and so do all behind it; and beside indices of locals and labels
 -- it asks nothing that stands within a function.
-use Rattle.std.proofs.Common.{◌≡◌, true, ◌==◌, length, List, [], ◌∷◌, ◌++◌, map, Option, None, refl, sym, ap, ◌∙◌, arith, false}
+use Rattle.std.proofs.Common.{◌≡◌, true, List, [], ◌∷◌, ◌++◌, map, Option, None, refl, sym, ap, ◌∙◌, arith, false}
 use Rattle.std.specs.List.{flat_map}
 use Rattle.std.proofs.lemmas.Grind.{common_steps}
 use Rattle.std.proofs.lemmas.List.{map-append}
 use Rattle.wast_base.specs.Blocks.{Blocks, is_balanced}
 use Rattle.wast_base.specs.Ids.{marked}
+use Rattle.wast_tree.specs.Clauses.{hints_stand}
 use Rattle.wast_tree.specs.Instrs.{turns}
 use Rattle.wast_tree.specs.Sites.{Ask, Within, Clause, Covered, Site, Asked, LocalAt, Begins, Here, Locals, OfBlock, after, after_all, behind, start, asking, uncovered, if_there, in_heap, in_ref, in_index, in_pair, in_signature, in_type_use, in_mem_arg, in_select, in_use, at_index, at_label, in_cast, in_handle, in_handlers, in_catch, in_try_table, in_br_table, in_instr, in_instrs, in_expression, in_constant}
 use Rattle.wast_resolve.specs.Tree.{Index, Space, Form, RefType, HeapType, FunctionType, TypeUse, Handle, ResumeTable, BrTableIndices, TryTable, TryTableCatch, MemArg, MemArgTarget, Instruction, Expression}
@@ -137,7 +138,7 @@ instrs_fixed h (i ∷ is) =
     (ap (λ (l : Locals). map (own l.owner) (in_instrs (behind h i) is)) (sym (all_locals h (in_instr h i))) ∙ instrs_fixed (behind h i) is)
 
 pub expression_fixed : (h : Here) (e : Expression) → Fixed h.locals.owner (in_expression h e)
-expression_fixed h e = fixed_both h.locals.owner (in_instrs h e.instrs) (Asked (Clause 2 (length e.branch_hints == 0)) ∷ []) (instrs_fixed h e.instrs) refl
+expression_fixed h e = fixed_both h.locals.owner (in_instrs h e.instrs) (Asked (Clause 2 (hints_stand e)) ∷ []) (instrs_fixed h e.instrs) refl
 
 pub constant_fixed : (e : Expression) → Fixed None (in_constant e)
-constant_fixed e = fixed_both None (in_expression start e) (Asked (Clause 5 (is_balanced (turns e.instrs))) ∷ []) (expression_fixed start e) refl
+constant_fixed e = fixed_both None (in_instrs start e.instrs) (Asked (Clause 5 (is_balanced (turns e.instrs))) ∷ []) (instrs_fixed start e.instrs) refl

@@ -22,6 +22,7 @@ import_place (field.Export e) = None
 import_place (field.Start i) = None
 import_place (field.Elem e) = None
 import_place (field.Data d) = None
+import_place (field.Custom c) = None
 import_place (field.Tag t) = None
 
 -- what the last of some fields defines that defines anything

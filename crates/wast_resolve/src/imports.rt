@@ -27,6 +27,7 @@ fn import_place(field: &ModuleField<'_>) -> Option<Span>
         ModuleField::Elem(_) => None,
         ModuleField::Data(_) => None,
         ModuleField::Tag(_) => None,
+        ModuleField::Custom(_) => None,
     }
 }
 
@@ -47,6 +48,7 @@ fn defined_space(field: &ModuleField<'_>) -> Option<Space>
         ModuleField::Elem(_) => None,
         ModuleField::Data(_) => None,
         ModuleField::Tag(_) => Some(Space::Tag),
+        ModuleField::Custom(_) => None,
     }
 }
 

@@ -19,7 +19,7 @@ ghost use Rattle.wast_resolve.specs.Tree.space;
 ghost use Rattle.wast_resolve.specs.TwoSteps.{in_handler_tag, in_handler_label, with_handler_tag, with_handler_label};
 ghost use Rattle.wast_resolve.specs.Walking.{WalksAsks, WalksSites, WalksBodies, WalksCast};
 ghost use Rattle.wast_tree.specs.Instrs.{turn_of, turns};
-ghost use Rattle.wast_tree.specs.Sites.{Begins, Ends, Repeated, LocalAt, Locals, OfBlock, OfCall, asking, at_index, at_label, in_access, in_block, in_br_table, in_catch, in_caught, in_expression, in_handle, in_handlers, in_indirect, in_instr, in_instrs, in_pair, in_try_table, in_use};
+ghost use Rattle.wast_tree.specs.Sites.{Begins, Ends, Repeated, LocalAt, Locals, OfBlock, OfCall, asking, at_index, at_label, in_access, in_block, in_br_table, in_catch, in_caught, in_handle, in_handlers, in_indirect, in_instr, in_instrs, in_pair, in_try_table, in_use};
 
 use crate::apart::{walk_outside, walk_outside_index};
 use crate::local_names::LocalNames;
@@ -579,7 +579,7 @@ fn table_of_labels<'a>(alloc: Global, instrs: &[Instruction<'a>]) -> Result<Labe
     Ok(labels)
 }
 
-/// Walks over an expression, in a function whose parameters and locals have these names.
+/// Walks over the instructions of an expression, in a function whose parameters and locals have these names.
 ///
 /// It takes memory for the labels, where there are any, and for the open blocks: E12 where it is refused, and E10 only where
 /// 2^32 blocks or more would be open at once.
@@ -590,7 +590,7 @@ pub(crate) fn walk_expression<'a>(
     expression: &mut Expression<'a>,
 ) -> Result<(), Error<'a>>
     ensures { (l : Locals) → Numbers (scope_of names.now) l locals.now → let h = begin l in
-        WalksBodies names.now (in_expression h) (λ f. mapped_expression f h) expression.old expression.new result }
+        WalksBodies names.now (λ e. in_instrs h e.instrs) (λ f. mapped_expression f h) expression.old expression.new result }
 {
     let mut labels = table_of_labels(alloc, expression.instrs.as_slice())?;
     walk_instrs(names, locals, &mut labels, &mut expression.instrs)?;

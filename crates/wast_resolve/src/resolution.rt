@@ -10,7 +10,9 @@ ghost use Rattle.wast_resolve.specs.Demands.{first_unmet, demands, IsUnresolved}
 ghost use Rattle.wast_resolve.specs.Resolved.{numbered_at};
 ghost use Rattle.wast_resolve.specs.Explicit.{explicit, explicit_from, ids_filled};
 ghost use Rattle.wast_resolve.specs.Finished.{finished};
-ghost use Rattle.wast_resolve.specs.Resolvers.{no_names, known_to};
+ghost use Rattle.std.specs.FinMap as finmap;
+ghost use Rattle.wast_namespace.specs.Places.{entries_of};
+ghost use Rattle.wast_resolve.specs.Resolvers.{no_names, known_to, space_in};
 ghost use Rattle.wast_resolve.specs.LookUps.{IsSettledFor, IsMetBy, AnswersFor};
 
 use crate::imports::in_order;
@@ -19,7 +21,7 @@ use crate::resolver::Resolver;
 use std::alloc::Global;
 use std::marker::Model;
 use wast_deinline::deinline;
-use wast_tree::{Error, Gensym, Index, ModuleField, Seq, Space};
+use wast_tree::{Error, Gensym, Id, Index, ModuleField, Seq, Space};
 use wast_types::types;
 
 /// What the ids of a module denote, for a caller that has indices of its own (text format, indices).
@@ -48,6 +50,14 @@ impl<'a> Names<'a> {
         Names {
             resolver: Resolver::new(alloc, Vec::new(alloc)),
         }
+    }
+
+    /// The ids of a space with their numbers, each once: by the bytes of the names, then written before generated, then by
+    /// generation (text format, indices). It takes no memory.
+    pub fn pairs(&self, space: Space) -> &[(Id<'a>, u32)]
+        ensures { entries_of result.now ≡ finmap.entries (space_in self.now.spaces space).names }
+    {
+        self.resolver.pairs(space)
     }
 
     /// Replaces the id of a function by its number, at the id's place; a number passes.

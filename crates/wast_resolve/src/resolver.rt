@@ -4,7 +4,9 @@ ghost use Rattle.std.specs.Prelude.{◌≡◌, Some, option_map, IfOk, IfErr};
 ghost use Rattle.wast_base.specs.Ids.{name_of};
 ghost use Rattle.wast_resolve.specs.LookUps.{IsSettledFor, AnswersFor};
 ghost use Rattle.wast_resolve.specs.Resolved.{numbered, numbered_at, numbering};
+ghost use Rattle.std.specs.FinMap as finmap;
 ghost use Rattle.wast_namespace.specs.Namespaces.{number_in};
+ghost use Rattle.wast_namespace.specs.Places.{entries_of};
 ghost use Rattle.wast_map.specs.Mapped.{mapped_access};
 ghost use Rattle.wast_resolve.specs.Scopes.{Function, Struct, Other, denoted, type_at, params_of, nameless, field_in};
 ghost use Rattle.wast_resolve.specs.Tree.space;
@@ -303,6 +305,18 @@ impl<'a> Resolver<'a> {
             self.spaces[rank].find(id)
         } else {
             None
+        }
+    }
+
+    /// The ids of a space with their numbers.
+    pub(crate) fn pairs(&self, space: Space) -> &[(Id<'a>, u32)]
+        ensures { entries_of result.now ≡ finmap.entries (space_in self.now.spaces space).names }
+    {
+        let rank = space.rank();
+        if rank < self.spaces.len() {
+            self.spaces[rank].pairs()
+        } else {
+            &[]
         }
     }
 }

@@ -135,6 +135,7 @@ fn add_field<'a>(
         ModuleField::Elem(_) => Ok(()),
         ModuleField::Data(_) => Ok(()),
         ModuleField::Tag(_) => Ok(()),
+        ModuleField::Custom(_) => Ok(()),
     }
 }
 

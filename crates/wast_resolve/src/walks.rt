@@ -517,6 +517,7 @@ fn walk_field<'a>(
         ModuleField::Elem(elem) => elem.walk_constants(alloc, names),
         ModuleField::Data(data) => data.walk_constants(alloc, names),
         ModuleField::Tag(tag) => tag.walk_apart(names),
+        ModuleField::Custom(_) => Ok(()),
     }
 }
 

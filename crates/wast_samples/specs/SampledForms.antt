@@ -1,18 +1,12 @@
 -- The forms that stand in worked modules, each alone (text format: modules).
-use Rattle.std.specs.Prelude.{◌≡◌, Bool, true, false, List, [], ◌∷◌, None}
+use Rattle.std.specs.Prelude.{◌≡◌, List, [], ◌∷◌, None}
 use Rattle.wast_base.specs.declared.faults.Form.{Form}
-use Rattle.wast_base.specs.declared.faults.Form.TheVariants as form
 use Rattle.wast_base.specs.declared.ids.Span.{Span}
 use Rattle.wast_tree.specs.declared.instrs.Instruction.{Instruction}
 use Rattle.wast_tree.specs.declared.fields.FuncKind.TheVariants as func
 use Rattle.wast_tree.specs.declared.fields.ModuleField.{ModuleField}
 use Rattle.wast_tree.specs.declared.fields.ModuleField.TheVariants as field
 use Rattle.wast_tree.specs.Uncovered.{uncovered_forms}
-
--- the target architecture stands in custom sections alone
-abbrev pub is_sampled : Form → Bool
-is_sampled form.TargetArch = false
-is_sampled f = true
 
 -- this form stands in the fields, once, and no other that the encoder does not cover
 abbrev pub HoldsAlone : Form → List ModuleField → Type 0

@@ -25,7 +25,7 @@ pub(crate) fn func_of<'a>(
 }
 
 /// What `block ..` opens, without a type.
-fn labelled<'a>(label: Option<Id<'a>>) -> BlockType<'a> {
+pub(crate) fn labelled<'a>(label: Option<Id<'a>>) -> BlockType<'a> {
     BlockType {
         label,
         label_name: None,
@@ -44,7 +44,7 @@ fn branch<'a>(maker: &mut Maker, instrs: &mut Seq<Instruction<'a>>, label: Id<'a
 }
 
 /// `end` at the end of a body.
-fn close<'a>(maker: &mut Maker, instrs: &mut Seq<Instruction<'a>>) {
+pub(crate) fn close<'a>(maker: &mut Maker, instrs: &mut Seq<Instruction<'a>>) {
     maker.push_instruction(instrs, Instruction::end_(None));
 }
 

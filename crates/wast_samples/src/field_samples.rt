@@ -77,7 +77,7 @@ pub(crate) fn data<'a>(
 }
 
 /// `(import "" "" (func))` at a place, and its item at a place.
-fn imported_function<'a>(offset: usize, sig_offset: usize) -> ModuleField<'a> {
+pub(crate) fn imported_function<'a>(offset: usize, sig_offset: usize) -> ModuleField<'a> {
     let kind = ItemKind::Func(TypeUse::none());
     import(offset, "", "", sig_offset, None, kind)
 }

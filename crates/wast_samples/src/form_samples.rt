@@ -1,13 +1,14 @@
 //! The fields of small modules, each with one form that no encoder covers.
 
-ghost use Rattle.std.specs.Prelude.{◌≡◌, [], None, is_some, IfSome, IfOk, IfErr};
+ghost use Rattle.std.specs.Prelude.{◌≡◌, [], None, IfOk, IfErr};
 ghost use Rattle.wast_base.specs.Faults.{out_of_memory};
 ghost use Rattle.wast_tree.specs.Makers.{Makes};
 ghost use Rattle.wast_base.specs.declared.faults.Form.TheVariants as form;
 ghost use Rattle.wast_tree.specs.declared.fields.ModuleField.TheVariants as field;
-ghost use Rattle.wast_samples.specs.SampledForms.{is_sampled, HoldsAlone};
+ghost use Rattle.wast_samples.specs.SampledForms.{HoldsAlone};
 
 use crate::block_samples::func_of;
+use crate::custom_samples::architecture;
 use crate::field_samples::import;
 use crate::instr_samples::{one_instruction, wide_sum};
 use crate::samples::{at, empty_type, id, one, two};
@@ -147,34 +148,29 @@ fn array_load<'a>(alloc: Global, maker: &mut Maker) -> Seq<ModuleField<'a>>
     two(alloc, maker, written, func)
 }
 
-/// The fields of a module that holds this form, where there is such a module.
-fn fields_of_form<'a>(alloc: Global, maker: &mut Maker, form: Form) -> Option<Seq<ModuleField<'a>>>
-    ensures there { is_some result ≡ is_sampled form }
-    ensures alone { IfSome result (λ fields. Makes maker.old maker.new (HoldsAlone form fields)) }
+/// The fields of a module that holds this form.
+fn fields_of_form<'a>(alloc: Global, maker: &mut Maker, form: Form) -> Seq<ModuleField<'a>>
+    ensures { Makes maker.old maker.new (HoldsAlone form result) }
 {
     match form {
-        Form::StackSwitching => Some(continuation(alloc, maker)),
-        Form::Shared => Some(shared_type(alloc, maker)),
-        Form::Ordering => Some(ordered_fence(alloc, maker)),
-        Form::Atomic => Some(atomic_global(alloc, maker)),
-        Form::Descriptor => Some(exact_import(alloc, maker)),
-        Form::CompactImports => Some(grouped_import(alloc, maker)),
-        Form::ArrayMemArg => Some(array_load(alloc, maker)),
-        Form::TargetArch => None,
-        Form::Beyond => Some(wide_sum(alloc, maker)),
+        Form::StackSwitching => continuation(alloc, maker),
+        Form::Shared => shared_type(alloc, maker),
+        Form::Ordering => ordered_fence(alloc, maker),
+        Form::Atomic => atomic_global(alloc, maker),
+        Form::Descriptor => exact_import(alloc, maker),
+        Form::CompactImports => grouped_import(alloc, maker),
+        Form::ArrayMemArg => array_load(alloc, maker),
+        Form::TargetArch => architecture(alloc, maker),
+        Form::Beyond => wide_sum(alloc, maker),
     }
 }
 
-/// The fields of a small module that holds this form and no other that the encoder does not cover, or out of memory; `None`
-/// for the target architecture, which stands in custom sections alone.
-pub fn form_fields<'a>(alloc: Global, form: Form) -> Option<Result<Seq<ModuleField<'a>>, Error<'a>>>
-    ensures there { is_some result ≡ is_sampled form }
-    ensures alone { IfSome result (λ made. IfOk made (λ fields. HoldsAlone form fields)) }
-    ensures refusal { IfSome result (λ made. IfErr made (λ e. e ≡ out_of_memory)) }
+/// The fields of a small module that holds this form and no other that the encoder does not cover, or out of memory.
+pub fn form_fields<'a>(alloc: Global, form: Form) -> Result<Seq<ModuleField<'a>>, Error<'a>>
+    ensures alone { IfOk result (λ fields. HoldsAlone form fields) }
+    ensures refusal { IfErr result (λ e. e ≡ out_of_memory) }
 {
     let mut maker = Maker::new(alloc);
-    match fields_of_form(alloc, &mut maker, form) {
-        Some(fields) => Some(maker.finish(fields)),
-        None => None,
-    }
+    let fields = fields_of_form(alloc, &mut maker, form);
+    maker.finish(fields)
 }

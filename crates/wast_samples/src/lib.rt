@@ -5,8 +5,10 @@
 #![tactic(auto)]
 
 mod block_samples;
+mod custom_samples;
 mod field_samples;
 mod form_samples;
+mod hint_samples;
 mod inline_samples;
 mod instr_samples;
 mod samples;

@@ -7,7 +7,8 @@ ghost use Rattle.wast_tree.specs.WorkedModules.{plain_def};
 ghost use Rattle.wast_samples.specs.RowNumbers.{is_row};
 
 use crate::{
-    block_samples, field_samples, inline_samples, instr_samples, struct_samples, type_samples,
+    block_samples, custom_samples, field_samples, hint_samples, inline_samples, instr_samples,
+    struct_samples, type_samples,
 };
 use std::alloc::Global;
 use wast_tree::{
@@ -158,7 +159,7 @@ fn group_and_function<'a>(alloc: Global, maker: &mut Maker) -> Seq<ModuleField<'
 }
 
 /// `(local ..)`, without id.
-fn local_of(ty: ValType<'_>) -> Local<'_> {
+pub(crate) fn local_of(ty: ValType<'_>) -> Local<'_> {
     Local {
         id: None,
         name: None,
@@ -218,12 +219,14 @@ fn fields_of_row<'a>(alloc: Global, maker: &mut Maker, n: u32) -> Option<Seq<Mod
         8 => Some(group_and_function(alloc, maker)),
         9 => Some(block_samples::caught_exception(alloc, maker)),
         10 => Some(block_samples::delegated_exception(alloc, maker)),
+        11 => Some(hint_samples::likely_branch(alloc, maker)),
         12 => Some(field_samples::import_after_a_function(alloc, maker)),
         13 => Some(field_samples::unknown_start_before_a_clash(alloc, maker)),
         14 => Some(type_samples::results_for_parameters(alloc, maker)),
         15 => Some(block_samples::end_of_another_label(alloc, maker)),
         16 => Some(struct_samples::field_of_an_empty_struct(alloc, maker)),
         17 => Some(type_samples::local_named_as_a_parameter(alloc, maker)),
+        18 => Some(custom_samples::custom_called_name(alloc, maker)),
         19 => Some(instr_samples::wide_sum(alloc, maker)),
         21 => Some(field_samples::import_after_a_tag(alloc, maker)),
         22 => Some(type_samples::index_of_no_type(alloc, maker)),
@@ -233,6 +236,7 @@ fn fields_of_row<'a>(alloc: Global, maker: &mut Maker, n: u32) -> Option<Seq<Mod
         26 => Some(struct_samples::unknown_field(alloc, maker)),
         27 => Some(exported_call(alloc, maker)),
         28 => Some(block_samples::branches_out_of_two(alloc, maker)),
+        29 => Some(custom_samples::custom_before_start(alloc, maker)),
         30 => Some(field_samples::started_import(alloc, maker)),
         31 => Some(unknown_export(alloc, maker)),
         32 => Some(same_type_twice(alloc, maker)),
@@ -254,6 +258,10 @@ fn fields_of_row<'a>(alloc: Global, maker: &mut Maker, n: u32) -> Option<Seq<Mod
         48 => Some(struct_samples::field_of_a_null(alloc, maker)),
         49 => Some(instr_samples::relaxed_swizzle(alloc, maker)),
         50 => Some(block_samples::cast_out_of_a_block(alloc, maker)),
+        51 => Some(custom_samples::two_customs(alloc, maker)),
+        52 => Some(custom_samples::one_producer(alloc, maker)),
+        53 => Some(custom_samples::memory_info(alloc, maker)),
+        54 => Some(hint_samples::unlikely_if(alloc, maker)),
         55 => Some(block_samples::label_within_its_like(alloc, maker)),
         56 => Some(block_samples::block_behind_an_end(alloc, maker)),
         57 => Some(block_samples::global_of_a_block(alloc, maker)),
@@ -264,7 +272,7 @@ fn fields_of_row<'a>(alloc: Global, maker: &mut Maker, n: u32) -> Option<Seq<Mod
 
 /// The fields of the module of a worked row, or out of memory; `None` where there is no such row.
 ///
-/// The rows are 1 to 10, 12 to 17, 19, 21 to 28, 30 to 50, 55, 56, 57 and 65. Places are offsets in the text of the
+/// The rows are 1 to 19, 21 to 57 and 65. Places are offsets in the text of the
 /// row's module: of a field that of its keyword, of an id that of its `$`.
 pub fn sample_fields<'a>(alloc: Global, n: u32) -> Option<Result<Seq<ModuleField<'a>>, Error<'a>>>
     ensures there { is_some result ≡ is_row n }

@@ -8,3 +8,5 @@ mod expand;
 mod resolve;
 #[cfg(test)]
 mod tree;
+#[cfg(test)]
+mod visits;

@@ -1,7 +1,7 @@
 -- What the definitions say of worked modules, computed.
 use Rattle.std.proofs.Common.{refl}
 use Rattle.wast_base.specs.Blocks.{stays_open}
-use Rattle.wast_tree.specs.Private.Examples.{SameIds, StandsInRow27, StandsInFilledMemory, StandsEverywhere, StandsInPlace, StandsInSegments, StandsInBlocks, KnownInRows, WellFormedRows, SettledIndices, UnsettledIndices, WellFormedFuncs, WellFormedTypes, WellFormedSegments, WellFormedEntities, WellFormedInPlace, WellFormedBlocks, WrittenOutFields, GenerationsOfRows, StandsInAccess, UncoveredForms}
+use Rattle.wast_tree.specs.Private.Examples.{SameIds, StandsInRow27, StandsInFilledMemory, StandsEverywhere, StandsInPlace, StandsInSegments, StandsInBlocks, KnownInRows, WellFormedRows, SettledIndices, UnsettledIndices, WellFormedFuncs, WellFormedHints, WellFormedTypes, WellFormedSegments, WellFormedEntities, WellFormedInPlace, WellFormedBlocks, WrittenOutFields, GenerationsOfRows, StandsInAccess, UncoveredForms}
 
 pub same_ids : SameIds
 same_ids a b = (refl, refl, refl, refl, refl, refl, refl, refl)
@@ -40,7 +40,11 @@ pub unsettled_indices : UnsettledIndices
 unsettled_indices = (refl, refl, refl, refl, refl)
 
 pub well_formed_funcs : WellFormedFuncs
-well_formed_funcs a = (refl, refl, refl, refl, refl, refl, refl, refl, refl, refl, refl, refl)
+well_formed_funcs a = (refl, refl, refl, refl, refl, refl, refl, refl, refl, refl, refl)
+
+pub well_formed_hints : WellFormedHints
+unfolding stays_open
+well_formed_hints = (refl, refl, refl, refl, refl, refl, refl, refl)
 
 pub well_formed_types : WellFormedTypes
 well_formed_types a = (refl, refl, refl, refl, refl, refl, refl, refl, refl, refl, refl, refl)

@@ -1,7 +1,7 @@
 -- What is asked of single parts of a well formed module (text format: memories, element segments; binary format: element
--- section).
-use Rattle.std.specs.Prelude.{ℕ, nat_lt, Bool, true, false, not, ◌&&◌, Option, Some, None}
-use Rattle.wast_tree.specs.Tree.{Index, HeapType, AbstractHeapType, RefType, ElemKind, ElemPayload}
+-- section; branch hinting).
+use Rattle.std.specs.Prelude.{ℕ, ◌+◌, nat_le, nat_lt, Bool, true, false, not, ◌&&◌, List, [], ◌∷◌, length, Option, Some, None}
+use Rattle.wast_tree.specs.Tree.{Index, HeapType, AbstractHeapType, RefType, BranchHint, Expression, ElemKind, ElemPayload}
 use Rattle.wast_tree.specs.Tree.heap
 use Rattle.wast_tree.specs.Tree.abstract
 use Rattle.wast_tree.specs.Tree.elem
@@ -11,6 +11,19 @@ use Rattle.wast_tree.specs.Tree.payload
 abbrev pub is_page_exponent : Option ℕ → Bool
 is_page_exponent None = true
 is_page_exponent (Some n) = nat_lt n 64
+
+-- A branch hint stands on one of so many instructions, on that of this number or behind it, and its value is 0 or 1.
+abbrev pub stands : ℕ → ℕ → BranchHint → Bool
+stands count first h = nat_le first h.instr_index && (nat_lt h.instr_index count && nat_lt h.value 2)
+
+-- branch hints stand on so many instructions, from that of this number on, each behind the one before it
+abbrev pub stand_from : ℕ → ℕ → List BranchHint → Bool
+stand_from count first [] = true
+stand_from count first (h ∷ hs) = stands count first h && stand_from count (h.instr_index + 1) hs
+
+-- those of a body stand on its instructions
+abbrev pub hints_stand : Expression → Bool
+hints_stand e = stand_from (length e.instrs) 0 e.branch_hints
 
 -- `funcref`
 abbrev pub is_func : AbstractHeapType → Bool

@@ -31,3 +31,4 @@ defined_space (field.Start i) = None
 defined_space (field.Elem e) = None
 defined_space (field.Data d) = None
 defined_space (field.Tag t) = Some space.Tag
+defined_space (field.Custom c) = None

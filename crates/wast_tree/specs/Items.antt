@@ -67,6 +67,7 @@ items_in (field.Start i) = []
 items_in (field.Elem e) = item space.Elem e.id [] ∷ []
 items_in (field.Data d) = item space.Data d.id [] ∷ []
 items_in (field.Tag t) = item space.Tag t.id [] ∷ []
+items_in (field.Custom c) = []
 
 -- each field after the one before it
 abbrev pub items : List ModuleField → List Item

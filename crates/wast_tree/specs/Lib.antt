@@ -1,6 +1,7 @@
 -- What the contracts cite. The tree comes first; then what a list of fields gives: its items, what
 -- it asks, what it makes known, whether it is well formed and written out, and the greatest generation of its ids.
 pub mod Clauses
+pub mod Customs
 pub mod DataBytes
 pub mod Generations
 pub mod Imports

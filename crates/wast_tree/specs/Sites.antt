@@ -1,7 +1,7 @@
 -- The one list of what stands in a module beside its items, in the order in which it is asked (text format: identifiers,
 -- indices): what stands in a type, and sites of fields and bodies, which carry what they may read of those before them.
-use Rattle.std.specs.Prelude.{ℕ, Bool, true, false, not, ◌==◌, is_none, length, List, [], ◌∷◌, ◌++◌, map, Option, Some, None, flat_map}
-use Rattle.wast_tree.specs.Tree.{Id, Index, NameAnnotation, Space, RefType, HeapType, ValType, StorageType, StructField, StructType, ArrayType, FunctionType, TypeUse, InnerTypeKind, TypeDef, Rec, BlockType, BrTableIndices, TryTable, TryTableCatch, TryTableCatchKind, MemArg, MemArgTarget, CallIndirect, SelectTypes, StructAccess, Ordering, Handle, ResumeTable, AbstractHeapType, Form, Instruction, Expression, Local, FuncKind, Func, TableType, GlobalType, TagType, ItemKind, ItemSig, ImportItems, TableKind, MemoryKind, GlobalKind, Global, ExportKind, ElemKind, ElemPayload, Elem, DataKind, ModuleField}
+use Rattle.std.specs.Prelude.{ℕ, Bool, true, false, not, is_none, List, [], ◌∷◌, ◌++◌, map, Option, Some, None, flat_map}
+use Rattle.wast_tree.specs.Tree.{Id, Index, NameAnnotation, Space, RefType, HeapType, ValType, StorageType, StructField, StructType, ArrayType, FunctionType, TypeUse, InnerTypeKind, TypeDef, Rec, BlockType, BrTableIndices, TryTable, TryTableCatch, TryTableCatchKind, MemArg, MemArgTarget, CallIndirect, SelectTypes, StructAccess, Ordering, Handle, ResumeTable, AbstractHeapType, Form, Instruction, Expression, Local, FuncKind, Func, TableType, GlobalType, TagType, ItemKind, ItemSig, ImportItems, TableKind, MemoryKind, GlobalKind, Global, ExportKind, ElemKind, ElemPayload, Elem, DataKind, Custom, Dylink0Subsection, ModuleField}
 use Rattle.wast_tree.specs.Tree.space
 use Rattle.wast_tree.specs.Tree.form
 use Rattle.wast_tree.specs.Tree.abstract
@@ -26,12 +26,14 @@ use Rattle.wast_tree.specs.Tree.elem
 use Rattle.wast_tree.specs.Tree.payload
 use Rattle.wast_tree.specs.Tree.data_kind
 use Rattle.wast_tree.specs.Tree.export
+use Rattle.wast_tree.specs.Tree.custom
+use Rattle.wast_tree.specs.Tree.dylink
 use Rattle.wast_tree.specs.Tree.field
 use Rattle.std.specs.Int.{is_power_of_two}
 use Rattle.wast_base.specs.Blocks.{Blocks, closed, is_balanced}
 use Rattle.wast_base.specs.Ids.{Name, Mark, mark_of, marked}
 use Rattle.wast_base.specs.Spaces.{name_if}
-use Rattle.wast_tree.specs.Clauses.{is_page_exponent, suits}
+use Rattle.wast_tree.specs.Clauses.{hints_stand, is_page_exponent, suits}
 use Rattle.wast_tree.specs.Instrs.{turns}
 pub use Rattle.wast_tree.specs.Types.{Where, OfItem, OfCall, OfBlock}
 
@@ -390,9 +392,9 @@ abbrev pub in_instrs : Here → List Instruction → List Site
 in_instrs h [] = []
 in_instrs h (i ∷ is) = in_instr h i ++ in_instrs (behind h i) is
 
--- without branch hints
+-- the body of a function: its instructions, and whether its branch hints stand on them
 abbrev pub in_expression : Here → Expression → List Site
-in_expression h e = in_instrs h e.instrs ++ Asked (Clause 2 (length e.branch_hints == 0)) ∷ []
+in_expression h e = in_instrs h e.instrs ++ Asked (Clause 2 (hints_stand e)) ∷ []
 
 -- a local: its type, and its id
 abbrev pub in_local : Local → List Ask
@@ -458,9 +460,10 @@ in_import (import_items.Single source name sig) = in_sig sig
 in_import (import_items.Group1 source items) = flat_map (λ p. in_sig p.1) items ++ asking (uncovered form.CompactImports)
 in_import (import_items.Group2 source sig items) = in_sig sig ++ asking (uncovered form.CompactImports)
 
--- a constant expression stands alone, and closes as many blocks as it opens, none before it is open
+-- a constant expression stands alone, and closes as many blocks as it opens, none before it is open; its branch hints are not
+-- asked, since they are not written
 abbrev pub in_constant : Expression → List Site
-in_constant e = in_expression start e ++ Asked (Clause 5 (is_balanced (turns e.instrs))) ∷ []
+in_constant e = in_instrs start e.instrs ++ Asked (Clause 5 (is_balanced (turns e.instrs))) ∷ []
 
 -- functions; or expressions, and then their type
 abbrev pub in_payload : ElemPayload → List Site
@@ -511,6 +514,21 @@ exported_space export.Memory = space.Memory
 exported_space export.Global = space.Global
 exported_space export.Tag = space.Tag
 
+-- a subsection of dylink.0: no encoder covers that of an architecture
+abbrev pub in_subsection : Dylink0Subsection → List Ask
+in_subsection (dylink.MemInfo memory_size memory_align table_size table_align) = []
+in_subsection (dylink.Needed names) = []
+in_subsection (dylink.ExportInfo flags) = []
+in_subsection (dylink.ImportInfo flags) = []
+in_subsection (dylink.RuntimePath names) = []
+in_subsection (dylink.TargetArch name) = uncovered form.TargetArch
+
+-- a custom section: nothing is asked of its bytes
+abbrev pub in_custom : Custom → List Site
+in_custom (custom.Raw section) = []
+in_custom (custom.Producers producers) = []
+in_custom (custom.Dylink0 info) = asking (flat_map in_subsection info.subsections)
+
 -- a field
 abbrev pub in_field : ModuleField → List Site
 in_field (field.Ty t) = asking (in_type t)
@@ -525,6 +543,7 @@ in_field (field.Start i) = at_index space.Func i
 in_field (field.Elem e) = in_elem e
 in_field (field.Data d) = in_data_kind d.kind
 in_field (field.Tag t) = in_tag_type t.ty
+in_field (field.Custom c) = in_custom c
 
 -- each field after the one before it
 abbrev pub in_module : List ModuleField → List Site

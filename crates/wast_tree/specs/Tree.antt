@@ -84,6 +84,7 @@ pub use Rattle.wast_tree.specs.declared.immediates.F32.{F32}
 pub use Rattle.wast_tree.specs.declared.immediates.F64.{F64}
 pub use Rattle.wast_tree.specs.declared.instrs.Instruction.{Instruction}
 pub use Rattle.wast_tree.specs.declared.instrs.Instruction.TheVariants as instr
+pub use Rattle.wast_tree.specs.declared.instrs.BranchHint.{BranchHint}
 pub use Rattle.wast_tree.specs.declared.instrs.Expression.{Expression}
 pub use Rattle.wast_tree.specs.declared.entities.Limits.{Limits}
 pub use Rattle.wast_tree.specs.declared.entities.TableType.{TableType}
@@ -128,5 +129,16 @@ pub use Rattle.wast_tree.specs.declared.fields.TagKind.TheVariants as tag_kind
 pub use Rattle.wast_tree.specs.declared.fields.ExportKind.{ExportKind}
 pub use Rattle.wast_tree.specs.declared.fields.ExportKind.TheVariants as export
 pub use Rattle.wast_tree.specs.declared.fields.Export.{Export}
+pub use Rattle.wast_tree.specs.declared.customs.Custom.{Custom}
+pub use Rattle.wast_tree.specs.declared.customs.Custom.TheVariants as custom
+pub use Rattle.wast_tree.specs.declared.customs.RawCustomSection.{RawCustomSection}
+pub use Rattle.wast_tree.specs.declared.customs.CustomPlace.{CustomPlace}
+pub use Rattle.wast_tree.specs.declared.customs.CustomPlace.TheVariants as custom_place
+pub use Rattle.wast_tree.specs.declared.customs.CustomPlaceAnchor.{CustomPlaceAnchor}
+pub use Rattle.wast_tree.specs.declared.customs.CustomPlaceAnchor.TheVariants as anchor
+pub use Rattle.wast_tree.specs.declared.customs.Producers.{Producers}
+pub use Rattle.wast_tree.specs.declared.customs.Dylink0.{Dylink0}
+pub use Rattle.wast_tree.specs.declared.customs.Dylink0Subsection.{Dylink0Subsection}
+pub use Rattle.wast_tree.specs.declared.customs.Dylink0Subsection.TheVariants as dylink
 pub use Rattle.wast_tree.specs.declared.fields.ModuleField.{ModuleField}
 pub use Rattle.wast_tree.specs.declared.fields.ModuleField.TheVariants as field

@@ -55,6 +55,7 @@ is_written_field (field.Start i) = true
 is_written_field (field.Elem e) = true
 is_written_field (field.Data d) = true
 is_written_field (field.Tag t) = exports_nothing t.exports && is_written_tag t.kind
+is_written_field (field.Custom c) = true
 
 -- no field has anything in place
 abbrev pub is_written_out : List ModuleField → Bool

@@ -127,9 +127,9 @@ fn keep_own<T: HasItems + Visit>(parts: &[T]) -> bool
 /// Whether the fields are well formed (text format: indices, modules). It takes no memory.
 ///
 /// They are, where each generated id that stands for an index is that of an item of its space, and none stands for a local, a
-/// label or a field; no expression has hints; the alignment of a memory argument is a power of two; a constant expression
-/// closes as many blocks as it opens, and none before it is open; and where a memory holds its bytes in place, its page size
-/// is 2 to less than 64. Of an active element segment without a table, which stands for the first one, expressions are of
+/// label or a field; the branch hints in the body of a function stand on its instructions, each behind the one before it, and have
+/// value 0 or 1; the alignment of a memory argument is a power of two; a constant expression closes as many blocks as it opens,
+/// and none before it is open; and where a memory holds its bytes in place, its page size is 2 to less than 64. Of an active element segment without a table, which stands for the first one, expressions are of
 /// type `funcref`: for another type the binary format wants the table written. A type use may have no index, and an inline
 /// type may be another than that of the index beside it: this is E5, E6 or E7, which resolving answers. A written id may be
 /// that of no item or no field (E4, E9), a label at an `else` or an `end` may be another than that of its block (E8), and two

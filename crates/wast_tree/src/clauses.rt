@@ -4,10 +4,10 @@ ghost use Rattle.std.specs.Prelude.{◌≡◌};
 ghost use Rattle.wast_base.specs.Blocks.{is_balanced};
 ghost use Rattle.wast_tree.specs.Instrs.{turns};
 ghost use Rattle.wast_tree.specs.Sites.{is_sequential};
-ghost use Rattle.wast_tree.specs.Clauses.{is_page_exponent, is_func, is_funcref, holds_functions, suits};
+ghost use Rattle.wast_tree.specs.Clauses.{is_page_exponent, stands, stand_from, is_func, is_funcref, holds_functions, suits};
 
 use crate::immediates::Ordering;
-use crate::instrs::Instruction;
+use crate::instrs::{BranchHint, Instruction};
 use crate::segments::{ElemKind, ElemPayload};
 use crate::types::{AbstractHeapType, HeapType, RefType};
 
@@ -19,6 +19,27 @@ pub(crate) fn is_page_exponent(exponent: Option<u32>) -> bool
         None => true,
         Some(exponent) => exponent < 64,
     }
+}
+
+/// Whether a branch hint stands on one of so many instructions, on that of this number or behind it, and has value 0 or 1.
+fn stands(count: usize, first: usize, hint: &BranchHint) -> bool
+    ensures { result ≡ stands count first hint.now }
+{
+    first <= hint.instr_index && hint.instr_index < count && hint.value < 2
+}
+
+/// Whether branch hints stand on so many instructions, each behind the one before it, and have value 0 or 1.
+pub(crate) fn hints_stand(count: usize, hints: &[BranchHint]) -> bool
+    ensures { result ≡ stand_from count 0 hints.now }
+{
+    let mut first = 0usize;
+    for hint in hints {
+        if !stands(count, first, hint) {
+            return false;
+        }
+        first = hint.instr_index + 1;
+    }
+    true
 }
 
 /// Whether it is `func`.

@@ -1,6 +1,6 @@
 //! Worked modules, of which the definitions compute what they say.
 
-ghost use Rattle.wast_tree.specs.Private.Examples.{SameIds, StandsInRow27, StandsInFilledMemory, StandsEverywhere, StandsInPlace, StandsInSegments, StandsInBlocks, KnownInRows, WellFormedRows, SettledIndices, UnsettledIndices, WellFormedFuncs, WellFormedTypes, WellFormedSegments, WellFormedEntities, WellFormedInPlace, WellFormedBlocks, WrittenOutFields, GenerationsOfRows, StandsInAccess, UncoveredForms};
+ghost use Rattle.wast_tree.specs.Private.Examples.{SameIds, StandsInRow27, StandsInFilledMemory, StandsEverywhere, StandsInPlace, StandsInSegments, StandsInBlocks, KnownInRows, WellFormedRows, SettledIndices, UnsettledIndices, WellFormedFuncs, WellFormedHints, WellFormedTypes, WellFormedSegments, WellFormedEntities, WellFormedInPlace, WellFormedBlocks, WrittenOutFields, GenerationsOfRows, StandsInAccess, UncoveredForms};
 
 /// Which ids and indices are the same.
 #[tactic(auto, using(crate::proofs::Worked::same_ids))]
@@ -22,12 +22,13 @@ pub(crate) fn occurrences()
 {}
 
 /// Which modules are well formed, and which are not.
-#[tactic(auto, using(crate::proofs::Worked::well_formed_rows, crate::proofs::Worked::settled_indices, crate::proofs::Worked::unsettled_indices, crate::proofs::Worked::well_formed_funcs, crate::proofs::Worked::well_formed_types, crate::proofs::Worked::well_formed_segments, crate::proofs::Worked::well_formed_entities, crate::proofs::Worked::well_formed_in_place, crate::proofs::Worked::well_formed_blocks))]
+#[tactic(auto, using(crate::proofs::Worked::well_formed_rows, crate::proofs::Worked::settled_indices, crate::proofs::Worked::unsettled_indices, crate::proofs::Worked::well_formed_funcs, crate::proofs::Worked::well_formed_hints, crate::proofs::Worked::well_formed_types, crate::proofs::Worked::well_formed_segments, crate::proofs::Worked::well_formed_entities, crate::proofs::Worked::well_formed_in_place, crate::proofs::Worked::well_formed_blocks))]
 pub(crate) fn well_formed()
     ensures rows { WellFormedRows }
     ensures settled { SettledIndices }
     ensures unsettled { UnsettledIndices }
     ensures funcs { WellFormedFuncs }
+    ensures hints { WellFormedHints }
     ensures types { WellFormedTypes }
     ensures segments { WellFormedSegments }
     ensures entities { WellFormedEntities }

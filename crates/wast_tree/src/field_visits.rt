@@ -1,9 +1,10 @@
 //! What stands in fields other than types and functions, as reading walks tell it.
 #![tactic(auto, using(crate::proofs::Visiting::visits_both, crate::proofs::Visiting::visits_one, crate::proofs::Visiting::visits_none, crate::proofs::Visiting::asked_asking, crate::proofs::Visiting::asked_both, crate::proofs::Visiting::asked_use, crate::proofs::Visiting::asked_if, crate::proofs::Visiting::asked_index_if, crate::proofs::Visiting::asked_each, crate::proofs::Visiting::asked_indices))]
 
-ghost use Rattle.wast_tree.specs.Sites.{in_index, in_table_type, in_global_type, in_tag_type, in_item_kind, in_sig, in_import, in_table_kind, in_memory_kind, in_global_kind, in_global, exported_space, in_elem_kind, in_payload, in_elem, in_data_kind, asked};
+ghost use Rattle.wast_tree.specs.Sites.{in_index, in_table_type, in_global_type, in_tag_type, in_item_kind, in_sig, in_import, in_table_kind, in_memory_kind, in_global_kind, in_global, exported_space, in_elem_kind, in_payload, in_elem, in_data_kind, in_subsection, in_custom, asked};
 
 use crate::clauses::{is_page_exponent, suits};
+use crate::customs::{Custom, Dylink0Subsection};
 use crate::entities::{GlobalType, TableType, TagType};
 use crate::fields::{Export, Global, GlobalKind, MemoryKind, TableKind};
 use crate::imports::{ImportItems, ItemKind, ItemSig};
@@ -209,6 +210,33 @@ impl Visit for DataKind<'_> {
                 visitor.index(Space::Memory, memory);
                 offset.visit(visitor);
             }
+        }
+    }
+}
+
+impl Visit for Dylink0Subsection<'_> {
+    ghost asks = { in_subsection };
+
+    fn visit<V: Visitor>(&self, visitor: &mut V) {
+        match self {
+            Dylink0Subsection::MemInfo { .. } => {}
+            Dylink0Subsection::Needed(_) => {}
+            Dylink0Subsection::ExportInfo(_) => {}
+            Dylink0Subsection::ImportInfo(_) => {}
+            Dylink0Subsection::RuntimePath(_) => {}
+            Dylink0Subsection::TargetArch(_) => visitor.covered(Form::TargetArch, false),
+        }
+    }
+}
+
+impl Visit for Custom<'_> {
+    ghost asks = { λ c. asked (in_custom c) };
+
+    fn visit<V: Visitor>(&self, visitor: &mut V) {
+        match self {
+            Custom::Raw(_) => {}
+            Custom::Producers(_) => {}
+            Custom::Dylink0(info) => info.subsections.visit(visitor),
         }
     }
 }

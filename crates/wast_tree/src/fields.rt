@@ -7,6 +7,7 @@ ghost use Rattle.wast_tree.specs.Tree.table;
 ghost use Rattle.wast_tree.specs.Tree.memory;
 ghost use Rattle.wast_tree.specs.Tree.global;
 
+use crate::customs::Custom;
 use crate::entities::{GlobalType, MemoryType, TableType, TagType};
 use crate::imports::Imports;
 use crate::instrs::{Expression, Instruction};
@@ -42,6 +43,8 @@ pub enum ModuleField<'a> {
     Data(Data<'a>),
     /// `(tag ..)`
     Tag(Tag<'a>),
+    /// `(@custom ..)`, `(@producers ..)` or `(@dylink.0 ..)`
+    Custom(Custom<'a>),
 }
 
 /// The names under which a field exports its item: `(export "a")` within the field (text format, exports).

@@ -272,7 +272,7 @@ impl<'a> Instruction<'a> {
     }
 }
 
-/// A branch hint: `(@metadata.code.branch_hint "\01")` (custom annotations).
+/// A branch hint: `(@metadata.code.branch_hint "\01")` (text format, custom annotations).
 #[derive(Clone, Copy, Debug, PartialEq, Eq)]
 pub struct BranchHint {
     /// The number of the instruction that it stands before, counted from 0.

@@ -5,10 +5,11 @@ ghost use Rattle.wast_base.specs.Faults.{out_of_memory};
 ghost use Rattle.wast_tree.specs.Makers.{Makes, opener};
 ghost use Rattle.wast_tree.specs.Tree.instr;
 
+use crate::customs::Dylink0Subsection;
 use crate::fields::{Local, ModuleField};
 use crate::immediates::{BlockType, TryTable, TryTableCatch};
 use crate::imports::ItemSig;
-use crate::instrs::{Expression, Instruction};
+use crate::instrs::{BranchHint, Expression, Instruction};
 use crate::moves::discard_fields;
 use crate::segments::DataVal;
 use crate::types::{StructField, Type, ValType};
@@ -186,6 +187,13 @@ impl Maker {
         Expression::new(self.alloc, instrs)
     }
 
+    /// Branch hints, each with the number of its instruction and its value (text format, custom annotations).
+    pub fn hints(&mut self, hints: &[BranchHint]) -> Seq<BranchHint>
+        ensures { Makes self.old self.new (result ≡ hints.now) }
+    {
+        copied(self, hints)
+    }
+
     /// Types of values, as the results of a function (text format, composite types).
     pub fn values<'a>(&mut self, values: &[ValType<'a>]) -> Seq<ValType<'a>>
         ensures { Makes self.old self.new (result ≡ values.now) }
@@ -229,6 +237,64 @@ impl Maker {
         ensures { Makes self.old self.new (result ≡ names.now) }
     {
         copied(self, names)
+    }
+
+    /// The bytes of a custom section, in pieces (text format, custom annotations).
+    pub fn pieces<'a>(&mut self, pieces: &[&'a [u8]]) -> Seq<&'a [u8]>
+        ensures { Makes self.old self.new (result ≡ pieces.now) }
+    {
+        copied(self, pieces)
+    }
+
+    /// Values of a field of `producers`: the name and the version of each (tool conventions, producers section).
+    pub fn versions<'a>(&mut self, versions: &[(&'a str, &'a str)]) -> Seq<(&'a str, &'a str)>
+        ensures { Makes self.old self.new (result ≡ versions.now) }
+    {
+        copied(self, versions)
+    }
+
+    /// Puts a field at the end of those of `producers`: its name and its values (tool conventions, producers section).
+    pub fn push_producers<'a>(
+        &mut self,
+        fields: &mut Seq<(&'a str, Seq<(&'a str, &'a str)>)>,
+        name: &'a str,
+        versions: Seq<(&'a str, &'a str)>,
+    )
+        ensures { Makes self.old self.new (fields.new ≡ fields.old ++ (name.entry, versions.entry) ∷ []) }
+    {
+        if fields.push((name, versions)).is_err() {
+            self.refused = true;
+        }
+    }
+
+    /// Puts a subsection at the end of those of `dylink.0` (tool conventions, dynamic linking).
+    pub fn push_subsection<'a>(
+        &mut self,
+        subsections: &mut Seq<Dylink0Subsection<'a>>,
+        subsection: Dylink0Subsection<'a>,
+    )
+        ensures { Makes self.old self.new (subsections.new ≡ subsections.old ++ subsection.entry ∷ []) }
+    {
+        if subsections.push(subsection).is_err() {
+            self.refused = true;
+        }
+    }
+
+    /// Names of exports with their flags (tool conventions, dynamic linking).
+    pub fn export_flags<'a>(&mut self, flags: &[(&'a str, u32)]) -> Seq<(&'a str, u32)>
+        ensures { Makes self.old self.new (result ≡ flags.now) }
+    {
+        copied(self, flags)
+    }
+
+    /// Modules and names of imports with their flags (tool conventions, dynamic linking).
+    pub fn import_flags<'a>(
+        &mut self,
+        flags: &[(&'a str, &'a str, u32)],
+    ) -> Seq<(&'a str, &'a str, u32)>
+        ensures { Makes self.old self.new (result ≡ flags.now) }
+    {
+        copied(self, flags)
     }
 
     /// The fields of a module, where no memory was refused. Else the error is E12, and the fields are dropped.

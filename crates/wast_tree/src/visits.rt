@@ -12,7 +12,7 @@ ghost use Rattle.wast_tree.specs.Items.{Item, item, item_of_sig, fields_of, item
 ghost use Rattle.wast_tree.specs.Sites.{Ask, Wants, Within, Unasked, Clause, Covered, Here, if_there, in_index, in_id, in_heap, in_ref, in_val, in_storage, in_param, in_signature, in_struct_field, in_struct, in_array, in_inner, in_descriptor, in_def, in_type, in_rec, in_type_use, in_block, in_caught, in_catch, in_try_table, in_br_table, in_target, in_mem_arg, in_pair, in_access, in_cast, uncovered, asking, in_select, in_indirect, mark_asked, in_instr, in_instrs, in_expression, in_constant, in_local, in_func_kind, in_func, in_field, in_module, asked};
 ghost use Rattle.wast_tree.specs.Visits.{Visits};
 
-use crate::clauses::{is_balanced, is_sequential};
+use crate::clauses::{hints_stand, is_balanced, is_sequential};
 use crate::fields::{Func, FuncKind, Local, ModuleField};
 use crate::immediates::{
     BlockType, BrTableIndices, CallIndirect, MemArg, MemArgTarget, SelectTypes, TryTable,
@@ -37,8 +37,12 @@ pub trait ItemVisitor<'a> {
         ensures { told self.old (item space id.now fields.now) self.new };
 }
 
-/// What is told of what stands in a module beside its items.
-pub(crate) trait Visitor {
+/// What is told of what stands in a module beside its items (text format: identifiers, indices), as a count of indices, a
+/// look for an id, or a test of each.
+///
+/// Its calls come in the order in which what stands there is asked, field by field, and within a body instruction by
+/// instruction.
+pub trait Visitor {
     /// How it stands before and after one of them.
     ghost told: { Self → Ask → Self → Type 0 };
 
@@ -90,6 +94,7 @@ pub(crate) fn visit_items_in<'a, V: ItemVisitor<'a>>(field: &ModuleField<'a>, vi
         ModuleField::Elem(elem) => visitor.item(Space::Elem, &elem.id, &[]),
         ModuleField::Data(data) => visitor.item(Space::Data, &data.id, &[]),
         ModuleField::Tag(tag) => visitor.item(Space::Tag, &tag.id, &[]),
+        ModuleField::Custom(_) => {}
     }
 }
 
@@ -712,12 +717,16 @@ fn visit_instrs<V: Visitor>(instrs: &[Instruction<'_>], visitor: &mut V)
     }
 }
 
-/// Tells a visitor of an expression.
+/// Tells a visitor of the body of a function.
 fn visit_expression<V: Visitor>(expression: &Expression<'_>, visitor: &mut V)
     ensures { (h : Here) → Visits V.told visitor.old (asked (in_expression h expression.now)) visitor.new }
 {
-    visit_instrs(expression.instrs.as_slice(), visitor);
-    visitor.clause(2, expression.branch_hints.is_empty());
+    let instrs = expression.instrs.as_slice();
+    visit_instrs(instrs, visitor);
+    visitor.clause(
+        2,
+        hints_stand(instrs.len(), expression.branch_hints.as_slice()),
+    );
 }
 
 /// A constant expression.
@@ -725,8 +734,9 @@ impl Visit for Expression<'_> {
     ghost asks = { λ e. asked (in_constant e) };
 
     fn visit<V: Visitor>(&self, visitor: &mut V) {
-        visit_expression(self, visitor);
-        visitor.clause(5, is_balanced(self.instrs.as_slice()));
+        let instrs = self.instrs.as_slice();
+        visit_instrs(instrs, visitor);
+        visitor.clause(5, is_balanced(instrs));
     }
 }
 
@@ -779,12 +789,14 @@ impl Visit for ModuleField<'_> {
             ModuleField::Elem(elem) => elem.visit(visitor),
             ModuleField::Data(data) => data.kind.visit(visitor),
             ModuleField::Tag(tag) => tag.ty.visit(visitor),
+            ModuleField::Custom(custom) => custom.visit(visitor),
         }
     }
 }
 
-/// Tells a visitor of what stands in the fields beside their items.
-pub(crate) fn visit_fields<V: Visitor>(fields: &[ModuleField<'_>], visitor: &mut V)
+/// Tells a visitor of what stands in the fields beside their items: indices and ids, clauses of "well formed", and forms that
+/// no encoder covers (text format, modules). It takes no memory.
+pub fn visit_fields<V: Visitor>(fields: &[ModuleField<'_>], visitor: &mut V)
     ensures { Visits V.told visitor.old (asked (in_module fields.now)) visitor.new }
 {
     for field in fields {

@@ -83,6 +83,7 @@ fn is_written_field(field: &ModuleField<'_>) -> bool
         ModuleField::Export(_) | ModuleField::Start(_) => true,
         ModuleField::Elem(_) | ModuleField::Data(_) => true,
         ModuleField::Tag(tag) => exports_nothing(&tag.exports) && is_written_tag(&tag.kind),
+        ModuleField::Custom(_) => true,
     }
 }
 

@@ -7,9 +7,10 @@ use Rattle.wast_base.specs.Ids.{Name, Mark, marked, generated}
 use Rattle.wast_base.specs.Spaces.{name_if}
 use Rattle.wast_base.specs.Blocks.{Blocks, is_balanced}
 use Rattle.wast_tree.specs.Instrs.{turns}
-use Rattle.wast_tree.specs.Sites.{Ask, Clause, OfItem, OfBlock, Site, Asked, Begins, Here, start, asking, at_index, at_label, in_index, in_caught, in_catch, in_handle, in_handlers, in_cast, in_ref, uncovered, in_block, in_try_table, in_br_table, in_heap, in_pair, in_mem_arg, in_select, in_type, in_rec, in_instr, behind, in_instrs, in_expression, in_constant, in_local, param_marks, local_marks, declaring, body_here, in_func_kind, in_use, in_func, in_payload, in_sig, in_field}
-use Rattle.wast_types.specs.Tree.{Index, RefType, Handle, ResumeTable, BlockType, BrTableIndices, TryTable, TryTableCatch, FunctionType, TypeUse, SelectTypes, Instruction, Expression, Local, FuncKind, Func, Table, Global, ElemPayload, Elem, Data, Rec, ItemSig}
+use Rattle.wast_tree.specs.Sites.{Ask, Clause, OfItem, OfBlock, Site, Asked, Begins, Here, start, asking, at_index, at_label, in_index, in_caught, in_catch, in_handle, in_handlers, in_cast, in_ref, uncovered, in_block, in_try_table, in_br_table, in_heap, in_pair, in_mem_arg, in_select, in_type, in_rec, in_instr, behind, in_instrs, in_expression, in_constant, in_local, param_marks, local_marks, declaring, body_here, in_func_kind, in_use, in_func, in_payload, in_sig, in_subsection, in_field}
+use Rattle.wast_types.specs.Tree.{Index, RefType, Handle, ResumeTable, BlockType, BrTableIndices, TryTable, TryTableCatch, FunctionType, TypeUse, SelectTypes, Instruction, Expression, Local, FuncKind, Func, Table, Global, ElemPayload, Elem, Data, Custom, Rec, ItemSig}
 use Rattle.wast_types.specs.Tree.form
+use Rattle.wast_types.specs.Tree.custom
 use Rattle.wast_types.specs.Tree.handle
 use Rattle.wast_types.specs.Tree.space
 use Rattle.wast_types.specs.Tree.ty
@@ -112,7 +113,7 @@ pub needed_body : (h : Here) (e : Expression) → needed_in (in_expression h e) 
 needed_body h e = needed_both (in_instrs h e.instrs) _ ∙ (append-nil (needed_in (in_instrs h e.instrs)) ∙ instrs_anywhere h e.instrs)
 
 pub needed_constant : (e : Expression) → needed_in (in_constant e) ≡ flat_map (λ i. needed_in (in_instr start i)) e.instrs
-needed_constant e = needed_both (in_expression start e) (Asked (Clause 5 (is_balanced (turns e.instrs))) ∷ []) ∙ (append-nil (needed_in (in_expression start e)) ∙ needed_body start e)
+needed_constant e = needed_both (in_instrs start e.instrs) (Asked (Clause 5 (is_balanced (turns e.instrs))) ∷ []) ∙ (append-nil (needed_in (in_instrs start e.instrs)) ∙ instrs_anywhere start e.instrs)
 
 -- a body alone needs types
 pub needed_inline : (u : TypeUse FunctionType) (locals : List Local) (e : Expression) → needed_in (in_func_kind u (func.Inline locals e)) ≡ needed_in (in_constant e)
@@ -206,6 +207,10 @@ ty_none t = needed_asking (in_type t)
 
 pub rec_none : (r : Rec) → needed_in (in_field (field.Rec r)) ≡ []
 rec_none r = needed_asking (in_rec r)
+
+pub custom_none : (c : Custom) → needed_in (in_field (field.Custom c)) ≡ []
+custom_none (custom.Dylink0 info) = needed_asking (flat_map in_subsection info.subsections)
+custom_none c = refl
 
 -- the type that is made for a signature, with its id
 abbrev pub made_type : ℕ → Signature → ty.«Type»

@@ -76,3 +76,5 @@ pub use Rattle.wast_tree.specs.declared.continuations.Handle.{Handle}
 pub use Rattle.wast_tree.specs.declared.continuations.Handle.TheVariants as handle
 pub use Rattle.wast_base.specs.declared.faults.Form.TheVariants as form
 pub use Rattle.wast_tree.specs.declared.imports.ItemSig.{ItemSig}
+pub use Rattle.wast_tree.specs.declared.customs.Custom.{Custom}
+pub use Rattle.wast_tree.specs.declared.customs.Custom.TheVariants as custom

@@ -115,6 +115,7 @@ impl<'a> Bind<'a> for ModuleField<'a> {
                 tag.bind(alloc, cx, implied, gensym)?;
                 Ok(())
             }
+            ModuleField::Custom(_) => Ok(()),
         }
     }
 }

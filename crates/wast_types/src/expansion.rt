@@ -109,6 +109,7 @@ fn name_type<'a>(field: &mut ModuleField<'a>, gensym: &mut Gensym) -> Result<(),
         ModuleField::Elem(_) => Ok(()),
         ModuleField::Data(_) => Ok(()),
         ModuleField::Tag(_) => Ok(()),
+        ModuleField::Custom(_) => Ok(()),
     }
 }
 
@@ -151,6 +152,7 @@ fn bind_type<'a>(
         | ModuleField::Elem(_)
         | ModuleField::Data(_)
         | ModuleField::Tag(_)
+        | ModuleField::Custom(_)
         | ModuleField::Rec(_) => Ok(()),
     }
 }

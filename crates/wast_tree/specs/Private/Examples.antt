@@ -1,6 +1,6 @@
 -- What the definitions say of worked modules.
 use Rattle.std.specs.Prelude.{◌≡◌, ℕ, pos, Bool, true, false, List, [], ◌∷◌, map, Option, Some, None, codes}
-use Rattle.wast_tree.specs.Tree.{Id, Index, Space, RefType, ValType, StructField, FunctionType, TypeUse, TypeDef, BlockType, Instruction, Expression, TableType, GlobalType, InlineImport, Func, ElemPayload, Form, ModuleField}
+use Rattle.wast_tree.specs.Tree.{Id, Index, Space, RefType, ValType, StructField, FunctionType, TypeUse, TypeDef, BlockType, Instruction, BranchHint, Expression, TableType, GlobalType, InlineImport, Func, ElemPayload, Form, ModuleField}
 use Rattle.wast_tree.specs.Tree.index
 use Rattle.wast_tree.specs.Tree.space
 use Rattle.wast_tree.specs.Tree.form
@@ -139,9 +139,9 @@ covers f holds = Asked (Covered f holds)
 abbrev pub unshared : Bool → Site
 unshared holds = covers form.Shared holds
 
--- an expression without branch hints, or with some
-abbrev pub hintless : Bool → Site
-hintless holds = Asked (Clause 2 holds)
+-- the branch hints of a body stand on its instructions, or not
+abbrev pub hinted : Bool → Site
+hinted holds = Asked (Clause 2 holds)
 
 -- a constant expression that closes what it opens, or not
 abbrev pub balanced : Bool → Site
@@ -159,14 +159,14 @@ StandsInRow27 = (a b c d e f : Address) →
     ≡ unshared true
     ∷ Used OfItem (record { index = Some (by_id d (codes "t") 40); inline = None })
     ∷ wanted space.Func (by_id e (codes "f") 49)
-    ∷ hintless true
+    ∷ hinted true
     ∷ wanted space.Func (by_id f (codes "f") 71)
     ∷ [])
     × (in_module (row27_with a b c (by_number 0 40) (by_number 1 49) (by_number 2 71))
     ≡ unshared true
     ∷ Used OfItem (record { index = Some (by_number 0 40); inline = None })
     ∷ wanted space.Func (by_number 1 49)
-    ∷ hintless true
+    ∷ hinted true
     ∷ wanted space.Func (by_number 2 71)
     ∷ [])
 
@@ -183,7 +183,6 @@ StandsInFilledMemory = (a b c d e : Address) →
     ≡ unshared true
     ∷ wanted space.Memory (by_id d (codes "m") 69)
     ∷ wanted space.Global (by_id e (codes "g") 92)
-    ∷ hintless true
     ∷ balanced true
     ∷ [])
     × (is_well_formed (filled_memory a b c d e) ≡ true)
@@ -236,7 +235,7 @@ StandsEverywhere = (a : Address) →
     ∷ Ends
     ∷ Ends
     ∷ LabelAt [] (made_index 31)
-    ∷ hintless true
+    ∷ hinted true
     ∷ wanted space.Func (made_index 11)
     ∷ [])
 
@@ -306,7 +305,7 @@ is_well_formed_def def = is_well_formed (def_alone def)
 
 -- `(func (type 0))` is well formed, and so are `(func)`, one with a local, also with an id, and one with an inline type
 -- beside its index or alone, and one with an inline export, or imported in place, also where that is exact, and one with a
--- local or a result of a shared type; not so one with a branch hint.
+-- local or a result of a shared type.
 abbrev pub WellFormedFuncs : Type 0
 WellFormedFuncs = (a : Address) →
     (is_well_formed_func nameless_func ≡ true)
@@ -320,7 +319,31 @@ WellFormedFuncs = (a : Address) →
     × (is_well_formed_func (record nameless_func { ty = record { index = Some (by_number 0 20); inline = Some (record { params = []; results = ref_func false ∷ [] }) } }) ≡ true)
     × (is_well_formed_func (record nameless_func { ty = record { index = None; inline = Some (record { params = []; results = [] }) } }) ≡ true)
     × (is_well_formed_func (record nameless_func { ty = record { index = None; inline = Some (record { params = []; results = ref_func true ∷ [] }) } }) ≡ true)
-    × (is_well_formed_func (record nameless_func { kind = func.Inline [] (record { instrs = []; branch_hints = record { instr_index = 0; value = 1 } ∷ [] }) }) ≡ false)
+
+-- a branch hint of this value, on the instruction of this number
+abbrev pub hint : ℕ → ℕ → BranchHint
+hint i value = record { instr_index = i; value = value }
+
+-- an expression of three instructions, with these hints
+abbrev pub hinted_drops : List BranchHint → Expression
+hinted_drops hints = let one = instr.Plain (plain.Bare bare.drop) in record { instrs = one ∷ one ∷ one ∷ []; branch_hints = hints }
+
+-- whether a function with such a body is well formed
+abbrev pub are_well_formed_hints : List BranchHint → Bool
+are_well_formed_hints hints = is_well_formed_func (record nameless_func { kind = func.Inline [] (hinted_drops hints) })
+
+-- Branch hints stand on the three instructions of a body, one on any of them: not so two on one, a hint before the one in front
+-- of it, and a hint on a fourth instruction. Their values are 0 and 1. Of those of a constant expression nothing is asked.
+abbrev pub WellFormedHints : Type 0
+WellFormedHints =
+    (are_well_formed_hints [] ≡ true)
+    × (are_well_formed_hints (hint 0 1 ∷ hint 1 0 ∷ hint 2 1 ∷ []) ≡ true)
+    × (are_well_formed_hints (hint 0 0 ∷ hint 2 0 ∷ []) ≡ true)
+    × (are_well_formed_hints (hint 1 0 ∷ hint 1 1 ∷ []) ≡ false)
+    × (are_well_formed_hints (hint 1 0 ∷ hint 0 0 ∷ []) ≡ false)
+    × (are_well_formed_hints (hint 3 0 ∷ []) ≡ false)
+    × (are_well_formed_hints (hint 0 2 ∷ []) ≡ false)
+    × (is_well_formed (field.Global (record { span = place 1; id = None; name = None; exports = record { names = [] }; ty = plain_global_type; kind = global.Inline (hinted_drops (hint 3 2 ∷ hint 3 2 ∷ [])) }) ∷ []) ≡ true)
 
 -- `(func (param i32) (result i32))` is well formed, also open, with a parent, with references and with names; so are
 -- structs and arrays, also where a field has an id, a shared type, one with a descriptor or what it describes, and one that
@@ -399,7 +422,6 @@ StandsInPlace = (a : Address) →
     × (in_module (table_in_place funcref true (payload.Exprs (record { nullable = true; heap = heap.Concrete (made_index 2) }) (expression_of (instr.ref_func (made_index 1) ∷ []) ∷ [])) ∷ [])
     ≡ unshared true ∷ covers form.StackSwitching true
     ∷ wanted space.Func (made_index 1)
-    ∷ hintless true
     ∷ balanced true
     ∷ wanted space.Ty (made_index 2)
     ∷ unshared false
@@ -424,10 +446,8 @@ StandsInSegments =
     }) ∷ [])
     ≡ wanted space.Table (made_index 1)
     ∷ wanted space.Global (made_index 2)
-    ∷ hintless true
     ∷ balanced true
     ∷ wanted space.Func (made_index 3)
-    ∷ hintless true
     ∷ balanced true
     ∷ wanted space.Ty (made_index 4)
     ∷ Asked (Clause 4 true)
@@ -439,7 +459,7 @@ StandsInSegments =
       exports = record { names = [] };
       kind = table.Normal (record plain_table_type { elem = record { nullable = true; heap = heap.Concrete (made_index 1) } }) (Some (expression_of (instr.ref_func (made_index 2) ∷ [])));
     }) ∷ [])
-    ≡ wanted space.Ty (made_index 1) ∷ unshared true ∷ wanted space.Func (made_index 2) ∷ hintless true ∷ balanced true ∷ [])
+    ≡ wanted space.Ty (made_index 1) ∷ unshared true ∷ wanted space.Func (made_index 2) ∷ balanced true ∷ [])
     × (in_module (field.Global (record {
       span = place 1;
       id = None;
@@ -448,7 +468,7 @@ StandsInSegments =
       ty = record plain_global_type { ty = ref_to (made_index 1) };
       kind = global.Inline (expression_of (instr.global_get (made_index 2) ∷ []));
     }) ∷ [])
-    ≡ wanted space.Ty (made_index 1) ∷ unshared true ∷ wanted space.Global (made_index 2) ∷ hintless true ∷ balanced true ∷ [])
+    ≡ wanted space.Ty (made_index 1) ∷ unshared true ∷ wanted space.Global (made_index 2) ∷ balanced true ∷ [])
 
 -- `$l`, which is written at n
 abbrev pub label_at : Address → ℕ → Id
@@ -480,7 +500,7 @@ StandsInBlocks = (a : Address) →
     ∷ LabelAt (Some (Written (codes "l")) ∷ []) (index.Id (label_at a 50))
     ∷ Repeated (Some (Written (codes "l")) ∷ []) (Some (Written (codes "l"), place 60))
     ∷ Ends
-    ∷ hintless true
+    ∷ hinted true
     ∷ [])
     × (in_module (func_alone (func_of nothing_used (instr.try_ (block_of (Some (label_at a 30)) nothing_used) ∷ instr.delegate (index.Id (label_at a 40)) ∷ [])))
     ≡ Used OfItem nothing_used
@@ -488,7 +508,7 @@ StandsInBlocks = (a : Address) →
     ∷ Begins [] (Some (Written (codes "l"), place 30))
     ∷ Ends
     ∷ LabelAt [] (index.Id (label_at a 40))
-    ∷ hintless true
+    ∷ hinted true
     ∷ [])
 
 -- a global whose value is this
@@ -557,7 +577,7 @@ StandsInAccess = (a : Address) →
     (in_module (func_alone (func_of nothing_used (instr.struct_get (record { owner = by_number 0 20; field = by_id a (codes "x") 30 }) ∷ [])))
     ≡ Used OfItem nothing_used
     ∷ FieldAt (by_number 0 20) (by_id a (codes "x") 30)
-    ∷ hintless true
+    ∷ hinted true
     ∷ [])
 
 -- Types, entities and instructions that no encoder covers, each by its form; of two the first is named first.

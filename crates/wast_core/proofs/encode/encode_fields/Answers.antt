@@ -17,6 +17,12 @@ returns-clause-bytes c =
     reads_module name fields c.finish-bytes.result.items c.requires.encodable c.requires.names put.1
     (c.finish-bytes.ensures ∙ (put.0.0 ∙ ap (λ l. l ++ bytes_of name fields) (ap (λ r. r.items) c.in_ok-room.ensures.ok))) small
 
+pub returns-in_err-measures-clause-refusal : goal.returns-in_err-measures-clause-refusal
+returns-in_err-measures-clause-refusal c =
+    let p = err_from_is_err_and c.from_residual.result c.from_residual.ensures.1 in
+    let is = c.in_err-measures.ensures.err in
+    rw p.1 (inr (p.2 ∙ ap refused_as is.0, λ w. is.1 w.in_range))
+
 pub returns-in_err-put_measured-clause-refusal : goal.returns-in_err-put_measured-clause-refusal
 returns-in_err-put_measured-clause-refusal c =
     let name = text_seen c.args.name in
@@ -25,6 +31,6 @@ returns-in_err-put_measured-clause-refusal c =
     let p = err_from_is_err_and c.from_residual-in_err-put_measured.result c.from_residual-in_err-put_measured.ensures.1 in
     let left = ap (λ r. r.left) c.in_ok-room.ensures.ok in
     rw p.1 (elim why [
-      | inl h ↦ inr (p.2 ∙ ap refused_as h.0, λ w. h.1 (omega (arith, w.length, left, c.size.ensures)))
+      | inl h ↦ inr (p.2 ∙ ap refused_as h.0, λ w. h.1 (omega (arith, w.length, left, c.in_ok-size.ensures.ok)))
       | inr h ↦ inr (p.2 ∙ ap refused_as h.0, λ w. h.1 w.in_range)
     ])

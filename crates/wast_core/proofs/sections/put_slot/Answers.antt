@@ -1,13 +1,19 @@
+use Rattle.wast_tree.specs.Customs.{customs_at}
 use Rattle.wast_names.specs.FoundNames.{text_seen}
 use Rattle.wast_core.proofs.Counting.{counts_written}
+use Rattle.wast_core.proofs.CustomParts.{parts_written}
 use Rattle.wast_core.proofs.Measuring.{measured_extents}
 use Rattle.wast_core.proofs.sections.put_slot.Goals as goal
 
 pub put_section-requires-clause-extent : goal.put_section-requires-clause-extent
 put_section-requires-clause-extent g c = c.extent.ensures (text_seen c.args.name) c.args.fields.now c.requires
 
-pub put_names-requires-clause-size : goal.put_names-requires-clause-size
-put_names-requires-clause-size g c = (measured_extents (text_seen c.args.name) c.args.fields.now c.args.measures.now c.requires).names
+pub returns-in-Custom : goal.returns-in-Custom
+returns-in-Custom g c =
+    rw c.in-Custom.is (parts_written g.S.Sink.rules (customs_at c.in-Custom.place c.args.fields.now) c.args.out.now c.put_customs.new.out c.put_customs.result c.put_customs.ensures)
+
+pub put_hints-requires-clause-extent : goal.put_hints-requires-clause-extent
+put_hints-requires-clause-extent g c = (measured_extents (text_seen c.args.name) c.args.fields.now c.args.measures.now c.requires).hints
 
 pub returns-in-DataCount : goal.returns-in-DataCount
 returns-in-DataCount g c =

@@ -3,5 +3,5 @@ use Rattle.wast_names.specs.FoundNames.{text_seen}
 use Rattle.wast_core.proofs.Sizes.{module_size}
 use Rattle.wast_core.proofs.sections.size.Goals as goal
 
-pub returns : goal.returns
-returns c = let m = c.args.measures.now in c.saturating_add.ensures ∙ module_size (text_seen c.args.name) c.args.fields.now c.sum_of.result c.sum_of.ensures
+pub returns-clause-ok : goal.returns-clause-ok
+returns-clause-ok c = c.saturating_add.ensures ∙ module_size (text_seen c.args.name) c.args.fields.now c.in_ok-sum.sum c.in_ok-sum.ensures.ok

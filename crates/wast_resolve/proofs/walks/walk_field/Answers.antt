@@ -1,11 +1,13 @@
+use Rattle.std.proofs.Common.{refl, ap}
 use Rattle.std.specs.Prelude.{⊤}
 use Rattle.wast_tree.specs.Sites.{asking, at_index, exported_space, in_func, in_type, in_rec, in_import, in_table_kind, in_memory_kind, in_global, in_elem, in_data_kind, in_tag_type}
 use Rattle.wast_resolve.specs.Tree.field
 use Rattle.wast_resolve.specs.Tree.space
-use Rattle.wast_resolve.specs.Demands.{HasMany, body_counts_in, site_demands}
+use Rattle.wast_resolve.specs.Demands.{HasMany, body_counts_in, site_demands, first_unmet}
 use Rattle.wast_map.specs.Mapped.{mapped_type, mapped_rec, mapped_import, mapped_func, mapped_table, mapped_memory, mapped_global, mapped_export, mapped_elem, mapped_data, mapped_tag}
 use Rattle.wast_resolve.specs.Resolved.{numbered_at, numbering}
 use Rattle.wast_resolve.specs.Resolvers.{scope_of}
+use Rattle.wast_resolve.proofs.CustomsAsk.{custom_asks}
 use Rattle.wast_resolve.proofs.Parts.{walks_in}
 use Rattle.wast_resolve.proofs.TwoSteps.{of_field}
 use Rattle.wast_resolve.proofs.walks.walk_field.Goals as goal
@@ -81,3 +83,6 @@ returns-in-Func c =
     let f = c.in-Func.func in
     let s = scope_of c.args.names.now in
     rw c.in-Func.is (walks_in ⊤ (HasMany (body_counts_in s (field.Func f))) field.Func (site_demands s (in_func f)) (mapped_func (numbering s) f) c.walk_func.new.func c.walk_func.result c.walk_func.ensures)
+
+pub returns-in-Custom : goal.returns-in-Custom
+returns-in-Custom c = rw c.in-Custom.is (ap first_unmet (custom_asks (scope_of c.args.names.now) c.in-Custom.field-0), refl)

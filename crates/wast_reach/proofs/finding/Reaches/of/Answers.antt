@@ -2,8 +2,11 @@ use Rattle.std.proofs.Common.{◌∙◌, sym, ap, arith}
 use Rattle.std.proofs.lemmas.List.{take_all}
 use Rattle.wast_reach.specs.Kinds.{is_of}
 use Rattle.wast_reach.specs.Reaches.{is_reach, reach_of}
-use Rattle.wast_reach.proofs.Found.{all_found}
+use Rattle.wast_reach.proofs.Found.{none_found, all_found}
 use Rattle.wast_reach.proofs.finding.Reaches.of.Goals as goal
+
+pub loop-i-init : goal.loop-i-init
+loop-i-init c k = none_found k
 
 pub returns : goal.returns
 returns c =

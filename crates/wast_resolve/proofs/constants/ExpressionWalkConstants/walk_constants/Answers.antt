@@ -4,7 +4,7 @@ use Rattle.std.proofs.lemmas.Result.{err_from_is_err_and}
 use Rattle.wast_base.specs.Blocks.{is_balanced}
 use Rattle.wast_base.specs.Faults.{told}
 use Rattle.wast_tree.specs.Instrs.{turns}
-use Rattle.wast_tree.specs.Sites.{Clause, start, in_constant, in_expression}
+use Rattle.wast_tree.specs.Sites.{Clause, start, in_constant, in_instrs}
 use Rattle.wast_resolve.specs.Demands.{first_unmet, site_demands, open_counts, HasMany, Answers}
 use Rattle.wast_resolve.specs.Resolvers.{scope_of}
 use Rattle.wast_resolve.proofs.Parts.{all_but_last, all_counts_but_last}
@@ -19,12 +19,12 @@ returns-in_err-walk_expression c =
     let last = Clause 5 (is_balanced (turns x.instrs)) in
     let p = err_from_is_err_and c.from_residual.result c.from_residual.ensures.1 in
     let failed = c.in_err-walk_expression.ensures start.locals (none_numbers s c.none.result c.none.ensures) in
-    rw (p.1, p.2) (subst (λ ns. Answers ⊤ (HasMany ns) e (first_unmet (site_demands s (in_constant x)))) (sym (all_counts_but_last (in_expression start x) last))
-    (subst (λ ds. Answers ⊤ (HasMany (open_counts (in_expression start x))) e (first_unmet ds)) (sym (all_but_last s (in_expression start x) last refl)) failed))
+    rw (p.1, p.2) (subst (λ ns. Answers ⊤ (HasMany ns) e (first_unmet (site_demands s (in_constant x)))) (sym (all_counts_but_last (in_instrs start x.instrs) last))
+    (subst (λ ds. Answers ⊤ (HasMany (open_counts (in_instrs start x.instrs))) e (first_unmet ds)) (sym (all_but_last s (in_instrs start x.instrs) last refl)) failed))
 
 pub returns : goal.returns
 returns c =
     let x = c.args.self.now in
     let s = scope_of c.args.names.now in
     let done = c.in_ok-walk_expression.ensures start.locals (none_numbers s c.none.result c.none.ensures) in
-    (ap first_unmet (all_but_last s (in_expression start x) (Clause 5 (is_balanced (turns x.instrs))) refl) ∙ done.0, done.1)
+    (ap first_unmet (all_but_last s (in_instrs start x.instrs) (Clause 5 (is_balanced (turns x.instrs))) refl) ∙ done.0, done.1)

@@ -6,7 +6,7 @@ use Rattle.wast_types.specs.NeedingUses.{needed_in}
 use Rattle.wast_types.specs.Expanded.{bound_field}
 use Rattle.wast_types.specs.Binding.{state}
 use Rattle.wast_types.proofs.Adding.{adds_nothing}
-use Rattle.wast_types.proofs.Needing.{ty_none, rec_none}
+use Rattle.wast_types.proofs.Needing.{ty_none, rec_none, custom_none}
 use Rattle.wast_types.proofs.Staying.{stays_as, asking_says}
 use Rattle.wast_types.proofs.binding.ModuleFieldBind.bind.Goals as goal
 
@@ -42,3 +42,6 @@ returns-in_ok-bind-in-Elem-clause-bound c = λ more. ap field.Elem (c.in_ok-bind
 
 pub returns-in_ok-bind-in-Data-clause-bound : goal.returns-in_ok-bind-in-Data-clause-bound
 returns-in_ok-bind-in-Data-clause-bound c = λ more. ap field.Data (c.in_ok-bind-in-Data.ensures.bound more) ∙ sym (ap (bound_field (with_more (index_of c.bind-in-Data.new.cx) more)) c.in-Data.is)
+
+pub returns-in-Custom-clause-adds : goal.returns-in-Custom-clause-adds
+returns-in-Custom-clause-adds c = adds_nothing (state c.args.cx.now c.args.implied.now c.args.gensym.now) (ap (λ x. needed_in (in_field x)) c.in-Custom.is ∙ custom_none c.in-Custom.field-0)

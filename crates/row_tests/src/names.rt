@@ -1,0 +1,61 @@
+//! What the ids of a resolved module denote, for indices of a caller's own.
+
+ghost use Rattle.std.specs.Prelude.{IsTrue, Option, ℕ};
+ghost use Rattle.wast_base.specs.Ids.{Name};
+ghost use Rattle.wast_base.specs.Spaces.{is_settled_index};
+
+use crate::made::{at, row};
+use std::process::Abort;
+use wast_core::discard_module;
+use wast_resolve::{Names, discard_names};
+use wast_tree::{Error, Fault, Gensym, Id, Index, Space};
+
+/// An index that is an id, at a place: as each id that is written, it may be looked up in any space.
+fn by_id<'a>(name: &'a str, place: usize) -> Index<'a>
+    ensures { (number : Name → Option ℕ) → IsTrue (is_settled_index number result) }
+{
+    Index::Id(Id::new(name, at(place)))
+}
+
+/// The function of row 27 is 0, and no other is known.
+fn knows_the_function(rt: &impl Abort, names: &Names<'_>) {
+    let mut known = by_id("f", 50);
+    assert!(rt; names.resolve_func(&mut known).is_ok());
+    assert!(rt; matches!(known, Index::Num(n, _) if n == 0));
+    assert!(rt; known.span() == at(50));
+    let mut unknown = by_id("x", 60);
+    let answer = names.resolve_func(&mut unknown);
+    assert!(rt; answer == Err(Error::new(at(60), Fault::Unknown("func", "x"))));
+    assert!(rt; unknown == by_id("x", 60));
+}
+
+/// Row 27 makes its function and its type known, and nothing else.
+fn lists_the_ids(rt: &impl Abort, names: &Names<'_>) {
+    let functions = names.pairs(Space::Func);
+    assert!(rt; functions.len() == 1);
+    assert!(rt; functions[0].0.name() == "f");
+    assert!(rt; functions[0].1 == 0);
+    let types = names.pairs(Space::Ty);
+    assert!(rt; types.len() == 1);
+    assert!(rt; types[0].0.name() == "t");
+    assert!(rt; types[0].1 == 0);
+    assert!(rt; names.pairs(Space::Memory).is_empty());
+    assert!(rt; names.pairs(Space::Table).is_empty());
+    assert!(rt; names.pairs(Space::Global).is_empty());
+}
+
+#[test]
+fn names_of_a_resolved_module(rt: HostRuntime) {
+    let alloc = rt.alloc();
+    let mut module = row(&rt, alloc, 27);
+    let mut gensym = Gensym::new(1);
+    let names = module.resolve(alloc, &mut gensym).expect(&rt, "a module");
+    lists_the_ids(&rt, &names);
+    knows_the_function(&rt, &names);
+    let mut number = Index::Num(9, at(70));
+    assert!(rt; names.resolve_func(&mut number).is_ok());
+    assert!(rt; matches!(number, Index::Num(n, _) if n == 9));
+    assert!(rt; number.span() == at(70));
+    discard_names(names);
+    discard_module(module);
+}

@@ -1,0 +1,116 @@
+//! The producers section.
+
+ghost use Rattle.std.specs.Prelude.{◌≡◌, ◌+◌, ◌==◌, ◌++◌};
+ghost use Rattle.wasm_ops.specs.Spelling.{InRangeU32, name, InRangeName};
+ghost use Rattle.wasm_out.specs.Built.{Adds, behind_count, empty};
+ghost use Rattle.wasm_out.specs.Producers.{producer_value, producers_payload};
+
+use crate::built_items::BuiltItems;
+use crate::sections::{CUSTOM_ID, Section};
+use std::alloc::Global;
+use std::marker::Model;
+use wasm_ops::{Encode, Name};
+use wast_base::Error;
+
+/// The values of a field of the producers section (tool conventions, producers section). Contracts see it as its items.
+#[derive(Debug, Drop)]
+pub struct ProducersField {
+    items: BuiltItems,
+}
+
+impl Model for ProducersField {
+    ghost use Rattle.wasm_out.specs.Built.{Built};
+
+    ghost Value = { Built };
+
+    ghost view = { λ s. s.items };
+}
+
+impl ProducersField {
+    /// No values. It takes no memory.
+    pub fn new(alloc: Global) -> Self
+        ensures { result ≡ empty }
+    {
+        ProducersField {
+            items: BuiltItems::new(alloc),
+        }
+    }
+
+    /// Whether there are no values.
+    pub fn is_empty(&self) -> bool
+        ensures { result ≡ (self.now.count == 0) }
+    {
+        self.items.is_empty()
+    }
+
+    /// Adds a value: its name and its version.
+    ///
+    /// E10 comes only where there would be 2^32 values, or where one of the texts has 2^32 bytes or more; E12 where memory
+    /// is refused. Then the field stays as it was.
+    pub fn value<'e>(&mut self, text: &str, version: &str) -> Result<(), Error<'e>>
+        ensures { Adds (InRangeU32 (self.old.count + 1) × (InRangeName text.now × InRangeName version.now))
+            self.old self.new (producer_value (text.now, version.now)) result }
+    {
+        self.items.push(&(Name(text), Name(version)))
+    }
+}
+
+/// The producers section: a custom section called `producers` (tool conventions, producers section). Contracts see it as its
+/// items.
+#[derive(Debug, Drop)]
+pub struct ProducersSection {
+    items: BuiltItems,
+}
+
+impl Model for ProducersSection {
+    ghost use Rattle.wasm_out.specs.Built.{Built};
+
+    ghost Value = { Built };
+
+    ghost view = { λ s. s.items };
+}
+
+impl ProducersSection {
+    /// No fields. It takes no memory.
+    pub fn new(alloc: Global) -> Self
+        ensures { result ≡ empty }
+    {
+        ProducersSection {
+            items: BuiltItems::new(alloc),
+        }
+    }
+
+    /// Whether there are no fields.
+    pub fn is_empty(&self) -> bool
+        ensures { result ≡ (self.now.count == 0) }
+    {
+        self.items.is_empty()
+    }
+
+    /// Adds a field: its name and its values.
+    ///
+    /// E10 comes only where there would be 2^32 fields, or where the name has 2^32 bytes or more; E12 where memory is
+    /// refused. Then the section stays as it was.
+    pub fn field<'e>(&mut self, text: &str, values: &ProducersField) -> Result<(), Error<'e>>
+        ensures { Adds (InRangeU32 (self.old.count + 1) × InRangeName text.now) self.old self.new
+            (name text.now ++ behind_count values.now) result }
+    {
+        self.items.push(&(Name(text), &values.items))
+    }
+}
+
+impl Section for ProducersSection {
+    ghost number = { λ _. 0 };
+
+    ghost payload = { λ s. producers_payload (behind_count s) };
+
+    ghost in_range = { λ _. Unit {0} };
+
+    fn id(&self) -> u8 {
+        CUSTOM_ID
+    }
+
+    fn append_to<'e>(&self, out: &mut Vec<u8>) -> Result<(), Error<'e>> {
+        Ok((Name("producers"), &self.items).encode(out)?)
+    }
+}

@@ -1,0 +1,51 @@
+-- Where the hints of a module point: in its bytes, at the instructions that they stand on (branch hinting).
+use Rattle.std.specs.Prelude.{◌≡◌, ℕ, List, [], ◌∷◌, ◌++◌, length, slice_get, Option, Some, Contains}
+use Rattle.std.specs.List.{flat_map}
+use Rattle.wasm_ops.specs.Leb128.{unsigned}
+use Rattle.wasm_ops.specs.Spelling.{vec}
+use Rattle.wasm_ops.specs.Table.{Instr, instr}
+use Rattle.wasm_out.specs.Bodies.{Body, content}
+use Rattle.wasm_out.specs.Parts.{Code, section_id, body, part}
+use Rattle.wasm_out.specs.Reads.{header, Reads}
+use Rattle.wast_conv.specs.Hints.{hints_of, as_hinted, as_branch_hint}
+use Rattle.wast_core.specs.Tree.{BranchHint, Func, ModuleField}
+use Rattle.wast_core.specs.Tree.field
+use Rattle.wast_core.specs.Hints.{functions_in, hinted}
+use Rattle.wast_core.specs.Meaning.{as_body, entries, in_slot, parts}
+use Rattle.wast_core.specs.Slots.{order}
+use Rattle.wast_core.specs.declared.slots.SectionKind.TheVariants as kind
+use Rattle.wast_core.specs.declared.slots.Slot.{Slot}
+use Rattle.wast_core.specs.declared.slots.Slot.TheVariants as slot
+
+-- behind a front of the bytes, and so many further on, an instruction is spelled
+pub record IsSpelledAt (bytes front : List ℕ) (offset : ℕ) (i : Instr) : Type 0 where
+  pub between : List ℕ
+  pub behind : List ℕ
+  pub counted : length between ≡ offset
+  pub spelled : bytes ≡ front ++ (between ++ (instr i ++ behind))
+
+-- the places before the code section
+abbrev pub until_code : List Slot → List Slot
+until_code [] = []
+until_code (slot.Section kind.Code ∷ ss) = []
+until_code (s ∷ ss) = s ∷ until_code ss
+
+-- a code section of all these bodies, up to behind the size of one: its id, its length, the number of bodies, those before that
+-- one, and the size
+abbrev pub up_to_size : List Body → List Body → Body → List ℕ
+up_to_size all before b = section_id Code ∷ (unsigned (length (vec body all)) ++ (unsigned (length all) ++ (flat_map body before ++ unsigned (length (content b)))))
+
+-- the bytes of a module up to behind the size of the body of a function, which stands behind these fields
+abbrev pub up_to_body : Option (List ℕ) → List ModuleField → List ModuleField → Func → List ℕ
+up_to_body name fields before f =
+    header ++ (flat_map part (flat_map (in_slot name fields) (until_code order)) ++ up_to_size (entries Code fields) (entries Code before) (as_body f.kind))
+
+-- Where bytes are read as the parts of fields, each function with a hint is told in the section of hints by its index, which is the
+-- number of functions before it; and the offset of the hint, counted from the first byte behind the size of the body in the code
+-- section, is where the spelling of its instruction begins.
+abbrev pub HintsPointAtInstructions : Type 0
+HintsPointAtInstructions = (bytes : List ℕ) (name : Option (List ℕ)) (before behind : List ModuleField) (f : Func) (h : BranchHint) (i : Instr)
+    → let fields = before ++ field.Func f ∷ behind in
+    Reads bytes (parts name fields) → Contains (hints_of f.kind) h → slice_get (as_body f.kind).instrs h.instr_index ≡ Some i
+    → Contains (hinted fields) (length (flat_map functions_in before), as_hinted f.kind)
+    × IsSpelledAt bytes (up_to_body name fields before f) (as_branch_hint (as_body f.kind) h).branch_func_offset i

@@ -1,0 +1,63 @@
+-- The branch hints of a module: those of each function that has some, behind its index (branch hinting).
+use Rattle.std.specs.Prelude.{ℕ, ◌==◌, Bool, not, List, [], ◌∷◌, length, map, Option, Some, None, if◌then◌else◌}
+use Rattle.std.specs.List.{flat_map}
+use Rattle.wast_base.specs.Spaces.{same_space}
+use Rattle.wasm_ops.specs.Spelling.{InRangeU32, InRangeVec, vec}
+use Rattle.wasm_out.specs.Hints.{function_hints, hints, hints_name, hints_payload}
+use Rattle.wasm_out.specs.Parts.{Custom, Part}
+use Rattle.wasm_out.specs.declared.hints.BranchHint.{BranchHint}
+use Rattle.wast_conv.specs.Hints.{HintedBody, hints_of, as_hinted, as_hints, InRangeBodyHints}
+use Rattle.wast_names.specs.GivenNames.{named_from}
+use Rattle.wast_tree.specs.Imports.{item_sigs}
+use Rattle.wast_tree.specs.Items.{space_of_kind}
+use Rattle.wast_core.specs.Tree.{FuncKind, ItemSig, ModuleField}
+use Rattle.wast_core.specs.Tree.space
+use Rattle.wast_core.specs.Tree.field
+
+-- whether a function has hints
+abbrev pub has_hints : FuncKind → Bool
+has_hints k = not (length (hints_of k) == 0)
+
+-- a function, where it has hints
+abbrev pub if_hinted : FuncKind → Option HintedBody
+if_hinted k = if has_hints k then Some (as_hinted k) else None
+
+-- an imported function, which has none
+abbrev pub imported_func : ItemSig → List (Option HintedBody)
+imported_func sig = if same_space space.Func (space_of_kind sig.kind) then None ∷ [] else []
+
+-- the functions of a field, those without hints too
+abbrev pub functions_in : ModuleField → List (Option HintedBody)
+functions_in (field.Import i) = flat_map imported_func (item_sigs i.items)
+functions_in (field.Func f) = if_hinted f.kind ∷ []
+functions_in x = []
+
+-- the functions of a module that have hints, each with its index: the number of functions before it
+abbrev pub hinted : List ModuleField → List (ℕ × HintedBody)
+hinted fields = named_from 0 (flat_map functions_in fields)
+
+-- one of them, with its hints by where their instructions begin
+abbrev pub as_function_hints : ℕ × HintedBody → ℕ × List BranchHint
+as_function_hints f = (f.0, as_hints f.1)
+
+-- its bytes
+abbrev pub hinted_function : ℕ × HintedBody → List ℕ
+hinted_function f = function_hints (as_function_hints f)
+
+-- the section, left out where no function has hints
+abbrev pub hints_part : List (ℕ × HintedBody) → List Part
+hints_part [] = []
+hints_part (f ∷ fs) = record { kind = Custom; items = record { name = hints_name; bytes = hints (map as_function_hints (f ∷ fs)) } } ∷ []
+
+-- Numbers, counts and lengths are in range: those of the hints of a function, and of what stands before them in its body,
+abbrev pub InRangeHinted : ℕ × HintedBody → Type 0
+InRangeHinted f = InRangeU32 f.0 × InRangeBodyHints f.1
+
+-- and of those of all functions
+abbrev pub InRangeHints : List (ℕ × HintedBody) → Type 0
+InRangeHints functions = InRangeVec InRangeHinted functions
+
+-- what stands behind the length of the section; nothing where it is left out
+abbrev pub hints_payload_of : List (ℕ × HintedBody) → List ℕ
+hints_payload_of [] = []
+hints_payload_of (f ∷ fs) = hints_payload (vec hinted_function (f ∷ fs))

@@ -1,0 +1,158 @@
+//! Custom sections at their places, and the one that stands for the names.
+
+ghost use Rattle.std.specs.Prelude.{◌≡◌, ◌+◌, ◌≤◌, All, IsTrue, IfOk, IfErr, length, codes};
+ghost use Rattle.std.specs.List.{flat_map};
+ghost use Rattle.wasm_ops.specs.Leb128.{unsigned};
+ghost use Rattle.wasm_ops.specs.Sinks.{Writes};
+ghost use Rattle.wasm_ops.specs.declared.sink.Refusal.TheVariants as refusal;
+ghost use Rattle.wast_conv.specs.Customs.{InRangeCustom, is_encodable_custom};
+ghost use Rattle.wast_conv.specs.Encodable.{is_encodable_field, is_encodable};
+ghost use Rattle.wast_core.specs.Meaning.{custom_section, has_own_names};
+ghost use Rattle.wast_names.specs.FoundNames.{counted};
+ghost use Rattle.wast_reach.specs.Reaches.{are_reaches};
+ghost use Rattle.wast_tree.specs.Customs.{customs_in, customs_at, is_custom_called};
+
+use crate::items::put_items;
+use wasm_ops::{Refusal, Sink, Spell, length_of, width};
+use wast_conv::{CustomPayload, Resolved};
+use wast_reach::{FieldKind, Reaches};
+use wast_tree::{Custom, CustomPlace, ModuleField};
+
+/// The fields from the first to the last that put a custom section into a place.
+fn custom_fields<'b, 'a>(
+    place: CustomPlace,
+    fields: &'b [ModuleField<'a>],
+    reaches: &Reaches,
+) -> &'b [ModuleField<'a>]
+    requires { IsTrue (are_reaches fields.now reaches.now) }
+    ensures same { customs_at place result.now ≡ customs_at place fields.now }
+    ensures ready { IsTrue (is_encodable fields.now) → IsTrue (is_encodable result.now) }
+{
+    reaches.of_kind(FieldKind::Custom(place)).of(fields)
+}
+
+/// The custom section that a field puts into a place, where it does.
+#[derive(Clone, Copy)]
+struct CustomOf(CustomPlace);
+
+impl Spell<ModuleField<'_>> for CustomOf {
+    ghost spelling = { λ w f. flat_map custom_section (customs_in w.0 f) };
+
+    ghost in_range = { λ w f. All InRangeCustom (customs_in w.0 f) };
+
+    ghost is_ready = { λ _ f. is_encodable_field f };
+
+    fn spell<S: Sink>(&self, field: &ModuleField, out: &mut S) -> Result<(), Refusal> {
+        match field {
+            ModuleField::Custom(custom) => {
+                if custom.stands_at(self.0) {
+                    Resolved.spell(custom, out)
+                } else {
+                    Ok(())
+                }
+            }
+            _ => Ok(()),
+        }
+    }
+}
+
+/// The custom sections of a place, in the order of the fields. It needs where in these fields those of each kind stand.
+pub(crate) fn put_customs<S: Sink>(
+    place: CustomPlace,
+    fields: &[ModuleField],
+    reaches: &Reaches,
+    out: &mut S,
+) -> Result<(), Refusal>
+    requires ready { IsTrue (is_encodable fields.now) }
+    requires reaches { IsTrue (are_reaches fields.now reaches.now) }
+    ensures { Writes S.rules (All InRangeCustom (customs_at place fields.now))
+        out.old out.new (flat_map custom_section (customs_at place fields.now)) result }
+{
+    put_items(custom_fields(place, fields, reaches), CustomOf(place), out)
+}
+
+/// How many bytes a section has, of how many stand behind its length.
+pub(crate) fn whole_size(payload: u32) -> u64
+    ensures size { result ≡ 1 + (length (unsigned payload) + payload) }
+    ensures within { result ≤ 4294967306 }
+{
+    let bytes = u64::from(payload);
+    1 + (width(bytes) + bytes)
+}
+
+/// How many bytes a custom section has. It refuses as too large, where a count or length in it is out of range.
+fn section_size(custom: &Custom) -> Result<u64, Refusal>
+    requires { IsTrue (is_encodable_custom custom.now) }
+    ensures ok { IfOk result (λ n. n ≡ length (custom_section custom.now)) }
+    ensures err { IfErr result (λ e. (e ≡ refusal.TooLarge) × (InRangeCustom custom.now → ⊥)) }
+{
+    Ok(whole_size(length_of(&CustomPayload(custom))?))
+}
+
+/// How many bytes the custom section has that a field puts into a place, and 0 where it puts none there.
+fn custom_size(place: CustomPlace, field: &ModuleField) -> Result<u64, Refusal>
+    requires { IsTrue (is_encodable_field field.now) }
+    ensures ok { IfOk result (λ n. n ≡ length (flat_map custom_section (customs_in place field.now))) }
+    ensures err { IfErr result (λ e. (e ≡ refusal.TooLarge) × (All InRangeCustom (customs_in place field.now) → ⊥)) }
+{
+    match field {
+        ModuleField::Custom(custom) => {
+            if custom.stands_at(place) {
+                section_size(custom)
+            } else {
+                Ok(0)
+            }
+        }
+        _ => Ok(0),
+    }
+}
+
+/// How many bytes such sections of these fields have, up to the greatest `u64`.
+fn sum_of(place: CustomPlace, fields: &[ModuleField]) -> Result<u64, Refusal>
+    requires { IsTrue (is_encodable fields.now) }
+    ensures ok { IfOk result (λ n. n ≡ counted (length (flat_map custom_section (customs_at place fields.now)))) }
+    ensures err { IfErr result (λ e. (e ≡ refusal.TooLarge) × (All InRangeCustom (customs_at place fields.now) → ⊥)) }
+{
+    let mut sum = 0u64;
+    for field in fields {
+        sum = sum.saturating_add(custom_size(place, field)?);
+    }
+    Ok(sum)
+}
+
+/// How many bytes the custom sections of a place have, up to the greatest `u64`. It refuses as too large, where a count or
+/// length in one of them is out of range. It needs where in these fields those of each kind stand.
+pub(crate) fn customs_size(
+    place: CustomPlace,
+    fields: &[ModuleField],
+    reaches: &Reaches,
+) -> Result<u64, Refusal>
+    requires ready { IsTrue (is_encodable fields.now) }
+    requires reaches { IsTrue (are_reaches fields.now reaches.now) }
+    ensures ok { IfOk result (λ n. n ≡ counted (length (flat_map custom_section (customs_at place fields.now)))) }
+    ensures err { IfErr result (λ e. (e ≡ refusal.TooLarge) × (All InRangeCustom (customs_at place fields.now) → ⊥)) }
+{
+    sum_of(place, custom_fields(place, fields, reaches))
+}
+
+/// Whether a field is a custom section called `name`.
+fn is_called_name(field: &ModuleField) -> bool
+    ensures { result ≡ is_custom_called (codes "name") field.now }
+{
+    match field {
+        ModuleField::Custom(custom) => custom.name() == "name",
+        _ => false,
+    }
+}
+
+/// Whether one of these fields is: then the names of the module are not written. It needs where in these fields those of each
+/// kind stand.
+pub(crate) fn has_own_names(fields: &[ModuleField], reaches: &Reaches) -> bool
+    requires { IsTrue (are_reaches fields.now reaches.now) }
+    ensures { result ≡ has_own_names fields.now }
+{
+    if !reaches.has_customs() {
+        return false;
+    }
+    fields.iter().any(|field| is_called_name(field))
+}
