@@ -4,10 +4,11 @@ ghost use Rattle.std.specs.Prelude.{◌≡◌, IfOk};
 ghost use Rattle.std.specs.Borrow.{sem};
 
 use std::alloc::{AllocError, Global};
+use std::fmt::{self, Debug};
 use std::marker::Model;
 
-/// A `Box` that contracts see as its value. Only [`Boxed::new`] takes memory.
-#[derive(Debug, Drop)]
+/// A `Box` that contracts see as its value. Only [`Boxed::new`] takes memory. It is printed as a `Box` is, as its value.
+#[derive(Drop)]
 pub struct Boxed<T> {
     inner: Box<T>,
 }
@@ -55,5 +56,13 @@ impl<T: Drop> Boxed<T> {
         Ok(Boxed {
             inner: Box::new(alloc, value)?,
         })
+    }
+}
+
+impl<T: Debug> Debug for Boxed<T> {
+    ghost debug_output = { λ b. T.debug_output b };
+
+    fn fmt<W: fmt::Write>(&self, f: &mut fmt::Formatter<W>) -> fmt::Result {
+        Debug::fmt(self.get(), f)
     }
 }

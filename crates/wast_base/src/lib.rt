@@ -1,14 +1,17 @@
 //! What stands below the tree of a WebAssembly module in the text format: places, ids, the counter of generated ids,
-//! faults, index spaces, the names of instructions, and the lists and boxes that a tree is made of.
+//! faults, index spaces, the names of instructions, the lists and boxes that a tree is made of, and lines and columns of
+//! places.
 //!
 //! A call takes memory only where its text says so. A call that can fail says when, and with what.
 #![tactic(auto)]
 
 mod boxed;
+mod examples;
 mod faults;
 mod gensym;
 mod ids;
 mod lane_ops;
+mod lines;
 mod mem_ops;
 mod plain;
 mod seq;
@@ -19,6 +22,7 @@ pub use faults::{Error, Fault, Form};
 pub use gensym::Gensym;
 pub use ids::{Id, Index, NameAnnotation, Span};
 pub use lane_ops::{LaneOp, MemLaneOp};
+pub use lines::line_and_column;
 pub use mem_ops::MemOp;
 pub use plain::{
     AnyOp, ArrayOp, BareOp, ExternOp, F32Op, F32x4Op, F64Op, F64x2Op, I8x16Op, I16x8Op, I31Op,

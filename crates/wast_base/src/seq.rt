@@ -5,14 +5,15 @@ ghost use Rattle.std.specs.Borrow.{sem};
 ghost use Rattle.std.specs.Iterator.{YieldsFirst, item_count};
 
 use std::alloc::{AllocError, Global};
+use std::fmt::{self, Debug};
 use std::marker::Model;
 use std::vec;
 
 /// A `Vec` that contracts see as the list of its elements.
 ///
 /// The lists of the tree are of this type, so that a tree is plain data where contracts speak of it. Only [`Seq::push`]
-/// takes memory.
-#[derive(Debug, Drop)]
+/// takes memory. It is printed as a `Vec` is, as the list of its elements.
+#[derive(Drop)]
 pub struct Seq<T> {
     items: Vec<T>,
 }
@@ -107,6 +108,16 @@ impl<T> Seq<T> {
         IntoIter {
             rest: items.into_iter(),
         }
+    }
+}
+
+impl<T: Debug> Debug for Seq<T> {
+    ghost use Rattle.std.specs.Fmt.{debug_list};
+
+    ghost debug_output = { λ s. debug_list T.debug_output s };
+
+    fn fmt<W: fmt::Write>(&self, f: &mut fmt::Formatter<W>) -> fmt::Result {
+        Debug::fmt(&self.items.as_slice(), f)
     }
 }
 

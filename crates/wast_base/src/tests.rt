@@ -3,7 +3,7 @@
 ghost use Rattle.std.specs.Prelude.{IsTrue};
 ghost use Rattle.wast_base.specs.Faults.{is_placed};
 
-use crate::{Boxed, Error, Fault, Form, Gensym, Id, Index, Seq, Space, Span};
+use crate::{Boxed, Error, Fault, Form, Gensym, Id, Index, Seq, Space, Span, line_and_column};
 use std::hash::{DefaultHasher, Hash, Hasher};
 
 fn at(offset: usize) -> Span {
@@ -227,6 +227,47 @@ fn lists_and_boxes_hold_their_values(rt: HostRuntime) {
     assert!(rt; *boxed.get() == 7);
     *boxed.get_mut() = 8;
     assert!(rt; boxed.into_inner() == 8);
+}
+
+#[test]
+fn lists_and_boxes_are_printed_as_what_they_hold(rt: HostRuntime) {
+    let alloc = rt.alloc();
+    let mut list = Seq::new(alloc);
+    for item in [1, 20] {
+        let boxed = Boxed::new(alloc, item).expect(&rt, "memory");
+        list.push(boxed).expect(&rt, "memory");
+    }
+    let text = format!(in alloc; "{list:?}").expect(&rt, "memory");
+    assert!(rt; text.as_str() == "[1, 20]", "{text}");
+    let nested = Boxed::new(alloc, Some(list)).expect(&rt, "memory");
+    let text = format!(in alloc; "{nested:?}").expect(&rt, "memory");
+    assert!(rt; text.as_str() == "Some([1, 20])", "{text}");
+    let lines = "Some(\n    [\n        1,\n        20,\n    ],\n)";
+    let text = format!(in alloc; "{nested:#?}").expect(&rt, "memory");
+    assert!(rt; text.as_str() == lines, "{text}");
+    let empty = format!(in alloc; "{:?}", Seq::<u8>::new(alloc)).expect(&rt, "memory");
+    assert!(rt; empty.as_str() == "[]", "{empty}");
+}
+
+#[test]
+fn places_have_lines_and_columns(rt: HostRuntime) {
+    let text = "(module\n  ;; é\n\n)";
+    let places = [
+        (0, 1, 1),
+        (7, 1, 8),
+        (8, 2, 1),
+        (15, 2, 8),
+        (16, 3, 1),
+        (17, 4, 1),
+        (18, 4, 2),
+        (19, 4, 2),
+        (usize::MAX, 4, 2),
+    ];
+    for (offset, line, column) in &places {
+        let told = line_and_column(text, at(*offset));
+        assert!(rt; told == (*line, *column), "{offset}");
+    }
+    assert!(rt; line_and_column("", at(3)) == (1, 1));
 }
 
 #[test]

@@ -7,7 +7,7 @@
 pub use wast_base::{
     AnyOp, ArrayOp, BareOp, Boxed, Error, ExternOp, F32Op, F32x4Op, F64Op, F64x2Op, Fault, Form,
     Gensym, I8x16Op, I16x8Op, I31Op, I32Op, I32x4Op, I64Op, I64x2Op, Id, Index, IntoIter, LaneOp,
-    MemLaneOp, MemOp, NameAnnotation, Plain, RefOp, Seq, Space, Span, V128Op,
+    MemLaneOp, MemOp, NameAnnotation, Plain, RefOp, Seq, Space, Span, V128Op, line_and_column,
 };
 
 mod bearers;
