@@ -1,5 +1,5 @@
 -- Which modules are well formed, the greatest generation of their ids, and when they are ready to be resolved.
-use Rattle.std.specs.Prelude.{ℕ, max, ◌<◌, Bool, true, IsTrue}
+use Rattle.std.specs.Prelude.{ℕ, max, ◌<◌, Bool, true, Option, None, IsTrue}
 use Rattle.wast_base.specs.Ids.{marked}
 use Rattle.wast_tree.specs.WellFormed as fields
 use Rattle.wast_tree.specs.Generations.{generation_or_zero, greatest_generation}
@@ -16,6 +16,16 @@ is_well_formed_kind (kind.Refused e) = true
 -- a module is well formed where its fields are
 abbrev pub is_well_formed : Module → Bool
 is_well_formed m = is_well_formed_kind m.kind
+
+-- the least clause of "well formed" that fails in the fields
+abbrev pub ill_formed_kind : ModuleKind → Option ℕ
+ill_formed_kind (kind.Text fs) = fields.ill_formed fs
+ill_formed_kind (kind.Binary pieces) = None
+ill_formed_kind (kind.Refused e) = None
+
+-- the least clause that fails in the module
+abbrev pub ill_formed : Module → Option ℕ
+ill_formed m = ill_formed_kind m.kind
 
 -- the greatest generation of an id in the fields, and 0 where there are none
 abbrev pub bound_of_kind : ModuleKind → ℕ

@@ -1,7 +1,7 @@
 //! Modules of the text format.
 
-ghost use Rattle.std.specs.Prelude.{◌≡◌, ◌<◌, ◌≤◌, OnOk, IsTrue};
-ghost use Rattle.wast_core.specs.Modules.{is_well_formed, is_well_formed_kind, generation_bound, bound_of_kind, IsReady};
+ghost use Rattle.std.specs.Prelude.{◌≡◌, ◌<◌, ◌≤◌, is_none, OnOk, IsTrue};
+ghost use Rattle.wast_core.specs.Modules.{is_well_formed, is_well_formed_kind, ill_formed, generation_bound, bound_of_kind, IsReady};
 ghost use Rattle.wast_core.specs.Headline.{Resolves, ResolvesKind, Counts};
 ghost use Rattle.wast_core.specs.Writing.{IsAtRest};
 
@@ -11,7 +11,7 @@ use std::{fmt, mem};
 use wast_resolve::{Names, resolved_laws};
 use wast_tree::{
     Error, Fault, Gensym, Id, ModuleField, NameAnnotation, Seq, Span, discard_fields, gensym_bound,
-    well_formed,
+    ill_formed, well_formed,
 };
 
 /// What a module holds.
@@ -66,18 +66,28 @@ pub struct Module<'a> {
 impl<'a> Module<'a> {
     /// Whether the module can be resolved and encoded. It takes no memory.
     ///
-    /// Binary and refused modules are well formed. Fields are, where each generated id that stands for an index is
-    /// borne by an item of its space, none stands for a local, a label or a field, the branch hints in the body of a function
-    /// stand on its instructions, each behind the one before it, and have value 0 or 1, the alignment
-    /// of a memory argument is a power of two, a constant expression closes as many blocks as it opens, and none before
-    /// it is open, expressions of an active element segment without a table are of type `funcref`, and the page exponent
-    /// of a memory with bytes in place is below 64. Forms that no encoder covers are well formed too.
+    /// It can, where no clause of "well formed" fails, as [`Module::ill_formed`] tells.
     pub fn well_formed(&self) -> bool
         ensures { result ≡ is_well_formed self.now }
     {
         match &self.kind {
             ModuleKind::Text(fields) => well_formed(fields.as_slice()),
             ModuleKind::Binary(_) | ModuleKind::Refused(_) => true,
+        }
+    }
+
+    /// The least number of a clause of "well formed" that fails in the module, and `None` where it is well formed (text format:
+    /// indices, modules). It takes no memory.
+    ///
+    /// [`wast_tree::ill_formed`] lists the clauses, of which none fails in a binary module and in one that was refused.
+    /// [`wast_tree::first_ill_formed`] tells a place in fields. Forms that no encoder covers are well formed.
+    pub fn ill_formed(&self) -> Option<u8>
+        ensures least { result ≡ ill_formed self.now }
+        ensures none { is_none result ≡ is_well_formed self.now }
+    {
+        match &self.kind {
+            ModuleKind::Text(fields) => ill_formed(fields.as_slice()),
+            ModuleKind::Binary(_) | ModuleKind::Refused(_) => None,
         }
     }
 

@@ -1,9 +1,8 @@
 -- What a visitor has made out of all that it was told.
-use Rattle.std.proofs.Common.{◌≡◌, ℕ, Bool, true, false, ◌&&◌, ◌||◌, Option, Some, None, List, [], ◌∷◌, ◌++◌, flat_map, refl, sym, ap, ◌∙◌, arith}
+use Rattle.std.proofs.Common.{◌≡◌, ℕ, Bool, true, false, ◌||◌, Option, Some, None, List, [], ◌∷◌, ◌++◌, flat_map, refl, sym, ap, ◌∙◌, arith}
 use Rattle.std.specs.Prelude.{map, max}
-use Rattle.std.specs.List.{list_all, list_any}
+use Rattle.std.specs.List.{list_any}
 use Rattle.wast_tree.specs.Generations.{greatest}
-use Rattle.wast_tree.specs.Tree.{Form}
 use Rattle.wast_tree.specs.Uncovered.{first_of}
 use Rattle.wast_tree.specs.Visits.{Tells, Visits}
 
@@ -15,34 +14,26 @@ greatest_each of g a b (x ∷ xs) h = let e = greatest_each of g h.0 b xs h.1.1 
 pub greatest_told : {V A : Type 0} (of : V → ℕ) (g : A → ℕ) {a b : V} {xs : List A} → Visits (λ old x new. of new ≡ max (of old) (g x)) a xs b → of b ≡ max (of a) (greatest (map g xs))
 greatest_told of g {a} {b} {xs} h = greatest_each of g a b xs h.tells
 
-first_behind : (o : Option Form) (xs ys : List Form) → first_of (first_of o xs) ys ≡ first_of o (xs ++ ys)
+pub first_behind : {F : Type 0} (o : Option F) (xs ys : List F) → first_of (first_of o xs) ys ≡ first_of o (xs ++ ys)
 first_behind (Some f) xs ys = refl
 first_behind None [] ys = refl
 first_behind None (x ∷ xs) ys = refl
 
-first_each : {V A : Type 0} (of : V → Option Form) (g : A → List Form) (a b : V) (xs : List A) → Tells (λ old x new. of new ≡ first_of (of old) (g x)) a xs b → of b ≡ first_of (of a) (flat_map g xs)
+pub first_nothing : {F : Type 0} (o : Option F) → first_of o [] ≡ o
+first_nothing (Some f) = refl
+first_nothing None = refl
+
+first_each : {V A F : Type 0} (of : V → Option F) (g : A → List F) (a b : V) (xs : List A) → Tells (λ old x new. of new ≡ first_of (of old) (g x)) a xs b → of b ≡ first_of (of a) (flat_map g xs)
 first_each of g a b [] h = ap of h ∙ sym (first_nothing (of a))
-  where
-    first_nothing : (o : Option Form) → first_of o [] ≡ o
-    first_nothing (Some f) = refl
-    first_nothing None = refl
 first_each of g a b (x ∷ xs) h =
     first_each of g h.0 b xs h.1.1 ∙ (ap (λ o. first_of o (flat_map g xs)) h.1.0 ∙ first_behind (of a) (g x) (flat_map g xs))
 
 -- the first of what was told
-pub first_told : {V A : Type 0} (of : V → Option Form) (g : A → List Form) {a b : V} {xs : List A} → Visits (λ old x new. of new ≡ first_of (of old) (g x)) a xs b → of b ≡ first_of (of a) (flat_map g xs)
+pub first_told : {V A F : Type 0} (of : V → Option F) (g : A → List F) {a b : V} {xs : List A} → Visits (λ old x new. of new ≡ first_of (of old) (g x)) a xs b → of b ≡ first_of (of a) (flat_map g xs)
 first_told of g {a} {b} {xs} h = first_each of g a b xs h.tells
 
 -- a test that goes by what the visitor keeps
 module _ {V A C : Type 0} (keeps : V → C) (of : V → Bool) (p : C → A → Bool) where
-  and_assoc : (x y z : Bool) → ((x && y) && z) ≡ (x && (y && z))
-  and_assoc true y z = refl
-  and_assoc false y z = refl
-
-  and_true : (x : Bool) → (x && true) ≡ x
-  and_true true = refl
-  and_true false = refl
-
   or_assoc : (x y z : Bool) → ((x || y) || z) ≡ (x || (y || z))
   or_assoc true y z = refl
   or_assoc false y z = refl
@@ -51,21 +42,12 @@ module _ {V A C : Type 0} (keeps : V → C) (of : V → Bool) (p : C → A → B
   or_false true = refl
   or_false false = refl
 
-  all_each : (a b : V) (xs : List A) → Tells (λ old x new. (keeps new ≡ keeps old) × (of new ≡ (of old && p (keeps old) x))) a xs b → of b ≡ (of a && list_all (p (keeps a)) xs)
-  all_each a b [] h = ap of h ∙ sym (and_true (of a))
-  all_each a b (x ∷ xs) h =
-      all_each h.0 b xs h.1.1 ∙ (ap (λ c. of h.0 && list_all (p c) xs) h.1.0.0
-      ∙ (ap (λ c. c && list_all (p (keeps a)) xs) h.1.0.1 ∙ and_assoc (of a) (p (keeps a) x) (list_all (p (keeps a)) xs)))
-
   any_each : (a b : V) (xs : List A) → Tells (λ old x new. (keeps new ≡ keeps old) × (of new ≡ (of old || p (keeps old) x))) a xs b → of b ≡ (of a || list_any (p (keeps a)) xs)
   any_each a b [] h = ap of h ∙ sym (or_false (of a))
   any_each a b (x ∷ xs) h =
       any_each h.0 b xs h.1.1 ∙ (ap (λ c. of h.0 || list_any (p c) xs) h.1.0.0
       ∙ (ap (λ c. c || list_any (p (keeps a)) xs) h.1.0.1 ∙ or_assoc (of a) (p (keeps a) x) (list_any (p (keeps a)) xs)))
 
-  -- whether all that was told passes, and whether any of it does
-  pub all_told : {a b : V} {xs : List A} → Visits (λ old x new. (keeps new ≡ keeps old) × (of new ≡ (of old && p (keeps old) x))) a xs b → of b ≡ (of a && list_all (p (keeps a)) xs)
-  all_told {a} {b} {xs} h = all_each a b xs h.tells
-
+  -- whether any of what was told passes
   pub any_told : {a b : V} {xs : List A} → Visits (λ old x new. (keeps new ≡ keeps old) × (of new ≡ (of old || p (keeps old) x))) a xs b → of b ≡ (of a || list_any (p (keeps a)) xs)
   any_told {a} {b} {xs} h = any_each a b xs h.tells

@@ -1,7 +1,7 @@
 -- What the definitions say of worked modules, computed.
 use Rattle.std.proofs.Common.{refl}
 use Rattle.wast_base.specs.Blocks.{stays_open}
-use Rattle.wast_tree.specs.Private.Examples.{SameIds, StandsInRow27, StandsInFilledMemory, StandsEverywhere, StandsInPlace, StandsInSegments, StandsInBlocks, KnownInRows, WellFormedRows, SettledIndices, UnsettledIndices, WellFormedFuncs, WellFormedHints, WellFormedTypes, WellFormedSegments, WellFormedEntities, WellFormedInPlace, WellFormedBlocks, WrittenOutFields, GenerationsOfRows, StandsInAccess, UncoveredForms}
+use Rattle.wast_tree.specs.Private.Examples.{SameIds, StandsInRow27, StandsInFilledMemory, StandsEverywhere, StandsInPlace, StandsInSegments, StandsInBlocks, KnownInRows, WellFormedRows, SettledIndices, UnsettledIndices, WellFormedFuncs, WellFormedHints, WellFormedTypes, WellFormedSegments, WellFormedEntities, WellFormedInPlace, WellFormedBlocks, IllFormedClauses, FirstIllFormed, WrittenOutFields, GenerationsOfRows, StandsInAccess, UncoveredForms}
 
 pub same_ids : SameIds
 same_ids a b = (refl, refl, refl, refl, refl, refl, refl, refl)
@@ -64,6 +64,14 @@ well_formed_in_place a = (refl, refl, refl, refl, refl, refl, refl)
 pub well_formed_blocks : WellFormedBlocks
 unfolding stays_open
 well_formed_blocks = (refl, refl, refl, refl, refl, refl, refl, refl, refl)
+
+pub ill_formed_clauses : IllFormedClauses
+unfolding stays_open
+ill_formed_clauses a = (refl, refl, refl, refl, refl, refl, refl, refl)
+
+pub first_is_ill_formed : FirstIllFormed
+unfolding stays_open
+first_is_ill_formed a = (refl, refl, refl, refl)
 
 pub written_out_fields : WrittenOutFields
 written_out_fields a b c d e f = (refl, refl, refl, refl, refl, refl, refl)

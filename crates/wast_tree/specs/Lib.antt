@@ -4,6 +4,7 @@ pub mod Clauses
 pub mod Customs
 pub mod DataBytes
 pub mod Generations
+pub mod IllFormed
 pub mod Imports
 pub mod Instrs
 pub mod Items

@@ -17,11 +17,11 @@ abbrev pub uncovered_forms : List ModuleField → List Form
 uncovered_forms fields = flat_map uncovered_in (asked (in_module fields))
 
 -- the first of some, and the first of these behind one that may be there
-abbrev pub first : List Form → Option Form
+abbrev pub first : {A : Type 0} → List A → Option A
 first [] = None
 first (f ∷ fs) = Some f
 
-abbrev pub first_of : Option Form → List Form → Option Form
+abbrev pub first_of : {A : Type 0} → Option A → List A → Option A
 first_of (Some f) fs = Some f
 first_of None fs = first fs
 

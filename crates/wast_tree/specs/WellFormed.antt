@@ -1,5 +1,5 @@
--- Which lists of fields are well formed, as a test.
-use Rattle.std.specs.Prelude.{Bool, true, not, List}
+-- Which lists of fields are well formed, as a test; and which clause of it fails.
+use Rattle.std.specs.Prelude.{ℕ, min, Bool, true, not, List, [], ◌∷◌, flat_map, Option, Some, None, if◌then◌else◌}
 use Rattle.std.specs.List.{list_all}
 use Rattle.wast_tree.specs.Tree.{Index, ModuleField}
 use Rattle.wast_tree.specs.Tree.index
@@ -29,3 +29,33 @@ are_kept k asks = list_all (is_kept k) asks
 -- the fields are well formed
 abbrev pub is_well_formed : List ModuleField → Bool
 is_well_formed fields = are_kept (known (items fields)) (asked (in_module fields))
+
+-- the number of a clause, unless it holds
+abbrev pub unless_holds : ℕ → Bool → List ℕ
+unless_holds n holds = if holds then [] else n ∷ []
+
+-- the clause that fails there, if one does: that of generated ids is the sixth
+abbrev pub failing : Known → Ask → List ℕ
+failing k (Wants s i) = unless_holds 6 (is_settled_index (k.number s) i)
+failing k (Within i) = unless_holds 6 (is_written_index i)
+failing k (Unasked m) = []
+failing k (Clause n holds) = unless_holds n holds
+failing k (Covered f holds) = []
+
+-- the clauses that fail in the fields, in the order in which they are asked
+abbrev pub failing_clauses : List ModuleField → List ℕ
+failing_clauses fields = flat_map (failing (known (items fields))) (asked (in_module fields))
+
+-- the lesser of a number that may be there and another one
+abbrev pub lesser : Option ℕ → ℕ → ℕ
+lesser None n = n
+lesser (Some m) n = min m n
+
+-- the least of a number that may be there and some more
+abbrev pub least_of : Option ℕ → List ℕ → Option ℕ
+least_of o [] = o
+least_of o (n ∷ ns) = least_of (Some (lesser o n)) ns
+
+-- the least number of a clause that fails
+abbrev pub ill_formed : List ModuleField → Option ℕ
+ill_formed fields = least_of None (failing_clauses fields)

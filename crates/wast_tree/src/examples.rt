@@ -1,6 +1,6 @@
 //! Worked modules, of which the definitions compute what they say.
 
-ghost use Rattle.wast_tree.specs.Private.Examples.{SameIds, StandsInRow27, StandsInFilledMemory, StandsEverywhere, StandsInPlace, StandsInSegments, StandsInBlocks, KnownInRows, WellFormedRows, SettledIndices, UnsettledIndices, WellFormedFuncs, WellFormedHints, WellFormedTypes, WellFormedSegments, WellFormedEntities, WellFormedInPlace, WellFormedBlocks, WrittenOutFields, GenerationsOfRows, StandsInAccess, UncoveredForms};
+ghost use Rattle.wast_tree.specs.Private.Examples.{SameIds, StandsInRow27, StandsInFilledMemory, StandsEverywhere, StandsInPlace, StandsInSegments, StandsInBlocks, KnownInRows, WellFormedRows, SettledIndices, UnsettledIndices, WellFormedFuncs, WellFormedHints, WellFormedTypes, WellFormedSegments, WellFormedEntities, WellFormedInPlace, WellFormedBlocks, IllFormedClauses, FirstIllFormed, WrittenOutFields, GenerationsOfRows, StandsInAccess, UncoveredForms};
 
 /// Which ids and indices are the same.
 #[tactic(auto, using(crate::proofs::Worked::same_ids))]
@@ -34,6 +34,13 @@ pub(crate) fn well_formed()
     ensures entities { WellFormedEntities }
     ensures in_place { WellFormedInPlace }
     ensures blocks { WellFormedBlocks }
+{}
+
+/// Which clauses fail in small modules, and where.
+#[tactic(auto, using(crate::proofs::Worked::ill_formed_clauses, crate::proofs::Worked::first_is_ill_formed))]
+pub(crate) fn ill_formed()
+    ensures clauses { IllFormedClauses }
+    ensures first { FirstIllFormed }
 {}
 
 /// Which modules are written out, and which are not.

@@ -10,6 +10,8 @@ use Rattle.wast_tree.specs.Tree.value
 use Rattle.wast_tree.specs.Tree.storage
 use Rattle.wast_tree.specs.Tree.inner
 use Rattle.wast_tree.specs.Tree.bare
+use Rattle.wast_tree.specs.Tree.target
+use Rattle.wast_base.specs.declared.mem_ops.MemOp.TheVariants as mem_op
 use Rattle.wast_tree.specs.Tree.plain
 use Rattle.wast_tree.specs.Tree.caught
 use Rattle.wast_tree.specs.Tree.ordering
@@ -27,7 +29,8 @@ use Rattle.wast_tree.specs.Items.{items}
 use Rattle.wast_tree.specs.Sites.{Wants, Unasked, Clause, Covered, Site, OfItem, OfBlock, Asked, Used, Declared, LocalAt, FieldAt, LabelAt, Repeated, Begins, Ends, in_module, asked}
 use Rattle.wast_tree.specs.Known.{known}
 use Rattle.wast_tree.specs.Uncovered.{uncovered_forms}
-use Rattle.wast_tree.specs.WellFormed.{is_well_formed}
+use Rattle.wast_tree.specs.WellFormed.{is_well_formed, ill_formed}
+use Rattle.wast_tree.specs.IllFormed.{first_ill_formed}
 use Rattle.wast_tree.specs.WrittenOut.{is_written_out}
 use Rattle.wast_tree.specs.Generations.{generation_or_zero, generation_in, greatest_generation}
 use Rattle.wast_tree.specs.WorkedModules.{Address, text, place, id_at, by_id, by_number, plain_def, plain_type, plain_func, export_field, row27_with, row27, row31, row32, plain_global_type, plain_memory_type, plain_memory, filled_memory}
@@ -543,6 +546,30 @@ WellFormedInPlace = (a : Address) →
     × (is_well_formed (memory_in_place a None ∷ []) ≡ true)
     × (is_well_formed (memory_in_place a (Some 63) ∷ []) ≡ true)
     × (is_well_formed (memory_in_place a (Some 64) ∷ []) ≡ false)
+
+-- `i32.load` of memory 0, whose alignment is no power of two
+abbrev pub misaligned : Instruction
+misaligned = instr.Mem mem_op.i32_load (record { align = 3; offset = 0; target = target.Memory (by_number 0 30); ordering = None })
+
+-- Each clause fails alone; of two the least is told, and where all hold there is none.
+abbrev pub IllFormedClauses : Type 0
+IllFormedClauses = (a : Address) →
+    (ill_formed (func_alone (func_of nothing_used (misaligned ∷ []))) ≡ Some 1)
+    × (ill_formed (func_alone (record nameless_func { kind = func.Inline [] (hinted_drops (hint 1 0 ∷ hint 1 1 ∷ [])) })) ≡ Some 2)
+    × (ill_formed (memory_in_place a (Some 64) ∷ []) ≡ Some 3)
+    × (ill_formed (elems_of None (record { nullable = true; heap = heap.Abstract false abstract.Extern }) ∷ []) ≡ Some 4)
+    × (ill_formed (global_as (instr.i32_const (pos 0) ∷ instr.end_ None ∷ []) ∷ []) ≡ Some 5)
+    × (ill_formed (export_field a 0 (made_index 1) ∷ []) ≡ Some 6)
+    × (ill_formed (export_field a 0 (made_index 1) ∷ memory_in_place a (Some 64) ∷ global_as (plain_block ∷ []) ∷ []) ≡ Some 3)
+    × (ill_formed (field.Func nameless_func ∷ memory_in_place a (Some 63) ∷ []) ≡ None)
+
+-- The first clause that fails has the place of its index, of the index before it in its field, or of its field.
+abbrev pub FirstIllFormed : Type 0
+FirstIllFormed = (a : Address) →
+    (first_ill_formed (field.Func nameless_func ∷ export_field a 50 (index.Id (generated 1 (place 57))) ∷ memory_in_place a (Some 64) ∷ []) ≡ Some (record { clause = 6; span = place 57 }))
+    × (first_ill_formed (func_alone (func_of nothing_used (instr.call (by_number 0 25) ∷ misaligned ∷ instr.call (by_number 0 35) ∷ []))) ≡ Some (record { clause = 1; span = place 30 }))
+    × (first_ill_formed (field.Func nameless_func ∷ global_as (plain_block ∷ []) ∷ field.Func nameless_func ∷ []) ≡ Some (record { clause = 5; span = place 1 }))
+    × (first_ill_formed (field.Func nameless_func ∷ memory_in_place a (Some 63) ∷ []) ≡ None)
 
 -- Row 27 is written out; what stands in place is not.
 abbrev pub WrittenOutFields : Type 0
