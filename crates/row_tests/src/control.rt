@@ -158,8 +158,12 @@ fn ends_close_blocks_of_their_label(rt: HostRuntime) {
                 &[Open(Block, None), Else(None), End(None)],
                 "0061736d01000000010401600000030201000a080106000240050b0b",
             ),
-            (Global, &[Zero, End(None)], "ill formed"),
-            (Global, &[End(None), Open(Block, None), Zero], "ill formed"),
+            (Global, &[Zero, End(None)], "ill formed: 5"),
+            (
+                Global,
+                &[End(None), Open(Block, None), Zero],
+                "ill formed: 5",
+            ),
         ],
     );
 }
@@ -255,8 +259,8 @@ fn immediates_have_their_bytes(rt: HostRuntime) {
         &rt,
         rt.alloc(),
         &[
-            (Function, &[Load(0, 0)], "ill formed"),
-            (Function, &[Load(3, 0)], "ill formed"),
+            (Function, &[Load(0, 0)], "ill formed: 1"),
+            (Function, &[Load(3, 0)], "ill formed: 1"),
             (
                 Function,
                 &[Load(9223372036854775808, 0)],

@@ -128,7 +128,7 @@ fn hints_stand_on_instructions_one_behind_another(rt: HostRuntime) {
         &[hint(0, 1), hint(1, 4_294_967_295)],
     ] {
         let line = line(&rt, alloc, &[Word::Type, three_nops(hints)]);
-        assert!(rt; line.as_slice() == "ill formed".as_bytes());
+        assert!(rt; line.as_slice() == "ill formed: 2".as_bytes());
     }
     let first = [hint(0, 0)];
     let none = Hinted {
@@ -138,7 +138,7 @@ fn hints_stand_on_instructions_one_behind_another(rt: HostRuntime) {
         hints: &first,
     };
     let line = line(&rt, alloc, &[Word::Type, Word::Hinted(none)]);
-    assert!(rt; line.as_slice() == "ill formed".as_bytes());
+    assert!(rt; line.as_slice() == "ill formed: 2".as_bytes());
 }
 
 #[test]

@@ -231,7 +231,7 @@ fn atomic_accesses_have_their_bytes(rt: HostRuntime) {
         has_lines(
             &rt,
             alloc,
-            &[(Function, &[AtomicLoad(align)], "ill formed")],
+            &[(Function, &[AtomicLoad(align)], "ill formed: 1")],
         );
     }
     has_bytes(&rt, alloc, &[Fence(None)], &[0xfe, 3, 0]);

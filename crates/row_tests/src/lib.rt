@@ -9,6 +9,8 @@ mod around;
 #[cfg(test)]
 mod bodies;
 #[cfg(test)]
+mod by_hand;
+#[cfg(test)]
 mod control;
 #[cfg(test)]
 mod conversions;

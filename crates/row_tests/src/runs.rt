@@ -50,7 +50,8 @@ fn run_odd_rows<R: Read, W: Write>(
 #[test]
 fn handed_in_rows_have_their_lines(rt: HostRuntime) -> Result<(), Fail> {
     let refused = "refused: components are not encoded\n";
-    let ill_and_refused = "ill formed\nill formed\nrefused: components are not encoded\nno row\n";
+    let ill_and_refused =
+        "ill formed: 1\nill formed\nrefused: components are not encoded\nno row\n";
     for (input, ended, want) in [
         (&b"1\n2\n3\n5\n"[..], Ok(()), ill_and_refused),
         (&b"3\n0\n3\n"[..], Err(RunError::Memory), refused),

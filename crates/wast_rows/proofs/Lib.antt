@@ -2,4 +2,5 @@ pub mod Feeding
 pub mod Numerals
 pub mod Running
 pub mod Telling
+pub mod Worked
 pub mod Writing

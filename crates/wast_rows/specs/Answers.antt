@@ -1,5 +1,5 @@
 -- The line that answers a line.
-use Rattle.std.specs.Prelude.{◌≡◌, ◌≢◌, ℕ, ◌==◌, ◌&&◌, Bool, true, false, List, ◌++◌, codes, Option, Some, None, Result, Ok, Err}
+use Rattle.std.specs.Prelude.{◌≡◌, ◌≢◌, ℕ, ◌==◌, Bool, true, false, List, ◌++◌, codes, Option, Some, None, Result, Ok, Err}
 use Rattle.std.specs.Fmt.{decimal}
 use Rattle.std.specs.Global.{Vec}
 use Rattle.hex.specs.Hex.{encode_lower}
@@ -9,16 +9,20 @@ use Rattle.wast_base.specs.declared.faults.Fault.TheVariants as fault
 use Rattle.wast_base.specs.Faults.{fault_of, span_of, fault_text}
 use Rattle.wast_core.specs.declared.module.Module.{Module}
 use Rattle.wast_core.specs.Headline.{Encodes}
-use Rattle.wast_core.specs.Modules.{is_well_formed, generation_bound}
+use Rattle.wast_core.specs.Modules.{ill_formed, generation_bound}
 use Rattle.wast_rows.specs.Numerals.{IsNumber, IsNoNumber}
 
 -- the line of a number that is no row
 abbrev pub no_row_text : List ℕ
 no_row_text = codes "no row"
 
--- the line of a module that is not well formed
-abbrev pub ill_formed_text : List ℕ
-ill_formed_text = codes "ill formed"
+-- the line of a module that is not well formed, by the number of a clause that fails
+abbrev pub ill_formed_text : ℕ → List ℕ
+ill_formed_text clause = codes "ill formed: " ++ decimal clause
+
+-- the line of a module that is well formed and holds a generated id
+abbrev pub generated_text : List ℕ
+generated_text = codes "ill formed"
 
 -- a fault at its place, or a refusal, which has none
 abbrev pub refusal_text_at : Option Span → List ℕ → List ℕ
@@ -34,10 +38,6 @@ abbrev pub TellsAnswer : Result (Vec ℕ) Error → List ℕ → Type 0
 TellsAnswer (Ok bytes) line = line ≡ encode_lower bytes.items
 TellsAnswer (Err e) line = (fault_of e ≢ fault.Memory) × (line ≡ refusal_text e)
 
--- whether the module is well formed and holds no generated id
-abbrev pub is_ready_at_start : Module → Bool
-is_ready_at_start m = is_well_formed m && (generation_bound m == 0)
-
 -- the line tells some answer that encoding may give for the module, with the counter at 1
 pub record TellsModule (m : Module) (line : List ℕ) : Type 0 where
   pub answer : Result (Vec ℕ) Error
@@ -46,16 +46,21 @@ pub record TellsModule (m : Module) (line : List ℕ) : Type 0 where
   pub encodes : Encodes m 1 answer after counter
   pub tells : TellsAnswer answer line
 
--- the line of a module that can be encoded, and of one that can not
-abbrev pub TellsIf : Bool → Module → List ℕ → Type 0
-TellsIf true m line = TellsModule m line
-TellsIf false m line = line ≡ ill_formed_text
+-- the line of a well formed module without generated ids, which can be encoded with the counter at 1, and of one with some
+abbrev pub TellsWritten : Bool → Module → List ℕ → Type 0
+TellsWritten true m line = TellsModule m line
+TellsWritten false m line = line ≡ generated_text
+
+-- the line of a module in which this clause is the least that fails, and of one that is well formed
+abbrev pub TellsFormed : Option ℕ → Module → List ℕ → Type 0
+TellsFormed (Some clause) m line = line ≡ ill_formed_text clause
+TellsFormed None m line = TellsWritten (generation_bound m == 0) m line
 
 -- the line of a row, which has no module where there is no such row
 abbrev pub TellsRow : Option (Result Module Error) → List ℕ → Type 0
 TellsRow None line = line ≡ no_row_text
 TellsRow (Some (Err e)) line = ⊥
-TellsRow (Some (Ok m)) line = TellsIf (is_ready_at_start m) m line
+TellsRow (Some (Ok m)) line = TellsFormed (ill_formed m) m line
 
 -- the line answers what was asked, where gives relates the number of a row to its module
 pub data TellsLine (gives : ℕ → Option (Result Module Error) → Type 0) (asked line : List ℕ) : Type 0 where

@@ -4,3 +4,4 @@ pub mod Forms
 pub mod Lines
 pub mod Numerals
 pub mod Runs
+pub mod Worked

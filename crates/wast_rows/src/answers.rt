@@ -1,7 +1,7 @@
 //! The line that answers a line.
 
 ghost use Rattle.std.specs.Prelude.{◌≡◌, IfOk, Some, Ok, string_bytes};
-ghost use Rattle.wast_rows.specs.Answers.{TellsLine, TellsRow, TellsAnswer, refusal_text, no_row_text, ill_formed_text};
+ghost use Rattle.wast_rows.specs.Answers.{TellsLine, TellsRow, TellsAnswer, refusal_text, no_row_text, ill_formed_text, generated_text};
 
 use crate::errors::RunError;
 use crate::numbers::number;
@@ -16,9 +16,16 @@ fn no_row(alloc: Global) -> Result<String, AllocError>
     String::from_str(alloc, "no row")
 }
 
+/// `ill formed: C`, where C is the number of a clause.
+fn ill_formed(alloc: Global, clause: u8) -> Result<String, AllocError>
+    ensures { IfOk result (λ line. string_bytes line ≡ ill_formed_text clause) }
+{
+    format!(in alloc; "ill formed: {clause}")
+}
+
 /// `ill formed`
-fn ill_formed(alloc: Global) -> Result<String, AllocError>
-    ensures { IfOk result (λ line. string_bytes line ≡ ill_formed_text) }
+fn generated(alloc: Global) -> Result<String, AllocError>
+    ensures { IfOk result (λ line. string_bytes line ≡ generated_text) }
 {
     String::from_str(alloc, "ill formed")
 }
@@ -55,8 +62,11 @@ fn told(alloc: Global, answer: Result<Vec<u8>, Error<'_>>) -> Result<String, Run
 fn line_of_module(alloc: Global, module: &mut Module<'_>) -> Result<String, RunError>
     ensures { IfOk result (λ line. TellsRow (Some (Ok «module».old)) (string_bytes line)) }
 {
-    if !module.well_formed() || module.gensym_bound() > 0 {
-        return Ok(ill_formed(alloc)?);
+    if let Some(clause) = module.ill_formed() {
+        return Ok(ill_formed(alloc, clause)?);
+    }
+    if module.gensym_bound() > 0 {
+        return Ok(generated(alloc)?);
     }
     let mut gensym = Gensym::new(1);
     let answer = EncodeOptions::new().encode_module(alloc, module, &mut gensym);

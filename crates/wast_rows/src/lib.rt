@@ -3,6 +3,7 @@
 
 mod answers;
 mod errors;
+mod examples;
 mod forms;
 mod numbers;
 mod runs;

@@ -159,7 +159,8 @@ fn read_piece<'b, R: Read>(
 /// written for a line:
 ///
 /// - `no row` where it is no `u32` in decimal form, or has a sign or leading zeros, or where there is no such row;
-/// - `ill formed` where the row's module is not well formed or holds a generated id;
+/// - `ill formed: C` where the row's module is not well formed, and C is the least number of a clause that fails;
+/// - `ill formed` where it is well formed and holds a generated id;
 /// - the module's bytes in lower case hexadecimal, as encoding gives them with a counter at 1;
 /// - `fault at P: text` or `refused: text` where encoding refuses the module with a place P or without one.
 ///

@@ -187,14 +187,23 @@ pub(crate) fn cast_out_of_a_block<'a>(alloc: Global, maker: &mut Maker) -> Seq<M
     one(alloc, maker, func)
 }
 
+/// `(module (global i32 ..))` of these instructions.
+pub(crate) fn global_of<'a>(
+    alloc: Global,
+    maker: &mut Maker,
+    instrs: Seq<Instruction<'a>>,
+) -> Seq<ModuleField<'a>> {
+    let value = Expression::new(alloc, instrs);
+    let ty = GlobalType::new(ValType::I32, false);
+    let global = wast_tree::Global::new(alloc, at(9), None, ty, value);
+    one(alloc, maker, ModuleField::Global(global))
+}
+
 /// `(module (global i32 block end i32.const 0))`
 pub(crate) fn global_of_a_block<'a>(alloc: Global, maker: &mut Maker) -> Seq<ModuleField<'a>> {
     let mut instrs = Seq::new(alloc);
     maker.push_block(&mut instrs, BlockKind::Block, labelled(None));
     close(maker, &mut instrs);
     maker.push_instruction(&mut instrs, Instruction::i32_const(0));
-    let value = Expression::new(alloc, instrs);
-    let ty = GlobalType::new(ValType::I32, false);
-    let global = wast_tree::Global::new(alloc, at(9), None, ty, value);
-    one(alloc, maker, ModuleField::Global(global))
+    global_of(alloc, maker, instrs)
 }

@@ -47,7 +47,11 @@ pub(crate) fn memory<'a>(alloc: Global, offset: usize, ty: MemoryType) -> Module
 }
 
 /// `(elem ..)` at a place.
-fn elem<'a>(offset: usize, kind: ElemKind<'a>, payload: ElemPayload<'a>) -> ModuleField<'a> {
+pub(crate) fn elem<'a>(
+    offset: usize,
+    kind: ElemKind<'a>,
+    payload: ElemPayload<'a>,
+) -> ModuleField<'a> {
     ModuleField::Elem(Elem {
         span: at(offset),
         id: None,

@@ -10,17 +10,17 @@ use wast_tree::{
     Instruction, Local, Maker, ModuleField, Seq, TypeUse, ValType,
 };
 
-/// `(func ..)` of these locals and instructions at a place, with one hint of a value, on the instruction of this number.
-fn hinted<'a>(
+/// `(func ..)` of these locals and instructions at a place, with these hints.
+pub(crate) fn hinted<'a>(
     alloc: Global,
     maker: &mut Maker,
     offset: usize,
     ty: TypeUse<'a, FunctionType<'a>>,
     locals: Seq<Local<'a>>,
     instrs: Seq<Instruction<'a>>,
-    hint: BranchHint,
+    hints: &[BranchHint],
 ) -> ModuleField<'a> {
-    let branch_hints = maker.hints(&[hint]);
+    let branch_hints = maker.hints(hints);
     let expression = Expression {
         instrs,
         branch_hints,
@@ -48,7 +48,7 @@ pub(crate) fn likely_branch<'a>(alloc: Global, maker: &mut Maker) -> Seq<ModuleF
         instr_index: 2,
         value: 1,
     };
-    let func = hinted(alloc, maker, 9, ty, Seq::new(alloc), instrs, hint);
+    let func = hinted(alloc, maker, 9, ty, Seq::new(alloc), instrs, &[hint]);
     one(alloc, maker, func)
 }
 
@@ -63,6 +63,6 @@ pub(crate) fn unlikely_if<'a>(alloc: Global, maker: &mut Maker) -> Seq<ModuleFie
         instr_index: 1,
         value: 0,
     };
-    let func = hinted(alloc, maker, 31, TypeUse::none(), locals, instrs, hint);
+    let func = hinted(alloc, maker, 31, TypeUse::none(), locals, instrs, &[hint]);
     two(alloc, maker, imported_function(9, 23), func)
 }

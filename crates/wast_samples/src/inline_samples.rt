@@ -19,8 +19,12 @@ fn name<'a>() -> Option<NameAnnotation<'a>> {
     Some(NameAnnotation { name: "n" })
 }
 
-/// `(memory ..)` with bytes in place, at the beginning of a module.
-fn memory_with<'a>(exports: InlineExport<'a>, bytes: Seq<DataVal<'a>>) -> ModuleField<'a> {
+/// `(memory ..)` with bytes in place, at the beginning of a module, whose pages have 2 to this many bytes.
+pub(crate) fn memory_with<'a>(
+    exports: InlineExport<'a>,
+    bytes: Seq<DataVal<'a>>,
+    page_size_log2: Option<u32>,
+) -> ModuleField<'a> {
     ModuleField::Memory(Memory {
         span: at(9),
         id: None,
@@ -29,7 +33,7 @@ fn memory_with<'a>(exports: InlineExport<'a>, bytes: Seq<DataVal<'a>>) -> Module
         kind: MemoryKind::Inline {
             is64: false,
             bytes,
-            page_size_log2: None,
+            page_size_log2,
         },
     })
 }
@@ -57,7 +61,8 @@ pub(crate) fn exported_function<'a>(alloc: Global, maker: &mut Maker) -> Seq<Mod
 pub(crate) fn memory_with_bytes<'a>(alloc: Global, maker: &mut Maker) -> Seq<ModuleField<'a>> {
     let mut bytes = Seq::new(alloc);
     maker.push_data(&mut bytes, DataVal::String(b"ab"));
-    one(alloc, maker, memory_with(InlineExport::none(alloc), bytes))
+    let memory = memory_with(InlineExport::none(alloc), bytes, None);
+    one(alloc, maker, memory)
 }
 
 /// `(module (func $f) (table funcref (elem $f)))`
@@ -113,5 +118,5 @@ pub(crate) fn exported_empty_memory<'a>(alloc: Global, maker: &mut Maker) -> Seq
     let exports = InlineExport {
         names: maker.names(&names),
     };
-    one(alloc, maker, memory_with(exports, Seq::new(alloc)))
+    one(alloc, maker, memory_with(exports, Seq::new(alloc), None))
 }

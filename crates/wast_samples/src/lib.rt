@@ -9,6 +9,7 @@ mod custom_samples;
 mod field_samples;
 mod form_samples;
 mod hint_samples;
+mod ill_formed_samples;
 mod inline_samples;
 mod instr_samples;
 mod samples;

@@ -7,8 +7,8 @@ ghost use Rattle.wast_tree.specs.WorkedModules.{plain_def};
 ghost use Rattle.wast_samples.specs.RowNumbers.{is_row};
 
 use crate::{
-    block_samples, custom_samples, field_samples, hint_samples, inline_samples, instr_samples,
-    struct_samples, type_samples,
+    block_samples, custom_samples, field_samples, hint_samples, ill_formed_samples, inline_samples,
+    instr_samples, struct_samples, type_samples,
 };
 use std::alloc::Global;
 use wast_tree::{
@@ -58,7 +58,7 @@ pub(crate) fn func<'a>(
 }
 
 /// `(export "a" (func $item))` at a place.
-fn export(item: Id<'_>, offset: usize) -> ModuleField<'_> {
+pub(crate) fn export(item: Id<'_>, offset: usize) -> ModuleField<'_> {
     let item = Index::Id(item);
     ModuleField::Export(Export::new(at(offset), "a", ExportKind::Func, item))
 }
@@ -265,6 +265,13 @@ fn fields_of_row<'a>(alloc: Global, maker: &mut Maker, n: u32) -> Option<Seq<Mod
         55 => Some(block_samples::label_within_its_like(alloc, maker)),
         56 => Some(block_samples::block_behind_an_end(alloc, maker)),
         57 => Some(block_samples::global_of_a_block(alloc, maker)),
+        58 => Some(ill_formed_samples::load_aligned_to_three(alloc, maker)),
+        59 => Some(ill_formed_samples::two_hints_on_one_instruction(alloc, maker)),
+        60 => Some(ill_formed_samples::hint_past_the_last_instruction(alloc, maker)),
+        61 => Some(ill_formed_samples::memory_of_endless_pages(alloc, maker)),
+        62 => Some(ill_formed_samples::segment_of_external_references(alloc, maker)),
+        63 => Some(ill_formed_samples::global_that_ends_twice(alloc, maker)),
+        64 => Some(ill_formed_samples::export_of_no_function(alloc, maker)),
         65 => Some(type_samples::name_and_number_of_a_type(alloc, maker)),
         _ => None,
     }
@@ -272,8 +279,8 @@ fn fields_of_row<'a>(alloc: Global, maker: &mut Maker, n: u32) -> Option<Seq<Mod
 
 /// The fields of the module of a worked row, or out of memory; `None` where there is no such row.
 ///
-/// The rows are 1 to 19, 21 to 57 and 65. Places are offsets in the text of the
-/// row's module: of a field that of its keyword, of an id that of its `$`.
+/// The rows are 1 to 19 and 21 to 65, of which 58 to 64 are not well formed. Places are offsets in the text of the row's
+/// module: of a field that of its keyword, of an id that of its `$`.
 pub fn sample_fields<'a>(alloc: Global, n: u32) -> Option<Result<Seq<ModuleField<'a>>, Error<'a>>>
     ensures there { is_some result ≡ is_row n }
     ensures refusal { IfSome result (λ made. IfErr made (λ e. e ≡ out_of_memory)) }

@@ -1,0 +1,9 @@
+//! Worked modules, of which the definitions compute what they say.
+
+ghost use Rattle.wast_rows.specs.Worked.{LinesOfIllFormed};
+
+/// The lines of modules that are not encoded.
+#[tactic(auto, using(crate::proofs::Worked::lines_of_ill_formed))]
+pub(crate) fn ill_formed()
+    ensures { LinesOfIllFormed }
+{}
