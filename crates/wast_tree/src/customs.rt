@@ -1,6 +1,7 @@
 //! Custom sections that are written in a module.
 
 ghost use Rattle.std.specs.Prelude.{◌≡◌, ◌<◌};
+ghost use Rattle.wast_tree.specs.Tree.custom;
 ghost use Rattle.wast_tree.specs.Customs.{custom_name, custom_place, anchor_rank, place_rank, stands_at, subsection_id};
 
 use wast_base::{Seq, Span};
@@ -17,6 +18,19 @@ pub enum Custom<'a> {
 }
 
 impl<'a> Custom<'a> {
+    /// `(@custom "a" ..)` at a place of the text: where it stands in the module, its name and its bytes (text format, custom
+    /// annotations). It takes no memory.
+    pub fn raw(span: Span, place: CustomPlace, name: &'a str, bytes: Seq<&'a [u8]>) -> Custom<'a>
+        ensures { result ≡ custom.Raw (record { span = span; place = place; name = name.entry; bytes = bytes.entry }) }
+    {
+        Custom::Raw(RawCustomSection {
+            span,
+            place,
+            name,
+            bytes,
+        })
+    }
+
     /// The name of the section (binary format, custom section): its own, `producers` or `dylink.0`. It takes no memory.
     pub fn name(&self) -> &'a str
         ensures { result.now ≡ custom_name self.now }

@@ -1,6 +1,6 @@
 //! The types of tables, memories, globals and tags.
 
-ghost use Rattle.std.specs.Prelude.{◌≡◌, None, false};
+ghost use Rattle.std.specs.Prelude.{◌≡◌, None, true, false};
 
 use crate::types::{FunctionType, RefType, TypeUse, ValType};
 
@@ -22,6 +22,17 @@ impl Limits {
     {
         Limits {
             is64: false,
+            min,
+            max,
+        }
+    }
+
+    /// Limits of 64 bits (text format, limits). It takes no memory.
+    pub fn wide(min: u64, max: Option<u64>) -> Limits
+        ensures { result ≡ record { is64 = true; min = min; max = max } }
+    {
+        Limits {
+            is64: true,
             min,
             max,
         }

@@ -1,16 +1,19 @@
 //! The fields of a module in the text format.
 
-ghost use Rattle.std.specs.Prelude.{◌≡◌, [], Some, None};
+ghost use Rattle.std.specs.Prelude.{◌≡◌, [], Some, None, false};
+ghost use Rattle.wast_tree.specs.Makers.{hinted};
 ghost use Rattle.wast_tree.specs.Sites.{exported_space};
 ghost use Rattle.wast_tree.specs.Tree.func;
 ghost use Rattle.wast_tree.specs.Tree.table;
 ghost use Rattle.wast_tree.specs.Tree.memory;
 ghost use Rattle.wast_tree.specs.Tree.global;
+ghost use Rattle.wast_tree.specs.Tree.tag;
+ghost use Rattle.wast_tree.specs.Tree.tag_kind;
 
 use crate::customs::Custom;
 use crate::entities::{GlobalType, MemoryType, TableType, TagType};
 use crate::imports::Imports;
-use crate::instrs::{Expression, Instruction};
+use crate::instrs::{BranchHint, Expression, Instruction};
 use crate::segments::{Data, DataVal, Elem, ElemPayload};
 use crate::types::{FunctionType, Rec, RefType, Type, TypeUse, ValType};
 use std::alloc;
@@ -74,6 +77,16 @@ pub struct InlineImport<'a> {
     pub field: &'a str,
 }
 
+impl<'a> InlineImport<'a> {
+    /// `(import "a" "b")` in place: the names of the module and of the item in it (text format, imports: abbreviations). It
+    /// takes no memory.
+    pub fn new(module: &'a str, field: &'a str) -> InlineImport<'a>
+        ensures { result ≡ record { «module» = «module».entry; field = field.entry } }
+    {
+        InlineImport { module, field }
+    }
+}
+
 /// A function: `(func $f (type $t) ..)` (text format, functions).
 #[derive(Debug, Drop)]
 pub struct Func<'a> {
@@ -116,6 +129,54 @@ impl<'a> Func<'a> {
             ty,
         }
     }
+
+    /// `(func $f (import ..) ..)` at a place, with its type use, without a name annotation and exports in place; its type is
+    /// not `exact` (text format, functions: abbreviations). It takes no memory.
+    pub fn imported(
+        alloc: alloc::Global,
+        span: Span,
+        id: Option<Id<'a>>,
+        import: InlineImport<'a>,
+        ty: TypeUse<'a, FunctionType<'a>>,
+    ) -> Func<'a>
+        ensures { result ≡ record { span = span; id = id.entry; name = None; exports = record { names = [] }; kind = func.Import import.entry false; ty = ty.entry } }
+    {
+        Func {
+            span,
+            id,
+            name: None,
+            exports: InlineExport::none(alloc),
+            kind: FuncKind::Import(import, false),
+            ty,
+        }
+    }
+
+    /// The function with a name annotation (text format, custom annotations). It takes no memory.
+    pub fn named(self, name: &'a str) -> Func<'a>
+        ensures { result ≡ record self.entry { name = Some (record { name = name.entry }) } }
+    {
+        let name = Some(NameAnnotation { name });
+        Func { name, ..self }
+    }
+
+    /// The function with exports in place, where those that it had are dropped (text format, functions: abbreviations). It
+    /// takes no memory.
+    pub fn exported(self, exports: InlineExport<'a>) -> Func<'a>
+        ensures { result ≡ record self.entry { exports = exports.entry } }
+    {
+        Func { exports, ..self }
+    }
+
+    /// The function with branch hints in its body, where those that it had are dropped; one that is imported in place has no
+    /// body, and stays as it is (text format, custom annotations). It takes no memory.
+    pub fn hinted(self, hints: Seq<BranchHint>) -> Func<'a>
+        ensures { result ≡ record self.entry { kind = hinted hints self.entry.kind } }
+    {
+        Func {
+            kind: self.kind.hinted(hints),
+            ..self
+        }
+    }
 }
 
 /// What a function is made of (text format, functions).
@@ -132,6 +193,24 @@ pub enum FuncKind<'a> {
     },
 }
 
+impl<'a> FuncKind<'a> {
+    /// The same with branch hints in its body, where it has one.
+    fn hinted(self, hints: Seq<BranchHint>) -> FuncKind<'a>
+        ensures { result ≡ hinted hints self.entry }
+    {
+        match self {
+            FuncKind::Inline { locals, expression } => {
+                let expression = expression.hinted(hints);
+                FuncKind::Inline { locals, expression }
+            }
+            FuncKind::Import(import, exact) => {
+                drop(hints);
+                FuncKind::Import(import, exact)
+            }
+        }
+    }
+}
+
 /// A local of a function: `(local $x i32)` (text format, functions).
 #[derive(Clone, Copy, Debug, PartialEq, Eq)]
 pub struct Local<'a> {
@@ -141,6 +220,15 @@ pub struct Local<'a> {
     pub name: Option<NameAnnotation<'a>>,
     /// Its type.
     pub ty: ValType<'a>,
+}
+
+impl<'a> Local<'a> {
+    /// `(local $x ..)`, without a name annotation (text format, functions). It takes no memory.
+    pub fn new(id: Option<Id<'a>>, ty: ValType<'a>) -> Local<'a>
+        ensures { result ≡ record { id = id.entry; name = None; ty = ty.entry } }
+    {
+        Local { id, name: None, ty }
+    }
 }
 
 /// A table: `(table $t 1 funcref)` (text format, tables).
@@ -172,6 +260,31 @@ impl<'a> Table<'a> {
             kind: TableKind::Normal {
                 ty,
                 init_expr: None,
+            },
+        }
+    }
+
+    /// `(table $t funcref (elem ..))` at a place: a table of 32 bits that is not shared, with elements of a type in place,
+    /// without a name annotation and exports in place (text format, tables: abbreviations). It takes no memory.
+    pub fn inline(
+        alloc: alloc::Global,
+        span: Span,
+        id: Option<Id<'a>>,
+        elem: RefType<'a>,
+        payload: ElemPayload<'a>,
+    ) -> Table<'a>
+        ensures { result ≡ record { span = span; id = id.entry; name = None; exports = record { names = [] }; kind = table.Inline elem.entry false false payload.entry } }
+    {
+        Table {
+            span,
+            id,
+            name: None,
+            exports: InlineExport::none(alloc),
+            kind: TableKind::Inline {
+                elem,
+                is64: false,
+                shared: false,
+                payload,
             },
         }
     }
@@ -235,6 +348,65 @@ impl<'a> Memory<'a> {
             exports: InlineExport::none(alloc),
             kind: MemoryKind::Normal(ty),
         }
+    }
+
+    /// `(memory $m (data ..))` at a place: a memory of 32 bits, with pages of 65,536 bytes and these bytes in place, without a
+    /// name annotation and exports in place (text format, memories: abbreviations). It takes no memory.
+    pub fn inline(
+        alloc: alloc::Global,
+        span: Span,
+        id: Option<Id<'a>>,
+        bytes: Seq<DataVal<'a>>,
+    ) -> Memory<'a>
+        ensures { result ≡ record { span = span; id = id.entry; name = None; exports = record { names = [] }; kind = memory.Inline false bytes.entry None } }
+    {
+        Memory {
+            span,
+            id,
+            name: None,
+            exports: InlineExport::none(alloc),
+            kind: MemoryKind::Inline {
+                is64: false,
+                bytes,
+                page_size_log2: None,
+            },
+        }
+    }
+
+    /// `(memory $m (import ..) ..)` at a place, without a name annotation and exports in place (text format, memories:
+    /// abbreviations). It takes no memory.
+    pub fn imported(
+        alloc: alloc::Global,
+        span: Span,
+        id: Option<Id<'a>>,
+        import: InlineImport<'a>,
+        ty: MemoryType,
+    ) -> Memory<'a>
+        ensures { result ≡ record { span = span; id = id.entry; name = None; exports = record { names = [] }; kind = memory.Import import.entry ty } }
+    {
+        Memory {
+            span,
+            id,
+            name: None,
+            exports: InlineExport::none(alloc),
+            kind: MemoryKind::Import { import, ty },
+        }
+    }
+
+    /// The memory with a name annotation (text format, custom annotations). It takes no memory.
+    pub fn named(self, name: &'a str) -> Memory<'a>
+        ensures { result ≡ record self.entry { name = Some (record { name = name.entry }) } }
+    {
+        let name = Some(NameAnnotation { name });
+        Memory { name, ..self }
+    }
+
+    /// The memory with exports in place, where those that it had are dropped (text format, memories: abbreviations). It
+    /// takes no memory.
+    pub fn exported(self, exports: InlineExport<'a>) -> Memory<'a>
+        ensures { result ≡ record self.entry { exports = exports.entry } }
+    {
+        Memory { exports, ..self }
     }
 }
 
@@ -325,6 +497,28 @@ pub struct Tag<'a> {
     pub ty: TagType<'a>,
     /// What it is made of.
     pub kind: TagKind<'a>,
+}
+
+impl<'a> Tag<'a> {
+    /// `(tag $t ..)` at a place, of exceptions, without a name annotation and exports in place (text format, tags). It takes
+    /// no memory.
+    pub fn new(
+        alloc: alloc::Global,
+        span: Span,
+        id: Option<Id<'a>>,
+        ty: TypeUse<'a, FunctionType<'a>>,
+    ) -> Tag<'a>
+        ensures { result ≡ record { span = span; id = id.entry; name = None; exports = record { names = [] }; ty = tag.Exception ty.entry; kind = tag_kind.Inline } }
+    {
+        Tag {
+            span,
+            id,
+            name: None,
+            exports: InlineExport::none(alloc),
+            ty: TagType::Exception(ty),
+            kind: TagKind::Inline,
+        }
+    }
 }
 
 /// What a tag is made of (text format, tags).

@@ -1,5 +1,8 @@
 //! What instructions hold beside an index or a number (text format: instructions).
 
+ghost use Rattle.std.specs.Prelude.{◌≡◌, None};
+ghost use Rattle.wast_tree.specs.Tree.target;
+
 use crate::types::{FunctionType, TypeUse, ValType};
 use wast_base::{Boxed, Id, Index, NameAnnotation, Seq};
 
@@ -12,6 +15,27 @@ pub struct BlockType<'a> {
     pub label_name: Option<NameAnnotation<'a>>,
     /// The type: what the block takes and gives.
     pub ty: TypeUse<'a, FunctionType<'a>>,
+}
+
+impl<'a> BlockType<'a> {
+    /// What a block of this label and type is opened with, without a name annotation (text format, control instructions).
+    /// It takes no memory.
+    pub fn new(label: Option<Id<'a>>, ty: TypeUse<'a, FunctionType<'a>>) -> BlockType<'a>
+        ensures { result ≡ record { label = label.entry; label_name = None; ty = ty.entry } }
+    {
+        BlockType {
+            label,
+            label_name: None,
+            ty,
+        }
+    }
+
+    /// Neither a label nor a type (text format, control instructions). It takes no memory.
+    pub fn empty() -> BlockType<'a>
+        ensures { result ≡ record { label = None; label_name = None; ty = record { index = None; inline = None } } }
+    {
+        BlockType::new(None, TypeUse::none())
+    }
 }
 
 /// The labels of `br_table $a $b $c` (text format, control instructions).
@@ -39,6 +63,16 @@ pub struct TryTableCatch<'a> {
     pub kind: TryTableCatchKind<'a>,
     /// The block that is left, by its label.
     pub label: Index<'a>,
+}
+
+impl<'a> TryTableCatch<'a> {
+    /// `(catch $e $h)`: what is caught, and the label of the block that is left (text format, control instructions). It
+    /// takes no memory.
+    pub fn new(kind: TryTableCatchKind<'a>, label: Index<'a>) -> TryTableCatch<'a>
+        ensures { result ≡ record { kind = kind.entry; label = label.entry } }
+    {
+        TryTableCatch { kind, label }
+    }
 }
 
 /// What a clause of `try_table` catches (text format, control instructions).
@@ -131,6 +165,21 @@ pub struct MemArg<'a> {
     pub target: MemArgTarget<'a>,
     /// The ordering, where one is written (threads).
     pub ordering: Option<MemArgOrdering>,
+}
+
+impl<'a> MemArg<'a> {
+    /// `$m offset=4 align=2`: a memory, an alignment and an offset in bytes, without an ordering (text format, memory
+    /// instructions). It takes no memory.
+    pub fn new(memory: Index<'a>, align: u64, offset: u64) -> MemArg<'a>
+        ensures { result ≡ record { align = align; offset = offset; target = target.Memory memory.entry; ordering = None } }
+    {
+        MemArg {
+            align,
+            offset,
+            target: MemArgTarget::Memory(memory),
+            ordering: None,
+        }
+    }
 }
 
 /// What a memory argument reads or writes (text format, memory instructions).

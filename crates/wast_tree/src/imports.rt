@@ -1,6 +1,6 @@
 //! Imports.
 
-ghost use Rattle.std.specs.Prelude.{◌≡◌, ◌<◌, ◌++◌, length, map, slice_index_or, IfOk, IfErr, OnOk};
+ghost use Rattle.std.specs.Prelude.{◌≡◌, ◌<◌, ◌++◌, None, length, map, slice_index_or, IfOk, IfErr, OnOk};
 ghost use Rattle.wast_base.specs.Faults.{out_of_memory};
 ghost use Rattle.wast_tree.specs.Imports.{item_sigs, unique_sigs};
 ghost use Rattle.wast_tree.specs.Items.{space_of_kind};
@@ -61,6 +61,20 @@ pub struct ItemSig<'a> {
     pub name: Option<NameAnnotation<'a>>,
     /// Its kind, and its type.
     pub kind: ItemKind<'a>,
+}
+
+impl<'a> ItemSig<'a> {
+    /// `(func $f ..)` and the like at a place, without a name annotation (text format, imports). It takes no memory.
+    pub fn new(span: Span, id: Option<Id<'a>>, kind: ItemKind<'a>) -> ItemSig<'a>
+        ensures { result ≡ record { span = span; id = id.entry; name = None; kind = kind.entry } }
+    {
+        ItemSig {
+            span,
+            id,
+            name: None,
+            kind,
+        }
+    }
 }
 
 /// The kind of an imported item, and its type (text format, imports).

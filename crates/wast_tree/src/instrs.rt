@@ -281,6 +281,16 @@ pub struct BranchHint {
     pub value: u32,
 }
 
+impl BranchHint {
+    /// A hint before the instruction of this number, counted from 0: 1 where the branch is likely taken, and 0 where it is
+    /// not (text format, custom annotations). It takes no memory.
+    pub fn new(instr_index: usize, value: u32) -> BranchHint
+        ensures { result ≡ record { instr_index = instr_index; value = value } }
+    {
+        BranchHint { instr_index, value }
+    }
+}
+
 /// A flat list of instructions, without the `end` that closes it (text format, expressions).
 #[derive(Debug, Drop)]
 pub struct Expression<'a> {
@@ -298,6 +308,17 @@ impl<'a> Expression<'a> {
         Expression {
             instrs,
             branch_hints: Seq::new(alloc),
+        }
+    }
+
+    /// The same instructions with these branch hints, where those that it had are dropped (text format, custom annotations).
+    /// It takes no memory.
+    pub fn hinted(self, hints: Seq<BranchHint>) -> Expression<'a>
+        ensures { result ≡ record self.entry { branch_hints = hints } }
+    {
+        Expression {
+            instrs: self.instrs,
+            branch_hints: hints,
         }
     }
 

@@ -3,16 +3,17 @@
 ghost use Rattle.std.specs.Prelude.{◌≡◌, [], ◌∷◌, ◌++◌, true, false, IfOk, IfErr};
 ghost use Rattle.wast_base.specs.Faults.{out_of_memory};
 ghost use Rattle.wast_tree.specs.Makers.{Makes, opener};
+ghost use Rattle.wast_tree.specs.Tree.bytes;
 ghost use Rattle.wast_tree.specs.Tree.instr;
 
 use crate::customs::Dylink0Subsection;
-use crate::fields::{Local, ModuleField};
+use crate::fields::{InlineExport, Local, ModuleField};
 use crate::immediates::{BlockType, TryTable, TryTableCatch};
 use crate::imports::ItemSig;
 use crate::instrs::{BranchHint, Expression, Instruction};
 use crate::moves::discard_fields;
 use crate::segments::DataVal;
-use crate::types::{StructField, Type, ValType};
+use crate::types::{FunctionType, StructField, Type, ValType};
 use std::alloc::Global;
 use std::marker::Model;
 use wast_base::{Boxed, Error, Fault, Id, Index, NameAnnotation, Seq};
@@ -194,6 +195,19 @@ impl Maker {
         copied(self, hints)
     }
 
+    /// `(func (param ..) (result ..))`: the id, name annotation and type of each parameter, and the types of the results (text
+    /// format, composite types).
+    pub fn function_type<'a>(
+        &mut self,
+        params: &[(Option<Id<'a>>, Option<NameAnnotation<'a>>, ValType<'a>)],
+        results: &[ValType<'a>],
+    ) -> FunctionType<'a>
+        ensures { Makes self.old self.new (result ≡ record { params = params.now; results = results.now }) }
+    {
+        let params = self.params(params);
+        FunctionType::new(params, self.values(results))
+    }
+
     /// Types of values, as the results of a function (text format, composite types).
     pub fn values<'a>(&mut self, values: &[ValType<'a>]) -> Seq<ValType<'a>>
         ensures { Makes self.old self.new (result ≡ values.now) }
@@ -237,6 +251,24 @@ impl Maker {
         ensures { Makes self.old self.new (result ≡ names.now) }
     {
         copied(self, names)
+    }
+
+    /// The names under which a field is exported in place (text format, exports).
+    pub fn exports<'a>(&mut self, names: &[&'a str]) -> InlineExport<'a>
+        ensures { Makes self.old self.new (result ≡ record { names = names.now }) }
+    {
+        InlineExport {
+            names: self.names(names),
+        }
+    }
+
+    /// The bytes of one string, as those of a data segment (text format, data segments).
+    pub fn string<'a>(&mut self, string: &'a [u8]) -> Seq<DataVal<'a>>
+        ensures { Makes self.old self.new (result ≡ bytes.String string.entry ∷ []) }
+    {
+        let mut pieces = Seq::new(self.alloc);
+        self.push_data(&mut pieces, DataVal::String(string));
+        pieces
     }
 
     /// The bytes of a custom section, in pieces (text format, custom annotations).

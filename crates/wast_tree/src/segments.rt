@@ -1,6 +1,7 @@
 //! Segments of elements and of data.
 
-ghost use Rattle.std.specs.Prelude.{◌≡◌, ◌++◌, length, OnOk, OnErr, IfErr};
+ghost use Rattle.std.specs.Prelude.{◌≡◌, ◌++◌, None, length, OnOk, OnErr, IfErr};
+ghost use Rattle.wast_tree.specs.Tree.data_kind;
 ghost use Rattle.wast_tree.specs.DataBytes.{data_bytes};
 ghost use Rattle.wast_base.specs.Faults.{out_of_memory};
 
@@ -21,6 +22,26 @@ pub struct Elem<'a> {
     pub kind: ElemKind<'a>,
     /// Its elements.
     pub payload: ElemPayload<'a>,
+}
+
+impl<'a> Elem<'a> {
+    /// `(elem $e ..)` at a place, without a name annotation (text format, element segments). It takes no memory.
+    pub fn new(
+        span: Span,
+        id: Option<Id<'a>>,
+        kind: ElemKind<'a>,
+        payload: ElemPayload<'a>,
+    ) -> Elem<'a>
+        ensures { result ≡ record { span = span; id = id.entry; name = None; kind = kind.entry; payload = payload.entry } }
+    {
+        Elem {
+            span,
+            id,
+            name: None,
+            kind,
+            payload,
+        }
+    }
 }
 
 /// What becomes of an element segment (text format, element segments).
@@ -68,6 +89,26 @@ pub struct Data<'a> {
     pub bytes: Seq<DataVal<'a>>,
 }
 
+impl<'a> Data<'a> {
+    /// `(data $d ..)` at a place, without a name annotation (text format, data segments). It takes no memory.
+    pub fn new(
+        span: Span,
+        id: Option<Id<'a>>,
+        kind: DataKind<'a>,
+        bytes: Seq<DataVal<'a>>,
+    ) -> Data<'a>
+        ensures { result ≡ record { span = span; id = id.entry; name = None; kind = kind.entry; bytes = bytes.entry } }
+    {
+        Data {
+            span,
+            id,
+            name: None,
+            kind,
+            bytes,
+        }
+    }
+}
+
 /// What becomes of a data segment (text format, data segments).
 #[derive(Debug, Drop)]
 pub enum DataKind<'a> {
@@ -80,6 +121,15 @@ pub enum DataKind<'a> {
         /// Where in the memory it begins.
         offset: Expression<'a>,
     },
+}
+
+impl<'a> DataKind<'a> {
+    /// What fills a memory at first, from an offset on (text format, data segments). It takes no memory.
+    pub fn active(memory: Index<'a>, offset: Expression<'a>) -> DataKind<'a>
+        ensures { result ≡ data_kind.Active memory.entry offset.entry }
+    {
+        DataKind::Active { memory, offset }
+    }
 }
 
 /// Bytes of a data segment (text format, data segments).

@@ -36,6 +36,16 @@ pub struct RefType<'a> {
 }
 
 impl<'a> RefType<'a> {
+    /// `(ref ..)` or `(ref null ..)` (text format, reference types). It takes no memory.
+    pub fn new(nullable: bool, target: HeapType<'a>) -> RefType<'a>
+        ensures { result ≡ record { nullable = nullable; heap = target.entry } }
+    {
+        RefType {
+            nullable,
+            heap: target,
+        }
+    }
+
     /// `funcref` (text format, reference types). It takes no memory.
     pub fn funcref() -> RefType<'a>
         ensures { result ≡ record { nullable = true; heap = heap.Abstract false abstract.Func } }
@@ -54,10 +64,7 @@ impl<'a> RefType<'a> {
     fn nullable_of(ty: AbstractHeapType) -> RefType<'a>
         ensures { result ≡ record { nullable = true; heap = heap.Abstract false ty } }
     {
-        RefType {
-            nullable: true,
-            heap: HeapType::Abstract { shared: false, ty },
-        }
+        RefType::new(true, HeapType::of(ty))
     }
 }
 
@@ -75,6 +82,15 @@ pub enum HeapType<'a> {
     Concrete(Index<'a>),
     /// A type of the module alone: `(exact $t)` (custom descriptors)
     Exact(Index<'a>),
+}
+
+impl<'a> HeapType<'a> {
+    /// A type that no module defines and that is not shared (text format, heap types). It takes no memory.
+    pub fn of(ty: AbstractHeapType) -> HeapType<'a>
+        ensures { result ≡ heap.Abstract false ty }
+    {
+        HeapType::Abstract { shared: false, ty }
+    }
 }
 
 /// A heap type that no module defines (text format, heap types).
@@ -144,6 +160,21 @@ pub struct StructField<'a> {
     pub mutable: bool,
     /// What it holds.
     pub ty: StorageType<'a>,
+}
+
+impl<'a> StructField<'a> {
+    /// `(field $x ..)`, and whether it can be changed, without a name annotation (text format, composite types). It takes
+    /// no memory.
+    pub fn new(id: Option<Id<'a>>, mutable: bool, ty: StorageType<'a>) -> StructField<'a>
+        ensures { result ≡ record { id = id.entry; name = None; mutable = mutable; ty = ty.entry } }
+    {
+        StructField {
+            id,
+            name: None,
+            mutable,
+            ty,
+        }
+    }
 }
 
 /// The fields of a struct (text format, composite types).
@@ -233,6 +264,14 @@ impl<'a> TypeUse<'a, FunctionType<'a>> {
             inline: Some(ty),
         }
     }
+
+    /// `(type $t)` and a type that is written out beside it (text format, type uses). It takes no memory.
+    pub fn both(index: Index<'a>, ty: FunctionType<'a>) -> TypeUse<'a, FunctionType<'a>>
+        ensures { result ≡ record { index = Some index.entry; inline = Some ty.entry } }
+    {
+        let (index, inline) = (Some(index), Some(ty));
+        TypeUse { index, inline }
+    }
 }
 
 /// A composite type (text format, composite types).
@@ -266,17 +305,40 @@ pub struct TypeDef<'a> {
 }
 
 impl<'a> TypeDef<'a> {
-    /// What `(type (func ..))` defines: a final function type without parents (text format, types). It takes no memory.
-    pub fn func(alloc: Global, ty: FunctionType<'a>) -> TypeDef<'a>
-        ensures { result ≡ record { kind = inner.Func ty.entry; shared = false; parents = []; descriptor = None; describes = None; final_type = None } }
+    /// What `(type ..)` defines by a composite type alone: a final type without parents (text format, types). It takes no
+    /// memory.
+    pub fn new(alloc: Global, kind: InnerTypeKind<'a>) -> TypeDef<'a>
+        ensures { result ≡ record { kind = kind.entry; shared = false; parents = []; descriptor = None; describes = None; final_type = None } }
     {
         TypeDef {
-            kind: InnerTypeKind::Func(ty),
+            kind,
             shared: false,
             parents: Seq::new(alloc),
             descriptor: None,
             describes: None,
             final_type: None,
+        }
+    }
+
+    /// What `(type (func ..))` defines: a final function type without parents (text format, types). It takes no memory.
+    pub fn func(alloc: Global, ty: FunctionType<'a>) -> TypeDef<'a>
+        ensures { result ≡ record { kind = inner.Func ty.entry; shared = false; parents = []; descriptor = None; describes = None; final_type = None } }
+    {
+        TypeDef::new(alloc, InnerTypeKind::Func(ty))
+    }
+
+    /// What `(type (sub ..))` defines, with these parents, and whether it is `final` (text format, recursive types). It
+    /// takes no memory.
+    pub fn sub(final_type: bool, parents: Seq<Index<'a>>, kind: InnerTypeKind<'a>) -> TypeDef<'a>
+        ensures { result ≡ record { kind = kind.entry; shared = false; parents = parents.entry; descriptor = None; describes = None; final_type = Some final_type } }
+    {
+        TypeDef {
+            kind,
+            shared: false,
+            parents,
+            descriptor: None,
+            describes: None,
+            final_type: Some(final_type),
         }
     }
 }
@@ -315,4 +377,13 @@ pub struct Rec<'a> {
     pub span: Span,
     /// The types, in the order of the text.
     pub types: Seq<Type<'a>>,
+}
+
+impl<'a> Rec<'a> {
+    /// `(rec ..)` of these types, at a place (text format, recursive types). It takes no memory.
+    pub fn new(span: Span, types: Seq<Type<'a>>) -> Rec<'a>
+        ensures { result ≡ record { span = span; types = types.entry } }
+    {
+        Rec { span, types }
+    }
 }
