@@ -66,11 +66,11 @@ unfolding stays_open
 well_formed_blocks = (refl, refl, refl, refl, refl, refl, refl, refl, refl)
 
 pub ill_formed_clauses : IllFormedClauses
-unfolding stays_open
+unfolding stays_open lib.Count.ones
 ill_formed_clauses a = (refl, refl, refl, refl, refl, refl, refl, refl)
 
 pub first_is_ill_formed : FirstIllFormed
-unfolding stays_open
+unfolding stays_open lib.Count.ones
 first_is_ill_formed a = (refl, refl, refl, refl)
 
 pub written_out_fields : WrittenOutFields

@@ -37,7 +37,6 @@ pub(crate) fn well_formed()
 {}
 
 /// Which clauses fail in small modules, and where.
-#[tactic(auto, using(crate::proofs::Worked::ill_formed_clauses, crate::proofs::Worked::first_is_ill_formed))]
 pub(crate) fn ill_formed()
     ensures clauses { IllFormedClauses }
     ensures first { FirstIllFormed }

@@ -1,4 +1,3 @@
-use Rattle.std.proofs.Common.{refl}
 use Rattle.wast_tree.specs.Uncovered.{uncovered_in}
 use Rattle.wast_tree.proofs.Telling.{first_told}
 use Rattle.wast_tree.proofs.forms.uncovered.Goals as goal

@@ -1,4 +1,4 @@
-use Rattle.std.proofs.Common.{map, ◌++◌, arith}
+use Rattle.std.proofs.Common.{arith}
 use Rattle.std.specs.Borrow.{Bor}
 use Rattle.wast_tree.specs.Tree.{ItemSig}
 use Rattle.wast_tree.proofs.Shared.{pushed_again}
