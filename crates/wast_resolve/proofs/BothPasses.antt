@@ -10,7 +10,7 @@ use Rattle.wast_resolve.specs.declared.resolver.TypeShape.{TypeShape}
 use Rattle.wast_resolve.specs.Tree.{ModuleField}
 use Rattle.wast_resolve.specs.Scopes.{Scope, scope, shapes}
 use Rattle.wast_resolve.specs.Resolvers.{Resolution, known_of, scope_of, read_shape, with_types}
-use Rattle.wast_resolve.specs.Demands.{first_unmet, item_demands, site_demands, name_demands, Answers, HasMany, space_counts, field_counts, body_counts_in, IsCrowded}
+use Rattle.wast_resolve.specs.Demands.{first_unmet, item_demands, site_demands, name_demands, Answers, HasMany, space_counts, field_counts, body_counts_in, HasManyItems, IsCrowded}
 use Rattle.wast_resolve.specs.Shaping.{types_demands, types_fields, IsRefused}
 use Rattle.wast_resolve.proofs.Counted.{many_right}
 use Rattle.wast_resolve.proofs.Shaping.{types_met, types_many}
@@ -18,10 +18,10 @@ use Rattle.wast_resolve.proofs.Unmet.{first_unmet-append, answers_first, answers
 
 -- gs are the fields that were read, k what is known
 module _ (fs gs : List ModuleField) (p : gs ≡ fs) where
-  pub items_stop : (t : Told) → Answers ⊤ (IsCrowded gs) t (first_unmet (item_demands (items gs))) → Answers ⊤ (IsCrowded fs) t (first_unmet (name_demands fs))
+  pub items_stop : (t : Told) → Answers ⊤ (HasManyItems gs) t (first_unmet (item_demands (items gs))) → Answers ⊤ (IsCrowded fs) t (first_unmet (name_demands fs))
   items_stop t h =
-      answers_first t (item_demands (items fs)) (site_demands (scope fs) (in_module fs)) (λ l. l) (λ m. m)
-      (subst (λ (xs : List ModuleField). Answers ⊤ (IsCrowded xs) t (first_unmet (item_demands (items xs)))) p h)
+      answers_first t (item_demands (items fs)) (site_demands (scope fs) (in_module fs)) (λ l. l) (λ m. inl m)
+      (subst (λ (xs : List ModuleField). Answers ⊤ (HasManyItems xs) t (first_unmet (item_demands (items xs)))) p h)
 
   pub items_met : first_unmet (item_demands (items gs)) ≡ None → first_unmet (item_demands (items fs)) ≡ None
   items_met h = subst (λ (xs : List ModuleField). first_unmet (item_demands (items xs)) ≡ None) p h

@@ -15,6 +15,7 @@ pub mod Countdowns
 pub mod Counted
 pub mod Declaring
 pub mod Each
+pub mod EarlyDemands
 pub mod ExpandedAsks
 pub mod ExpandedBodies
 pub mod ExpandedItems

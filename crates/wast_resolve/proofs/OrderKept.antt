@@ -1,6 +1,7 @@
 -- Binding type uses, giving ids to types and appending implied types leave what the order of imports demands.
 use Rattle.std.proofs.Common.{◌≡◌, ℕ, ◌+◌, Bool, true, false, List, [], ◌∷◌, ◌++◌, map, Option, None, refl, sym, ap, ◌∙◌}
 use Rattle.std.specs.Option.{option_or}
+use Rattle.wast_map.specs.Mapped.{mapped_func_kind, mapped_table_kind, mapped_global_kind}
 use Rattle.wast_map.proofs.Alone.{defines_alone}
 use Rattle.wast_types.specs.Signatures.{Signature}
 use Rattle.wast_types.specs.ImpliedTypes.{implied}
@@ -8,10 +9,13 @@ use Rattle.wast_types.specs.Expanders.{LookUp, index_of}
 use Rattle.wast_base.specs.Filling.{given_if, one_if, filled, wanted}
 use Rattle.wast_types.specs.Expanded.{lacks_id, with_type_id, unnamed_type, implied_types, typed, bindings, binding, bound_field, expanded}
 use Rattle.wast_types.specs.Completed.{completed}
-use Rattle.wast_resolve.specs.Tree.{Space, ModuleField}
+use Rattle.wast_resolve.specs.Tree.{Space, Span, FuncKind, TableKind, GlobalKind, FunctionType, TypeUse, ModuleField}
+use Rattle.wast_resolve.specs.Tree.func
+use Rattle.wast_resolve.specs.Tree.table
+use Rattle.wast_resolve.specs.Tree.global
 use Rattle.wast_resolve.specs.Tree.field
 use Rattle.wast_tree.specs.Imports.{defined_space}
-use Rattle.wast_resolve.specs.ImportOrder.{import_place, nothing_defined}
+use Rattle.wast_resolve.specs.ImportOrder.{func_place, table_place, global_place, import_place, unless_import, defines, nothing_defined}
 use Rattle.wast_resolve.specs.Demands.{order_demands}
 use Rattle.wast_resolve.proofs.Orders.{orders_from, orders_are}
 
@@ -22,11 +26,27 @@ record Alike (x y : ModuleField) : Type 0 where
 
 one_alike : (last : Option Space) (x y : ModuleField) (xs ys : List ModuleField) → Alike x y → ((o : Option Space) → orders_from o xs ≡ orders_from o ys) → orders_from last (x ∷ xs) ≡ orders_from last (y ∷ ys)
 one_alike last x y xs ys a rest =
-    ap (λ o. nothing_defined last o ++ orders_from (option_or (defined_space x) last) xs) a.place
-    ∙ (ap (λ o. nothing_defined last (import_place y) ++ orders_from (option_or o last) xs) a.space ∙ ap (λ ds. nothing_defined last (import_place y) ++ ds) (rest (option_or (defined_space y) last)))
+    ap (λ o. nothing_defined last o ++ orders_from (option_or (unless_import o (defined_space x)) last) xs) a.place
+    ∙ (ap (λ o. nothing_defined last (import_place y) ++ orders_from (option_or (unless_import (import_place y) o) last) xs) a.space
+    ∙ ap (λ ds. nothing_defined last (import_place y) ++ ds) (rest (option_or (defines y) last)))
+
+-- what is imported in place stays so
+bound_func : (find : LookUp) (span : Span) (u : TypeUse FunctionType) (k : FuncKind) → func_place span (mapped_func_kind (binding find) u k) ≡ func_place span k
+bound_func find span u (func.Import source exact) = refl
+bound_func find span u (func.Inline locals e) = refl
+
+bound_table : (find : LookUp) (span : Span) (k : TableKind) → table_place span (mapped_table_kind (binding find) k) ≡ table_place span k
+bound_table find span (table.Import source ty) = refl
+bound_table find span k = refl
+
+bound_global : (find : LookUp) (span : Span) (k : GlobalKind) → global_place span (mapped_global_kind (binding find) k) ≡ global_place span k
+bound_global find span (global.Import source) = refl
+bound_global find span (global.Inline e) = refl
 
 bound_place : (find : LookUp) (x : ModuleField) → import_place (bound_field find x) ≡ import_place x
-bound_place find (field.Import i) = refl
+bound_place find (field.Func f) = bound_func find f.span f.ty f.kind
+bound_place find (field.Table t) = bound_table find t.span t.kind
+bound_place find (field.Global g) = bound_global find g.span g.kind
 bound_place find x = refl
 
 bound_alike : (find : LookUp) (x : ModuleField) → Alike (bound_field find x) x
@@ -57,7 +77,7 @@ none_implied n last (s ∷ ss) = none_implied (n + 1) last ss
 
 behind : (ys : List ModuleField) → ((o : Option Space) → orders_from o ys ≡ []) → (last : Option Space) (xs : List ModuleField) → orders_from last (xs ++ ys) ≡ orders_from last xs
 behind ys none last [] = none last
-behind ys none last (x ∷ xs) = ap (λ ds. nothing_defined last (import_place x) ++ ds) (behind ys none (option_or (defined_space x) last) xs)
+behind ys none last (x ∷ xs) = ap (λ ds. nothing_defined last (import_place x) ++ ds) (behind ys none (option_or (defines x) last) xs)
 
 pub completed_orders : (fields : List ModuleField) → order_demands (completed fields) ≡ order_demands fields
 completed_orders fields = orders_are (completed fields) ∙ (behind (map unnamed_type (implied fields)) (λ o. none_unnamed o (implied fields)) None fields ∙ sym (orders_are fields))

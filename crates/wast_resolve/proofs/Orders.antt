@@ -2,22 +2,21 @@
 use Rattle.std.proofs.Common.{◌≡◌, List, [], ◌∷◌, ◌++◌, Option, Some, None, refl, ap, ◌∙◌}
 use Rattle.std.specs.Option.{option_or}
 use Rattle.wast_resolve.specs.Tree.{Space, ModuleField}
-use Rattle.wast_tree.specs.Imports.{defined_space}
-use Rattle.wast_resolve.specs.ImportOrder.{import_place, last_defined, nothing_defined, order_demand}
+use Rattle.wast_resolve.specs.ImportOrder.{import_place, defines, last_defined, nothing_defined, order_demand}
 use Rattle.wast_resolve.specs.Demands.{Demand, order_demands, each_after}
 
 -- what fields demand, behind what was defined last
 abbrev pub orders_from : Option Space → List ModuleField → List Demand
 orders_from last [] = []
-orders_from last (x ∷ xs) = nothing_defined last (import_place x) ++ orders_from (option_or (defined_space x) last) xs
+orders_from last (x ∷ xs) = nothing_defined last (import_place x) ++ orders_from (option_or (defines x) last) xs
 
-last_more : (before : List ModuleField) (x : ModuleField) → last_defined (before ++ x ∷ []) ≡ option_or (defined_space x) (last_defined before)
-last_more [] x = or_none (defined_space x)
+last_more : (before : List ModuleField) (x : ModuleField) → last_defined (before ++ x ∷ []) ≡ option_or (defines x) (last_defined before)
+last_more [] x = or_none (defines x)
   where
     or_none : (o : Option Space) → o ≡ option_or o None
     or_none None = refl
     or_none (Some s) = refl
-last_more (y ∷ ys) x = ap (λ o. option_or o (defined_space y)) (last_more ys x) ∙ or_assoc (defined_space x) (last_defined ys) (defined_space y)
+last_more (y ∷ ys) x = ap (λ o. option_or o (defines y)) (last_more ys x) ∙ or_assoc (defines x) (last_defined ys) (defines y)
   where
     or_assoc : (o p q : Option Space) → option_or (option_or o p) q ≡ option_or o (option_or p q)
     or_assoc None p q = refl

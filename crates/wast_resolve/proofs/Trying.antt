@@ -16,7 +16,7 @@ use Rattle.wast_tree.specs.Items.{Item, items}
 use Rattle.wast_tree.specs.Known.{known, names_in}
 use Rattle.wast_resolve.specs.Tree.{Space, Span, ModuleField}
 use Rattle.wast_resolve.specs.Tree.space
-use Rattle.wast_resolve.specs.Demands.{Answers, IsCrowded, space_counts, field_counts, item_counts}
+use Rattle.wast_resolve.specs.Demands.{Answers, HasManyItems, space_counts, field_counts, item_counts}
 use Rattle.wast_namespace.specs.Namespaces.{NameSpace, key_cmp, key_of, empty_from, number_in}
 use Rattle.wast_resolve.specs.Resolvers.{known_in}
 use Rattle.wast_resolve.specs.Gathers.{Stops, Gathers, gathered_of}
@@ -113,14 +113,14 @@ nothing_known = known_by [] [] (λ s name. get-empty key_cmp (key_of name))
 counted_space : (f : Space → ℕ) (s : Space) → Contains (map f spaces) (f s)
 counted_space f s = subst (λ n. Contains (map f spaces) n) (get_or-map f spaces (rank_of s) space.Func ∙ ap f (at_rank s space.Func)) (Contains-get_or (map f spaces) (rank_of s) (f space.Func) (below_8 s))
 
-crowded : (fields : List ModuleField) (n : ℕ) → Contains (item_counts (items fields)) n → 2 ^ 32 ≤ n → IsCrowded fields
-crowded fields n c le = inl (n, (c, le))
+many_items : (fields : List ModuleField) (n : ℕ) → Contains (item_counts (items fields)) n → 2 ^ 32 ≤ n → HasManyItems fields
+many_items fields n c le = (n, (c, le))
 
-stops_one : (t : Told) (fields : List ModuleField) (o : Option (Cause × Span)) (begun n : ℕ) → Contains (item_counts (items fields)) n → Stops t begun n → Answers ⊤ (IsCrowded fields) t o
-stops_one t fields o begun n c h = grind (arith, crowded)
+stops_one : (t : Told) (fields : List ModuleField) (o : Option (Cause × Span)) (begun n : ℕ) → Contains (item_counts (items fields)) n → Stops t begun n → Answers ⊤ (HasManyItems fields) t o
+stops_one t fields o begun n c h = grind (arith, many_items)
 
 -- what stopped one space is an answer for all
-pub stops_all : (t : Told) (fields : List ModuleField) (s : Space) (o : Option (Cause × Span)) → Stops t 0 (length (names_in s (items fields))) → Answers ⊤ (IsCrowded fields) t o
+pub stops_all : (t : Told) (fields : List ModuleField) (s : Space) (o : Option (Cause × Span)) → Stops t 0 (length (names_in s (items fields))) → Answers ⊤ (HasManyItems fields) t o
 stops_all t fields s o h =
     let xs = items fields in
     let n = length (names_in s xs) in
@@ -134,8 +134,8 @@ many_after many before (x ∷ xs) h = (
   many_after many (before ++ x ∷ []) xs (λ n c le. h n (subst (λ (ys : List Item). Contains (field_counts ys) n) (append_assoc before (x ∷ []) xs) c) le),
 )
 
--- a struct of so many fields makes the fields crowded
-pub many_fields : (fields : List ModuleField) → AreMany (IsCrowded fields) (items fields)
+-- a struct of so many fields is one
+pub many_fields : (fields : List ModuleField) → AreMany (HasManyItems fields) (items fields)
 many_fields fields =
     let xs = items fields in
-    many_after (IsCrowded fields) [] xs (λ n c le. crowded fields n (Contains-append_right (space_counts xs) (field_counts xs) n c) le)
+    many_after (HasManyItems fields) [] xs (λ n c le. many_items fields n (Contains-append_right (space_counts xs) (field_counts xs) n c) le)

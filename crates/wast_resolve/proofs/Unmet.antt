@@ -37,7 +37,7 @@ still_unmet true f g r s h e = h e
 still_unmet false f g r s h e = e
 
 -- a demand that is not met hides what comes after it
-unmet_append : (ds es : List Demand) (f : Cause × Span) → first_unmet ds ≡ Some f → first_unmet (ds ++ es) ≡ Some f
+pub unmet_append : (ds es : List Demand) (f : Cause × Span) → first_unmet ds ≡ Some f → first_unmet (ds ++ es) ≡ Some f
 unmet_append [] es f h = cc
 unmet_append (d ∷ ds) es f h = still_unmet d.met (d.fault, d.place) f (first_unmet ds) (first_unmet (ds ++ es)) (unmet_append ds es f) h
 

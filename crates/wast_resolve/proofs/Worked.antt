@@ -2,6 +2,7 @@
 use Rattle.std.proofs.Common.{refl}
 use Rattle.wast_resolve.specs.WorkedAnswers.{Row27, Row31, Row32, Row2, Row7, Row8, Row24, TwoFunctions, ClashOfTypes, FieldsOfOneStruct, FieldsOfTwoStructs, ClashesInOrder, Row14, Row22, Row23, UnknownNames, MatchedByNumber, Row17, IndirectCalls}
 use Rattle.wast_resolve.specs.WorkedBodies.{NestedLabels, InnermostOfTwo, CaughtOutside, CaughtInItself, DelegatedOutside, DelegatedToItself, LabelsAtEnds, BlockOfTwo, BehindNameless}
+use Rattle.wast_resolve.specs.WorkedEarly.{RowsEarly, ImportedInPlace}
 use Rattle.wast_resolve.specs.WorkedFields.{Row48, Row16}
 use Rattle.wast_resolve.specs.WorkedImports.{Row12, Row13, Row21, BehindAMemory, ImportsInOrder, ImportedTwice, UnknownStart}
 use Rattle.wast_resolve.specs.WorkedUnknowns.{UnknownInSegments, UnknownInTables, UnknownInGlobals}
@@ -125,3 +126,9 @@ row48 a b c d e = (refl, refl, refl, refl)
 
 pub row16 : Row16
 row16 a b = (refl, refl, refl, refl)
+
+pub rows_early : RowsEarly
+rows_early a b c = (refl, refl, refl, refl)
+
+pub imported_in_place : ImportedInPlace
+imported_in_place a b c d e f = (refl, refl)

@@ -7,7 +7,6 @@ use Rattle.std.specs.Option.{option_or}
 use Rattle.std.proofs.lemmas.List.{map-append}
 use Rattle.wast_base.specs.Ids.{generated}
 use Rattle.wast_tree.specs.Items.{Item, items_in}
-use Rattle.wast_tree.specs.Imports.{defined_space}
 use Rattle.wast_tree.specs.Sites.{in_field}
 use Rattle.wast_tree.proofs.Visiting.{each_of_each}
 use Rattle.wast_base.specs.Filling.{one_if, wanted}
@@ -25,7 +24,7 @@ use Rattle.wast_types.specs.Positioned.{position_for}
 use Rattle.wast_resolve.specs.Tree.{Id, Index, Space, Span, FunctionType, TypeUse, ModuleField}
 use Rattle.wast_resolve.specs.Tree.index
 use Rattle.wast_resolve.specs.Tree.field
-use Rattle.wast_resolve.specs.ImportOrder.{import_place, nothing_defined}
+use Rattle.wast_resolve.specs.ImportOrder.{import_place, defines, nothing_defined}
 use Rattle.wast_resolve.specs.Scopes.{Shape, Scope, shapes_in, shapes, nameless}
 use Rattle.wast_resolve.specs.Demands.{Demand, declared, open_counts, body_counts_in, order_demands}
 use Rattle.wast_resolve.proofs.Orders.{orders_from, orders_are}
@@ -57,7 +56,7 @@ look x = record {
   functions = functions_in x;
   opens = open_counts (in_field x);
   place = import_place x;
-  space = defined_space x;
+  space = defines x;
   lacks = lacks_id x;
 }
 
@@ -103,7 +102,7 @@ orders_of last (l ∷ ls) = nothing_defined last l.place ++ orders_of (option_or
 
 orders_by_looks : (last : Option Space) (xs : List ModuleField) → orders_from last xs ≡ orders_of last (map look xs)
 orders_by_looks last [] = refl
-orders_by_looks last (x ∷ xs) = ap (λ ds. nothing_defined last (import_place x) ++ ds) (orders_by_looks (option_or (defined_space x) last) xs)
+orders_by_looks last (x ∷ xs) = ap (λ ds. nothing_defined last (import_place x) ++ ds) (orders_by_looks (option_or (defines x) last) xs)
 
 wanted_by_looks : (xs : List ModuleField) → wanted lacks_id xs ≡ wanted (λ (l : Look). l.lacks) (map look xs)
 wanted_by_looks [] = refl

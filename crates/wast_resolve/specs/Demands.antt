@@ -194,10 +194,14 @@ body_counts fields = flat_map (body_counts_in (scope fields)) fields
 abbrev pub HasMany : List ℕ → Type 0
 HasMany ns = (n : ℕ) × (Contains ns n × (2 ^ 32 ≤ n))
 
+-- There are 2^32 or more items of some space, or fields of some struct.
+abbrev pub HasManyItems : List ModuleField → Type 0
+HasManyItems fields = HasMany (item_counts (items fields))
+
 -- There are 2^32 or more of something: of items or of fields of a struct; or, where no two of these have one name, of something
 -- in a body.
 abbrev pub IsCrowded : List ModuleField → Type 0
-IsCrowded fields = HasMany (item_counts (items fields)) ⊎ ((first_unmet (item_demands (items fields)) ≡ None) × HasMany (body_counts fields))
+IsCrowded fields = HasManyItems fields ⊎ ((first_unmet (item_demands (items fields)) ≡ None) × HasMany (body_counts fields))
 
 -- Why numbering the fields is refused: by the first unmet demand, at its place; or memory was refused, or there are too
 -- many of something.

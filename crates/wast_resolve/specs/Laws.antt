@@ -1,19 +1,22 @@
--- What is so of the resolved list of fields, where the counter begins above the generations of their ids; and of types that
--- the resolver of a module resolves.
-use Rattle.std.specs.Prelude.{◌≡◌, ℕ, ◌+◌, ◌<◌, true, [], None, List, Result, IsTrue}
+-- What is so of the resolved list of fields, where the counter begins above the generations of their ids; of types that the
+-- resolver of a module resolves; and of what can be told of fields early.
+use Rattle.std.specs.Prelude.{◌≡◌, ℕ, ◌+◌, ◌<◌, true, [], Some, None, List, Result, IsTrue}
 use Rattle.std.specs.Borrow.{Bor}
 use Rattle.wast_tree.specs.Items.{items}
 use Rattle.wast_labels.specs.Turns.{open_blocks}
 use Rattle.wast_tree.specs.Instrs.{turns}
-use Rattle.wast_tree.specs.Sites.{Ask, Here, after_all, in_instrs}
+use Rattle.wast_tree.specs.Sites.{Ask, Here, after_all, in_instrs, in_module}
 use Rattle.wast_tree.specs.WellFormed.{is_well_formed}
 use Rattle.wast_tree.specs.WrittenOut.{is_written_out}
+use Rattle.wast_base.specs.Faults.{Cause}
 use Rattle.wast_base.specs.declared.faults.Error.{Error}
 use Rattle.wast_tree.specs.Generations.{greatest_generation}
 use Rattle.wast_types.specs.NeedingUses.{needed}
-use Rattle.wast_resolve.specs.Tree.{Instruction, ModuleField}
+use Rattle.wast_resolve.specs.Tree.{Span, Instruction, ModuleField}
 use Rattle.wast_resolve.specs.Tree.space
-use Rattle.wast_resolve.specs.Demands.{first_unmet, ask_demands, demands, item_demands, item_counts, body_counts}
+use Rattle.wast_resolve.specs.Demands.{first_unmet, ask_demands, demands, item_demands, site_demands, item_counts, body_counts}
+use Rattle.wast_resolve.specs.Early.{early_demands}
+use Rattle.wast_resolve.specs.Scopes.{scope}
 use Rattle.wast_resolve.specs.Explicit.{explicit, explicit_from, by_positions, ids_filled}
 use Rattle.wast_map.specs.Mapped.{Indices}
 use Rattle.wast_map.specs.Laws.{all_mapped}
@@ -89,3 +92,16 @@ NeedsOfResolver {T} asks = (names : Bor Resolution) (x : T) → are_settled (kno
 -- Behind instructions of a body, those blocks are open that counting their openers and closers gives.
 abbrev pub BlocksAreCounted : Type 0
 BlocksAreCounted = (h : Here) (is : List Instruction) → h.blocks ≡ [] → (after_all h (in_instrs h is)).blocks ≡ open_blocks (turns is)
+
+-- Writing abbreviations and types out leaves what is demanded early.
+abbrev pub EarlyStays : Type 0
+EarlyStays = (fields : List ModuleField) → early_demands (explicit fields) ≡ early_demands fields
+
+-- What is unmet first of it is what resolving answers,
+abbrev pub EarlyIsFirst : Type 0
+EarlyIsFirst = (fields : List ModuleField) (f : Cause × Span) → first_unmet (early_demands fields) ≡ Some f → first_unmet (demands (explicit fields)) ≡ Some f
+
+-- and where none of it is, that is the first unmet demand of the sites.
+abbrev pub SitesComeAfter : Type 0
+SitesComeAfter = (fields : List ModuleField) → first_unmet (early_demands fields) ≡ None
+    → first_unmet (demands (explicit fields)) ≡ first_unmet (site_demands (scope (explicit fields)) (in_module (explicit fields)))

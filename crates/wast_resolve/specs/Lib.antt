@@ -1,6 +1,7 @@
 pub mod Clashes
 pub mod CoreTypes
 pub mod Demands
+pub mod Early
 pub mod Explicit
 pub mod Finished
 pub mod Gathers
@@ -20,6 +21,7 @@ pub mod TwoSteps
 pub mod Walking
 pub mod WorkedAnswers
 pub mod WorkedBodies
+pub mod WorkedEarly
 pub mod WorkedFields
 pub mod WorkedImports
 pub mod WorkedUnknowns

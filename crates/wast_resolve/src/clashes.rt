@@ -7,7 +7,7 @@ ghost use Rattle.wast_base.specs.Spaces.{rank_of};
 ghost use Rattle.wast_tree.specs.Items.{field_ids, item, items};
 ghost use Rattle.wast_tree.specs.Known.{names_in};
 ghost use Rattle.wast_resolve.specs.Tree.{Space};
-ghost use Rattle.wast_resolve.specs.Demands.{first_unmet, item_demands, Answers, IsCrowded};
+ghost use Rattle.wast_resolve.specs.Demands.{first_unmet, item_demands, Answers, HasManyItems};
 ghost use Rattle.wast_namespace.specs.Filling.{HasFirstClash};
 ghost use Rattle.wast_resolve.specs.Clashes.{countdown, counted_down, CountsDown, clash_told, field_clash_told, FindsAmong};
 
@@ -102,7 +102,7 @@ pub(crate) fn first_clash<'a>(
 ) -> Option<Error<'a>>
     requires { (s : Space) → HasFirstClash (names_in s (items fields.now)) (slice_index_or clashes (rank_of s) None) }
     ensures first { let unmet = first_unmet (item_demands (items fields.now)) in
-        MatchOption result (unmet ≡ None) (λ e. Answers ⊤ (IsCrowded fields.now) (told e) unmet) }
+        MatchOption result (unmet ≡ None) (λ e. Answers ⊤ (HasManyItems fields.now) (told e) unmet) }
     ensures free { result ≡ None → (s : Space) → slice_index_or clashes (rank_of s) None ≡ None }
 {
     let mut finder = Finder {

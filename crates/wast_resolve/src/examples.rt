@@ -2,6 +2,7 @@
 
 ghost use Rattle.wast_resolve.specs.WorkedAnswers.{Row27, Row31, Row32, Row2, Row7, Row8, Row24, TwoFunctions, ClashOfTypes, FieldsOfOneStruct, FieldsOfTwoStructs, ClashesInOrder, Row14, Row22, Row23, UnknownNames, MatchedByNumber, Row17, IndirectCalls};
 ghost use Rattle.wast_resolve.specs.WorkedBodies.{NestedLabels, InnermostOfTwo, CaughtOutside, CaughtInItself, DelegatedOutside, DelegatedToItself, LabelsAtEnds, BlockOfTwo, BehindNameless};
+ghost use Rattle.wast_resolve.specs.WorkedEarly.{RowsEarly, ImportedInPlace};
 ghost use Rattle.wast_resolve.specs.WorkedFields.{Row48, Row16};
 ghost use Rattle.wast_resolve.specs.WorkedImports.{Row12, Row13, Row21, BehindAMemory, ImportsInOrder, ImportedTwice, UnknownStart};
 ghost use Rattle.wast_resolve.specs.WorkedUnknowns.{UnknownInSegments, UnknownInTables, UnknownInGlobals};
@@ -145,4 +146,11 @@ pub(crate) fn unknown_names_in_order()
     ensures segments { UnknownInSegments }
     ensures tables { UnknownInTables }
     ensures globals { UnknownInGlobals }
+{}
+
+/// Fields as they stand: imports behind what is defined, one in place too, which defines nothing itself; and clashes.
+#[tactic(auto, using(crate::proofs::Worked::rows_early, crate::proofs::Worked::imported_in_place))]
+pub(crate) fn rows_early()
+    ensures rows { RowsEarly }
+    ensures in_place { ImportedInPlace }
 {}

@@ -5,33 +5,60 @@ ghost use Rattle.wast_base.specs.Faults.{told};
 ghost use Rattle.wast_tree.specs.Imports.{defined_space};
 ghost use Rattle.wast_namespace.specs.FirstUnmet.{first_unmet, Answers};
 ghost use Rattle.wast_namespace.specs.Outcomes.{Outcome};
-ghost use Rattle.wast_resolve.specs.ImportOrder.{import_place, defined_word, nothing_defined};
+ghost use Rattle.wast_resolve.specs.ImportOrder.{import_place, defines, defined_word, nothing_defined};
 ghost use Rattle.wast_resolve.specs.Demands.{order_demands};
 
-use wast_tree::{Error, Fault, ModuleField, Seq, Space, Span, discard_fields};
+use wast_tree::{
+    Error, Fault, Func, FuncKind, Global, GlobalKind, Imports, Memory, MemoryKind, ModuleField,
+    Seq, Space, Span, Table, TableKind, Tag, TagKind, discard_fields,
+};
 
-/// The place of a field that is an import.
+/// The place of a field that is an import, or whose item is imported in place.
 fn import_place(field: &ModuleField<'_>) -> Option<Span>
     ensures { result ≡ import_place field.now }
 {
     match field {
-        ModuleField::Ty(_) => None,
-        ModuleField::Rec(_) => None,
-        ModuleField::Import(import) => Some(import.span),
-        ModuleField::Func(_) => None,
-        ModuleField::Table(_) => None,
-        ModuleField::Memory(_) => None,
-        ModuleField::Global(_) => None,
-        ModuleField::Export(_) => None,
-        ModuleField::Start(_) => None,
-        ModuleField::Elem(_) => None,
-        ModuleField::Data(_) => None,
-        ModuleField::Tag(_) => None,
-        ModuleField::Custom(_) => None,
+        ModuleField::Import(Imports { span, .. })
+        | ModuleField::Func(
+            Func {
+                span,
+                kind: FuncKind::Import(..),
+                ..
+            },
+        )
+        | ModuleField::Table(
+            Table {
+                span,
+                kind: TableKind::Import { .. },
+                ..
+            },
+        )
+        | ModuleField::Memory(
+            Memory {
+                span,
+                kind: MemoryKind::Import { .. },
+                ..
+            },
+        )
+        | ModuleField::Global(
+            Global {
+                span,
+                kind: GlobalKind::Import(_),
+                ..
+            },
+        )
+        | ModuleField::Tag(
+            Tag {
+                span,
+                kind: TagKind::Import(_),
+                ..
+            },
+        ) => Some(*span),
+        _ => None,
     }
 }
 
-/// The space of the item that a field defines: a function, table, memory, global or tag.
+/// The space of a field that is a function, table, memory, global or tag.
 fn defined_space(field: &ModuleField<'_>) -> Option<Space>
     ensures { result ≡ defined_space field.now }
 {
@@ -49,6 +76,16 @@ fn defined_space(field: &ModuleField<'_>) -> Option<Space>
         ModuleField::Data(_) => None,
         ModuleField::Tag(_) => Some(Space::Tag),
         ModuleField::Custom(_) => None,
+    }
+}
+
+/// The same, unless its item is imported in place: an import defines nothing.
+fn defines(field: &ModuleField<'_>) -> Option<Space>
+    ensures { result ≡ defines field.now }
+{
+    match import_place(field) {
+        Some(_) => None,
+        None => defined_space(field),
     }
 }
 
@@ -82,14 +119,14 @@ fn check_import<'e>(field: &ModuleField<'_>, last: Option<Space>) -> Result<(), 
     }
 }
 
-/// Whether each import stands before what is defined: E1 at the first that does not.
-fn check_order<'e>(fields: &[ModuleField<'_>]) -> Result<(), Error<'e>>
+/// Whether each import stands before what is defined: E1 at the first that does not. It takes no memory.
+pub(crate) fn check_order<'e>(fields: &[ModuleField<'_>]) -> Result<(), Error<'e>>
     ensures { Outcome ⊥ ⊥ (first_unmet (order_demands fields.now)) result }
 {
     let mut last = None;
     for field in fields {
         check_import(field, last)?;
-        last = defined_space(field).or(last);
+        last = defines(field).or(last);
     }
     Ok(())
 }

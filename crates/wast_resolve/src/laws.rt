@@ -1,10 +1,10 @@
-//! Laws for callers to cite: of the resolved list of fields, of types that the resolver of a module resolves, and of the open
-//! blocks of a body.
+//! Laws for callers to cite: of the resolved list of fields, of types that the resolver of a module resolves, of the open
+//! blocks of a body, and of what is told of fields early.
 
 ghost use Rattle.wast_tree.specs.Sites.{in_heap, in_ref, in_val, in_storage, in_signature, in_def, in_type};
 ghost use Rattle.wast_map.specs.Mapped.{mapped_heap, mapped_ref, mapped_val, mapped_storage, mapped_signature, mapped_def};
 ghost use Rattle.wast_resolve.specs.CoreTypes.{with_def};
-ghost use Rattle.wast_resolve.specs.Laws.{ByResolver, NeedsOfResolver, SameAnswer, SameCounts, SameBodyCounts, ExplicitStaysWellFormed, NoIdIsLeft, FinishedStaysWellFormed, SamePositions, FinishedIsResolved, FinishedIsBelow, UsesHaveIndices, FinishedIsWrittenOut, ItemsStay, BlocksAreCounted};
+ghost use Rattle.wast_resolve.specs.Laws.{ByResolver, NeedsOfResolver, SameAnswer, SameCounts, SameBodyCounts, ExplicitStaysWellFormed, NoIdIsLeft, FinishedStaysWellFormed, SamePositions, FinishedIsResolved, FinishedIsBelow, UsesHaveIndices, FinishedIsWrittenOut, ItemsStay, BlocksAreCounted, EarlyStays, EarlyIsFirst, SitesComeAfter};
 
 use wast_labels::walking_law;
 
@@ -58,3 +58,13 @@ pub fn label_law()
 {
     walking_law();
 }
+
+/// What is demanded of fields as they stand, the order of imports and that no names clash, is demanded as it is of the list in
+/// which nothing is left out. So what is unmet first of it is what resolving answers; where none of it is unmet, resolving
+/// answers the first unmet demand of uses, labels and locals. It does nothing.
+#[tactic(auto, using(crate::proofs::EarlyDemands::early_stays, crate::proofs::EarlyDemands::early_is_first, crate::proofs::EarlyDemands::sites_come_after))]
+pub fn early_law()
+    ensures stays { EarlyStays }
+    ensures first { EarlyIsFirst }
+    ensures after { SitesComeAfter }
+{}

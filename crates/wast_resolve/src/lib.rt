@@ -5,6 +5,7 @@ mod apart;
 mod clashes;
 mod constants;
 mod core_types;
+mod early;
 mod examples;
 mod gathers;
 mod imports;
@@ -24,7 +25,8 @@ pub use core_types::{
     ResolveCoreType, resolve_heaptype, resolve_reftype, resolve_storagetype, resolve_type,
     resolve_type_def, resolve_type_func, resolve_valtype,
 };
-pub use laws::{core_type_laws, label_law, resolved_laws};
+pub use early::early_fault;
+pub use laws::{core_type_laws, early_law, label_law, resolved_laws};
 pub use resolution::{Names, discard_names, resolve};
 pub use resolver::{Ns, Resolver};
 pub use wast_namespace::{Namespace, resolve_error};

@@ -5,7 +5,7 @@ ghost use Rattle.wast_base.specs.Faults.{told};
 ghost use Rattle.wast_base.specs.Ids.{Name};
 ghost use Rattle.wast_tree.specs.Items.{items};
 ghost use Rattle.wast_tree.specs.Known.{known};
-ghost use Rattle.wast_resolve.specs.Demands.{first_unmet, item_demands, Answers, IsCrowded};
+ghost use Rattle.wast_resolve.specs.Demands.{first_unmet, item_demands, Answers, HasManyItems};
 ghost use Rattle.wast_resolve.specs.Resolvers.{known_of};
 ghost use Rattle.wast_resolve.specs.Gathers.{Gathers, Stops};
 ghost use Rattle.wast_namespace.specs.Filling.{IsTried};
@@ -45,7 +45,7 @@ pub(crate) fn name_spaces<'a>(
     ensures met { OnOk result (first_unmet (item_demands (items fields.now)) ≡ None) }
     ensures names { IfOk result (λ r. known_of r ≡ known (items fields.now)) }
     ensures refusal { IfErr result (λ e.
-        Answers ⊤ (IsCrowded fields.now) (told e) (first_unmet (item_demands (items fields.now)))) }
+        Answers ⊤ (HasManyItems fields.now) (told e) (first_unmet (item_demands (items fields.now)))) }
 {
     let mut spaces = Vec::new(alloc);
     let mut clashes = [None; 8];

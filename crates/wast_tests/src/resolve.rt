@@ -6,12 +6,13 @@ use std::alloc::Global;
 use std::process::Abort;
 use wast_resolve::names::TypeReference;
 use wast_resolve::{
-    ResolveCoreType, Resolver, names, resolve_heaptype, resolve_reftype, resolve_storagetype,
-    resolve_valtype,
+    ResolveCoreType, Resolver, early_fault, names, resolve_heaptype, resolve_reftype,
+    resolve_storagetype, resolve_valtype,
 };
 use wast_tree::{
-    Error, Fault, FunctionType, HeapType, Id, Index, Maker, ModuleField, RefType, Seq, Span,
-    StorageType, Type, TypeDef, ValType, discard_fields, discard_function_type,
+    Error, Fault, Func, FuncKind, FunctionType, HeapType, Id, Index, InlineExport, InlineImport,
+    Maker, ModuleField, RefType, Seq, Span, StorageType, Type, TypeDef, TypeUse, ValType,
+    discard_fields, discard_function_type,
 };
 
 fn at(offset: usize) -> Span {
@@ -132,4 +133,61 @@ fn a_type_without_indices_is_resolved(rt: HostRuntime) {
     assert!(rt; names::TypeReference::resolve(&mut function, &cx) == Ok(()));
     assert!(rt; function.params.is_empty() && function.results.is_empty());
     discard_function_type(function);
+}
+
+/// `(func $a)`, with its keyword and its id at these offsets
+fn defined<'a>(alloc: Global, keyword: usize, id: usize) -> ModuleField<'a> {
+    let id = Some(Id::new("a", at(id)));
+    ModuleField::Func(Func::new(
+        alloc,
+        at(keyword),
+        id,
+        TypeUse::none(),
+        Seq::new(alloc),
+        Seq::new(alloc),
+    ))
+}
+
+/// `(func $a (import "m" "n"))`
+fn imported<'a>(alloc: Global, keyword: usize, id: usize) -> ModuleField<'a> {
+    let source = InlineImport {
+        module: "m",
+        field: "n",
+    };
+    ModuleField::Func(Func {
+        span: at(keyword),
+        id: Some(Id::new("a", at(id))),
+        name: None,
+        exports: InlineExport::none(alloc),
+        kind: FuncKind::Import(source, false),
+        ty: TypeUse::none(),
+    })
+}
+
+/// What is told of two fields before they are resolved.
+fn told<'a>(
+    rt: &impl Abort,
+    alloc: Global,
+    first: ModuleField<'a>,
+    second: ModuleField<'a>,
+) -> Result<(), Error<'a>> {
+    let mut maker = Maker::new(alloc);
+    let mut fields = Seq::new(alloc);
+    maker.push_field(&mut fields, first);
+    maker.push_field(&mut fields, second);
+    let fields = maker.finish(fields).expect(rt, "memory");
+    let told = early_fault(alloc, fields.as_slice());
+    discard_fields(fields);
+    told
+}
+
+#[test]
+fn faults_are_told_of_fields_as_they_stand(rt: HostRuntime) {
+    let alloc = rt.alloc();
+    let late = told(&rt, alloc, defined(alloc, 9, 14), imported(alloc, 19, 24));
+    assert!(rt; late == Err(Error::new(at(19), Fault::ImportAfter("function"))));
+    let twice = told(&rt, alloc, imported(alloc, 9, 14), defined(alloc, 35, 40));
+    assert!(rt; twice == Err(Error::new(at(40), Fault::Duplicate("func"))));
+    let start = ModuleField::Start(Index::Id(Id::new("b", at(42))));
+    assert!(rt; told(&rt, alloc, imported(alloc, 9, 14), start) == Ok(()));
 }
