@@ -1,5 +1,5 @@
 -- The module that is written, computed: its bytes are read as its sections.
-use Rattle.std.proofs.Common.{◌≡◌, ℕ, ◌<◌, ◌^◌, true, List, [], ◌∷◌, ◌++◌, codes, refl, arith}
+use Rattle.std.proofs.Common.{◌≡◌, ℕ, ◌<◌, true, List, [], ◌∷◌, ◌++◌, codes, refl, ap, ◌∙◌, arith}
 use Rattle.std.specs.Prelude.{All, nat_lt}
 use Rattle.std.specs.List.{flat_map, list_all}
 use Rattle.std.specs.Str.{is_utf8}
@@ -8,13 +8,16 @@ use Rattle.std.proofs.lemmas.List.Elements.{All-nil, All-from_recursion}
 use Rattle.std.proofs.lemmas.Str.{is_utf8-from_IsUtf8}
 use lib.Utf8.{encode}
 use Rattle.wasm_ops.specs.Leb128.{unsigned, unsigned_in}
-use Rattle.wasm_ops.specs.Spelling.{InRangeValType, InRangeU32, InRangeVec}
+use Rattle.wasm_ops.specs.Spelling.{InRangeValType, InRangeU32, InRangeVec, sub_type}
+use Rattle.wasm_ops.specs.declared.types.ValType.TheVariants as val
 use Rattle.wasm_ops.specs.Table.{InRangeInstr, HasRow}
+use Rattle.wasm_ops.specs.Table as rows
 use Rattle.wasm_ops.proofs.Everywhere.{all_one, all_tested}
-use Rattle.wasm_out.specs.Parts.{Types, Functions, Exports, Code, InRangeEntry, InRangePart, part}
+use Rattle.wasm_out.specs.Parts.{Types, Functions, Exports, Code, InRangeEntry, InRangePart, part, section, export_entry, body, custom}
+use Rattle.wasm_out.specs.Built.{Built, built_with, empty, behind_count}
 use Rattle.wasm_out.specs.Readable.{IsReadable, IsReadablePart}
 use Rattle.wasm_out.specs.Reads.{header, Reads}
-use Rattle.writer.specs.SumModule.{sum_instrs, sum_module}
+use Rattle.writer.specs.SumModule.{sum_type, sum_instrs, sum_body, sum_export, sum_module}
 
 -- what is tested of each number
 below : (bound : ℕ) (xs : List ℕ) → list_all (λ x. nat_lt x bound) xs ≡ true → All (λ x. x < bound) xs
@@ -30,7 +33,7 @@ one P x h = (omega arith, all_one P x h)
 in_range : All InRangePart sum_module
 unfolding unsigned unsigned_in
 in_range = All-from_recursion InRangePart sum_module (
-  (omega arith, one (InRangeEntry Types) _ (none InRangeU32, ((omega arith, All-from_recursion InRangeValType _ (tt, (tt, tt))), one InRangeValType _ tt))),
+  (omega arith, one (InRangeEntry Types) _ (none InRangeU32, ((omega arith, All-from_recursion InRangeValType (val.I32 ∷ val.I32 ∷ []) (tt, (tt, tt))), one InRangeValType val.I32 tt))),
   (
     (omega arith, one (InRangeEntry Functions) _ (omega arith)),
     (
@@ -52,6 +55,7 @@ unfolding encode
 made_is_text = is_utf8-from_IsUtf8 (codes "made") (codes "made", (refl, refl))
 
 readable : All IsReadablePart sum_module
+unfolding rows.kinds_of rows.table
 readable = All-from_recursion IsReadablePart sum_module (
   all_one (IsReadable Types) _ (record { covered = refl; rows = tt; balanced = refl; name = tt }),
   (
@@ -70,3 +74,16 @@ readable = All-from_recursion IsReadablePart sum_module (
 pub sum_reads : Reads (header ++ flat_map part sum_module) sum_module
 unfolding unsigned unsigned_in
 sum_reads = record { in_range = in_range; readable = readable; spelled = refl; are_bytes = below 256 (header ++ flat_map part sum_module) refl }
+
+-- a builder without items to which one was added
+pub added : {old new : Built} {item : List ℕ} → old ≡ empty → new ≡ built_with old item → new ≡ built_with empty item
+added {item = item} e f = f ∙ ap (λ b. built_with b item) e
+
+-- a section behind those that were there
+pub appended : (id : ℕ) {front old new p q : List ℕ} → old ≡ front → p ≡ q → new ≡ old ++ section id p → new ≡ front ++ section id q
+appended id {front = front} {p = p} e f g = g ∙ ap (λ l. l ++ section id p) e ∙ ap (λ payload. front ++ section id payload) f
+
+-- the sections one behind another
+pub joined : ((((header ++ section 1 (behind_count (built_with empty (sub_type sum_type)))) ++ section 3 (behind_count (built_with empty (unsigned 0)))) ++ section 7 (behind_count (built_with empty (export_entry sum_export)))) ++ section 10 (behind_count (built_with empty (body sum_body)))) ++ section 0 (custom (record { name = codes "made"; bytes = codes "by hand" })) ≡ header ++ flat_map part sum_module
+unfolding unsigned unsigned_in
+joined = refl

@@ -1,5 +1,5 @@
 -- The module that is written: a type, a function of it, its export, its body, and a custom section.
-use Rattle.std.specs.Prelude.{true, false, List, [], ◌∷◌, Some, None, codes}
+use Rattle.std.specs.Prelude.{true, false, List, [], ◌∷◌, None, codes}
 use Rattle.wast_base.specs.declared.plain.Plain.TheVariants as plain
 use Rattle.wast_base.specs.declared.plain.I32Op.TheVariants as i32
 use Rattle.wasm_ops.specs.declared.types.CompositeInnerType.TheVariants as inner
