@@ -3,7 +3,6 @@
 ghost use Rattle.wast_rows.specs.Worked.{LinesOfIllFormed};
 
 /// The lines of modules that are not encoded.
-#[tactic(auto, using(crate::proofs::Worked::lines_of_ill_formed))]
 pub(crate) fn ill_formed()
     ensures { LinesOfIllFormed }
 {}

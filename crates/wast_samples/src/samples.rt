@@ -4,7 +4,7 @@ ghost use Rattle.std.specs.Prelude.{◌≡◌, [], ◌∷◌, None, is_some, IfS
 ghost use Rattle.wast_base.specs.Faults.{out_of_memory};
 ghost use Rattle.wast_tree.specs.Makers.{Makes};
 ghost use Rattle.wast_tree.specs.WorkedModules.{plain_def};
-ghost use Rattle.wast_samples.specs.RowNumbers.{is_row};
+ghost use Rattle.wast_samples.specs.RowNumbers.{well_formed_rows, ill_formed_rows, is_among, is_row};
 
 use crate::{
     block_samples, custom_samples, field_samples, hint_samples, ill_formed_samples, inline_samples,
@@ -204,9 +204,9 @@ fn function_of_an_open_type<'a>(alloc: Global, maker: &mut Maker) -> Seq<ModuleF
     )
 }
 
-/// The fields of the module of a worked row, where there is such a row.
-fn fields_of_row<'a>(alloc: Global, maker: &mut Maker, n: u32) -> Option<Seq<ModuleField<'a>>>
-    ensures { is_some result ≡ is_row n }
+/// The fields of the module of a worked row that is well formed, where there is such a row.
+fn well_formed_row<'a>(alloc: Global, maker: &mut Maker, n: u32) -> Option<Seq<ModuleField<'a>>>
+    ensures { is_some result ≡ is_among well_formed_rows n }
 {
     match n {
         1 => Some(Seq::new(alloc)),
@@ -265,6 +265,16 @@ fn fields_of_row<'a>(alloc: Global, maker: &mut Maker, n: u32) -> Option<Seq<Mod
         55 => Some(block_samples::label_within_its_like(alloc, maker)),
         56 => Some(block_samples::block_behind_an_end(alloc, maker)),
         57 => Some(block_samples::global_of_a_block(alloc, maker)),
+        65 => Some(type_samples::name_and_number_of_a_type(alloc, maker)),
+        _ => None,
+    }
+}
+
+/// Of one that is not well formed.
+fn ill_formed_row<'a>(alloc: Global, maker: &mut Maker, n: u32) -> Option<Seq<ModuleField<'a>>>
+    ensures { is_some result ≡ is_among ill_formed_rows n }
+{
+    match n {
         58 => Some(ill_formed_samples::load_aligned_to_three(alloc, maker)),
         59 => Some(ill_formed_samples::two_hints_on_one_instruction(alloc, maker)),
         60 => Some(ill_formed_samples::hint_past_the_last_instruction(alloc, maker)),
@@ -272,8 +282,17 @@ fn fields_of_row<'a>(alloc: Global, maker: &mut Maker, n: u32) -> Option<Seq<Mod
         62 => Some(ill_formed_samples::segment_of_external_references(alloc, maker)),
         63 => Some(ill_formed_samples::global_that_ends_twice(alloc, maker)),
         64 => Some(ill_formed_samples::export_of_no_function(alloc, maker)),
-        65 => Some(type_samples::name_and_number_of_a_type(alloc, maker)),
         _ => None,
+    }
+}
+
+/// The fields of the module of a worked row, where there is such a row.
+fn fields_of_row<'a>(alloc: Global, maker: &mut Maker, n: u32) -> Option<Seq<ModuleField<'a>>>
+    ensures { is_some result ≡ is_row n }
+{
+    match well_formed_row(alloc, maker, n) {
+        Some(fields) => Some(fields),
+        None => ill_formed_row(alloc, maker, n),
     }
 }
 
