@@ -2,10 +2,12 @@
 pub mod Tree
 pub mod Signatures
 pub mod SignatureLaws
+pub mod SignatureOrder
 pub mod NeedingUses
 pub mod ImpliedTypes
 pub mod TypeSpace
 pub mod Expanders
+pub mod Hashed
 pub mod Expanded
 pub mod Completed
 pub mod Positioned
