@@ -57,7 +57,7 @@ extent_of_some entry InRange (e ∷ es) count size is some small sized h =
 pub extent_refused : {A : Type 0} (entry : ℕ × A → List ℕ) (InRange : ℕ × A → Type 0) (es : List (ℕ × A)) (count : ℕ) → count ≡ length es → 0 < count
     → (InRangeU32 (length (unsigned count ++ flat_map entry es)) × (InRangeU32 count × All InRange es) → ⊥) → InRangeMap entry InRange es → ⊥
 extent_refused entry InRange [] count is some never h = absurd (omega arith)
-extent_refused entry InRange (e ∷ es) count is some no h =
+extent_refused entry InRange (e ∷ es) count is some never h =
     never (subst (λ n. InRangeU32 (length (unsigned n ++ flat_map entry (e ∷ es))) × (InRangeU32 n × All InRange (e ∷ es))) (sym is) h)
 
 -- the same of a subsection
@@ -117,14 +117,11 @@ map_put rules entry InRange a b (x ∷ es) id e r h some p =
     (ap (λ n. id ∷ (unsigned n ++ (unsigned e.count ++ flat_map entry (x ∷ es)))) long ∙ ap (λ n. id ∷ (unsigned (length bytes) ++ (unsigned n ++ flat_map entry (x ∷ es)))) parts.0)
     p
 
--- how long a subsection is
-pub subsection_within : (e : MapExtent) → e.size < 4294967296 → subsection_size e ≤ 4294967306
-subsection_within e small = by_test (e.count == 0)
-  where
-    by_test : (b : Bool) → cond b 0 (1 + length (unsigned e.size) + e.size) ≤ 4294967306
-    by_test true = omega arith
-    by_test false = omega (arith, unsigned_fits 4 e.size (omega arith))
+-- how long a number of 32 bits is
+pub narrow : (n : ℕ) → n < 4294967296 → length (unsigned n) ≤ 5
+narrow n small = unsigned_fits 4 n (omega arith)
 
+-- how long a subsection is
 direct_sized : (of : Named) (es : List (ℕ × List ℕ)) (e : MapExtent) → is_extent name_entry es e ≡ true → subsection_size e ≡ length (flat_map name_subsection (direct of es))
 direct_sized of [] e h = ap (λ b. cond b 0 (1 + length (unsigned e.size) + e.size)) (eq-eqb e.count 0 (extent_parts name_entry [] e h).0)
 direct_sized of (x ∷ es) e h =
