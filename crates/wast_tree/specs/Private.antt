@@ -1,3 +1,4 @@
 -- What only contracts of private functions cite: a caller needs none of it.
 pub mod Bearers
 pub mod Examples
+pub mod FieldItems

@@ -18,6 +18,7 @@ mod continuations;
 mod customs;
 mod entities;
 mod examples;
+mod field_items;
 mod field_visits;
 mod fields;
 mod first_failing;

@@ -8,17 +8,18 @@ ghost use Rattle.wast_base.specs.Blocks.{Blocks};
 ghost use Rattle.wast_tree.specs.Tree.{TypeUse, FunctionType};
 ghost use Rattle.wast_tree.specs.Tree.form;
 ghost use Rattle.wast_tree.specs.Tree.space;
-ghost use Rattle.wast_tree.specs.Items.{Item, item, item_of_sig, fields_of, items_of_type, items_of_import, items_in, items};
+ghost use Rattle.wast_tree.specs.Items.{Item, item, item_of_sig, fields_of, items_of_type, items_in, items};
 ghost use Rattle.wast_tree.specs.Sites.{Ask, Wants, Within, Unasked, Clause, Covered, Here, if_there, in_index, in_id, in_heap, in_ref, in_val, in_storage, in_param, in_signature, in_struct_field, in_struct, in_array, in_inner, in_descriptor, in_def, in_type, in_rec, in_type_use, in_block, in_caught, in_catch, in_try_table, in_br_table, in_target, in_mem_arg, in_pair, in_access, in_cast, uncovered, asking, in_select, in_indirect, mark_asked, in_instr, in_instrs, in_expression, in_constant, in_local, in_func_kind, in_func, in_field, in_module, asked};
 ghost use Rattle.wast_tree.specs.Visits.{Visits};
 
 use crate::clauses::{hints_stand, is_balanced, is_sequential};
+use crate::field_items::{FieldItems, items_of};
 use crate::fields::{Func, FuncKind, Local, ModuleField};
 use crate::immediates::{
     BlockType, BrTableIndices, CallIndirect, MemArg, MemArgTarget, SelectTypes, TryTable,
     TryTableCatch, TryTableCatchKind,
 };
-use crate::imports::{ImportItems, ItemSig};
+use crate::imports::ItemSig;
 use crate::instrs::{Expression, Instruction};
 use crate::references::StructAccess;
 use crate::types::{
@@ -81,31 +82,14 @@ pub fn visit_items<'a, V: ItemVisitor<'a>>(fields: &[ModuleField<'a>], visitor: 
 pub(crate) fn visit_items_in<'a, V: ItemVisitor<'a>>(field: &ModuleField<'a>, visitor: &mut V)
     ensures { Visits V.told visitor.old (items_in field.now) visitor.new }
 {
-    match field {
-        ModuleField::Ty(ty) => visit_type(ty, visitor),
-        ModuleField::Rec(rec) => visit_members(rec.types.as_slice(), visitor),
-        ModuleField::Import(import) => visit_import(&import.items, visitor),
-        ModuleField::Func(func) => visitor.item(Space::Func, &func.id, &[]),
-        ModuleField::Table(table) => visitor.item(Space::Table, &table.id, &[]),
-        ModuleField::Memory(memory) => visitor.item(Space::Memory, &memory.id, &[]),
-        ModuleField::Global(global) => visitor.item(Space::Global, &global.id, &[]),
-        ModuleField::Export(_) => {}
-        ModuleField::Start(_) => {}
-        ModuleField::Elem(elem) => visitor.item(Space::Elem, &elem.id, &[]),
-        ModuleField::Data(data) => visitor.item(Space::Data, &data.id, &[]),
-        ModuleField::Tag(tag) => visitor.item(Space::Tag, &tag.id, &[]),
-        ModuleField::Custom(_) => {}
-    }
-}
-
-/// Tells a visitor of what is imported.
-fn visit_import<'a, V: ItemVisitor<'a>>(items: &ImportItems<'a>, visitor: &mut V)
-    ensures { Visits V.told visitor.old (items_of_import items.now) visitor.new }
-{
-    match items {
-        ImportItems::Single { sig, .. } => visit_sig(sig, visitor),
-        ImportItems::Group1 { items, .. } => visit_sigs(items.as_slice(), visitor),
-        ImportItems::Group2 { sig, items, .. } => visit_shared(sig, items.as_slice(), visitor),
+    match items_of(field) {
+        FieldItems::Nothing => {}
+        FieldItems::Lone(space, id) => visitor.item(space, id, &[]),
+        FieldItems::Type(ty) => visit_type(ty, visitor),
+        FieldItems::Types(types) => visit_members(types, visitor),
+        FieldItems::Signature(sig) => visit_sig(sig, visitor),
+        FieldItems::Signatures(items) => visit_sigs(items, visitor),
+        FieldItems::Shared(sig, names) => visit_shared(sig, names, visitor),
     }
 }
 
