@@ -1,9 +1,8 @@
 -- Which items bear a name.
-use Rattle.std.proofs.Common.{◌≡◌, ℕ, Bool, true, false, ◌||◌, ◌&&◌, ◌+◌, ◌<◌, length, get_or, drop, List, [], ◌∷◌, ◌++◌, Option, Some, refl, sym, ap, ◌∙◌}
+use Rattle.std.proofs.Common.{◌≡◌, ℕ, Bool, true, false, ◌||◌, ◌&&◌, ◌+◌, List, [], ◌∷◌, ◌++◌, Option, Some, refl, ap, ◌∙◌}
 use Rattle.std.specs.Prelude.{is_some, if◌then◌else◌}
-use Rattle.std.specs.List.{list_any, position_from, flat_map}
+use Rattle.std.specs.List.{list_any, position_from}
 use Rattle.std.proofs.lemmas.Grind.{flat_map-append}
-use Rattle.std.proofs.lemmas.List.{drop_more}
 use Rattle.std.proofs.lemmas.Iterator.Adapters.{position_from-zero}
 use Rattle.wast_tree.specs.Tree.{Space}
 use Rattle.wast_base.specs.Ids.{Name}
@@ -50,40 +49,3 @@ borne_among s name [] = refl
 borne_among s name (x ∷ xs) =
     borne_by_both s name (x ∷ []) xs
     ∙ (ap (λ b. b || is_borne name (names_in s xs)) (borne_if name (same_space s x.space) (name_if x.id)) ∙ ap (λ b. (same_space s x.space && is_called name (name_if x.id)) || b) (borne_among s name xs))
-
--- the fields from one on: it bears the name, or those after it do
-pub borne_from : {T : Type 0} (items : T → List Item) (s : Space) (name : Name) (fields : List T) (i : ℕ) (f : T) → i < length fields → f ≡ get_or fields i f
-    → is_borne name (names_in s (flat_map items (drop i fields))) ≡ is_borne name (names_in s (items f)) || is_borne name (names_in s (flat_map items (drop (i + 1) fields)))
-borne_from items s name fields i f lt is =
-    ap (λ fs. is_borne name (names_in s (flat_map items fs))) (drop_more fields i f lt ∙ ap (λ x. x ∷ drop (i + 1) fields) (sym is)) ∙ borne_by_both s name (items f) (flat_map items (drop (i + 1) fields))
-
--- one that does, and one that does not
-pub found_here : (b c x y : Bool) → x ≡ b || c → x ≡ y → b ≡ true → true ≡ y
-found_here true c x y e h t = sym e ∙ h
-found_here false c x y e h t = cc
-
-pub passed : (b c x y : Bool) → x ≡ b || c → x ≡ y → b ≡ false → c ≡ y
-passed true c x y e h t = cc
-passed false c x y e h t = sym e ∙ h
-
--- the fields in two parts
-module _ {T : Type 0} (items : T → List Item) (s : Space) (name : Name) (fields before after : List T) (parts : fields ≡ before ++ after) where
-  abbrev borne_in : List T → Bool
-  borne_in fs = is_borne name (names_in s (flat_map items fs))
-
-  borne_around : borne_in fields ≡ borne_in before || borne_in after
-  borne_around = ap borne_in parts ∙ (ap (λ xs. is_borne name (names_in s xs)) (flat_map-append items before after) ∙ borne_by_both s name (flat_map items before) (flat_map items after))
-
-  pub borne_after : true ≡ borne_in after → true ≡ borne_in fields
-  borne_after h = sym (borne_around ∙ (ap (λ b. borne_in before || b) (sym h) ∙ or_true (borne_in before)))
-    where
-      or_true : (b : Bool) → (b || true) ≡ true
-      or_true true = refl
-      or_true false = refl
-
-  pub borne_before : (b : Bool) → false ≡ borne_in after → b ≡ borne_in before → b ≡ borne_in fields
-  borne_before b h k = sym (borne_around ∙ (ap (λ c. borne_in before || c) (sym h) ∙ (or_false (borne_in before) ∙ sym k)))
-    where
-      or_false : (b : Bool) → (b || false) ≡ b
-      or_false true = refl
-      or_false false = refl

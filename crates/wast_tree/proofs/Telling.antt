@@ -31,23 +31,3 @@ first_each of g a b (x ∷ xs) h =
 -- the first of what was told
 pub first_told : {V A F : Type 0} (of : V → Option F) (g : A → List F) {a b : V} {xs : List A} → Visits (λ old x new. of new ≡ first_of (of old) (g x)) a xs b → of b ≡ first_of (of a) (flat_map g xs)
 first_told of g {a} {b} {xs} h = first_each of g a b xs h.tells
-
--- a test that goes by what the visitor keeps
-module _ {V A C : Type 0} (keeps : V → C) (of : V → Bool) (p : C → A → Bool) where
-  or_assoc : (x y z : Bool) → ((x || y) || z) ≡ (x || (y || z))
-  or_assoc true y z = refl
-  or_assoc false y z = refl
-
-  or_false : (x : Bool) → (x || false) ≡ x
-  or_false true = refl
-  or_false false = refl
-
-  any_each : (a b : V) (xs : List A) → Tells (λ old x new. (keeps new ≡ keeps old) × (of new ≡ (of old || p (keeps old) x))) a xs b → of b ≡ (of a || list_any (p (keeps a)) xs)
-  any_each a b [] h = ap of h ∙ sym (or_false (of a))
-  any_each a b (x ∷ xs) h =
-      any_each h.0 b xs h.1.1 ∙ (ap (λ c. of h.0 || list_any (p c) xs) h.1.0.0
-      ∙ (ap (λ c. c || list_any (p (keeps a)) xs) h.1.0.1 ∙ or_assoc (of a) (p (keeps a) x) (list_any (p (keeps a)) xs)))
-
-  -- whether any of what was told passes
-  pub any_told : {a b : V} {xs : List A} → Visits (λ old x new. (keeps new ≡ keeps old) × (of new ≡ (of old || p (keeps old) x))) a xs b → of b ≡ (of a || list_any (p (keeps a)) xs)
-  any_told {a} {b} {xs} h = any_each a b xs h.tells

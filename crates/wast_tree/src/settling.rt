@@ -6,7 +6,7 @@ ghost use Rattle.wast_base.specs.Spaces.{is_borne, is_settled_index};
 ghost use Rattle.wast_tree.specs.Known.{Known, known, names_in};
 ghost use Rattle.wast_tree.specs.WellFormed.{is_written_index};
 
-use crate::bearers::{HasItems, bearer_from};
+use crate::bearers::{HasItems, Place, nearest_bearer};
 use wast_base::{Id, Index, Space};
 
 /// Who tells whether a generated id is that of an item.
@@ -22,22 +22,22 @@ pub(crate) trait Settler {
 
 /// The fields, whose items bear ids.
 ///
-/// Where an id was found, the search for the next one of its space begins: ids in the order of their items are found at
-/// once.
+/// Where an id was found, the search for the next one of its space begins, and goes on outward on both sides: so it takes as
+/// long as the two items stand apart, whether the next one stands behind the last or before it.
 #[derive(Drop)]
 pub(crate) struct Bearers<'f, T> {
     fields: &'f [T],
-    starts: [usize; 8],
+    places: [Place; 8],
 }
 
 impl<'f, T: HasItems> Bearers<'f, T> {
-    /// These fields; each search begins at the first.
+    /// These fields; the first search of each space begins at the first of them.
     pub(crate) fn new(fields: &'f [T]) -> Self
         ensures { result.fields.now ≡ fields.now }
     {
         Bearers {
             fields,
-            starts: [0; 8],
+            places: [Place::START; 8],
         }
     }
 
@@ -47,10 +47,9 @@ impl<'f, T: HasItems> Bearers<'f, T> {
         ensures fields { self.new.fields ≡ self.old.fields }
     {
         let rank = space.rank();
-        let start = self.starts[rank].min(self.fields.len());
-        match bearer_from(self.fields, start, space, id) {
-            Some(at) => {
-                self.starts[rank] = at;
+        match nearest_bearer(self.fields, self.places[rank], space, id) {
+            Some(place) => {
+                self.places[rank] = place;
                 true
             }
             None => false,
