@@ -1,7 +1,6 @@
 -- What a visitor has made out of all that it was told.
-use Rattle.std.proofs.Common.{◌≡◌, ℕ, Bool, true, false, ◌||◌, Option, Some, None, List, [], ◌∷◌, ◌++◌, flat_map, refl, sym, ap, ◌∙◌, arith}
+use Rattle.std.proofs.Common.{◌≡◌, ℕ, Option, Some, None, List, [], ◌∷◌, ◌++◌, flat_map, refl, sym, ap, ◌∙◌, arith}
 use Rattle.std.specs.Prelude.{map, max}
-use Rattle.std.specs.List.{list_any}
 use Rattle.wast_tree.specs.Generations.{greatest}
 use Rattle.wast_tree.specs.Uncovered.{first_of}
 use Rattle.wast_tree.specs.Visits.{Tells, Visits}

@@ -1,6 +1,6 @@
 //! Which fields are well formed, and which clause fails.
 
-ghost use Rattle.std.specs.Prelude.{◌≡◌, None, Some, is_none, flat_map};
+ghost use Rattle.std.specs.Prelude.{◌≡◌, Bool, true, None, Some, is_none, flat_map};
 ghost use Rattle.wast_tree.specs.Known.{Known, known};
 ghost use Rattle.wast_tree.specs.WellFormed.{is_well_formed, unless_holds, failing, lesser, least_of, ill_formed};
 
@@ -37,13 +37,23 @@ impl<S> Least<S> {
             self.clause = Some(lesser(self.clause, number));
         }
     }
+
+    /// Whether a clause that fails was noted whose number is no greater, so that this one would change nothing.
+    fn is_least(&self, number: u8) -> bool
+        ensures { (holds : Bool) → result ≡ true → least_of self.now.clause (unless_holds number holds) ≡ self.now.clause }
+    {
+        match self.clause {
+            None => false,
+            Some(least) => least <= number,
+        }
+    }
 }
 
 impl<S: Settler> Visitor for Least<S> {
     ghost told = { λ old a new. (S.known new.settler ≡ S.known old.settler) × (new.clause ≡ least_of old.clause (failing (S.known old.settler) a)) };
 
     fn index(&mut self, space: Space, index: &Index<'_>) {
-        let settled = self.settler.settles(space, index);
+        let settled = self.is_least(6) || self.settler.settles(space, index);
         self.note(6, settled);
     }
 
@@ -98,8 +108,11 @@ fn least_failing_own<T: HasItems + Visit>(parts: &[T]) -> Option<u8>
 /// another than that of its block (E8), and two parameters and locals of a function (E2), or two fields of a struct (E3), may
 /// have one id. A form may be one that no encoder covers, as [`uncovered`](crate::uncovered) tells.
 ///
-/// It is quick where generated ids stand in the order of their items. In another order each may be looked for through all
-/// the fields. [`first_ill_formed`](crate::first_ill_formed) tells a place too.
+/// Its time is linear in the size of the fields, and a generated id that stands for an index adds to it as many steps as fields
+/// and items stand, on both sides, as far as its item from the item of the last such id of its space. So it is quick where they
+/// stand in the order of their items or in the reverse order, in groups too; in another order each may be looked for through
+/// all the fields. Once a clause fails, no more ids are looked for. [`first_ill_formed`](crate::first_ill_formed) tells a place
+/// too.
 pub fn ill_formed(fields: &[ModuleField<'_>]) -> Option<u8>
     ensures least { result ≡ ill_formed fields.now }
     ensures none { is_none result ≡ is_well_formed fields.now }

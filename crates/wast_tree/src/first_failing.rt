@@ -84,7 +84,7 @@ impl<S: Settler> Visitor for First<S> {
 
     fn index(&mut self, space: Space, index: &Index<'_>) {
         self.span = index.span();
-        let settled = self.settler.settles(space, index);
+        let settled = self.found.is_some() || self.settler.settles(space, index);
         self.note(6, settled);
     }
 
@@ -155,7 +155,7 @@ fn first_failing_own<T: HasItems + Looked>(parts: &[T]) -> Option<IllFormed>
 /// The first clause of "well formed" that fails in the fields, in the order of the text, with the nearest place, for messages;
 /// `None` where they are well formed (text format: indices, modules). It takes no memory.
 ///
-/// [`ill_formed`](crate::ill_formed) lists the clauses, and tells the least one.
+/// [`ill_formed`](crate::ill_formed) lists the clauses, tells the least one, and says how long both take.
 pub fn first_ill_formed(fields: &[ModuleField<'_>]) -> Option<IllFormed>
     ensures first { result ≡ first_ill_formed fields.now }
     ensures none { is_none result ≡ is_well_formed fields.now }
