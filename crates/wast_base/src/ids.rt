@@ -11,7 +11,9 @@ pub struct Span {
 }
 
 /// What an id is called: as it was written, or the generation of a generated id.
-#[derive(Clone, Copy, Debug, PartialEq, Eq, Hash)]
+///
+/// Names are ordered for maps: written ones, byte by byte, before generated ones, by their generations.
+#[derive(Clone, Copy, Debug, PartialEq, Eq, PartialOrd, Ord, Hash)]
 pub(crate) enum Name<'a> {
     Written(&'a str),
     Generated(u64),
@@ -22,8 +24,11 @@ pub(crate) enum Name<'a> {
 /// Ids are equal where their names and generations are, whatever their places. A written id has generation 0. A
 /// generated id, which only a [`Gensym`](crate::Gensym) makes, has a generation above 0 and the name `gensym`. No call on
 /// an id takes memory.
+///
+/// Ids have an order, for maps; the format gives it no meaning. Written ids, by the bytes of their names, come before
+/// generated ones, by their generations; places do not count.
 #[derive(Clone, Copy, Debug)]
-#[derive_where(PartialEq, Eq, Hash)]
+#[derive_where(PartialEq, Eq, PartialOrd, Ord, Hash)]
 pub struct Id<'a> {
     pub(crate) name: Name<'a>,
     #[derive_where(skip(EqHashOrd))]
@@ -34,8 +39,11 @@ pub struct Id<'a> {
 ///
 /// Indices are equal as numbers or as ids, whatever their places; a number and an id are never equal. No call on an index
 /// takes memory.
+///
+/// Indices have an order, for maps; the format gives it no meaning. Numbers, the lesser first, come before ids, in the
+/// order of ids; places do not count.
 #[derive(Clone, Copy, Debug)]
-#[derive_where(PartialEq, Eq, Hash)]
+#[derive_where(PartialEq, Eq, PartialOrd, Ord, Hash)]
 pub enum Index<'a> {
     /// A number, and the place of its first character, or of the id that it stands for.
     Num(u32, #[derive_where(skip(EqHashOrd))] Span),

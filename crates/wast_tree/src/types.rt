@@ -10,7 +10,10 @@ use std::alloc::Global;
 use wast_base::{Id, Index, NameAnnotation, Seq, Span};
 
 /// A value type (text format, value types).
-#[derive(Clone, Copy, Debug, PartialEq, Eq, Hash)]
+///
+/// Value types have an order, for maps; the format gives it no meaning. It is that of the variants, and of the reference
+/// types.
+#[derive(Clone, Copy, Debug, PartialEq, Eq, PartialOrd, Ord, Hash)]
 pub enum ValType<'a> {
     /// `i32`
     I32,
@@ -27,7 +30,10 @@ pub enum ValType<'a> {
 }
 
 /// A reference type: `(ref null $t)` (text format, reference types).
-#[derive(Clone, Copy, Debug, PartialEq, Eq, Hash)]
+///
+/// Reference types have an order, for maps; the format gives it no meaning. Those that cannot be null come first; then it
+/// is by what they refer to.
+#[derive(Clone, Copy, Debug, PartialEq, Eq, PartialOrd, Ord, Hash)]
 pub struct RefType<'a> {
     /// Whether the reference can be null.
     pub nullable: bool,
@@ -69,7 +75,10 @@ impl<'a> RefType<'a> {
 }
 
 /// What a reference refers to (text format, heap types).
-#[derive(Clone, Copy, Debug, PartialEq, Eq, Hash)]
+///
+/// Heap types have an order, for maps; the format gives it no meaning. It is that of the variants, then of their fields;
+/// of indices, whatever their places.
+#[derive(Clone, Copy, Debug, PartialEq, Eq, PartialOrd, Ord, Hash)]
 pub enum HeapType<'a> {
     /// A type that no module defines.
     Abstract {
@@ -94,7 +103,9 @@ impl<'a> HeapType<'a> {
 }
 
 /// A heap type that no module defines (text format, heap types).
-#[derive(Clone, Copy, Debug, PartialEq, Eq, Hash)]
+///
+/// These types have an order, for maps; the format gives it no meaning. It is that of the variants.
+#[derive(Clone, Copy, Debug, PartialEq, Eq, PartialOrd, Ord, Hash)]
 pub enum AbstractHeapType {
     /// `func`
     Func,

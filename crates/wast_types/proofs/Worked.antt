@@ -1,9 +1,12 @@
 -- What the definitions say of worked modules, computed.
 use Rattle.std.proofs.Common.{refl}
-use Rattle.wast_types.specs.WorkedExpansions.{SameSignatures, DistinctSignatures, SameReferences, Row2, Row7, Row8, Row23, Row37, Several, AfterStruct, ByIdAndNumber, FirstOfTwo, UsesInOrder, IndirectCalls}
+use Rattle.wast_types.specs.WorkedExpansions.{SameSignatures, OrderedSignatures, DistinctSignatures, SameReferences, Row2, Row7, Row8, Row23, Row37, Several, AfterStruct, ByIdAndNumber, FirstOfTwo, UsesInOrder, IndirectCalls}
 
 pub same_signatures : SameSignatures
 same_signatures = (refl, refl, refl, refl, refl)
+
+pub ordered_signatures : OrderedSignatures
+ordered_signatures = (refl, refl, refl, refl, refl)
 
 pub distinct_signatures : DistinctSignatures
 distinct_signatures = (refl, refl)

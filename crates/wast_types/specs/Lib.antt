@@ -2,6 +2,7 @@
 pub mod Tree
 pub mod Signatures
 pub mod SignatureLaws
+pub mod SignatureOrder
 pub mod NeedingUses
 pub mod ImpliedTypes
 pub mod TypeSpace

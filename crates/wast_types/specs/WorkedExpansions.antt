@@ -1,5 +1,6 @@
 -- What the definitions say of worked modules (text format, type uses: abbreviations). Texts of names may lie anywhere.
 use Rattle.std.specs.Prelude.{◌≡◌, ℕ, ◌+◌, true, false, List, [], ◌∷◌, ◌++◌, map, Bool, Option, Some, None, codes}
+use Rattle.std.specs.declared.cmp.Ordering.TheVariants.{Less, Equal, Greater}
 use Rattle.wast_types.specs.Tree.{Id, Index, AbstractHeapType, ValType, FunctionType, Expression, ModuleField}
 use Rattle.wast_types.specs.Tree.index
 use Rattle.wast_types.specs.Tree.abstract
@@ -17,6 +18,7 @@ use Rattle.wast_types.specs.Tree.field
 use Rattle.wast_base.specs.Ids.{generated}
 use Rattle.wast_tree.specs.WorkedModules.{Address, text, place, id_at, by_id, by_number, plain_def, plain_type}
 use Rattle.wast_types.specs.Signatures.{Signature, empty_signature, same_value, same_signature}
+use Rattle.wast_types.specs.SignatureOrder.{signature_cmp}
 use Rattle.wast_types.specs.NeedingUses.{needed}
 use Rattle.wast_types.specs.ImpliedTypes.{implied, are_distinct}
 use Rattle.wast_types.specs.TypeSpace.{index_for}
@@ -69,6 +71,15 @@ SameSignatures =
     × (same_signature (value.I32 ∷ [], []) (value.I64 ∷ [], []) ≡ false)
     × (same_signature (value.F32 ∷ value.F64 ∷ [], []) (value.F64 ∷ value.F32 ∷ [], []) ≡ false)
     × (same_signature ([], value.I32 ∷ []) ([], []) ≡ false)
+
+-- Fewer parameters come first, then fewer results; of as many, the types of the parameters decide, then those of the results.
+abbrev pub OrderedSignatures : Type 0
+OrderedSignatures =
+    (signature_cmp (value.I32 ∷ [], value.F64 ∷ []) (value.I32 ∷ [], value.F64 ∷ []) ≡ Equal)
+    × (signature_cmp ([], value.F64 ∷ value.F64 ∷ []) (value.I32 ∷ [], []) ≡ Less)
+    × (signature_cmp (value.F64 ∷ [], []) (value.I32 ∷ [], value.I32 ∷ []) ≡ Less)
+    × (signature_cmp (value.F64 ∷ [], value.I32 ∷ []) (value.I32 ∷ [], value.F64 ∷ []) ≡ Greater)
+    × (signature_cmp (value.I32 ∷ [], value.I32 ∷ []) (value.I32 ∷ [], value.F64 ∷ []) ≡ Less)
 
 -- Signatures are distinct where none comes again.
 abbrev pub DistinctSignatures : Type 0

@@ -1,11 +1,17 @@
 //! Worked modules, of which the definitions compute what they say.
 
-ghost use Rattle.wast_types.specs.WorkedExpansions.{SameSignatures, DistinctSignatures, SameReferences, Row2, Row7, Row8, Row23, Row37, Several, AfterStruct, ByIdAndNumber, FirstOfTwo, UsesInOrder, IndirectCalls};
+ghost use Rattle.wast_types.specs.WorkedExpansions.{SameSignatures, OrderedSignatures, DistinctSignatures, SameReferences, Row2, Row7, Row8, Row23, Row37, Several, AfterStruct, ByIdAndNumber, FirstOfTwo, UsesInOrder, IndirectCalls};
 
 /// Which signatures are equal as they are written.
 #[tactic(auto, using(crate::proofs::Worked::same_signatures))]
 pub(crate) fn same_signatures()
     ensures { SameSignatures }
+{}
+
+/// Which signatures come first in a map.
+#[tactic(auto, using(crate::proofs::Worked::ordered_signatures))]
+pub(crate) fn ordered_signatures()
+    ensures { OrderedSignatures }
 {}
 
 /// Signatures of which none comes again, and of which one does.

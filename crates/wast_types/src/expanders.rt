@@ -6,14 +6,14 @@ ghost use Rattle.wast_types.specs.Expanders.{BoundSignatures, index_of, Extends}
 
 use crate::keys::FuncKey;
 use std::alloc::Global;
-use std::collections::HashMap;
+use std::collections::BTreeMap;
 use std::marker::Model;
 use wast_tree::{Error, Index};
 
 /// The types that signatures are bound to. Contracts see signatures with indices, no two signatures equal, in any order.
 #[derive(Drop)]
 pub struct Expander<'a> {
-    func_type_to_idx: HashMap<FuncKey<'a>, Index<'a>>,
+    func_type_to_idx: BTreeMap<FuncKey<'a>, Index<'a>>,
 }
 
 impl<'a> Model for Expander<'a> {
@@ -28,7 +28,7 @@ impl<'a> Expander<'a> {
         ensures { result ≡ [] }
     {
         Expander {
-            func_type_to_idx: HashMap::new(alloc),
+            func_type_to_idx: BTreeMap::new(alloc),
         }
     }
 
@@ -45,10 +45,7 @@ impl<'a> Expander<'a> {
         ensures refusal { IfErr result (λ e. e ≡ out_of_memory) }
         ensures err { OnErr result (self.new ≡ self.old) }
     {
-        if self.func_type_to_idx.contains_key(&key) {
-            return Ok(());
-        }
-        self.func_type_to_idx.insert(key, index)?;
+        self.func_type_to_idx.entry(key)?.or_insert(index);
         Ok(())
     }
 }

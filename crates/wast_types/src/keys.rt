@@ -1,15 +1,18 @@
 //! Keys of types: what is equal of two types that a type use may take.
 
-ghost use Rattle.std.specs.Prelude.{◌≡◌, ◌∷◌, [], map, IsOk, IfOk, IfErr, OnOk, OnErr};
+ghost use Rattle.std.specs.Prelude.{◌≡◌, ◌∷◌, [], map, length, refl, IsOk, IfOk, IfErr, OnOk, OnErr};
 ghost use Rattle.std.specs.Cmp.{partial_equiv_from_equiv};
+ghost use Rattle.std.specs.Ordering.{as_partial_cmp};
 ghost use Rattle.wast_base.specs.Faults.{out_of_memory};
 ghost use Rattle.wast_types.specs.Signatures.{Signature, type_of_param, same_signature, signature_of, empty_signature};
 ghost use Rattle.wast_types.specs.SignatureLaws.{signatures_equiv, signature_fed, signatures_alike};
+ghost use Rattle.wast_types.specs.SignatureOrder.{signature_cmp, signatures_total, signatures_tied, signatures_ordered};
 ghost use Rattle.wast_types.specs.Expanded.{nameless, def_of};
 ghost use Rattle.wast_types.specs.Expanders.{index_of, Extends, Keeps};
 
 use crate::expanders::Expander;
 use std::alloc::Global;
+use std::cmp::Ordering;
 use std::hash::{Hash, Hasher};
 use std::marker::Model;
 use wast_tree::{
@@ -42,6 +45,39 @@ impl<'a> PartialEq for FuncKey<'a> {
 
 impl<'a> Eq for FuncKey<'a> {
     ghost laws = { signatures_equiv };
+}
+
+impl<'a> PartialOrd for FuncKey<'a> {
+    ghost partial_cmp = { as_partial_cmp signature_cmp };
+
+    ghost laws = { signatures_ordered };
+
+    fn partial_cmp(&self, other: &FuncKey<'a>) -> Option<Ordering> {
+        Some(self.cmp(other))
+    }
+}
+
+impl<'a> Ord for FuncKey<'a> {
+    ghost cmp = { signature_cmp };
+
+    ghost total = { signatures_total };
+
+    ghost matches_partial_cmp = { λ s t. refl };
+
+    ghost matches_eq = { signatures_tied };
+
+    fn cmp(&self, other: &FuncKey<'a>) -> Ordering {
+        by_lengths(self).cmp(&by_lengths(other))
+    }
+}
+
+/// What keys are ordered by.
+fn by_lengths<'k, 'a>(key: &'k FuncKey<'a>) -> (usize, usize, &'k [ValType<'a>], &'k [ValType<'a>])
+    ensures lengths { (result.0 ≡ length key.now.0) × (result.1 ≡ length key.now.1) }
+    ensures types { (result.2.now, result.3.now) ≡ key.now }
+{
+    let (params, results) = (key.0.as_slice(), key.1.as_slice());
+    (params.len(), results.len(), params, results)
 }
 
 impl<'a> Hash for FuncKey<'a> {
@@ -178,11 +214,11 @@ fn types_of<'a>(alloc: Global, params: &Seq<Param<'a>>) -> Result<Seq<ValType<'a
     ensures ok { IfOk result (λ types. types ≡ map type_of_param params.now) }
     ensures refusal { IfErr result (λ e. e ≡ out_of_memory) }
 {
-    let mut types = Seq::new(alloc);
+    let mut types = Vec::with_capacity(alloc, params.len())?;
     for param in params.as_slice() {
         types.push(param.2)?;
     }
-    Ok(types)
+    Ok(Seq::from_vec(types))
 }
 
 /// A parameter of this type, without names.
@@ -197,11 +233,11 @@ fn params_of<'a>(alloc: Global, types: &Seq<ValType<'a>>) -> Result<Seq<Param<'a
     ensures ok { IfOk result (λ params. params ≡ map nameless types.now) }
     ensures refusal { IfErr result (λ e. e ≡ out_of_memory) }
 {
-    let mut params: Seq<Param<'a>> = Seq::new(alloc);
+    let mut params: Vec<Param<'a>> = Vec::with_capacity(alloc, types.len())?;
     for ty in types.as_slice() {
         params.push(nameless(*ty))?;
     }
-    Ok(params)
+    Ok(Seq::from_vec(params))
 }
 
 /// The same value types in a list of their own.
