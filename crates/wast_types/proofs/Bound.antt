@@ -1,36 +1,34 @@
--- What a signature is bound to after one more is.
-use Rattle.std.proofs.Common.{◌≡◌, Bool, true, false, cond, [], ◌∷◌, Option, Some, None, is_some, refl, ap, ◌∙◌}
+-- What a signature is bound to, as an ordered map finds it, and after one more is bound.
+use Rattle.std.proofs.Common.{◌≡◌, Bool, true, false, cond, [], ◌∷◌, Option, Some, None, refl, sym, ap, ◌∙◌}
 use mathlib.Core.Path.{fun_ext}
+use Rattle.std.specs.BTreeMap.{is_at}
 use Rattle.std.specs.Map.{lookup}
-use Rattle.std.specs.Option.{option_or}
+use Rattle.std.specs.Option.{option_or, unwrap_or}
 use Rattle.wast_types.specs.Tree.{Index}
 use Rattle.wast_types.specs.Signatures.{Signature, same_signature}
 use Rattle.wast_types.specs.SignatureLaws.{signatures_equiv}
+use Rattle.wast_types.specs.SignatureOrder.{signature_cmp, signatures_tied}
 use Rattle.wast_types.specs.Expanders.{BoundSignatures, index_of, with_more}
 
+-- what the order finds is what equality finds
+pub found_in_order : (es : BoundSignatures) (s : Signature) → lookup (is_at (signature_cmp s)) es ≡ index_of es s
+found_in_order es s = ap (λ (test : Signature → Bool). lookup test es) (fun_ext (λ (z : Signature). sym (signatures_tied s z)))
+
 -- equal signatures are bound to the same
-pub same_index_of : (es : BoundSignatures) (s k : Signature) → same_signature s k ≡ true → index_of es s ≡ index_of es k
+same_index_of : (es : BoundSignatures) (s k : Signature) → same_signature s k ≡ true → index_of es s ≡ index_of es k
 same_index_of es s k h = ap (λ (test : Signature → Bool). lookup test es) (fun_ext (λ (z : Signature). signatures_equiv.congr s k z h))
 
-one_kept : (b : Bool) (o : Option Index) (i : Index) → (b ≡ true → is_some o ≡ true) → o ≡ option_or o (cond b (Some i) None)
-one_kept b (Some j) i h = refl
-one_kept false None i h = refl
-one_kept true None i h = absurd (let e : false ≡ true = h refl in cc)
+-- what is written at a key is what the key is bound to, if it is bound
+kept_or_new : (b : Bool) (o p : Option Index) (i w : Index) → (b ≡ true → o ≡ p) → w ≡ unwrap_or p i → cond b (Some w) o ≡ option_or o (cond b (Some i) None)
+kept_or_new true None p i w h e = ap (λ (j : Index). Some j) (e ∙ ap (λ q. unwrap_or q i) (sym (h refl)))
+kept_or_new true (Some j) p i w h e = ap (λ (k : Index). Some k) (e ∙ ap (λ q. unwrap_or q i) (sym (h refl)))
+kept_or_new false None p i w h e = refl
+kept_or_new false (Some j) p i w h e = refl
 
-one_new : (b : Bool) (o : Option Index) (i : Index) → (b ≡ true → is_some o ≡ false) → cond b (Some i) o ≡ option_or o (cond b (Some i) None)
-one_new false None i h = refl
-one_new b (Some j) i h = new_case b i j h
-  where
-    new_case : (b : Bool) (i j : Index) → (b ≡ true → true ≡ false) → cond b (Some i) (Some j) ≡ Some j
-    new_case true i j h = absurd (let e : true ≡ false = h refl in cc)
-    new_case false i j h = refl
-one_new true None i h = refl
-
--- a key that is bound stays so
-pub kept : (es : BoundSignatures) (k s : Signature) (i : Index) → is_some (index_of es k) ≡ true → index_of es s ≡ with_more (index_of es) ((k, i) ∷ []) s
-kept es k s i h = one_kept (same_signature s k) (index_of es s) i (λ e. ap is_some (same_index_of es s k e) ∙ h)
-
--- a key that is not is bound to the index
-pub put_new : (es : BoundSignatures) (k s : Signature) (i : Index) (found : Option Index) → is_some (index_of es k) ≡ false → found ≡ cond (same_signature k s) (Some i) (index_of es s)
-    → found ≡ with_more (index_of es) ((k, i) ∷ []) s
-put_new es k s i found h e = e ∙ (ap (λ b. cond b (Some i) (index_of es s)) (signatures_equiv.symm k s) ∙ one_new (same_signature s k) (index_of es s) i (λ e. ap is_some (same_index_of es s k e) ∙ h))
+-- so a key that is bound stays so, and another is bound to the index
+pub put_once : (es fs : BoundSignatures) (k s : Signature) (i w : Index) → w ≡ unwrap_or (lookup (is_at (signature_cmp k)) es) i
+    → lookup (is_at (signature_cmp s)) fs ≡ cond (is_at (signature_cmp k) s) (Some w) (lookup (is_at (signature_cmp s)) es) → index_of fs s ≡ with_more (index_of es) ((k, i) ∷ []) s
+put_once es fs k s i w is h =
+    sym (found_in_order fs s) ∙ (h ∙ (ap (λ o. cond (is_at (signature_cmp k) s) (Some w) o) (found_in_order es s)
+    ∙ (ap (λ b. cond b (Some w) (index_of es s)) (sym (signatures_tied k s) ∙ signatures_equiv.symm k s)
+    ∙ kept_or_new (same_signature s k) (index_of es s) (index_of es k) i w (same_index_of es s k) (is ∙ ap (λ o. unwrap_or o i) (found_in_order es k)))))

@@ -33,6 +33,7 @@ impl<'a> Expander<'a> {
     }
 
     /// The index that a key is bound to.
+    #[tactic(auto, using(crate::proofs::Bound::found_in_order))]
     pub(crate) fn get(&self, key: &FuncKey<'a>) -> Option<Index<'a>>
         ensures { result ≡ index_of self.now key.now }
     {
