@@ -28,7 +28,7 @@ lookup-append test (e ∷ a) b = head_case (test e.0) e.1 (lookup test a) (looku
     head_case true i o p both h = refl
     head_case false i o p both h = h
 
-or_or : (o p q : Option Index) → option_or (option_or o p) q ≡ option_or o (option_or p q)
+pub or_or : (o p q : Option Index) → option_or (option_or o p) q ≡ option_or o (option_or p q)
 or_or None p q = refl
 or_or (Some i) p q = refl
 

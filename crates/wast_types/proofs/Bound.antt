@@ -15,7 +15,7 @@ pub found_in_order : (es : BoundSignatures) (s : Signature) → lookup (is_at (s
 found_in_order es s = ap (λ (test : Signature → Bool). lookup test es) (fun_ext (λ (z : Signature). sym (signatures_tied s z)))
 
 -- equal signatures are bound to the same
-same_index_of : (es : BoundSignatures) (s k : Signature) → same_signature s k ≡ true → index_of es s ≡ index_of es k
+pub same_index_of : (es : BoundSignatures) (s k : Signature) → same_signature s k ≡ true → index_of es s ≡ index_of es k
 same_index_of es s k h = ap (λ (test : Signature → Bool). lookup test es) (fun_ext (λ (z : Signature). signatures_equiv.congr s k z h))
 
 -- what is written at a key is what the key is bound to, if it is bound

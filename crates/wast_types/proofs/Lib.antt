@@ -3,6 +3,7 @@ pub mod InConstants
 pub mod Staying
 pub mod Bound
 pub mod Adding
+pub mod Placed
 pub mod OneMore
 pub mod Halfway
 pub mod Expanding

@@ -7,6 +7,7 @@ pub mod NeedingUses
 pub mod ImpliedTypes
 pub mod TypeSpace
 pub mod Expanders
+pub mod Hashed
 pub mod Expanded
 pub mod Completed
 pub mod Positioned

@@ -1,43 +1,55 @@
 //! What signatures are bound to.
 
-ghost use Rattle.std.specs.Prelude.{◌≡◌, [], ◌∷◌, OnOk, OnErr, IfErr};
+ghost use Rattle.std.specs.Prelude.{◌≡◌, [], ◌∷◌, OnOk, OnErr, IfOk, IfErr, IfSome, IfNone, IsSome};
 ghost use Rattle.wast_base.specs.Faults.{out_of_memory};
 ghost use Rattle.wast_types.specs.Expanders.{BoundSignatures, index_of, Extends};
+ghost use Rattle.wast_types.specs.Hashed.{hash_of, with_hash, bindings_of, ArePlaced, BindsFirst};
 
 use crate::keys::FuncKey;
 use std::alloc::Global;
 use std::collections::BTreeMap;
+use std::hash::{FoldHasher, Hash, Hasher};
 use std::marker::Model;
 use wast_tree::{Error, Index};
 
 /// The types that signatures are bound to. Contracts see signatures with indices, no two signatures equal, in any order.
 #[derive(Drop)]
 pub struct Expander<'a> {
-    func_type_to_idx: BTreeMap<FuncKey<'a>, Index<'a>>,
+    // by each hash, the first key that has it
+    firsts: BTreeMap<u64, (FuncKey<'a>, Index<'a>)>,
+    // the keys whose hash the first one has
+    others: BTreeMap<FuncKey<'a>, Index<'a>>,
 }
 
 impl<'a> Model for Expander<'a> {
     ghost Value = { BoundSignatures };
 
-    ghost view = { λ cx. cx.func_type_to_idx.entries };
+    ghost view = { λ cx. bindings_of cx.firsts.entries cx.others.entries };
+
+    ghost invariant = { λ cx. ArePlaced cx.firsts.entries cx.others.entries };
 }
 
 impl<'a> Expander<'a> {
     /// Binds nothing. It takes no memory; `alloc` is what [`TypeKey::insert`](crate::TypeKey::insert) will ask.
+    #[tactic(auto, using(crate::proofs::Placed::none_placed))]
     pub fn new(alloc: Global) -> Self
         ensures { result ≡ [] }
     {
         Expander {
-            func_type_to_idx: BTreeMap::new(alloc),
+            firsts: BTreeMap::new(alloc),
+            others: BTreeMap::new(alloc),
         }
     }
 
     /// The index that a key is bound to.
-    #[tactic(auto, using(crate::proofs::Bound::found_in_order))]
+    #[tactic(auto, using(crate::proofs::Bound::found_in_order, crate::proofs::Placed::found_at_hash, crate::proofs::Placed::found_beside, crate::proofs::Placed::found_else))]
     pub(crate) fn get(&self, key: &FuncKey<'a>) -> Option<Index<'a>>
         ensures { result ≡ index_of self.now key.now }
     {
-        self.func_type_to_idx.get(key).copied()
+        match self.firsts.get(&hash_of(key)) {
+            Some(first) if first.0 == *key => Some(first.1),
+            _ => self.others.get(key).copied(),
+        }
     }
 
     /// Binds a key, unless it is bound.
@@ -46,7 +58,39 @@ impl<'a> Expander<'a> {
         ensures refusal { IfErr result (λ e. e ≡ out_of_memory) }
         ensures err { OnErr result (self.new ≡ self.old) }
     {
-        self.func_type_to_idx.entry(key)?.or_insert(index);
+        if let Some(key) = bind_first(&mut self.firsts, key, index)? {
+            self.others.entry(key)?.or_insert(index);
+        }
         Ok(())
     }
+}
+
+/// Binds a key, unless it is bound; where the first key of its hash is another one, it is given back.
+fn bind_first<'a>(
+    firsts: &mut BTreeMap<u64, (FuncKey<'a>, Index<'a>)>,
+    key: FuncKey<'a>,
+    index: Index<'a>,
+) -> Result<Option<FuncKey<'a>>, Error<'a>>
+    ensures bound { IfOk result (λ rest. IfNone rest (BindsFirst firsts.old.entries firsts.new.entries key.entry index.entry)) }
+    ensures rest { IfOk result (λ rest. IfSome rest (λ k. k ≡ key.entry)) }
+    ensures taken { IfOk result (λ rest. IsSome rest → IsSome (with_hash firsts.old.entries (hash_of key.entry))) }
+    ensures stays { IfOk result (λ rest. IsSome rest → firsts.new.entries ≡ firsts.old.entries) }
+    ensures refusal { IfErr result (λ e. e ≡ out_of_memory) }
+    ensures err { OnErr result (firsts.new.entries ≡ firsts.old.entries) }
+{
+    let hash = hash_of(&key);
+    if let Some(first) = firsts.get(&hash) {
+        return Ok(if first.0 == key { None } else { Some(key) });
+    }
+    firsts.insert(hash, (key, index))?;
+    Ok(None)
+}
+
+/// What a key is looked up by first.
+fn hash_of(key: &FuncKey<'_>) -> u64
+    ensures { result ≡ hash_of key.now }
+{
+    let mut state = FoldHasher::default();
+    key.hash(&mut state);
+    state.finish()
 }
