@@ -37,10 +37,10 @@ leading_bound (suc n) (b ∷ bs) = elim (cases_Bool (nat_lt b 256)) [
   | inr e ↦ omega (arith, no_byte n b bs e, positive (suc n))
 ]
 
-first_less : (x y : ℕ) (p : Ordering) → x < y → ordering_then (nat_cmp x y) p ≡ Less
+pub first_less : (x y : ℕ) (p : Ordering) → x < y → ordering_then (nat_cmp x y) p ≡ Less
 first_less x y p h = ap (λ o. ordering_then o p) (less x y h)
 
-first_same : (x y : ℕ) (p : Ordering) → x ≡ y → ordering_then (nat_cmp x y) p ≡ p
+pub first_same : (x y : ℕ) (p : Ordering) → x ≡ y → ordering_then (nat_cmp x y) p ≡ p
 first_same x y p h = ap (λ o. ordering_then o p) (sym (nat_cmp_is x y Equal h))
 
 falls_not : (n x y : ℕ) (xs ys : List ℕ) → y < x → leading (suc n) (x ∷ xs) < leading (suc n) (y ∷ ys) → ⊥

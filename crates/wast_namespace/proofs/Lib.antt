@@ -1,11 +1,10 @@
 pub mod Basics
 pub mod Bytes
 pub mod Called
-pub mod Cuts
 pub mod FilledSpaces
 pub mod Gathered
 pub mod HeadOrder
-pub mod HeadRanges
+pub mod HeadSorts
 pub mod Keys
 pub mod LeastTie
 pub mod Numbered

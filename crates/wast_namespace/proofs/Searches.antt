@@ -8,11 +8,13 @@ use Rattle.std.specs.FinMap.{find, put, is_sorted, get, insert as map_insert, fr
 use Rattle.std.specs.FinMap.Entries.{below_all, is_sorted-put}
 use Rattle.std.specs.Prelude.{nat_lt}
 use Rattle.std.proofs.lemmas.Bool.{cases_Bool, ltb-true, ltb-false}
-use Rattle.wast_base.specs.Ids.{name_of}
+use Rattle.std.proofs.lemmas.Cmp.{tied_itself}
+use Rattle.wast_base.specs.Ids.{name_of, same_id}
 use Rattle.wast_namespace.specs.Namespaces.{Key, key_of, key_cmp}
 use Rattle.wast_base.specs.declared.ids.Id.{Id}
 use Rattle.wast_namespace.specs.Places.{key_at, entry_of, entries_of, AreSorted, IsAbove, IsBelow, IsBetween, IsAt, IsGap}
 use Rattle.wast_namespace.proofs.Basics.{any_default}
+use Rattle.wast_namespace.proofs.Called.{same_name_equal}
 use Rattle.wast_namespace.proofs.Keys.{exact_keys, keys_total}
 
 both_of : (a b : Bool) → T (a && b) → T a × T b
@@ -146,3 +148,10 @@ still_sorted es fs k n h e = subst (λ es. T (is_sorted key_cmp es)) e (is_sorte
 
 pub none_sorted : from_sorted {X = ℕ} {R = key_cmp} [] ≡ empty
 none_sorted = empty_of_len _ (len-entries (from_sorted {R = key_cmp} []) ∙ ap length (entries-from_sorted {X = ℕ} key_cmp [] tt))
+
+-- a place where the same id stands
+pub same_at : (es : List (Id × ℕ)) (id : Id) (at : ℕ) (e : Id × ℕ) → AreSorted es → at < length es → same_id (get_or es at e).0 id ≡ true → IsAt es (key_of (name_of id)) at
+same_at es id at e h lt same =
+    let name = key_of (name_of id) in
+    let is : key_at (get_or es at e) ≡ name = ap key_of (same_name_equal (name_of (get_or es at e).0) (name_of id) same) in
+    found_at es name at h lt (any_answer es name at Equal e lt (subst (λ (k : Key). key_cmp k name ≡ Equal) (sym is) (tied_itself keys_total name)))

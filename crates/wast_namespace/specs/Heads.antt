@@ -1,10 +1,13 @@
 -- Heads of texts: eight bytes behind a prefix as one number, whose order is that of the texts.
-use Rattle.std.specs.Prelude.{◌≡◌, ℕ, suc, zero, ◌+◌, ◌*◌, ◌-◌, ◌^◌, ◌<◌, ◌≤◌, nat_lt, cond, List, [], ◌∷◌, length, map, slice_index_or}
+use Rattle.std.specs.Prelude.{ℕ, suc, zero, ◌+◌, ◌*◌, ◌-◌, ◌^◌, nat_lt, cond, List, [], ◌∷◌, map}
 use Rattle.std.specs.declared.cmp.Ordering.{Ordering}
 use Rattle.std.specs.declared.cmp.Ordering.TheVariants.{Less, Equal, Greater}
-use Rattle.std.specs.Ordering.{nat_cmp}
+use Rattle.std.specs.Ordering.{nat_cmp, ordering_then}
 use Rattle.wast_base.specs.declared.ids.Id.{Id}
-use Rattle.wast_namespace.specs.Places.{key_at}
+use Rattle.wast_namespace.specs.declared.heads.Headed.{Headed}
+use Rattle.wast_namespace.specs.Namespaces.{key_cmp}
+use Rattle.wast_namespace.specs.Places.{key_at, entry_of}
+use Rattle.wast_namespace.specs.Filling.{pair_cmp}
 
 -- the first n bytes as a number, the first of them the most; a missing byte counts as 0, and from what is no byte on the
 -- number is the greatest
@@ -25,26 +28,18 @@ head [] text = leading 8 text
 head (p ∷ ps) [] = 0
 head (p ∷ ps) (b ∷ bs) = head_by (nat_cmp b p) (head ps bs)
 
--- the heads of names
-abbrev pub heads_of : List ℕ → List (Id × ℕ) → List ℕ
-heads_of prefix es = map (λ e. head prefix (key_at e).0) es
+-- a pair beside its head, without where it lies in memory
+abbrev pub seen : Headed → ℕ × (Id × ℕ)
+seen h = (h.head, h.pair.now)
 
--- The heads are those of the names, where there are any.
-abbrev pub AreHeads : List ℕ → List ℕ → List (Id × ℕ) → Type 0
-AreHeads prefix heads es = 0 < length heads → heads ≡ heads_of prefix es
+-- the pair alone
+abbrev pub pair_of : Headed → Id × ℕ
+pair_of h = h.pair.now
 
--- Numbers never fall.
-pub record AreRising (ns : List ℕ) : Type 0 where
-  pub rising : (i j : ℕ) → i ≤ j → j < length ns → slice_index_or ns i 0 ≤ slice_index_or ns j 0
+-- the pairs, each beside the head of its name
+abbrev pub with_heads : List ℕ → List (Id × ℕ) → List (ℕ × (Id × ℕ))
+with_heads prefix es = map (λ e. (head prefix (key_at e).0, e)) es
 
--- The numbers before a place are below the bound, and those from it on are not.
-pub record IsCut (ns : List ℕ) (bound at : ℕ) : Type 0 where
-  pub within : at ≤ length ns
-  pub below : (j : ℕ) → j < at → slice_index_or ns j 0 < bound
-  pub rest : (j : ℕ) → at ≤ j → j < length ns → bound ≤ slice_index_or ns j 0
-
--- The numbers before a place are not above the bound, and those from it on are.
-pub record IsEnd (ns : List ℕ) (bound at : ℕ) : Type 0 where
-  pub within : at ≤ length ns
-  pub upto : (j : ℕ) → j < at → slice_index_or ns j 0 ≤ bound
-  pub above : (j : ℕ) → at ≤ j → j < length ns → bound < slice_index_or ns j 0
+-- by the head, and then by the key and the number
+abbrev pub headed_cmp : ℕ × (Id × ℕ) → ℕ × (Id × ℕ) → Ordering
+headed_cmp a b = ordering_then (nat_cmp a.0 b.0) (pair_cmp key_cmp (entry_of a.1) (entry_of b.1))

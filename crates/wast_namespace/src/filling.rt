@@ -9,13 +9,16 @@ ghost use Rattle.wast_namespace.specs.Namespaces.{key_cmp};
 ghost use Rattle.wast_namespace.specs.Places.{entry_of, entries_of};
 ghost use Rattle.wast_namespace.specs.Filling.{ArePositions, names_from, pair_cmp, IsFirstTie, HasFirstClash, FillsSpace, least_of};
 
-use crate::heads::Heads;
+use crate::heads::in_order_by_heads;
+use crate::hints::Hints;
 use crate::namespace::Namespace;
-use crate::order::compare;
+use crate::order::{compare, compare_pairs};
 use std::alloc::{AllocError, Global};
-use std::cmp::Ordering;
 use std::marker::Model;
 use wast_base::Id;
+
+/// Up to so many pairs are sorted where they stand.
+const FEW: usize = 20;
 
 /// The items of a space in their order, before its name space is filled: the list of their names.
 #[derive(Drop)]
@@ -66,50 +69,45 @@ impl<'a> Gathering<'a> {
         self.count == u32::MAX
     }
 
-    /// The position of the first item that has the name of an earlier one, if there is one. It takes no memory.
-    pub fn first_clash(self) -> Option<u32>
-        ensures { HasFirstClash self.entry result }
-    {
-        let Gathering { mut pairs, .. } = self;
-        put_in_order(&mut pairs);
-        first_tie(&pairs)
-    }
-
-    /// The name space of the items, or the position of the first item that has the name of an earlier one. It takes no memory.
+    /// The position of the first item that has the name of an earlier one, if there is one.
     ///
-    /// A name is found by halving over whole names: where many are looked up among many, [`filled`](Gathering::filled) has
-    /// heads for them.
-    #[inline(always)]
-    pub fn sorted(self, alloc: Global) -> Result<Namespace<'a>, u32>
-        ensures { FillsSpace self.entry result }
+    /// It takes memory only where there are more than 20 ids, to sort them, and gives it back.
+    pub fn first_clash(self, alloc: Global) -> Result<Option<u32>, AllocError>
+        ensures { IfOk result (HasFirstClash self.entry) }
     {
-        let Gathering { mut pairs, count } = self;
-        put_in_order(&mut pairs);
-        if let Some(number) = first_tie(&pairs) {
-            return Err(number);
-        }
-        Ok(Namespace::from_sorted(pairs, Heads::none(alloc), count))
+        let Gathering { pairs, .. } = self;
+        let pairs = in_order(alloc, pairs)?;
+        Ok(first_tie(&pairs))
     }
 
     /// The name space of the items, or the position of the first item that has the name of an earlier one.
+    ///
+    /// It takes memory only where there are more than 16 ids: for hints, by which names are looked up, and to sort more
+    /// than 20.
     pub fn filled(self, alloc: Global) -> Result<Result<Namespace<'a>, u32>, AllocError>
         ensures { IfOk result (FillsSpace self.entry) }
     {
-        let Gathering { mut pairs, count } = self;
-        put_in_order(&mut pairs);
+        let Gathering { pairs, count } = self;
+        let pairs = in_order(alloc, pairs)?;
         if let Some(number) = first_tie(&pairs) {
             return Ok(Err(number));
         }
-        let heads = Heads::of(alloc, &pairs)?;
-        Ok(Ok(Namespace::from_sorted(pairs, heads, count)))
+        let hints = Hints::of(alloc, &pairs)?;
+        Ok(Ok(Namespace::from_sorted(pairs, hints, count)))
     }
 }
 
-/// By the name, and then by the number.
-fn compare_pairs<'a>(a: &(Id<'a>, u32), b: &(Id<'a>, u32)) -> Ordering
-    ensures { result ≡ pair_cmp key_cmp (entry_of a.now) (entry_of b.now) }
+/// The pairs by the name, and then by the number. It takes memory only where they are not few.
+fn in_order<'a>(alloc: Global, pairs: Vec<(Id<'a>, u32)>) -> Result<Vec<(Id<'a>, u32)>, AllocError>
+    ensures permutation { IfOk result (λ es. IsPermutation pairs.entry.items es.items) }
+    ensures sorted { IfOk result (λ es. IsSortedBy (λ a b. is_lt (pair_cmp key_cmp (entry_of a) (entry_of b))) es.items) }
 {
-    compare(&a.0, &b.0).then(a.1.cmp(&b.1))
+    if pairs.len() > FEW {
+        return in_order_by_heads(alloc, &pairs);
+    }
+    let mut pairs = pairs;
+    put_in_order(&mut pairs);
+    Ok(pairs)
 }
 
 /// Sorts by the name, and then by the number.

@@ -1,112 +1,116 @@
-//! Heads of names: eight bytes behind a common prefix as one number, by which a name is looked up among many.
+//! Heads of names: eight bytes behind a prefix as one number, by which many names are sorted.
 
-ghost use Rattle.std.specs.Prelude.{◌≡◌, ◌≤◌, ◌<◌, IfOk, length, [], slice_index_or};
-ghost use Rattle.wast_base.specs.Ids.{name_of, text_of};
-ghost use Rattle.wast_namespace.specs.Namespaces.{key_of};
-ghost use Rattle.wast_namespace.specs.Places.{AreSorted, IsBetween};
-ghost use Rattle.wast_namespace.specs.Heads.{head as head_of, leading as leading_of, AreHeads, AreRising, IsCut, IsEnd};
+ghost use Rattle.std.specs.Prelude.{◌≡◌, ◌≤◌, IfOk, length, map, slice_index_or};
+ghost use Rattle.std.specs.Ordering.{is_lt};
+ghost use Rattle.std.specs.List.Sorted.{IsPermutation, IsSortedBy};
+ghost use Rattle.wast_namespace.specs.Namespaces.{key_cmp};
+ghost use Rattle.wast_namespace.specs.Places.{entry_of};
+ghost use Rattle.wast_namespace.specs.Filling.{pair_cmp};
+ghost use Rattle.wast_namespace.specs.Heads.{head as head_of, leading as leading_of, headed_cmp, seen, pair_of, with_heads as with_heads_of};
 
+use crate::order::compare_pairs;
 use std::alloc::{AllocError, Global};
 use std::cmp::Ordering;
 use wast_base::Id;
 
-/// The heads of sorted names, or none.
-#[derive(Drop)]
-pub(crate) struct Heads<'a> {
-    prefix: &'a [u8],
-    heads: Vec<u64>,
+/// A name and its number, with the head of the name.
+#[derive(Clone, Copy)]
+struct Headed<'p, 'a> {
+    head: u64,
+    pair: &'p (Id<'a>, u32),
 }
 
-impl<'a> Heads<'a> {
-    /// No heads. It takes no memory.
-    pub(crate) fn none(alloc: Global) -> Self
-        ensures { result.heads.items ≡ [] }
-    {
-        Heads {
-            prefix: b"",
-            heads: Vec::new(alloc),
-        }
-    }
-
-    /// The heads of names, behind the prefix that the written ones have in common. The names are to be sorted, or the
-    /// prefix is not the longest one.
-    pub(crate) fn of(alloc: Global, names: &[(Id<'a>, u32)]) -> Result<Self, AllocError>
-        ensures { IfOk result (λ h. AreHeads h.prefix.now h.heads.items names.now) }
-    {
-        let prefix = common_prefix(names);
-        let mut heads = Vec::new(alloc);
-        heads.reserve(names.len())?;
-        'each: for i in 0..names.len() {
-            heads.push(head(prefix, names[i].0.name().as_bytes()))?;
-        }
-        Ok(Heads { prefix, heads })
-    }
-
-    /// The places of sorted names between which a name can stand: those with its head, or all where there are no heads.
-    pub(crate) fn range(&self, names: &[(Id<'a>, u32)], id: &Id<'a>) -> (usize, usize)
-        requires sorted { AreSorted names.now }
-        requires heads { AreHeads self.now.prefix.now self.now.heads.items names.now }
-        ensures { IsBetween names.now (key_of (name_of id.now)) result.0 result.1 }
-    {
-        if self.heads.is_empty() {
-            return (0, names.len());
-        }
-        let head = head(self.prefix, id.name().as_bytes());
-        let low = below(&self.heads, head);
-        (low, not_above(&self.heads, head, low))
-    }
-
-    /// Drops the heads.
-    pub(crate) fn clear(&mut self)
-        ensures { self.new.heads.items ≡ [] }
-    {
-        self.heads.clear();
-    }
-}
-
-/// What the first and the last written name begin with alike; of sorted names it is what all written ones begin with.
-fn common_prefix<'a>(names: &[(Id<'a>, u32)]) -> &'a [u8] {
-    let first = names.iter().find(|e| !e.0.is_gensym());
-    let last = names.iter().rev().find(|e| !e.0.is_gensym());
-    match (first, last) {
-        (Some(first), Some(last)) => {
-            let text = first.0.name().as_bytes();
-            &text[..shared(text, last.0.name().as_bytes())]
-        }
-        _ => b"",
-    }
-}
-
-/// How many bytes two texts begin with alike.
-fn shared(a: &[u8], b: &[u8]) -> usize
-    ensures { result ≤ length a.now }
+/// The pairs by the name, and then by the number: most are told apart by their heads. It takes memory twice.
+pub(crate) fn in_order_by_heads<'a>(
+    alloc: Global,
+    pairs: &[(Id<'a>, u32)],
+) -> Result<Vec<(Id<'a>, u32)>, AllocError>
+    ensures permutation { IfOk result (λ es. IsPermutation pairs.now es.items) }
+    ensures sorted { IfOk result (λ es. IsSortedBy (λ a b. is_lt (pair_cmp key_cmp (entry_of a) (entry_of b))) es.items) }
 {
+    let prefix = likely_prefix(pairs);
+    let mut headed = with_heads(alloc, prefix, pairs)?;
+    headed.sort_unstable_by(|a, b| compare_headed(a, b));
+    let sorted = without_heads(alloc, &headed)?;
+    Ok(sorted)
+}
+
+/// The pairs, each with the head of its name behind a prefix.
+fn with_heads<'p, 'a>(
+    alloc: Global,
+    prefix: &[u8],
+    pairs: &'p [(Id<'a>, u32)],
+) -> Result<Vec<Headed<'p, 'a>>, AllocError>
+    ensures { IfOk result (λ hs. map seen hs.items ≡ with_heads_of prefix.now pairs.now) }
+{
+    let mut headed = Vec::with_capacity(alloc, pairs.len())?;
+    'each: for i in 0..pairs.len() {
+        let head = head(prefix, pairs[i].0.name().as_bytes());
+        headed.push(Headed {
+            head,
+            pair: &pairs[i],
+        })?;
+    }
+    Ok(headed)
+}
+
+/// The pairs alone.
+fn without_heads<'p, 'a>(
+    alloc: Global,
+    headed: &[Headed<'p, 'a>],
+) -> Result<Vec<(Id<'a>, u32)>, AllocError>
+    ensures { IfOk result (λ es. es.items ≡ map pair_of headed.now) }
+{
+    let mut pairs = Vec::with_capacity(alloc, headed.len())?;
+    'each: for i in 0..headed.len() {
+        pairs.push(*headed[i].pair)?;
+    }
+    Ok(pairs)
+}
+
+/// By the head, and then by the name and the number.
+fn compare_headed<'p, 'a>(a: &Headed<'p, 'a>, b: &Headed<'p, 'a>) -> Ordering
+    ensures { result ≡ headed_cmp (seen a.now) (seen b.now) }
+{
+    if a.head != b.head {
+        return a.head.cmp(&b.head);
+    }
+    compare_pairs(a.pair, b.pair)
+}
+
+/// What most names are taken to begin with: the most that two of three of them begin with alike. Whatever it is, heads
+/// behind it have the order of the names.
+fn likely_prefix<'a>(names: &[(Id<'a>, u32)]) -> &'a [u8] {
+    let quarter = names.len() / 4;
+    let first = written_text(&names[quarter..]);
+    let second = written_text(&names[names.len() / 2..]);
+    let third = written_text(&names[names.len() - quarter..]);
+    let prefix = longer(shared(first, second), shared(second, third));
+    longer(prefix, shared(first, third))
+}
+
+/// The text of the first written name, if there is one.
+fn written_text<'a>(names: &[(Id<'a>, u32)]) -> &'a [u8] {
+    match names.iter().find(|e| !e.0.is_gensym()) {
+        Some(pair) => pair.0.name().as_bytes(),
+        None => b"",
+    }
+}
+
+/// The longer one of two texts.
+fn longer<'a>(a: &'a [u8], b: &'a [u8]) -> &'a [u8] {
+    if a.len() < b.len() { b } else { a }
+}
+
+/// What two texts begin with alike.
+fn shared<'a>(a: &'a [u8], b: &[u8]) -> &'a [u8] {
     let most = a.len().min(b.len());
     for i in 0..most {
         if a[i] != b[i] {
-            return i;
+            return &a[..i];
         }
     }
-    most
-}
-
-/// A byte of a text; a missing one is 0.
-fn byte_at(bytes: &[u8], at: usize) -> u8
-    ensures { result ≡ slice_index_or bytes.now at 0 }
-{
-    if at < bytes.len() { bytes[at] } else { 0 }
-}
-
-/// The first eight bytes as a number, the first of them the most; missing bytes count as 0.
-fn leading(bytes: &[u8]) -> u64
-    ensures { result ≡ leading_of 8 bytes.now }
-{
-    let mut number = 0u64;
-    'byte: for i in 0..8usize {
-        let byte = byte_at(bytes, i);
-        number = number * 256 + u64::from(byte);
-    }
-    number
+    &a[..most]
 }
 
 /// The first eight bytes behind a prefix; for a text without the prefix the least number or the greatest, by its order.
@@ -122,39 +126,33 @@ fn head(prefix: &[u8], text: &[u8]) -> u64
     leading(rest)
 }
 
-/// How many numbers are below a bound, among numbers that never fall.
-fn below(numbers: &[u64], bound: u64) -> usize
-    requires { AreRising numbers.now }
-    ensures { IsCut numbers.now bound result }
+/// The first eight bytes as a number, the first of them the most; missing bytes count as 0.
+pub(crate) fn leading(bytes: &[u8]) -> u64
+    ensures { result ≡ leading_of 8 bytes.now }
 {
-    let mut low = 0;
-    let mut high = numbers.len();
-    'halve: while low < high {
-        let mid = (low + high) / 2;
-        if numbers[mid] < bound {
-            low = mid + 1;
-        } else {
-            high = mid;
-        }
+    if bytes.len() < 8 {
+        return leading_short(bytes);
     }
-    low
+    u64::from_be_bytes([
+        bytes[0], bytes[1], bytes[2], bytes[3], bytes[4], bytes[5], bytes[6], bytes[7],
+    ])
 }
 
-/// How many numbers are not above a bound, among numbers that never fall; `from` are below it.
-fn not_above(numbers: &[u64], bound: u64, from: usize) -> usize
-    requires rising { AreRising numbers.now }
-    requires cut { IsCut numbers.now bound from }
-    ensures { IsEnd numbers.now bound result }
+/// The same of a text that may have fewer than eight bytes, one byte after the other.
+fn leading_short(bytes: &[u8]) -> u64
+    ensures { result ≡ leading_of 8 bytes.now }
 {
-    if from == numbers.len() || bound < numbers[from] {
-        return from;
+    let mut number = 0u64;
+    'byte: for i in 0..8usize {
+        let byte = byte_at(bytes, i);
+        number = number * 256 + u64::from(byte);
     }
-    // most numbers stand once
-    if from + 1 == numbers.len() || bound < numbers[from + 1] {
-        return from + 1;
-    }
-    match bound.checked_add(1) {
-        Some(next) => below(numbers, next),
-        None => numbers.len(),
-    }
+    number
+}
+
+/// A byte of a text; a missing one is 0.
+fn byte_at(bytes: &[u8], at: usize) -> u8
+    ensures { result ≡ slice_index_or bytes.now at 0 }
+{
+    if at < bytes.len() { bytes[at] } else { 0 }
 }

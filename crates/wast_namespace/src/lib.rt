@@ -3,6 +3,7 @@
 
 mod filling;
 mod heads;
+mod hints;
 mod namespace;
 mod order;
 

@@ -10,10 +10,9 @@ ghost use Rattle.wast_namespace.specs.FirstUnmet.{first_unmet, Answers, known_in
 ghost use Rattle.wast_namespace.specs.Denoted.{denoted, numbered};
 ghost use Rattle.wast_namespace.specs.Outcomes.{Gives, unless_refused};
 ghost use Rattle.wast_namespace.specs.Places.{entries_of, AreSorted};
-ghost use Rattle.wast_namespace.specs.Heads.{AreHeads};
 ghost use Rattle.wast_namespace.specs.Namespaces.{NameSpace, coded_space, key_cmp, key_of, empty_from, number_in, counted, named, registered, new_item, new_name};
 
-use crate::heads::Heads;
+use crate::hints::Hints;
 use crate::order::place_between;
 use std::alloc::{AllocError, Global};
 use std::marker::Model;
@@ -22,13 +21,13 @@ use wast_base::{Error, Fault, Id, Index};
 /// A name space (text format, indices): a finite map from ids to numbers, beside a count of items.
 ///
 /// Names are those of ids: an id is found whatever its place. A count is at most 4,294,967,295. A name is found by
-/// halving.
+/// a hint where the space was filled at once with many, and else by halving.
 #[derive(Drop)]
 pub struct Namespace<'a> {
     // sorted by name
     names: Vec<(Id<'a>, u32)>,
-    // of all names or of none
-    heads: Heads<'a>,
+    // which need not tell the truth
+    hints: Hints,
     count: u32,
 }
 
@@ -39,7 +38,7 @@ impl<'a> Model for Namespace<'a> {
 
     ghost view = { λ s. record { names = finmap.from_sorted (entries_of s.names.items); count = s.count } };
 
-    ghost invariant = { λ s. AreSorted s.names.items × AreHeads s.heads.prefix.now s.heads.heads.items s.names.items };
+    ghost invariant = { λ s. AreSorted s.names.items };
 }
 
 impl<'a> Namespace<'a> {
@@ -54,18 +53,17 @@ impl<'a> Namespace<'a> {
     pub fn with_count(alloc: Global, count: u32) -> Self
         ensures { result ≡ empty_from count }
     {
-        Namespace::from_sorted(Vec::new(alloc), Heads::none(alloc), count)
+        Namespace::from_sorted(Vec::new(alloc), Hints::none(alloc), count)
     }
 
-    /// Sorted names with their heads, and a count.
-    pub(crate) fn from_sorted(names: Vec<(Id<'a>, u32)>, heads: Heads<'a>, count: u32) -> Self
-        requires sorted { AreSorted names.items }
-        requires heads { AreHeads heads.prefix.now heads.heads.items names.items }
+    /// Sorted names with hints for them, and a count.
+    pub(crate) fn from_sorted(names: Vec<(Id<'a>, u32)>, hints: Hints, count: u32) -> Self
+        requires { AreSorted names.items }
         ensures { result ≡ record { names = finmap.from_sorted (entries_of names.entry.items); count = count } }
     {
         Namespace {
             names,
-            heads,
+            hints,
             count,
         }
     }
@@ -184,22 +182,32 @@ impl<'a> Namespace<'a> {
     pub fn find(&self, id: &Id<'a>) -> Option<u32>
         ensures { result ≡ number_in self.now (name_of id.now) }
     {
-        let (low, high) = self.heads.range(&self.names, id);
-        match place_between(&self.names, id, low, high) {
+        if let Some(at) = self.hints.place(&self.names, id) {
+            return Some(self.names[at].1);
+        }
+        self.find_by_halving(id)
+    }
+
+    /// The number of an id, as [`find`](Namespace::find) gives it, without hints.
+    #[inline(never)]
+    fn find_by_halving(&self, id: &Id<'a>) -> Option<u32>
+        ensures { result ≡ number_in self.now (name_of id.now) }
+    {
+        match place_between(&self.names, id, 0, self.names.len()) {
             Ok(at) => Some(self.names[at].1),
             Err(_) => None,
         }
     }
 
-    /// Sets the number of a name, and gives the one before. Where memory is refused nothing changes. The heads are dropped,
-    /// and further names are looked up whole.
+    /// Sets the number of a name, and gives the one before. Where memory is refused nothing changes. The hints are dropped,
+    /// and names are looked up by halving alone.
     fn put(&mut self, id: Id<'a>, number: u32) -> Result<Option<u32>, AllocError>
         ensures before { IfOk result (λ before. before ≡ number_in self.old (name_of id.entry)) }
         ensures ok { OnOk result (self.new ≡ named self.old (name_of id.entry) number) }
         ensures err { OnErr result (self.new ≡ self.old) }
     {
         let before = put_among(&mut self.names, id, number)?;
-        self.heads.clear();
+        self.hints.clear();
         Ok(before)
     }
 }

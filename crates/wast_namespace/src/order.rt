@@ -3,7 +3,8 @@
 ghost use Rattle.std.specs.Prelude.{◌≡◌};
 ghost use Rattle.wast_base.specs.Ids.{name_of};
 ghost use Rattle.wast_namespace.specs.Namespaces.{key_cmp, key_of};
-ghost use Rattle.wast_namespace.specs.Places.{AreSorted, IsBetween, IsPlace};
+ghost use Rattle.wast_namespace.specs.Places.{AreSorted, IsBetween, IsPlace, entry_of};
+ghost use Rattle.wast_namespace.specs.Filling.{pair_cmp};
 
 use std::cmp::Ordering;
 use wast_base::Id;
@@ -39,6 +40,13 @@ pub(crate) fn compare<'a>(a: &Id<'a>, b: &Id<'a>) -> Ordering
     ensures { result ≡ key_cmp (key_of (name_of a.now)) (key_of (name_of b.now)) }
 {
     Key::new(a).cmp(&Key::new(b))
+}
+
+/// By the name, and then by the number.
+pub(crate) fn compare_pairs<'a>(a: &(Id<'a>, u32), b: &(Id<'a>, u32)) -> Ordering
+    ensures { result ≡ pair_cmp key_cmp (entry_of a.now) (entry_of b.now) }
+{
+    compare(&a.0, &b.0).then(a.1.cmp(&b.1))
 }
 
 /// The place of a name among sorted names, or the place where it would go. It needs that no place is below `low`, and

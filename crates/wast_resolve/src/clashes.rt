@@ -72,10 +72,10 @@ fn clash_among<'a>(alloc: Global, fields: &[StructField<'a>]) -> Option<Error<'a
 {
     match gather_fields(alloc, fields) {
         Err(e) => Some(e),
-        Ok(gathering) => {
-            let at = gathering.first_clash()?;
-            field_clash(&fields[at as usize].id)
-        }
+        Ok(gathering) => match gathering.first_clash(alloc) {
+            Err(e) => Some(e.into()),
+            Ok(at) => field_clash(&fields[at? as usize].id),
+        },
     }
 }
 

@@ -63,7 +63,7 @@ fn try_names<'a>(
     ensures stops { IfErr result (λ e. Stops (told e) 0 (length (marks_of params.now locals.now))) }
 {
     let gathering = gather_locals(alloc, params, locals)?;
-    Ok(gathering.sorted(alloc))
+    Ok(gathering.filled(alloc)?)
 }
 
 /// Whether there are 2^32 parameters and locals or more, with those of which no name is written.

@@ -39,7 +39,7 @@ fn field_names<'a>(alloc: Global, fields: &[StructField<'a>]) -> Result<Namespac
     ensures names { IfOk result (NamesFields (field_ids fields.now)) }
     ensures refusal { IfErr result (IsRefused (2 ^ 32 ≤ length (field_ids fields.now))) }
 {
-    match gather_fields(alloc, fields)?.sorted(alloc) {
+    match gather_fields(alloc, fields)?.filled(alloc)? {
         Ok(names) => Ok(names),
         Err(_) => unreachable!(),
     }

@@ -8,25 +8,25 @@ use Rattle.wast_namespace.proofs.filling.Gathering.filled.Goals as goal
 pub returns-in-Some : goal.returns-in-Some
 returns-in-Some c =
     let own = c.self.inside in
-    let es = c.put_in_order.new.pairs.items in
+    let es = c.in_ok-pairs.pairs.items in
     let are = gathered_entries 0 own.pairs.items own.count c.self.invariant ∙ ap (λ names. numbered_from 0 (keys_of names)) c.self.view_is in
     let tie : IsLeastTie (entries_of es) c.in-Some.number = rw c.deref.ensures.value at c.in-Some.ensures in
-    first_clash c.args.self own.pairs.items es are c.put_in_order.ensures.permutation c.put_in_order.ensures.sorted c.in-Some.number tie
+    first_clash c.args.self own.pairs.items es are c.in_ok-pairs.ensures.permutation c.in_ok-pairs.ensures.sorted c.in-Some.number tie
 
-pub from_sorted-requires-clause-sorted : goal.from_sorted-requires-clause-sorted
-from_sorted-requires-clause-sorted c =
+pub from_sorted-requires : goal.from_sorted-requires
+from_sorted-requires c =
     let own = c.self.inside in
-    let es = c.put_in_order.new.pairs.items in
+    let es = c.in_ok-pairs.pairs.items in
     let are = gathered_entries 0 own.pairs.items own.count c.self.invariant ∙ ap (λ names. numbered_from 0 (keys_of names)) c.self.view_is in
     let free : IsFirstTie (entries_of es) None = rw c.deref.ensures.value at c.in_default.ensures in
-    names_rise c.args.self own.pairs.items es are c.put_in_order.ensures.permutation c.put_in_order.ensures.sorted free
+    names_rise c.args.self own.pairs.items es are c.in_ok-pairs.ensures.permutation c.in_ok-pairs.ensures.sorted free
 
 pub returns : goal.returns
 returns c =
     let own = c.self.inside in
-    let es = c.put_in_order.new.pairs.items in
+    let es = c.in_ok-pairs.pairs.items in
     let are = gathered_entries 0 own.pairs.items own.count c.self.invariant ∙ ap (λ names. numbered_from 0 (keys_of names)) c.self.view_is in
     let free : IsFirstTie (entries_of es) None = rw c.deref.ensures.value at c.in_default.ensures in
     let long = gathered_length 0 own.pairs.items own.count c.self.invariant in
     let seen = ap length c.self.view_is in
-    filled_space c.args.self own.pairs.items es are c.put_in_order.ensures.permutation c.put_in_order.ensures.sorted free own.count (omega (arith, long, seen)) c.from_sorted.result c.from_sorted.ensures
+    filled_space c.args.self own.pairs.items es are c.in_ok-pairs.ensures.permutation c.in_ok-pairs.ensures.sorted free own.count (omega (arith, long, seen)) c.from_sorted.result c.from_sorted.ensures

@@ -7,5 +7,5 @@ use Rattle.wast_namespace.proofs.namespace.Namespace.pairs.Goals as goal
 
 pub returns : goal.returns
 returns c =
-    ap entries_of c.deref.ensures.value ∙ sym (entries-from_sorted key_cmp (entries_of c.self.inside.names.items) c.self.invariant.0)
+    ap entries_of c.deref.ensures.value ∙ sym (entries-from_sorted key_cmp (entries_of c.self.inside.names.items) c.self.invariant)
     ∙ ap (λ (s : NameSpace). entries s.names) c.self.view_is

@@ -1,6 +1,6 @@
 use Rattle.std.proofs.Common.{◌+◌, ◌*◌, ◌∙◌, arith}
 use Rattle.wast_namespace.proofs.Bytes.{read_more, read_fits}
-use Rattle.wast_namespace.proofs.heads.leading.Goals as goal
+use Rattle.wast_namespace.proofs.heads.leading_short.Goals as goal
 
 pub overflow_mul-number : goal.overflow_mul-number
 overflow_mul-number c =
