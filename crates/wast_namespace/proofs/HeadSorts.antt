@@ -65,7 +65,7 @@ module _ (p : List ℕ) (es : List (Id × ℕ)) (hs ks : List Headed) (are : map
       let same : length (map seen hs) ≡ length es = ap length are ∙ length-map es (λ e. (head p (key_at e).0, e)) in
       let within : k < length es = omega (arith, lt, long, same) in
       let e : seen (get_or hs k d) ≡ (head p (key_at (get_or es k (pair_of d))).0, get_or es k (pair_of d)) =
-          sym (get_or-map seen hs k d (seen d) lt) ∙ ap (λ xs. get_or xs k (seen d)) are ∙ get_or-map (λ e. (head p (key_at e).0, e)) es k (pair_of d) (seen d) within in
+      sym (get_or-map seen hs k d (seen d) lt) ∙ ap (λ xs. get_or xs k (seen d)) are ∙ get_or-map (λ e. (head p (key_at e).0, e)) es k (pair_of d) (seen d) within in
       subst (IsHeaded p) (sym e) refl
 
   pub in_order : IsSortedBy (λ a b. is_lt (headed_cmp (seen a) (seen b))) ks → IsSortedBy (λ a b. is_lt (pair_cmp key_cmp (entry_of a) (entry_of b))) (map pair_of ks)

@@ -38,7 +38,7 @@ impl Hints {
         if names.len() <= FEW {
             return Ok(Hints::none(alloc));
         }
-        let mut slots = vec![in alloc; 0; names.len().saturating_mul(3)]?;
+        let mut slots = vec![in alloc; 0; names.len().saturating_mul(4)]?;
         for i in 0..names.len() {
             let first = slot(&names[i].0, slots.len());
             if let Ok(hint) = u32::try_from(i + 1) {

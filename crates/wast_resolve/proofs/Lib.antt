@@ -35,6 +35,7 @@ pub mod KeptAlike
 pub mod Matching
 pub mod Moving
 pub mod Nameless
+pub mod NoNames
 pub mod Numbering
 pub mod OfExpanded
 pub mod OrderKept

@@ -1,17 +1,18 @@
 //! The first clash of a module, where the first one of each space is known.
 
-ghost use Rattle.std.specs.Prelude.{◌≡◌, ⊤, [], None, MatchOption, option_map, slice_index_or};
+ghost use Rattle.std.specs.Prelude.{◌≡◌, ⊤, [], None, IfOk, IfErr, MatchOption, length, map, option_map, slice_index_or};
 ghost use Rattle.wast_base.specs.Ids.{marked};
 ghost use Rattle.wast_base.specs.Faults.{told};
-ghost use Rattle.wast_base.specs.Spaces.{rank_of};
+ghost use Rattle.wast_base.specs.Spaces.{name_if, rank_of};
 ghost use Rattle.wast_tree.specs.Items.{field_ids, item, items};
 ghost use Rattle.wast_tree.specs.Known.{names_in};
 ghost use Rattle.wast_resolve.specs.Tree.{Space};
 ghost use Rattle.wast_resolve.specs.Demands.{first_unmet, item_demands, Answers, HasManyItems};
 ghost use Rattle.wast_namespace.specs.Filling.{HasFirstClash};
+ghost use Rattle.wast_resolve.specs.Gathers.{Stops};
 ghost use Rattle.wast_resolve.specs.Clashes.{countdown, counted_down, CountsDown, clash_told, field_clash_told, FindsAmong};
 
-use crate::gathers::gather_fields;
+use crate::gathers::{gather_fields, have_ids};
 use std::alloc::Global;
 use wast_tree::{Error, Fault, Id, ItemVisitor, ModuleField, Space, StructField, visit_items};
 
@@ -63,6 +64,17 @@ fn clash<'a>(space: Space, id: &Option<Id<'a>>) -> Option<Error<'a>>
     }
 }
 
+/// The position of the first field of a struct whose id an earlier one bears, if there is one.
+///
+/// It takes memory for the ids. Where it is refused, that is E12; where there are 2^32 fields or more, E10.
+fn try_fields<'a>(alloc: Global, fields: &[StructField<'a>]) -> Result<Option<u32>, Error<'a>>
+    ensures found { IfOk result (HasFirstClash (map name_if (field_ids fields.now))) }
+    ensures stops { IfErr result (λ e. Stops (told e) 0 (length (map name_if (field_ids fields.now)))) }
+{
+    let gathering = gather_fields(alloc, fields)?;
+    Ok(gathering.first_clash(alloc)?)
+}
+
 /// E3 at the first field of a struct whose id an earlier one bears, if there is one.
 ///
 /// It takes memory only where some field has an id: E12 where it is refused, and E10 only where there are 2^32 fields or
@@ -70,12 +82,12 @@ fn clash<'a>(space: Space, id: &Option<Id<'a>>) -> Option<Error<'a>>
 fn clash_among<'a>(alloc: Global, fields: &[StructField<'a>]) -> Option<Error<'a>>
     ensures { FindsAmong (field_ids fields.now) (option_map told result) }
 {
-    match gather_fields(alloc, fields) {
+    if !have_ids(fields) {
+        return None;
+    }
+    match try_fields(alloc, fields) {
         Err(e) => Some(e),
-        Ok(gathering) => match gathering.first_clash(alloc) {
-            Err(e) => Some(e.into()),
-            Ok(at) => field_clash(&fields[at? as usize].id),
-        },
+        Ok(at) => field_clash(&fields[at? as usize].id),
     }
 }
 

@@ -1,6 +1,7 @@
 //! The items of a space, gathered from the fields of a module, and the fields of a struct.
 
-ghost use Rattle.std.specs.Prelude.{◌≡◌, [], ◌∷◌, length, map, All, IfOk, IfErr, Option as Maybe};
+ghost use Rattle.std.specs.Prelude.{◌≡◌, [], ◌∷◌, is_some, length, map, All, IfOk, IfErr, Option as Maybe};
+ghost use Rattle.std.specs.List.{list_any};
 ghost use Rattle.wast_base.specs.Faults.{out_of_memory};
 ghost use Rattle.wast_base.specs.Ids.{Mark, marked};
 ghost use Rattle.wast_base.specs.Spaces.{name_if};
@@ -149,6 +150,18 @@ impl<'a> HasId<'a> for Local<'a> {
     fn id(&self) -> Option<Id<'a>> {
         self.id
     }
+}
+
+/// Whether something in a list has an id.
+pub(crate) fn have_ids<'a, T: HasId<'a>>(items: &[T]) -> bool
+    ensures { result ≡ list_any is_some (map (λ x. name_if (T.mark x)) items.now) }
+{
+    for item in items {
+        if item.id().is_some() {
+            return true;
+        }
+    }
+    false
 }
 
 /// How many of a list have ids.

@@ -1,6 +1,6 @@
 //! The names of the parameters and locals of a function.
 
-ghost use Rattle.std.specs.Prelude.{◌≡◌, ◌≤◌, ◌^◌, ◌+◌, ◌↔◌, [], length, slice_index_or, None, Some, IsTrue, IfOk, IfErr};
+ghost use Rattle.std.specs.Prelude.{◌≡◌, ◌<◌, ◌≤◌, ◌^◌, ◌+◌, ◌↔◌, [], length, slice_index_or, None, Some, IsTrue, IfOk, IfErr};
 ghost use Rattle.wast_base.specs.Ids.{marked};
 ghost use Rattle.wast_base.specs.Faults.{told};
 ghost use Rattle.wast_tree.specs.Sites.{param_marks, declaring};
@@ -11,7 +11,7 @@ ghost use Rattle.wast_namespace.specs.Filling.{FillsSpace};
 ghost use Rattle.wast_resolve.specs.Gathers.{Stops, Gathers};
 ghost use Rattle.wast_resolve.specs.Locals.{params_in, opening, marks_of, names as names_of, NumbersFrom, NumbersIn, locals_in, NamesLocals};
 
-use crate::gathers::{count_ids, gather_each};
+use crate::gathers::{count_ids, gather_each, have_ids};
 use crate::local_names::LocalNames;
 use crate::resolver::Resolver;
 use std::alloc::Global;
@@ -53,15 +53,21 @@ fn id_at<'a>(params: &[Param<'a>], locals: &[Local<'a>], at: usize) -> Option<Id
     }
 }
 
-/// The name space of parameters and locals, or the position of the first that has the name of an earlier one.
+/// The name space of parameters and locals, or the position of the first that has the name of an earlier one. It takes
+/// memory only where some of them has an id.
 fn try_names<'a>(
     alloc: Global,
     params: &[Param<'a>],
     locals: &[Local<'a>],
 ) -> Result<Result<Namespace<'a>, u32>, Error<'a>>
+    requires { length (marks_of params.now locals.now) < 2 ^ 32 }
     ensures found { IfOk result (FillsSpace (names_of (marks_of params.now locals.now))) }
     ensures stops { IfErr result (λ e. Stops (told e) 0 (length (marks_of params.now locals.now))) }
 {
+    if !have_ids(params) && !have_ids(locals) {
+        let count = params.len() + locals.len();
+        return Ok(Ok(Namespace::with_count(alloc, count as u32)));
+    }
     let gathering = gather_locals(alloc, params, locals)?;
     Ok(gathering.filled(alloc)?)
 }

@@ -1,7 +1,6 @@
 //! What is read of the types of a module, by their positions.
 
-ghost use Rattle.std.specs.Prelude.{◌≡◌, ◌≤◌, ◌^◌, is_some, None, [], ◌∷◌, ◌++◌, length, map, flat_map, IfOk, IfErr, OnOk};
-ghost use Rattle.std.specs.List.{list_any};
+ghost use Rattle.std.specs.Prelude.{◌≡◌, ◌≤◌, ◌^◌, None, [], ◌∷◌, ◌++◌, length, map, flat_map, IfOk, IfErr, OnOk};
 ghost use Rattle.wast_base.specs.Faults.{out_of_memory};
 ghost use Rattle.wast_base.specs.Spaces.{name_if};
 ghost use Rattle.wast_tree.specs.Items.{field_ids, fields_of};
@@ -11,25 +10,13 @@ ghost use Rattle.wast_resolve.specs.Resolvers.{read_shape};
 ghost use Rattle.wast_resolve.specs.Scopes.{Function, struct_shape, shape_of, shapes_in, shapes};
 ghost use Rattle.wast_resolve.specs.Shaping.{NamesFields, type_demands, types_demands, type_fields, types_fields, IsRefused};
 
-use crate::gathers::gather_fields;
+use crate::gathers::{gather_fields, have_ids};
 use crate::resolver::TypeShape;
 use std::alloc::Global;
 use std::slice;
 use wast_namespace::Namespace;
 use wast_tree::{Error, FunctionType, InnerTypeKind, ModuleField, StructField, Type};
 use wast_types::TypeReference;
-
-/// Whether some field has an id.
-fn have_ids<'a>(fields: &[StructField<'a>]) -> bool
-    ensures { result ≡ list_any is_some (map name_if (field_ids fields.now)) }
-{
-    for field in fields {
-        if field.id.is_some() {
-            return true;
-        }
-    }
-    false
-}
 
 /// What the ids of the fields of a struct denote; no two are the same.
 ///

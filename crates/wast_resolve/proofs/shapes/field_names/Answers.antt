@@ -17,9 +17,9 @@ returns-in_err-gather_fields-clause-refusal c =
 
 pub returns-clause-names : goal.returns-clause-names
 returns-clause-names c = λ name.
-    let filled : IsFilled c.in_ok-gather_fields.field-0 c.in-Ok.names = subst (FillsSpace c.in_ok-gather_fields.field-0) c.in-Ok.is c.sorted.ensures in
+    let filled : IsFilled c.in_ok-gather_fields.field-0 c.in-Ok.names = subst (FillsSpace c.in_ok-gather_fields.field-0) c.in-Ok.is c.in_ok-names.ensures in
     filled.number name ∙ ap (position_of name) c.in_ok-gather_fields.ensures
 
 pub unreachable-requires : goal.unreachable-requires
 unreachable-requires c =
-    no_clash (field_ids c.args.fields.now) c.in_ok-gather_fields.ensures (subst (FillsSpace c.in_ok-gather_fields.field-0) c.in-Err.is c.sorted.ensures) c.requires
+    no_clash (field_ids c.args.fields.now) c.in_ok-gather_fields.ensures (subst (FillsSpace c.in_ok-gather_fields.field-0) c.in-Err.is c.in_ok-names.ensures) c.requires
