@@ -6,9 +6,11 @@ pub mod EntityCodes
 pub mod ExpressionCodes
 pub mod FieldCodes
 pub mod InstrCodes
+pub mod PutLengths
 pub mod Instructing
 pub mod Numbers
 pub mod RefTypeCodes
+pub mod Setting
 pub mod SignedNumbers
 pub mod Sinking
 pub mod TypeCodes

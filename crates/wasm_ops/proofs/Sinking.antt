@@ -13,7 +13,7 @@ use Rattle.wasm_ops.specs.declared.sink.Refusal.{Refusal}
 use Rattle.wasm_ops.specs.Sinks.{SinkRules, IsRefusal, Writes, Puts, Skips, AppendLaws, refused_as}
 
 -- what has no room behind x has none where x is a part
-refused_behind : {S : Type 0} (rules : SinkRules S) (all part : Type 0) (a b : S) (x y whole : List ℕ) (e : Refusal)
+pub refused_behind : {S : Type 0} (rules : SinkRules S) (all part : Type 0) (a b : S) (x y whole : List ℕ) (e : Refusal)
     → AppendLaws rules → length x + length y ≤ length whole → (all → part) → rules.appended a b x → IsRefusal rules b (length y) part e → IsRefusal rules a (length whole) all e
 refused_behind rules all part a b x y whole e laws le has h r =
     elim r [
@@ -43,7 +43,7 @@ pub written_as : {S A : Type 0} (rules : SinkRules S) (one other : Type 0) (a b 
 written_as rules one other a b x y r f g is p = subst (λ z. Writes rules other a b z r) is (puts_as rules one other a b x r f g p)
 
 -- what was no error was appended, and is in range
-was_put : {S A : Type 0} (rules : SinkRules S) (in_range : Type 0) (a b : S) (x : List ℕ) (r : Result A Refusal)
+pub was_put : {S A : Type 0} (rules : SinkRules S) (in_range : Type 0) (a b : S) (x : List ℕ) (r : Result A Refusal)
     → Writes rules in_range a b x r → is_err r ≡ false → rules.appended a b x × in_range
 was_put rules in_range a b x (Ok t) p good = p
 was_put rules in_range a b x (Err e) p good = absurd cc
@@ -80,6 +80,15 @@ pub cut_after_no : {S A : Type 0} (rules : SinkRules S) (all part : Type 0) (a b
     → AppendLaws rules → length x + length y ≤ length whole → (all → part) → rules.appended a b x → Skips rules b s count says → says ≡ false → Writes rules part s c y r → is_err r ≡ true → n ≡ rules.size_of a → rules.is_cut c n d → Writes rules all a d whole r
 cut_after_no rules all part a b s c d x y whole n count says r laws le has h told says_no p bad at k =
     cut_back rules all part a s c d x y whole n r laws le has (subst (λ t. rules.appended a t x) (sym (said_no rules b s count says told says_no)) h) p bad at k
+
+-- nothing was appended before
+pub after_nothing : {S A : Type 0} (rules : SinkRules S) (in_range : Type 0) (a b c : S) (x : List ℕ) (r : Result A Refusal)
+    → AppendLaws rules → rules.appended a b [] → Writes rules in_range b c x r → Writes rules in_range a c x r
+after_nothing rules in_range a b c x (Ok t) laws h p = (laws.joins a b c [] x h p.0, p.1)
+after_nothing rules in_range a b c x (Err e) laws h p = (
+  laws.joins a b c [] [] h p.0,
+  refused_behind rules in_range in_range a b [] x x e laws (omega arith) (λ i. i) h p.1,
+)
 
 -- a call that tells a refusal by its error
 pub told_as : {S : Type 0} (rules : SinkRules S) (in_range : Type 0) (a b : S) (x : List ℕ) (r : Refusal) (e : Error)

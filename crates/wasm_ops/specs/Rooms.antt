@@ -1,7 +1,9 @@
 -- Bytes, and room for so many more; and the laws that they meet as a sink.
-use Rattle.std.proofs.Common.{◌≡◌, ◌≤◌, ◌+◌, ◌-◌, ℕ, List, [], ◌++◌, take, length, refl, sym, ap, ◌∙◌, append_assoc, arith, length-append}
+use Rattle.std.proofs.Common.{◌≡◌, ◌≤◌, ◌+◌, ◌-◌, ℕ, List, [], ◌∷◌, ◌++◌, take, length, refl, sym, ap, ◌∙◌, append_assoc, arith, length-append}
 use Rattle.std.specs.Coded.{Coded, code_by, coded×, coded_list, coded_ℕ}
 use Rattle.std.proofs.lemmas.List.{append-nil, take_at}
+use Rattle.wasm_ops.specs.Leb128.{unsigned}
+use Rattle.wasm_ops.specs.SinkLaws as laws
 use Rattle.wasm_ops.specs.Sinks.{SinkRules}
 use Rattle.wasm_ops.specs.declared.sink.Refusal.TheVariants as refusal
 
@@ -23,6 +25,10 @@ appended a b x = (b.items ≡ a.items ++ x) × (b.left + length x ≡ a.left)
 abbrev pub is_cut : Filled → ℕ → Filled → Type 0
 is_cut a n b = (b.items ≡ take n a.items) × (b.left + n ≡ a.left + length a.items)
 
+-- the number's bytes stand in the place of the byte there, and the room is less by those that it has more than one
+abbrev pub is_set : Filled → ℕ → ℕ → Filled → Type 0
+is_set a at n b = (b.items ≡ laws.with_number a.items at n) × (b.left + length (unsigned n) ≡ a.left + 1)
+
 pub none : (a : Filled) → appended a a []
 none a = (sym (append-nil a.items), omega arith)
 
@@ -35,6 +41,9 @@ joins a b c x y h k = (k.0 ∙ ap (λ l. l ++ y) h.0 ∙ append_assoc a.items x 
 pub cuts_back : (a b c : Filled) (x : List ℕ) → appended a b x → is_cut b (length a.items) c → appended a c []
 cuts_back a b c x h k = (k.0 ∙ ap (take (length a.items)) h.0 ∙ take_at a.items x (length a.items) refl ∙ sym (append-nil a.items), omega (arith, grows a b x h, h.1, k.1))
 
+pub sets : (a b c : Filled) (byte n : ℕ) (x : List ℕ) → appended a b (byte ∷ x) → is_set b (length a.items) n c → appended a c (unsigned n ++ x)
+sets a b c byte n x h k = (laws.sets a.items b.items c.items byte n x h.0 k.0, omega (arith, length-append (unsigned n) x, h.1, k.1))
+
 pub fits_less : (a : Filled) (m n : ℕ) → m ≤ n → n ≤ a.left → m ≤ a.left
 fits_less a m n le h = omega (arith, le, h)
 
@@ -43,4 +52,4 @@ fits_rest a b x n le h k = omega (arith, le, h, k.1)
 
 -- what there is room for fits; the rest is too large
 abbrev pub rules : SinkRules Filled
-rules = record { appended = appended; fits = λ a n. n ≤ a.left; size_of = λ a. length a.items; is_cut = is_cut; refusal = refusal.TooLarge }
+rules = record { appended = appended; fits = λ a n. n ≤ a.left; size_of = λ a. length a.items; is_cut = is_cut; is_set = is_set; refusal = refusal.TooLarge }

@@ -1,7 +1,8 @@
 -- What a writer does to a sink: it appends all of its bytes, or none.
-use Rattle.std.specs.Prelude.{◌≡◌, ◌⊎◌, ◌+◌, ◌-◌, ◌≤◌, ℕ, Bool, true, false, List, [], ◌++◌, length, Result, Ok, Err}
+use Rattle.std.specs.Prelude.{◌≡◌, ◌⊎◌, ◌+◌, ◌-◌, ◌≤◌, ℕ, Bool, true, false, List, [], ◌∷◌, ◌++◌, length, Result, Ok, Err}
 use Rattle.wast_base.specs.declared.faults.Error.{Error}
 use Rattle.wast_base.specs.Faults.{too_large, out_of_memory}
+use Rattle.wasm_ops.specs.Leb128.{unsigned}
 use Rattle.wasm_ops.specs.declared.sink.Refusal.{Refusal}
 use Rattle.wasm_ops.specs.declared.sink.Refusal.TheVariants as refusal
 
@@ -15,6 +16,8 @@ pub record SinkRules (S : Type 0) : Type 1 where
   pub size_of : S → ℕ
   -- what cutting to a size leaves
   pub is_cut : S → ℕ → S → Type 0
+  -- what it leaves to put a number's bytes in the place of the byte at a place
+  pub is_set : S → ℕ → ℕ → S → Type 0
   -- the refusal where there is no room
   pub refusal : Refusal
 
@@ -46,7 +49,12 @@ abbrev pub Skips : {S : Type 0} → SinkRules S → S → S → ℕ → Bool →
 Skips rules old new count true = (bytes : List ℕ) → length bytes ≡ count → rules.appended old new bytes
 Skips rules old new count false = new ≡ old
 
--- how appending, sizes, cutting and room go together
+-- who says yes has put the number's bytes in the place of the byte there; who says no stays as it was
+abbrev pub Sets : {S : Type 0} → SinkRules S → S → S → ℕ → ℕ → Bool → Type 0
+Sets rules old new at n true = rules.is_set old at n new
+Sets rules old new at n false = rules.appended old new []
+
+-- how appending, sizes, cutting, setting and room go together
 pub record AppendLaws {S : Type 0} (rules : SinkRules S) : Type 0 where
   pub none : (a : S) → rules.appended a a []
   pub grows : (a b : S) (x : List ℕ) → rules.appended a b x → rules.size_of b ≡ rules.size_of a + length x
@@ -54,6 +62,8 @@ pub record AppendLaws {S : Type 0} (rules : SinkRules S) : Type 0 where
       → rules.appended a c (x ++ y)
   pub cuts_back : (a b c : S) (x : List ℕ) → rules.appended a b x → rules.is_cut b (rules.size_of a) c
       → rules.appended a c []
+  pub sets : (a b c : S) (byte n : ℕ) (x : List ℕ) → rules.appended a b (byte ∷ x)
+      → rules.is_set b (rules.size_of a) n c → rules.appended a c (unsigned n ++ x)
   pub fits_less : (a : S) (m n : ℕ) → m ≤ n → rules.fits a n → rules.fits a m
   pub fits_rest : (a b : S) (x : List ℕ) (n : ℕ) → length x ≤ n → rules.fits a n → rules.appended a b x
       → rules.fits b (n - length x)

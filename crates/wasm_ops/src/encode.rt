@@ -279,8 +279,24 @@ impl<T: Encode> Encode for WithLength<T> {
     ghost is_ready = { λ s. T.is_ready s.0 };
 
     fn encode<S: Sink>(&self, out: &mut S) -> Result<(), Refusal> {
-        let length = length_of(&self.0)?;
-        put_sized(out, u64::from(length), &self.0)
+        // Most lengths have one byte: it is put first, and set to the length once this is known.
+        let start = out.size();
+        out.push_bytes(&[0])?;
+        let value = self.0.encode(out);
+        if value.is_err() {
+            out.cut(start);
+            return value;
+        }
+        let size = out.size() - start - 1;
+        if u32::try_from(size).is_err() {
+            out.cut(start);
+            return Err(Refusal::TooLarge);
+        }
+        if out.set_number(start, size) {
+            return Ok(());
+        }
+        out.cut(start);
+        put_sized(out, size, &self.0)
     }
 }
 

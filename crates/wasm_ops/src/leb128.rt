@@ -1,7 +1,8 @@
 //! Numbers as bytes: LEB128, unsigned and signed.
 
-ghost use Rattle.std.specs.Prelude.{◌≡◌, true, ◌≤◌, ◌<◌, ◌^◌, ◌≤ℤ◌, pos, negsuc, take, length};
+ghost use Rattle.std.specs.Prelude.{◌≡◌, true, ◌≤◌, ◌<◌, ◌+◌, ◌^◌, ◌≤ℤ◌, pos, negsuc, take, length, vec_len, vec_capacity};
 ghost use Rattle.wasm_ops.specs.Leb128.{unsigned, signed, digits, turned};
+ghost use Rattle.wasm_ops.specs.SinkLaws.{with_number};
 ghost use Rattle.wasm_ops.specs.Sinks.{Writes, Puts};
 ghost use Rattle.wasm_ops.specs.Spelling.{InRangeS64};
 
@@ -46,6 +47,33 @@ pub fn width(n: u64) -> u64
         len += 1;
     }
     len
+}
+
+/// How many bytes an unsigned number has behind its first.
+pub(crate) fn further_width(n: u64) -> u64
+    ensures { result + 1 ≡ length (unsigned n) }
+{
+    width(n) - 1
+}
+
+/// Puts the bytes of a number in the place of a byte of a vector that has the room for them. It takes no memory.
+pub(crate) fn set_unsigned(out: &mut Vec<u8>, at: usize, n: u64)
+    requires in_bounds { at < vec_len out.old }
+    requires room { vec_len out.old + length (unsigned n) ≤ vec_capacity out.old + 1 }
+    ensures items { out.new.items ≡ with_number out.old.items at n }
+    ensures capacity { vec_capacity out.old ≤ vec_capacity out.new }
+{
+    let mut place = at;
+    let mut rest = n;
+    'digits: while rest >= 128 {
+        match out.insert(place, 128 + (rest % 128) as u8) {
+            Ok(()) => {}
+            Err(_) => unreachable!(),
+        }
+        rest /= 128;
+        place += 1;
+    }
+    out[place] = rest as u8;
 }
 
 /// Appends an unsigned number (binary format, integers: `u64`).

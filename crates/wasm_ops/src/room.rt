@@ -6,7 +6,7 @@ ghost use Rattle.wasm_ops.specs.Leb128.{unsigned};
 ghost use Rattle.wasm_ops.specs.Rooms as rooms;
 ghost use Rattle.wasm_ops.specs.Sinks.{Writes};
 
-use crate::leb128::unsigned_bytes;
+use crate::leb128::{further_width, set_unsigned, unsigned_bytes};
 use crate::sink::{Refusal, Sink};
 use std::alloc::Global;
 use std::marker::Model;
@@ -135,11 +135,22 @@ impl Sink for Room {
         self.bytes.truncate(size);
     }
 
+    fn set_number(&mut self, at: u64, n: u64) -> bool {
+        let more = further_width(n) as usize;
+        if self.left < more {
+            return false;
+        }
+        set_unsigned(&mut self.bytes, at as usize, n);
+        self.left -= more;
+        true
+    }
+
     ghost laws = { record {
       none = rooms.none;
       grows = rooms.grows;
       joins = rooms.joins;
       cuts_back = rooms.cuts_back;
+      sets = rooms.sets;
       fits_less = λ a m n. rooms.fits_less a m n;
       fits_rest = rooms.fits_rest;
     } };

@@ -3,11 +3,11 @@
 ghost use Rattle.std.specs.Prelude.{◌≡◌, ◌≤◌, ◌<◌, ◌+◌, ◌^◌, ℕ, List, ◌++◌, take, length};
 ghost use Rattle.wasm_ops.specs.Leb128.{unsigned};
 ghost use Rattle.wasm_ops.specs.SinkLaws as laws;
-ghost use Rattle.wasm_ops.specs.Sinks.{SinkRules, Writes, Puts, Skips, AppendLaws, refused_as};
+ghost use Rattle.wasm_ops.specs.Sinks.{SinkRules, Writes, Puts, Skips, Sets, AppendLaws, refused_as};
 ghost use Rattle.wasm_ops.specs.declared.sink.Refusal.{Refusal};
 ghost use Rattle.wasm_ops.specs.declared.sink.Refusal.TheVariants as refusal;
 
-use crate::leb128::{unsigned_bytes, width};
+use crate::leb128::{further_width, set_unsigned, unsigned_bytes, width};
 use std::marker::Model;
 use wast_base::{Error, Fault};
 
@@ -93,6 +93,19 @@ pub trait Sink {
         false
     }
 
+    /// Puts the bytes of an unsigned number, the shortest, in the place of the byte that stands at a place; what stands
+    /// behind that byte stands behind them. It needs a place below [`Sink::size`].
+    ///
+    /// `true` says that the sink now stands as if they had been appended there; `false` says that it did nothing, and
+    /// stays as it was. A sink that cannot change what was put says `false`.
+    fn set_number(&mut self, at: u64, n: u64) -> bool
+        requires { at < rules.size_of self.old }
+        ensures { Sets rules self.old self.new at n result }
+    {
+        let _ = (at, n);
+        false
+    }
+
     /// What was appended can be joined and cut back.
     ghost laws: { AppendLaws rules };
 }
@@ -104,6 +117,7 @@ impl Sink for Vec<u8> {
       fits = λ _ _. ⊥;
       size_of = λ a. length a.items;
       is_cut = λ a n b. b.items ≡ take n a.items;
+      is_set = λ a at n b. b.items ≡ laws.with_number a.items at n;
       refusal = refusal.Memory;
     } };
 
@@ -126,11 +140,22 @@ impl Sink for Vec<u8> {
         self.truncate(size as usize);
     }
 
+    fn set_number(&mut self, at: u64, n: u64) -> bool {
+        match self.reserve(further_width(n) as usize) {
+            Ok(()) => {
+                set_unsigned(self, at as usize, n);
+                true
+            }
+            Err(_) => false,
+        }
+    }
+
     ghost laws = { record {
       none = λ a. laws.none a.items;
       grows = λ a b x. laws.grows a.items b.items x;
       joins = λ a b c x y. laws.joins a.items b.items c.items x y;
       cuts_back = λ a b c x. laws.cuts_back a.items b.items c.items x;
+      sets = λ a b c byte n x. laws.sets a.items b.items c.items byte n x;
       fits_less = λ a m n le h. h;
       fits_rest = λ a b x n le h e. h;
     } };
@@ -174,6 +199,7 @@ impl Sink for Length {
       fits = λ a n. a + n < 2 ^ 64;
       size_of = λ a. a;
       is_cut = λ a n b. b ≡ n;
+      is_set = λ a at n b. laws.count_with a n b;
       refusal = refusal.TooLarge;
     } };
 
@@ -205,6 +231,14 @@ impl Sink for Length {
         true
     }
 
+    fn set_number(&mut self, _at: u64, n: u64) -> bool {
+        let Some(count) = self.count.checked_add(further_width(n)) else {
+            return false;
+        };
+        self.count = count;
+        true
+    }
+
     fn size(&self) -> u64 {
         self.count()
     }
@@ -218,6 +252,7 @@ impl Sink for Length {
       grows = λ a b x e. e;
       joins = λ a b c x y. laws.count_joins a b c x y;
       cuts_back = λ a b c x d e. laws.count_cuts a c e;
+      sets = λ a b c byte n x. laws.count_sets a b c byte n x;
       fits_less = λ a m n. laws.count_less a m n;
       fits_rest = λ a b x n. laws.count_rest a b x n;
     } };
