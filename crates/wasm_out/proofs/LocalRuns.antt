@@ -1,5 +1,5 @@
 -- Runs of locals: they give the locals back, and are no longer than these.
-use Rattle.std.proofs.Common.{◌≡◌, ◌<◌, ◌≤◌, ◌+◌, ◌-◌, ℕ, zero, suc, Bool, true, false, ◌&&◌, List, [], ◌∷◌, ◌++◌, length, map, drop, get_or, replicate, refl, sym, ap, ◌∙◌, subst, add-one, arith, drop-cons}
+use Rattle.std.proofs.Common.{◌≡◌, ◌<◌, ◌≤◌, ◌+◌, ℕ, zero, suc, Bool, true, false, ◌&&◌, List, [], ◌∷◌, ◌++◌, length, map, drop, get_or, replicate, refl, sym, ap, ◌∙◌, subst, add-one, arith, drop-cons}
 use Rattle.std.specs.Prelude.{All}
 use Rattle.std.specs.List.{flat_map, list_all}
 use Rattle.std.proofs.lemmas.List.{drop_all, length-map}
@@ -37,40 +37,54 @@ replicate_more : (n : ℕ) (t : ValType) (us : List ValType) → replicate n t +
 replicate_more zero t us = refl
 replicate_more (suc n) t us = ap (λ l. t ∷ l) (replicate_more n t us)
 
+-- an item and those behind it
+next_local : {X : Type 0} (f : X → ValType) (xs : List X) (at : ℕ) (u : ValType) (x : X) → at < length xs → x ≡ get_or xs at x → u ≡ f x → map f (drop at xs) ≡ u ∷ map f (drop (at + 1) xs)
+next_local f xs at u x lt is told =
+    ap (map f) (drop-cons xs at x lt) ∙ ap (λ y. f y ∷ map f (drop (suc at) xs)) (sym is)
+    ∙ ap (λ v. v ∷ map f (drop (suc at) xs)) (sym told) ∙ ap (λ k. u ∷ map f (drop k xs)) (sym (add-one at))
+
+own_twice : (t : ValType) (rs : List LocalRun) → length (with_local t (with_local t rs)) ≡ length (with_local t rs)
+own_twice t [] = ap length (with_own 1 t [])
+own_twice t (r ∷ rs) = own_front (is_same_type t r.1) t r rs
+  where
+    own_front : (b : Bool) (t : ValType) (r : LocalRun) (rs : List LocalRun) → length (with_local t (in_front b t r rs)) ≡ length (in_front b t r rs)
+    own_front true t r rs = ap length (with_own (r.0 + 1) t rs)
+    own_front false t r rs = ap length (with_own 1 t (r ∷ rs))
+
+-- the next item is of the type in front of it, and begins no run
+pub count_same : {X : Type 0} (f : X → ValType) (xs : List X) (at : ℕ) (t u : ValType) (x : X) → at < length xs → x ≡ get_or xs at x → u ≡ f x → is_same_type t u ≡ true
+    → length (local_runs (t ∷ map f (drop at xs))) ≡ length (local_runs (t ∷ map f (drop (at + 1) xs)))
+count_same f xs at t u x lt is told same =
+    let us = map f (drop (at + 1) xs) in
+    ap (λ l. length (local_runs (t ∷ l))) (next_local f xs at u x lt is told) ∙ ap (λ v. length (local_runs (t ∷ v ∷ us))) (sym (type_is t u same)) ∙ own_twice t (local_runs us)
+
+-- the next item is of another type, and begins a run
+pub count_other : {X : Type 0} (f : X → ValType) (xs : List X) (at : ℕ) (t u : ValType) (x : X) → at < length xs → x ≡ get_or xs at x → u ≡ f x → is_same_type t u ≡ false
+    → length (local_runs (t ∷ map f (drop at xs))) ≡ suc (length (local_runs (u ∷ map f (drop (at + 1) xs))))
+count_other f xs at t u x lt is told other =
+    ap (λ l. length (local_runs (t ∷ l))) (next_local f xs at u x lt is told) ∙ ap length (with_other t u (local_runs (map f (drop (at + 1) xs))) other)
+
 -- the next item is of the type of those in front
-pub run_grows : {X : Type 0} (f : X → ValType) (xs : List X) (at n : ℕ) (t : ValType) (x : X) → at + n < length xs → x ≡ get_or xs (at + n) x → is_same_type t (f x) ≡ true
-    → map f (drop at xs) ≡ replicate n t ++ map f (drop (at + n) xs) → map f (drop at xs) ≡ replicate (n + 1) t ++ map f (drop (at + (n + 1)) xs)
-run_grows f xs at n t x lt is same told =
-    let i = at + n in
-    let next : at + (n + 1) ≡ suc i = omega arith in
-    told ∙ ap (λ l. replicate n t ++ map f l) (drop-cons xs i x lt) ∙ ap (λ y. replicate n t ++ (f y ∷ map f (drop (suc i) xs))) (sym is)
-    ∙ ap (λ v. replicate n t ++ (v ∷ map f (drop (suc i) xs))) (sym (type_is t (f x) same)) ∙ replicate_more n t (map f (drop (suc i) xs))
-    ∙ ap (λ m. replicate m t ++ map f (drop (suc i) xs)) (sym (add-one n)) ∙ ap (λ m. replicate (n + 1) t ++ map f (drop m xs)) (sym next)
+pub run_grows : {X : Type 0} (f : X → ValType) (xs : List X) (at n : ℕ) (t u : ValType) (x : X) → at < length xs → x ≡ get_or xs at x → u ≡ f x → is_same_type t u ≡ true
+    → local_runs (replicate n t ++ map f (drop at xs)) ≡ local_runs (replicate (n + 1) t ++ map f (drop (at + 1) xs))
+run_grows f xs at n t u x lt is told same =
+    let us = map f (drop (at + 1) xs) in
+    ap local_runs (
+    ap (λ l. replicate n t ++ l) (next_local f xs at u x lt is told) ∙ ap (λ v. replicate n t ++ (v ∷ us)) (sym (type_is t u same))
+    ∙ replicate_more n t us ∙ ap (λ m. replicate m t ++ us) (sym (add-one n))
+    )
 
 -- the next item is of another type
-pub run_ends : {X : Type 0} (f : X → ValType) (xs : List X) (at n : ℕ) (t : ValType) (x : X) → 0 < n → at + n < length xs → x ≡ get_or xs (at + n) x → is_same_type t (f x) ≡ false
-    → map f (drop at xs) ≡ replicate n t ++ map f (drop (at + n) xs) → local_runs (map f (drop at xs)) ≡ (n, t) ∷ local_runs (map f (drop (at + n) xs))
-run_ends f xs at zero t x some lt is other told = absurd (omega (arith, some))
-run_ends f xs at (suc n) t x some lt is other told =
-    let i = at + suc n in
-    let next : map f (drop i xs) ≡ f x ∷ map f (drop (suc i) xs) = ap (map f) (drop-cons xs i x lt) ∙ ap (λ y. f y ∷ map f (drop (suc i) xs)) (sym is) in
-    ap local_runs told ∙ ap (λ l. local_runs (replicate (suc n) t ++ l)) next ∙ runs_then n t (f x) (map f (drop (suc i) xs)) other ∙ ap (λ l. (suc n, t) ∷ local_runs l) (sym next)
+pub run_ends : {X : Type 0} (f : X → ValType) (xs : List X) (at n : ℕ) (t u : ValType) (x : X) → 0 < n → at < length xs → x ≡ get_or xs at x → u ≡ f x → is_same_type t u ≡ false
+    → local_runs (replicate n t ++ map f (drop at xs)) ≡ (n, t) ∷ local_runs (u ∷ map f (drop (at + 1) xs))
+run_ends f xs at zero t u x some lt is told other = absurd (omega (arith, some))
+run_ends f xs at (suc n) t u x some lt is told other =
+    ap (λ l. local_runs (replicate (suc n) t ++ l)) (next_local f xs at u x lt is told) ∙ runs_then n t u (map f (drop (at + 1) xs)) other
 
 -- no item is left
-run_whole : {X : Type 0} (f : X → ValType) (xs : List X) (at n : ℕ) (t : ValType) → 0 < n → length xs ≤ at + n
-    → map f (drop at xs) ≡ replicate n t ++ map f (drop (at + n) xs) → local_runs (map f (drop at xs)) ≡ (n, t) ∷ local_runs (map f (drop (at + n) xs))
-run_whole f xs at zero t some le told = absurd (omega (arith, some))
-run_whole f xs at (suc n) t some le told =
-    let none = ap (map f) (drop_all (at + suc n) xs le) in
-    ap local_runs told ∙ ap (λ l. local_runs (replicate (suc n) t ++ l)) none ∙ runs_one n t ∙ ap (λ l. (suc n, t) ∷ local_runs l) (sym none)
-
-pub run_last : {X : Type 0} (f : X → ValType) (xs : List X) (at n : ℕ) (t : ValType) → 0 < n → n ≡ length xs - at
-    → map f (drop at xs) ≡ replicate n t ++ map f (drop (at + n) xs) → local_runs (map f (drop at xs)) ≡ (length xs - at, t) ∷ local_runs (map f (drop (at + (length xs - at)) xs))
-run_last f xs at n t some is told = run_whole f xs at n t some (omega (arith, is)) told ∙ ap (λ m. (m, t) ∷ local_runs (map f (drop (at + m) xs))) is
-
--- no run is left
-pub no_run_left : {X : Type 0} (f : X → ValType) (xs : List X) (i : ℕ) → length xs ≤ i → local_runs (map f (drop i xs)) ≡ []
-no_run_left f xs i le = ap (λ ys. local_runs (map f ys)) (drop_all i xs le)
+pub run_last : {X : Type 0} (f : X → ValType) (xs : List X) (at n : ℕ) (t : ValType) → 0 < n → length xs ≤ at → local_runs (replicate n t ++ map f (drop at xs)) ≡ (n, t) ∷ []
+run_last f xs at zero t some le = absurd (omega (arith, some))
+run_last f xs at (suc n) t some le = ap (λ ys. local_runs (replicate (suc n) t ++ map f ys)) (drop_all at xs le) ∙ runs_one n t
 
 -- ---- what runs stand for
 

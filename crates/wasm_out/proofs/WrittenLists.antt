@@ -1,5 +1,5 @@
 -- A list that is written element by element, each found in what is left of it.
-use Rattle.std.proofs.Common.{◌≡◌, ◌<◌, ◌≤◌, ◌+◌, ℕ, suc, true, false, List, [], ◌∷◌, length, take, drop, get_or, Result, is_err, sym, ap, ◌∙◌, subst, add-one, arith, drop-cons, length-drop}
+use Rattle.std.proofs.Common.{◌≡◌, ◌<◌, ◌≤◌, ◌+◌, ℕ, suc, true, false, List, [], ◌∷◌, length, take, drop, get_or, Result, Ok, Err, is_err, refl, sym, ap, ◌∙◌, subst, add-one, arith, drop-cons, length-drop}
 use Rattle.std.specs.Prelude.{All}
 use Rattle.std.specs.List.{flat_map}
 use Rattle.std.proofs.lemmas.List.{take_all}
@@ -55,3 +55,10 @@ pub written_all : {S X : Type 0} (rules : SinkRules S) (spell : X → List ℕ) 
 written_all rules spell in_range all left a b w none =
     let whole = take_all w.done all (none_next all w.done (w.behind ∙ none)) in
     (subst (λ xs. rules.appended a b (flat_map spell xs)) whole w.appended, subst (All in_range) whole w.fitting)
+
+-- the last element was written
+pub written_last : {S A X : Type 0} (rules : SinkRules S) (spell : X → List ℕ) (in_range : X → Type 0) (all left : List X) (a b c : S) (x : X) (r : Result A Refusal)
+    → AppendLaws rules → Written rules spell in_range all left a b → left ≡ x ∷ [] → Writes rules (in_range x) b c (spell x) r → is_err r ≡ false → Writes rules (All in_range all) a c (flat_map spell all) r
+written_last rules spell in_range all left a b c x (Ok t) laws w last p good =
+    written_all rules spell in_range all [] a c (written_more rules spell in_range all left [] a b c x (Ok t) laws w last p good) refl
+written_last rules spell in_range all left a b c x (Err e) laws w last p good = absurd cc

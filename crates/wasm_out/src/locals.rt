@@ -42,36 +42,22 @@ fn is_same(one: ValType, other: ValType) -> bool
     one == other
 }
 
-/// The maximal run from an item on: how many items have its type, and that type.
-#[tactic(auto, using(crate::proofs::LocalRuns::run_grows, crate::proofs::LocalRuns::run_ends, crate::proofs::LocalRuns::run_last))]
-fn run_from<T, W: LocalType<T>>(items: &[T], at: usize, way: &W) -> (usize, ValType)
-    requires in_bounds { at < length items.now }
-    requires ready { IsTrue (list_all (λ x. W.is_ready way.now x && is_covered_val_type (W.ty way.now x)) items.now) }
-    ensures run { local_runs (map (W.ty way.now) (drop at items.now))
-        ≡ result ∷ local_runs (map (W.ty way.now) (drop (at + result.0) items.now)) }
-    ensures some { 0 < result.0 }
-    ensures within { at + result.0 ≤ length items.now }
-    ensures covered { IsTrue (is_covered_val_type result.1) }
-{
-    let ty = way.local_type(&items[at]);
-    for count in 1..items.len() - at {
-        if !is_same(ty, way.local_type(&items[at + count])) {
-            return (count, ty);
-        }
-    }
-    (items.len() - at, ty)
-}
-
 /// How many maximal runs of equal types there are.
-#[tactic(auto, using(crate::proofs::LocalRuns::few_runs, crate::proofs::LocalRuns::no_run_left))]
 fn count_runs<T, W: LocalType<T>>(items: &[T], way: &W) -> usize
     requires { IsTrue (list_all (λ x. W.is_ready way.now x && is_covered_val_type (W.ty way.now x)) items.now) }
     ensures { result ≡ length (local_runs (map (W.ty way.now) items.now)) }
 {
-    let mut count = 0;
-    let mut at = 0;
-    while at < items.len() {
-        at += run_from(items, at, way).0;
+    if items.is_empty() {
+        return 0;
+    }
+    let mut ty = way.local_type(&items[0]);
+    let mut count = 1;
+    for at in 1..items.len() {
+        let next = way.local_type(&items[at]);
+        if is_same(ty, next) {
+            continue;
+        }
+        ty = next;
         count += 1;
     }
     count
@@ -100,18 +86,29 @@ impl<'a, T, W: LocalType<T>> Encode for Runs<'a, T, W> {
     ghost is_ready = { λ s. list_all (λ x. W.is_ready s.1.now x && is_covered_val_type (W.ty s.1.now x)) s.0.now };
 
     fn encode<S: Sink>(&self, out: &mut S) -> Result<(), Refusal> {
+        if self.0.is_empty() {
+            return Ok(());
+        }
         let start = out.size();
-        let mut at = 0;
-        while at < self.0.len() {
-            let run = run_from(self.0, at, self.1);
+        let mut run = (1, self.1.local_type(&self.0[0]));
+        for at in 1..self.0.len() {
+            let next = self.1.local_type(&self.0[at]);
+            if is_same(run.1, next) {
+                run.0 += 1;
+                continue;
+            }
             let result = put_run(out, run);
             if result.is_err() {
                 out.cut(start);
                 return result;
             }
-            at += run.0;
+            run = (1, next);
         }
-        Ok(())
+        let last = put_run(out, run);
+        if last.is_err() {
+            out.cut(start);
+        }
+        last
     }
 }
 

@@ -1,4 +1,4 @@
-use Rattle.std.proofs.Common.{◌≡◌, ◌≤◌, ◌+◌, ◌-◌, length, map, drop}
+use Rattle.std.proofs.Common.{◌≡◌, ◌≤◌, ◌+◌, ◌∷◌, length, map, drop}
 use Rattle.wasm_out.specs.Bodies.{local_runs}
 use Rattle.wasm_out.proofs.locals.count_runs.Given as goal
 
@@ -6,9 +6,6 @@ abbrev pub invariant-loop-at : goal.invariant-loop-at
 invariant-loop-at g l =
     let ty = g.W.LocalType.ty l.way in
     record {
-      told : l.count + length (local_runs (map ty (drop l.at l.items))) ≡ length (local_runs (map ty l.items));
-      within : l.at ≤ length l.items;
+      told : length (local_runs (map ty l.items)) + 1 ≡ l.count + length (local_runs (l.ty ∷ map ty (drop l.at l.items)));
+      few : l.count ≤ l.at;
     }
-
-abbrev pub decreases-loop-at : goal.decreases-loop-at
-decreases-loop-at g l = length l.items - l.at
