@@ -21,6 +21,7 @@ impl Sink for Kept {
       fits = λ _ _. ⊥;
       size_of = λ a. length a.bytes.items;
       is_cut = λ a n b. b.bytes.items ≡ take n a.bytes.items;
+      is_set = λ _ _ _ _. ⊥;
       refusal = refusal.Memory;
     } };
 
@@ -41,6 +42,7 @@ impl Sink for Kept {
       grows = λ a b x. laws.grows a.bytes.items b.bytes.items x;
       joins = λ a b c x y. laws.joins a.bytes.items b.bytes.items c.bytes.items x y;
       cuts_back = λ a b c x. laws.cuts_back a.bytes.items b.bytes.items c.bytes.items x;
+      sets = λ a b c byte n x h k. absurd k;
       fits_less = λ a m n le h. h;
       fits_rest = λ a b x n le h e. h;
     } };

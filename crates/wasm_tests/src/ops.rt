@@ -188,7 +188,10 @@ fn each_sink_takes_the_same_bytes(rt: HostRuntime) {
     assert!(rt; kept.bytes.starts_with(&start));
     kept.cut(1);
     assert!(rt; kept.push_number(300).is_ok() && !kept.skip(1) && kept.size() == 3);
+    assert!(rt; !kept.set_number(1, 7));
     assert!(rt; kept.bytes.as_slice() == [0x84, 0xac, 0x02].as_slice());
+    assert!(rt; kept.bytes.set_number(1, 16384));
+    assert!(rt; kept.bytes.as_slice() == [0x84, 0x80, 0x80, 0x01, 0x02].as_slice());
 }
 
 #[test]
@@ -202,10 +205,12 @@ fn a_room_takes_what_was_reserved(rt: HostRuntime) {
     assert!(rt; number == 10 && room.size() == 3 && room.left() == 0);
     room.cut(1);
     assert!(rt; !room.skip(1) && room.left() == 2);
-    assert!(rt; room.push_number(300).is_ok());
-    assert!(rt; room.finish().as_slice() == [7, 0xac, 0x02].as_slice());
+    assert!(rt; room.push_number(6).is_ok() && room.left() == 1);
+    assert!(rt; !room.set_number(0, 16384) && room.set_number(0, 300) && room.left() == 0);
+    assert!(rt; room.finish().as_slice() == [0xac, 0x02, 6].as_slice());
     let mut length = Length::new();
     assert!(rt; length.skip(300) && !length.skip(u64::MAX) && length.count() == 300);
+    assert!(rt; length.set_number(0, 128) && length.count() == 301);
     assert!(rt; Error::from(Refusal::Memory).number() == 12);
     unsigned_law();
     signed_law();
