@@ -279,7 +279,7 @@ impl<T: Encode> Encode for WithLength<T> {
     ghost is_ready = { λ s. T.is_ready s.0 };
 
     fn encode<S: Sink>(&self, out: &mut S) -> Result<(), Refusal> {
-        // Most lengths have one byte: it is put first, and set to the length once this is known.
+        // A byte keeps the place of the length, which is known once the value was put.
         let start = out.size();
         out.push_bytes(&[0])?;
         let value = self.0.encode(out);
