@@ -7,7 +7,7 @@ ghost use Rattle.wasm_ops.specs.declared.sink.Refusal.TheVariants as refusal;
 ghost use Rattle.wasm_out.specs.Parts.{part, InRangePart};
 ghost use Rattle.wast_core.specs.Bounded.{bytes_of, InRangeSlot, InRangeModule};
 ghost use Rattle.wast_conv.specs.Encodable.{is_encodable};
-ghost use Rattle.wast_core.specs.Extents.{IsExtent, section_size, is_names_size};
+ghost use Rattle.wast_core.specs.Extents.{IsExtent, section_size, is_names_extent};
 ghost use Rattle.wast_reach.specs.Reaches.{are_reaches};
 ghost use Rattle.wast_core.specs.Measured.{are_measures};
 ghost use Rattle.wast_core.specs.Tree.{ModuleField};
@@ -23,7 +23,7 @@ use crate::hints::{hints_extent, put_hints};
 use crate::slots::{ORDER, SectionKind, Slot};
 use wasm_ops::{Encode, Raw, Refusal, Sink};
 use wasm_out::HEADER;
-use wast_names::{names_size, put_names};
+use wast_names::{NamesExtent, names_extent, put_names};
 use wast_reach::Reaches;
 use wast_tree::ModuleField;
 
@@ -45,7 +45,7 @@ pub(crate) struct Measures {
     data: Extent,
     is_counted: bool,
     hints: Extent,
-    names: u32,
+    names: NamesExtent,
 }
 
 /// How long a section is, of how long its payload is.
@@ -86,21 +86,24 @@ pub(crate) fn measure(fields: &[ModuleField], name: Option<&str>) -> Result<Meas
         data: extent_of(SectionKind::Data, fields, &reaches)?,
         is_counted: is_counted(fields, &reaches),
         hints: hints_extent(fields, &reaches)?,
-        names: given_size(fields, name, &reaches)?,
+        names: given_extent(fields, name, &reaches)?,
     })
 }
 
-/// How long what stands behind the length of the name section is; 0 where the module has no names, or where a custom section
-/// is called `name`.
-fn given_size(fields: &[ModuleField], name: Option<&str>, reaches: &Reaches) -> Result<u32, Refusal>
+/// The extent of the name section; that of none where the module has no names, or where a custom section is called `name`.
+fn given_extent(
+    fields: &[ModuleField],
+    name: Option<&str>,
+    reaches: &Reaches,
+) -> Result<NamesExtent, Refusal>
     requires { IsTrue (are_reaches fields.now reaches.now) }
-    ensures ok { IfOk result (λ n. IsTrue (is_names_size (text_seen name.entry) fields.now n)) }
+    ensures ok { IfOk result (λ e. IsTrue (is_names_extent (text_seen name.entry) fields.now e)) }
     ensures err { IfErr result (λ e. (e ≡ refusal.TooLarge) × (InRangeSlot (text_seen name.entry) fields.now slot.Names → ⊥)) }
 {
     if has_own_names(fields, reaches) {
-        return Ok(0);
+        return Ok(NamesExtent::none());
     }
-    names_size(fields, name, reaches)
+    names_extent(fields, name, reaches)
 }
 
 /// The name section, where it is not left out.
@@ -114,10 +117,10 @@ fn put_given_names<'b, S: Sink>(
     ensures { Writes S.rules (InRangeSlot (text_seen name.entry) fields.now slot.Names)
         out.old out.new (flat_map part (in_slot (text_seen name.entry) fields.now slot.Names)) result }
 {
-    if measures.names == 0 {
+    if measures.names.size == 0 {
         return Ok(());
     }
-    put_names(fields, name, &measures.reaches, measures.names, out)
+    put_names(fields, name, &measures.reaches, &measures.names, out)
 }
 
 /// The extent of the section of a kind.
@@ -157,7 +160,7 @@ fn size_in(
         Slot::Section(kind) => Ok(section_size(extent(measures, *kind).size)),
         Slot::Start => Ok(starts_size(start_fields(fields, &measures.reaches))),
         Slot::DataCount => Ok(count_size(measures.is_counted, measures.data.count)),
-        Slot::Names => Ok(section_size(measures.names)),
+        Slot::Names => Ok(section_size(measures.names.size)),
         Slot::Hints => Ok(section_size(measures.hints.size)),
     }
 }

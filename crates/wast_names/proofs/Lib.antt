@@ -1,7 +1,9 @@
+pub mod Checkpoints
 pub mod Each
 pub mod FieldsWithoutNames
 pub mod ImportedNames
 pub mod ListedNames
+pub mod MapExtents
 pub mod NameEntries
 pub mod NameMaps
 pub mod NamesComputed

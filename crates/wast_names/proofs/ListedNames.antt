@@ -1,6 +1,7 @@
 -- Lists of names within items, as they are found, counted and written.
-use Rattle.std.proofs.Common.{◌≡◌, ◌<◌, ◌≤◌, ◌+◌, ℕ, zero, suc, List, [], ◌∷◌, ◌++◌, length, Option, Some, None, Result, refl, sym, ap, ◌∙◌, subst, arith, length-append, map, take, get_or}
-use Rattle.std.specs.Prelude.{All, slice_get, option_map}
+use Rattle.std.proofs.Common.{◌≡◌, ◌<◌, ◌≤◌, ◌+◌, ℕ, zero, suc, List, [], ◌∷◌, ◌++◌, length, Option, Some, None, Result, refl, sym, ap, ◌∙◌, subst, arith, length-append, map, take, get_or, inl, inr}
+use Rattle.std.specs.Prelude.{All, nat_lt, true, false, ◌||◌, slice_get, option_map}
+use Rattle.std.proofs.lemmas.Bool.{ltb-false, lt-ltb, le-ltb, cases_lt}
 use Rattle.std.proofs.lemmas.List.{length-map, take_all}
 use Rattle.std.specs.List.{flat_map}
 use Rattle.std.proofs.lemmas.Grind.{flat_map-append}
@@ -16,7 +17,7 @@ use Rattle.wast_names.specs.GivenNames.{named_from}
 use Rattle.wast_names.specs.FoundNames.{counted}
 use Rattle.wast_names.specs.WithinItems.{where_named, nameless, behind, param_name, local_name}
 use Rattle.wast_names.specs.Tree.{Id, NameAnnotation, ValType, Local}
-use Rattle.wast_names.proofs.NameEntries.{named_append, as_many}
+use Rattle.wast_names.proofs.NameEntries.{named_append, as_many, none_named}
 
 -- names each on its own
 pub each_named : {A : Type 0} (n : ℕ) (f : A → Option (List ℕ)) (xs : List A) → named_from n (flat_map (λ x. f x ∷ []) xs) ≡ named_from n (map f xs)
@@ -37,17 +38,10 @@ pub is_named : (es : List (ℕ × List ℕ)) (count : ℕ) → count ≡ counted
 is_named [] count is some = absurd (some is)
 is_named (e ∷ es) count is some = refl
 
--- nameless ones have no entry, and none is there where no other has
+-- nameless ones have no entry
 pub behind_nameless : (n k : ℕ) (names : List (Option (List ℕ))) → named_from k (nameless n ++ names) ≡ named_from (k + n) names
 behind_nameless zero k names = ap (λ m. named_from m names) (omega arith)
 behind_nameless (suc n) k names = behind_nameless n (k + 1) names ∙ ap (λ m. named_from m names) (omega arith)
-
-pub none_named : (m n : ℕ) (names : List (Option (List ℕ))) (count : ℕ) → count ≡ counted (length (named_from m names)) → count ≡ 0 → named_from n names ≡ []
-none_named m n names count is never = empty (named_from n names) (omega (arith, as_many m n names))
-  where
-    empty : (es : List (ℕ × List ℕ)) → length es ≡ 0 → es ≡ []
-    empty [] h = refl
-    empty (e ∷ es) h = absurd (omega arith)
 
 -- parameters and then locals
 pub params_then : (params : List (Option Id × Option NameAnnotation × ValType)) (locals : List Local)
@@ -63,9 +57,30 @@ params_then params locals =
 pub nameless_then : (n : ℕ) (locals : List Local) → named_from n (flat_map (λ l. local_name l ∷ []) locals) ≡ named_from 0 (behind (Some (nameless n)) (map local_name locals))
 nameless_then n locals = each_named n local_name locals ∙ sym (behind_nameless n 0 (map local_name locals) ∙ ap (λ k. named_from k (map local_name locals)) (omega arith))
 
-pub nothing_named : (arity : Option ℕ) (locals : List Local) (count : ℕ) → count ≡ counted (length (named_from 0 (flat_map (λ l. local_name l ∷ []) locals))) → count ≡ 0 → [] ≡ named_from 0 (behind (option_map nameless arity) (map local_name locals))
-nothing_named None locals count is never = refl
-nothing_named (Some n) locals count is never = sym (none_named 0 n (flat_map (λ l. local_name l ∷ []) locals) count is never) ∙ nameless_then n locals
+pub nothing_named : (arity : Option ℕ) (locals : List Local) → false ≡ nat_lt 0 (length (named_from 0 (flat_map (λ l. local_name l ∷ []) locals))) → [] ≡ named_from 0 (behind (option_map nameless arity) (map local_name locals))
+nothing_named None locals never = refl
+nothing_named (Some n) locals never =
+    let few = ltb-false 0 (length (named_from 0 (flat_map (λ l. local_name l ∷ []) locals))) (sym never) in
+    sym (none_named 0 n (flat_map (λ l. local_name l ∷ []) locals) 0 (omega arith) refl) ∙ nameless_then n locals
+
+-- whether a list has names, and then one more item has an entry
+pub one_named : (es : List (ℕ × List ℕ)) → nat_lt 0 (length es) ≡ true → 1 ≡ counted (length (named_from 0 (where_named es ∷ [])))
+one_named [] some = absurd cc
+one_named (e ∷ es) some = refl
+
+pub not_named : (es : List (ℕ × List ℕ)) → nat_lt 0 (length es) ≡ false → 0 ≡ counted (length (named_from 0 (where_named es ∷ [])))
+not_named [] none = refl
+not_named (e ∷ es) none = absurd (omega (arith, ltb-false 0 (length (e ∷ es)) none))
+
+pub either_named : (xs ys : List (Option (List ℕ))) (first : ℕ) → (nat_lt 0 (length (named_from 0 xs)) || nat_lt 0 (length (named_from 0 ys))) ≡ nat_lt 0 (length (named_from 0 xs ++ named_from first ys))
+either_named xs ys first =
+    let a = length (named_from 0 xs) in
+    let b = length (named_from 0 ys) in
+    let whole = named_from 0 xs ++ named_from first ys in
+    elim (cases_lt 0 a) [
+      | inl some ↦ ap (λ t. t || nat_lt 0 b) (lt-ltb 0 a some) ∙ sym (lt-ltb 0 (length whole) (omega (arith, length-append (named_from 0 xs) (named_from first ys))))
+      | inr none ↦ ap (λ t. t || nat_lt 0 b) (le-ltb 0 a none) ∙ ap (nat_lt 0) (omega (arith, length-append (named_from 0 xs) (named_from first ys), as_many 0 first ys))
+    ]
 
 -- what stands in the part of a list that is gone to, behind the parts before it
 pub found_in : {A B : Type 0} (f : A → List B) (xs : List A) (i j : ℕ) (x : A) (part : List B) (d : B) → i < length xs → x ≡ get_or xs i x → part ≡ f x → j < length part

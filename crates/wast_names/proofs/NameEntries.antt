@@ -1,6 +1,7 @@
 -- The entries of items with their positions, as they are counted and written.
 use Rattle.std.proofs.Common.{◌≡◌, ◌≤◌, ◌<◌, ◌+◌, ℕ, List, [], ◌∷◌, ◌++◌, length, Option, Some, None, Result, Ok, Err, refl, sym, ap, ◌∙◌, subst, arith, length-append, ◌^◌}
-use Rattle.std.specs.Prelude.{All}
+use Rattle.std.specs.Prelude.{All, nat_lt, true}
+use Rattle.std.proofs.lemmas.Bool.{lt-ltb}
 use Rattle.std.specs.List.{flat_map}
 use Rattle.std.proofs.lemmas.Grind.{flat_map-append}
 use Rattle.std.proofs.lemmas.List.Elements.{All-head, All-append}
@@ -91,3 +92,27 @@ entry_as rules entry InRange other Other a b x y position r is to back p = λ n 
     written_as rules (All InRange ((n, x) ∷ [])) (All Other ((n, y) ∷ [])) a b (flat_map entry ((n, x) ∷ [])) (flat_map other ((n, y) ∷ [])) r
     (λ h. all_one Other (n, y) (to n (All-head InRange (n, x) [] h))) (λ h. all_one InRange (n, x) (back n (All-head Other (n, y) [] h)))
     (flat_one entry (n, x) ∙ is n ∙ sym (flat_one other (n, y))) (p n at)
+
+-- whether any of these and of others have an entry
+pub none_named : {A : Type 0} (m n : ℕ) (names : List (Option A)) (count : ℕ) → count ≡ counted (length (named_from m names)) → count ≡ 0 → named_from n names ≡ []
+none_named {A = A} m n names count is never = empty (named_from n names) (omega (arith, as_many m n names))
+  where
+    empty : (es : List (ℕ × A)) → length es ≡ 0 → es ≡ []
+    empty [] h = refl
+    empty (e ∷ es) h = absurd (omega arith)
+
+pub none_more : {A : Type 0} (names more : List (Option A)) (count : ℕ) → named_from 0 names ≡ [] → count ≡ counted (length (named_from 0 more)) → count ≡ 0 → named_from 0 (names ++ more) ≡ []
+none_more names more count none is never =
+    named_append 0 names more ∙ (ap (λ es. es ++ named_from (0 + length names) more) none ∙ none_named 0 (0 + length names) more count is never)
+
+pub some_more : {A : Type 0} (names more rest all : List (Option A)) (count : ℕ) → all ≡ (names ++ more) ++ rest → count ≡ counted (length (named_from 0 more)) → (count ≡ 0 → ⊥) → true ≡ nat_lt 0 (length (named_from 0 all))
+some_more names more rest all count parts is some =
+    sym (lt-ltb 0 (length (named_from 0 all)) (omega (
+      arith,
+      ap (λ xs. length (named_from 0 xs)) parts,
+      ap length (named_append 0 (names ++ more) rest),
+      ap length (named_append 0 names more),
+      length-append (named_from 0 (names ++ more)) (named_from (0 + length (names ++ more)) rest),
+      length-append (named_from 0 names) (named_from (0 + length names) more),
+      as_many (0 + length names) 0 more,
+    )))

@@ -45,18 +45,6 @@ pub map_counted : {A : Type 0} (entry : ℕ × A → List ℕ) (InRange : ℕ ×
 map_counted entry InRange [] count is some h = absurd (omega arith)
 map_counted entry InRange (e ∷ es) count is some h = let few : InRangeU32 (length (e ∷ es)) = h.1.0 in omega arith
 
-pub map_written : {S R A : Type 0} (rules : SinkRules S) (entry : ℕ × A → List ℕ) (InRange : ℕ × A → Type 0) (a b : S) (es : List (ℕ × A)) (id count : ℕ) (r : Result R Refusal)
-    → count ≡ length es → 0 < count
-    → Writes rules (Unit {0} × (InRangeU32 (length (unsigned count ++ flat_map entry es)) × (InRangeU32 count × All InRange es))) a b (id ∷ sized (λ (n : ℕ). unsigned n ++ flat_map entry es) count) r
-    → Writes rules (InRangeMap entry InRange es) a b (map_bytes id entry es) r
-map_written rules entry InRange a b [] id count r is some p = absurd (omega arith)
-map_written rules entry InRange a b (e ∷ es) id count r is some p =
-    let held : List ℕ → Type 0 = λ bytes. InRangeU32 (length bytes) in
-    written_as rules (Unit {0} × (InRangeU32 (length (unsigned count ++ flat_map entry (e ∷ es))) × (InRangeU32 count × All InRange (e ∷ es)))) (InRangeMap entry InRange (e ∷ es)) a b (id ∷ sized (λ (n : ℕ). unsigned n ++ flat_map entry (e ∷ es)) count) (map_bytes id entry (e ∷ es)) r
-    (λ h. subst (λ n. held (unsigned n ++ flat_map entry (e ∷ es)) × (InRangeU32 n × All InRange (e ∷ es))) is h.1)
-    (λ h. (tt, subst (λ n. held (unsigned n ++ flat_map entry (e ∷ es)) × (InRangeU32 n × All InRange (e ∷ es))) (sym is) h))
-    (ap (λ n. id ∷ sized (λ (n : ℕ). unsigned n ++ flat_map entry (e ∷ es)) n) is) p
-
 pub direct_written : {S R : Type 0} (rules : SinkRules S) (a b : S) (of : Named) (names : List (ℕ × List ℕ)) (id : ℕ) (r : Result R Refusal)
     → id ≡ subsection_id of → Writes rules (InRangeMap name_entry InRangeNameEntry names) a b (map_bytes id name_entry names) r
     → Writes rules (All InRangeNameSubsection (direct of names)) a b (flat_map name_subsection (direct of names)) r
@@ -126,6 +114,10 @@ pub payload_length : (subsections : List NameSubsection) (size : ℕ) → size �
 unfolding unsigned unsigned_in
 payload_length [] size is some = absurd (some is)
 payload_length (s ∷ ss) size is some = omega (arith, length-append (unsigned (length (codes "name")) ++ codes "name") (flat_map name_subsection (s ∷ ss)))
+
+pub payload_none : (subsections : List NameSubsection) (size : ℕ) → size ≡ length (flat_map name_subsection subsections) → size ≡ 0 → 0 ≡ length (names_payload_of subsections)
+payload_none [] size is none = refl
+payload_none (s ∷ ss) size is none = absurd (omega (arith, ap length (flat_map-cons name_subsection s ss), length-append (name_subsection s) (flat_map name_subsection ss)))
 
 -- what has its payload in range has its subsections so
 pub subsections_in_range : (subsections : List NameSubsection) → All InRangePart (names_part subsections) × All InRangeNameSubsection subsections → InRangeSized (All InRangeNameSubsection) (flat_map name_subsection) subsections

@@ -13,7 +13,7 @@ use Rattle.wast_names.specs.declared.name_lists.Listed.TheVariants as listed
 use Rattle.wast_names.specs.declared.within.Lists.{Lists}
 use Rattle.wast_names.specs.declared.within.Lists.TheVariants as lists
 use Rattle.wast_names.specs.declared.within.Within.{Within}
-use Rattle.wast_names.specs.GivenNames.{named_from}
+use Rattle.wast_names.specs.GivenNames.{given_name, named_from}
 use Rattle.wast_names.specs.ModuleNames.{type_name, import_names}
 use Rattle.wast_names.specs.WithinItems.{param_name, field_name, local_name, label_in, where_named, lists_in_type, lists_in_import}
 use Rattle.wast_names.specs.Tree.{Space}
@@ -25,7 +25,7 @@ text_seen text = option_map (λ t. t.now) text
 -- the items that are found in a field, each with its space and its name
 abbrev pub items_seen : Items → List (Space × Option (List ℕ))
 items_seen items.Nothing = []
-items_seen (items.One own name) = (own, text_seen name) ∷ []
+items_seen (items.One own annotation id) = (own, given_name annotation.now id.now) ∷ []
 items_seen (items.Types types) = map type_name types.now
 items_seen (items.Imported i) = import_names i.now
 

@@ -1,8 +1,10 @@
-pub mod GivenNames
+pub mod Checkpoints
 pub mod FieldsWithNames
 pub mod FoundNames
-pub mod NamesPart
+pub mod GivenNames
+pub mod MapExtents
 pub mod ModuleNames
+pub mod NamesPart
 pub mod Tree
 pub mod WithinItems
 pub mod WorkedNames

@@ -2,7 +2,9 @@
 //! how it is written into a sink.
 #![tactic(auto)]
 
+mod arities;
 mod examples;
+mod extents;
 mod imported;
 mod name_lists;
 mod name_maps;
@@ -10,4 +12,5 @@ mod named_fields;
 mod names_payload;
 mod within;
 
-pub use names_payload::{given_name, names_size, put_names};
+pub use extents::{MapExtent, NamesExtent};
+pub use names_payload::{given_name, names_extent, put_names};

@@ -1,6 +1,6 @@
 //! Lists of what has names: fields of structs, parameters and locals, and labels.
 
-ghost use Rattle.std.specs.Prelude.{◌≡◌, ◌+◌, ℕ, List, [], length, true, All, IfOk};
+ghost use Rattle.std.specs.Prelude.{◌≡◌, ◌==◌, ◌+◌, nat_lt, ℕ, List, [], length, true, All, IfOk};
 ghost use Rattle.std.specs.List.{flat_map};
 ghost use Rattle.wasm_out.specs.NameSectionBytes.{map_entry, name_entry, InRangeMapEntry, InRangeNameEntry};
 ghost use Rattle.wasm_ops.specs.Spelling.{vec, InRangeVec};
@@ -9,7 +9,7 @@ ghost use Rattle.wast_names.specs.FoundNames.{counted, names_listed, lists_found
 ghost use Rattle.wast_names.specs.WithinItems.{param_name, field_name, local_name, label_in};
 
 use crate::name_maps::{
-    CountItems, Entries, HasName, NameItems, Own, count_each, put_entry, put_name,
+    CountItems, Entries, HasName, NameItems, Own, any_named, count_each, put_entry, put_name,
 };
 use crate::names_payload::given_name;
 use wasm_ops::{Encode, Refusal, Sink};
@@ -87,6 +87,17 @@ pub(crate) enum Listed<'b, 'a> {
     Labels(&'b [Instruction<'a>]),
 }
 
+/// Whether any in a list has a name.
+fn is_named(listed: Listed) -> bool
+    ensures { result ≡ nat_lt 0 (length (names_listed listed.entry)) }
+{
+    match listed {
+        Listed::Fields(fields) => any_named(&Own, fields),
+        Listed::Locals(params, _, locals) => any_named(&Own, params) || any_named(&Own, locals),
+        Listed::Labels(instrs) => any_named(&Openers, instrs),
+    }
+}
+
 /// How many in a list have a name.
 fn count_listed(listed: Listed) -> u64
     ensures { result ≡ counted (length (names_listed listed.entry)) }
@@ -142,19 +153,26 @@ impl Encode for ListedNames<'_, '_> {
     }
 }
 
-/// The number of the names in a list, and the names.
-impl Encode for Listed<'_, '_> {
-    ghost spelling = { λ s. vec name_entry (names_listed s) };
+/// A list of names, and how many they are.
+#[derive(Clone, Copy)]
+struct CountedNames<'b, 'a> {
+    listed: Listed<'b, 'a>,
+    count: u64,
+}
 
-    ghost in_range = { λ s. InRangeVec InRangeNameEntry (names_listed s) };
+/// The number of the names, and the names. It is ready where there are as many.
+impl Encode for CountedNames<'_, '_> {
+    ghost spelling = { λ s. vec name_entry (names_listed s.listed) };
 
-    ghost is_ready = { λ _. true };
+    ghost in_range = { λ s. InRangeVec InRangeNameEntry (names_listed s.listed) };
+
+    ghost is_ready = { λ s. s.count == counted (length (names_listed s.listed)) };
 
     fn encode<S: Sink>(&self, out: &mut S) -> Result<(), Refusal> {
-        let Ok(count) = u32::try_from(count_listed(*self)) else {
+        let Ok(count) = u32::try_from(self.count) else {
             return Err(Refusal::TooLarge);
         };
-        (count, ListedNames(*self)).encode(out)
+        (count, ListedNames(self.listed)).encode(out)
     }
 }
 
@@ -163,7 +181,7 @@ pub(crate) fn count_found(found: Option<Listed>) -> u64
     ensures { result ≡ counted (length (named_from 0 (lists_found found.entry))) }
 {
     match found {
-        Some(listed) if count_listed(listed) != 0 => 1,
+        Some(listed) if is_named(listed) => 1,
         _ => 0,
     }
 }
@@ -180,10 +198,11 @@ pub(crate) fn put_found<S: Sink>(
     let Some(listed) = found else {
         return Ok(position);
     };
-    if count_listed(listed) == 0 {
-        return put_entry(position, None::<Listed>, out);
+    let count = count_listed(listed);
+    if count == 0 {
+        return put_entry(position, None::<CountedNames>, out);
     }
-    put_entry(position, Some(listed), out)
+    put_entry(position, Some(CountedNames { listed, count }), out)
 }
 
 /// An empty list.

@@ -1,14 +1,17 @@
 //! Maps of names: the entries of items, by their positions.
 
-ghost use Rattle.std.specs.Prelude.{◌≡◌, ◌+◌, ℕ, List, [], ◌∷◌, Option, length, All, IfOk, IsTrue, true};
+ghost use Rattle.std.specs.Prelude.{◌≡◌, ◌+◌, nat_lt, ℕ, List, [], ◌∷◌, Option, length, All, IfOk, IfErr, IsTrue, true};
 ghost use Rattle.std.specs.List.{flat_map};
 ghost use Rattle.std.specs.Option.{option_to_list};
 ghost use Rattle.wasm_ops.specs.Sinks.{Writes};
+ghost use Rattle.wasm_ops.specs.declared.sink.Refusal.TheVariants as refusal;
 ghost use Rattle.wasm_out.specs.NameSectionBytes.{name_entry, InRangeNameEntry};
+ghost use Rattle.wast_names.specs.MapExtents.{is_extent};
 ghost use Rattle.wast_names.specs.GivenNames.{named_from};
 ghost use Rattle.wast_names.specs.FoundNames.{counted, text_seen, WritesItems, map_bytes, InRangeMap, entry_spelling, InRangeEntryOf};
 
-use wasm_ops::{Encode, Name, Refusal, Sink, WithLength};
+use crate::extents::MapExtent;
+use wasm_ops::{Encode, Name, Refusal, Sink, length_of};
 
 /// A way to see items in values of a type, each with an entry of a map of names, or without one. Positions and counts
 /// stay at the greatest `u64` where they would pass it: from 2^32 on, no entry stands at a position, and no count is in
@@ -49,6 +52,18 @@ pub(crate) fn count_each<T, W: CountItems<T>>(way: &W, parts: &[T]) -> u64
         sum = sum.saturating_add(way.count(part));
     }
     sum
+}
+
+/// Whether any item in a list has an entry. It goes no further than the first that has one.
+pub(crate) fn any_named<T, W: CountItems<T>>(way: &W, parts: &[T]) -> bool
+    ensures { result ≡ nat_lt 0 (length (named_from 0 (flat_map (W.items way.now) parts.now))) }
+{
+    for part in parts {
+        if way.count(part) != 0 {
+            return true;
+        }
+    }
+    false
 }
 
 /// Appends the entries of the items in a list, and answers the position behind the last.
@@ -118,20 +133,20 @@ impl<T, W: NameItems<T>> Encode for Entries<'_, T, W> {
     }
 }
 
-/// A map as a subsection of this id, where it has entries. It needs as many as there are.
-pub(crate) fn put_counted<'b, T, W: NameItems<T> + Copy, S: Sink>(
-    id: u8,
-    count: u64,
+/// The extent of a map of as many entries. It refuses as too large, where a number, count or length in it is out of range.
+pub(crate) fn extent_of<'b, T, W: NameItems<T> + Copy>(
     way: W,
     parts: &'b [T],
-    out: &'b mut S,
-) -> Result<(), Refusal>
+    count: u64,
+) -> Result<MapExtent, Refusal>
     requires { count ≡ counted (length (named_from 0 (flat_map (W.items way) parts.now))) }
-    ensures { Writes S.rules (InRangeMap W.entry W.in_range (named_from 0 (flat_map (W.items way) parts.now)))
-        out.old out.new (map_bytes id W.entry (named_from 0 (flat_map (W.items way) parts.now))) result }
+    ensures ok { IfOk result (λ e. IsTrue (is_extent W.entry (named_from 0 (flat_map (W.items way) parts.now)) e)
+        × InRangeMap W.entry W.in_range (named_from 0 (flat_map (W.items way) parts.now))) }
+    ensures err { IfErr result (λ e. (e ≡ refusal.TooLarge)
+        × (InRangeMap W.entry W.in_range (named_from 0 (flat_map (W.items way) parts.now)) → ⊥)) }
 {
     if count == 0 {
-        return Ok(());
+        return Ok(MapExtent { count: 0, size: 0 });
     }
     let Ok(count) = u32::try_from(count) else {
         return Err(Refusal::TooLarge);
@@ -141,20 +156,31 @@ pub(crate) fn put_counted<'b, T, W: NameItems<T> + Copy, S: Sink>(
         first: 0,
         parts,
     };
-    (id, WithLength((count, entries))).encode(out)
+    let size = length_of(&(count, entries))?;
+    Ok(MapExtent { count, size })
 }
 
-/// The same of items that are counted.
-pub(crate) fn put_map<'b, T, W: CountItems<T> + Copy, S: Sink>(
+/// A map as a subsection of this id, where it has entries. It needs its extent.
+pub(crate) fn put_map<'b, T, W: NameItems<T> + Copy, S: Sink>(
     id: u8,
+    extent: MapExtent,
     way: W,
     parts: &'b [T],
     out: &'b mut S,
 ) -> Result<(), Refusal>
+    requires { IsTrue (is_extent W.entry (named_from 0 (flat_map (W.items way) parts.now)) extent) }
     ensures { Writes S.rules (InRangeMap W.entry W.in_range (named_from 0 (flat_map (W.items way) parts.now)))
         out.old out.new (map_bytes id W.entry (named_from 0 (flat_map (W.items way) parts.now))) result }
 {
-    put_counted(id, count_each(&way, parts), way, parts, out)
+    if extent.count == 0 {
+        return Ok(());
+    }
+    let entries = Entries {
+        way,
+        first: 0,
+        parts,
+    };
+    (id, (extent.size, (extent.count, entries))).encode(out)
 }
 
 /// What has one name.

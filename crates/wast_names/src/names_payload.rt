@@ -3,24 +3,26 @@
 ghost use Rattle.std.specs.Prelude.{◌≡◌, ◌++◌, length, true, All, IfOk, IfErr, IsTrue, ◌+◌, ℕ, List, Option, map};
 ghost use Rattle.std.specs.List.{flat_map};
 ghost use Rattle.wasm_ops.specs.Sinks.{Writes};
-ghost use Rattle.wasm_ops.specs.Spelling.{InRangeSized};
 ghost use Rattle.wasm_ops.specs.declared.sink.Refusal.TheVariants as refusal;
 ghost use Rattle.wasm_out.specs.NameSectionBytes.{name_entry, map_entry, name_subsection, subsection_id, InRangeNameEntry, InRangeMapEntry, InRangeNameSubsection};
 ghost use Rattle.wasm_out.specs.Parts.{part, InRangePart};
 ghost use Rattle.wast_reach.specs.Reaches.{are_reaches};
+ghost use Rattle.wast_names.specs.Checkpoints.{Tells};
+ghost use Rattle.wast_names.specs.MapExtents.{is_extent, is_map_extent, each_extent, are_map_extents};
 ghost use Rattle.wast_names.specs.NamesPart.{names_part, names_payload_of};
 ghost use Rattle.wast_names.specs.GivenNames.{id_text, given_name, named_from};
 ghost use Rattle.wast_names.specs.FoundNames.{text_seen, items_seen, counted, WritesItems, map_bytes, InRangeMap};
+ghost use Rattle.wast_names.specs.WithinItems.{types_within};
 ghost use Rattle.wast_names.specs.ModuleNames.{type_name, sig_name, item_names_in, given_name_in, names_given, named_of, named_within, map_names, module_name, name_maps, name_subsections, InRangeNames};
 
+use crate::arities::{Checkpoints, FieldTypes, TypesOf};
+use crate::extents::{MapExtent, NamesExtent, map_extents, subsections_size};
 use crate::imported::{count_imported, put_imported};
-use crate::name_maps::{
-    CountItems, NameItems, count_each, put_counted, put_each, put_map, put_name,
-};
+use crate::name_maps::{CountItems, NameItems, count_each, put_each, put_map, put_name};
 use crate::named_fields::{with_items, with_lists};
-use crate::within::{FieldTypes, PutLists, Within, WithinItems, count_lists};
-use wasm_ops::{Encode, Length, Name, Refusal, Sink, WithLength};
-use wast_reach::Reaches;
+use crate::within::{PutLists, Within, WithinItems};
+use wasm_ops::{Encode, Name, Refusal, Sink, WithLength, length_of};
+use wast_reach::{FieldKind, Reaches};
 use wast_tree::{Id, ImportItems, ItemSig, ModuleField, NameAnnotation, Space, Type};
 
 fn id_text<'a>(id: &Option<Id<'a>>) -> Option<&'a str>
@@ -51,8 +53,8 @@ pub fn given_name<'a>(
 enum Items<'b, 'a> {
     /// No item.
     Nothing,
-    /// An item of a space, with its name.
-    One(Space, Option<&'a str>),
+    /// An item of a space, with its annotation and its id.
+    One(Space, &'b Option<NameAnnotation<'a>>, &'b Option<Id<'a>>),
     /// The types of a group.
     Types(&'b [Type<'a>]),
     /// Those of an import.
@@ -60,51 +62,54 @@ enum Items<'b, 'a> {
 }
 
 /// Finds the items of a field.
+#[inline(always)]
 fn items_of<'b, 'a>(field: &'b ModuleField<'a>) -> Items<'b, 'a>
     ensures { items_seen result ≡ item_names_in field.now }
 {
     match field {
-        ModuleField::Ty(ty) => Items::One(Space::Ty, given_name(&ty.name, &ty.id)),
+        ModuleField::Ty(ty) => Items::One(Space::Ty, &ty.name, &ty.id),
         ModuleField::Rec(rec) => Items::Types(rec.types.as_slice()),
         ModuleField::Import(imports) => Items::Imported(&imports.items),
-        ModuleField::Func(func) => Items::One(Space::Func, given_name(&func.name, &func.id)),
-        ModuleField::Table(table) => Items::One(Space::Table, given_name(&table.name, &table.id)),
-        ModuleField::Memory(memory) => {
-            Items::One(Space::Memory, given_name(&memory.name, &memory.id))
-        }
-        ModuleField::Global(global) => {
-            Items::One(Space::Global, given_name(&global.name, &global.id))
-        }
-        ModuleField::Elem(elem) => Items::One(Space::Elem, given_name(&elem.name, &elem.id)),
-        ModuleField::Data(data) => Items::One(Space::Data, given_name(&data.name, &data.id)),
-        ModuleField::Tag(tag) => Items::One(Space::Tag, given_name(&tag.name, &tag.id)),
+        ModuleField::Func(func) => Items::One(Space::Func, &func.name, &func.id),
+        ModuleField::Table(table) => Items::One(Space::Table, &table.name, &table.id),
+        ModuleField::Memory(memory) => Items::One(Space::Memory, &memory.name, &memory.id),
+        ModuleField::Global(global) => Items::One(Space::Global, &global.name, &global.id),
+        ModuleField::Elem(elem) => Items::One(Space::Elem, &elem.name, &elem.id),
+        ModuleField::Data(data) => Items::One(Space::Data, &data.name, &data.id),
+        ModuleField::Tag(tag) => Items::One(Space::Tag, &tag.name, &tag.id),
         ModuleField::Export(_) | ModuleField::Start(_) | ModuleField::Custom(_) => Items::Nothing,
     }
 }
 
 /// One, where an item is of the space and has a name.
-fn count_item(space: Space, own: Space, name: Option<&str>) -> u64
-    ensures { result ≡ length (named_from 0 (given_name_in space (own, text_seen name.entry))) }
+#[inline(always)]
+fn count_item(space: Space, own: Space, annotation: &Option<NameAnnotation>, id: &Option<Id>) -> u64
+    ensures { result ≡ length (named_from 0 (given_name_in space (own, given_name annotation.now id.now))) }
 {
-    u64::from(space.is(own) && name.is_some())
+    if !space.is(own) {
+        return 0;
+    }
+    u64::from(given_name(annotation, id).is_some())
 }
 
 /// Appends the name of an item where it is one of the space, and answers the position behind it.
+#[inline(always)]
 fn put_item<S: Sink>(
     space: Space,
     own: Space,
-    name: Option<&str>,
+    annotation: &Option<NameAnnotation>,
+    id: &Option<Id>,
     position: u64,
     out: &mut S,
 ) -> Result<u64, Refusal>
     ensures written { WritesItems S.rules name_entry InRangeNameEntry
-        (given_name_in space (own, text_seen name.entry)) position out.old out.new result }
-    ensures next { IfOk result (λ p. p ≡ counted (position + length (given_name_in space (own, text_seen name.entry)))) }
+        (given_name_in space (own, given_name annotation.now id.now)) position out.old out.new result }
+    ensures next { IfOk result (λ p. p ≡ counted (position + length (given_name_in space (own, given_name annotation.now id.now)))) }
 {
     if !space.is(own) {
         return Ok(position);
     }
-    put_name(position, name, out)
+    put_name(position, given_name(annotation, id), out)
 }
 
 impl<'a> NameItems<Type<'a>> for Space {
@@ -117,14 +122,13 @@ impl<'a> NameItems<Type<'a>> for Space {
     ghost in_range = { InRangeNameEntry };
 
     fn put<S: Sink>(&self, part: &Type<'a>, position: u64, out: &mut S) -> Result<u64, Refusal> {
-        let name = given_name(&part.name, &part.id);
-        put_item(*self, Space::Ty, name, position, out)
+        put_item(*self, Space::Ty, &part.name, &part.id, position, out)
     }
 }
 
 impl<'a> CountItems<Type<'a>> for Space {
     fn count(&self, part: &Type<'a>) -> u64 {
-        count_item(*self, Space::Ty, given_name(&part.name, &part.id))
+        count_item(*self, Space::Ty, &part.name, &part.id)
     }
 }
 
@@ -138,14 +142,20 @@ impl<'a> NameItems<ItemSig<'a>> for Space {
     ghost in_range = { InRangeNameEntry };
 
     fn put<S: Sink>(&self, part: &ItemSig<'a>, position: u64, out: &mut S) -> Result<u64, Refusal> {
-        let name = given_name(&part.name, &part.id);
-        put_item(*self, part.kind.space(), name, position, out)
+        put_item(
+            *self,
+            part.kind.space(),
+            &part.name,
+            &part.id,
+            position,
+            out,
+        )
     }
 }
 
 impl<'a> CountItems<ItemSig<'a>> for Space {
     fn count(&self, part: &ItemSig<'a>) -> u64 {
-        count_item(*self, part.kind.space(), given_name(&part.name, &part.id))
+        count_item(*self, part.kind.space(), &part.name, &part.id)
     }
 }
 
@@ -166,7 +176,9 @@ impl<'a> NameItems<ModuleField<'a>> for Space {
     ) -> Result<u64, Refusal> {
         match items_of(part) {
             Items::Nothing => Ok(position),
-            Items::One(own, name) => put_item(*self, own, name, position, out),
+            Items::One(own, annotation, id) => {
+                put_item(*self, own, annotation, id, position, out)
+            }
             Items::Types(types) => put_each(self, types, position, out),
             Items::Imported(items) => put_imported(*self, items, position, out),
         }
@@ -177,7 +189,7 @@ impl<'a> CountItems<ModuleField<'a>> for Space {
     fn count(&self, part: &ModuleField<'a>) -> u64 {
         match items_of(part) {
             Items::Nothing => 0,
-            Items::One(own, name) => count_item(*self, own, name),
+            Items::One(own, annotation, id) => count_item(*self, own, annotation, id),
             Items::Types(types) => count_each(self, types),
             Items::Imported(items) => count_imported(*self, items),
         }
@@ -222,62 +234,72 @@ pub(crate) enum NameMap {
     Within(Within),
 }
 
-/// Appends the subsection of the lists of names within items of some of these fields, where there are any. It needs as many as
-/// there are.
+/// Appends the subsection of the lists of names within items of some of these fields, where there are any. It needs the
+/// extent of the map of them, and the checkpoints of these fields.
 fn put_lists<'b, T: FieldTypes + PutLists, S: Sink>(
     fields: &'b [T],
     there: &'b [T],
     within: Within,
-    count: u64,
+    extent: MapExtent,
+    checkpoints: &'b Checkpoints,
     out: &'b mut S,
 ) -> Result<(), Refusal>
-    requires { count ≡ counted (length (named_from 0 (flat_map (T.lists (flat_map T.types fields.now) within) there.now))) }
+    requires extent { IsTrue (is_extent map_entry (named_from 0 (flat_map (T.lists (flat_map T.types fields.now) within) there.now)) extent) }
+    requires checkpoints { Tells T.types fields.now checkpoints.now.every checkpoints.now.before }
     ensures { Writes S.rules (InRangeMap map_entry InRangeMapEntry (named_from 0 (flat_map (T.lists (flat_map T.types fields.now) within) there.now)))
         out.old out.new (map_bytes (subsection_id (named_within within)) map_entry (named_from 0 (flat_map (T.lists (flat_map T.types fields.now) within) there.now))) result }
 {
     let id = id_within(within);
-    let way = WithinItems { fields, within };
-    put_counted(id, count, way, there, out)
+    let arities = TypesOf::new(fields, checkpoints);
+    let way = WithinItems { arities, within };
+    put_map(id, extent, way, there, out)
 }
 
-/// Appends the subsection of a map of the names in these fields, where there are any.
+/// Appends the subsection of a map of the names in these fields, where there are any. It needs the extent of the map.
 fn put_subsection<S: Sink>(
     fields: &[ModuleField],
     map: &NameMap,
+    extent: MapExtent,
     reaches: &Reaches,
+    checkpoints: &Checkpoints,
     out: &mut S,
 ) -> Result<(), Refusal>
-    requires { IsTrue (are_reaches fields.now reaches.now) }
+    requires extent { IsTrue (is_map_extent fields.now map.now extent) }
+    requires reaches { IsTrue (are_reaches fields.now reaches.now) }
+    requires checkpoints { Tells types_within fields.now checkpoints.now.every checkpoints.now.before }
     ensures { Writes S.rules (All InRangeNameSubsection (map_names fields.now map.now))
         out.old out.new (flat_map name_subsection (map_names fields.now map.now)) result }
 {
     match map {
         NameMap::Items(space) => {
             let there = with_items(*space, fields, reaches);
-            put_map(id_of(*space), *space, there, out)
+            put_map(id_of(*space), extent, *space, there, out)
         }
         NameMap::Within(within) => {
             let there = with_lists(*within, fields, reaches);
-            let count = count_lists(fields, there, *within);
-            put_lists(fields, there, *within, count, out)
+            put_lists(fields, there, *within, extent, checkpoints, out)
         }
     }
 }
 
-/// Appends the subsections of maps of the names in these fields, one after another.
+/// Appends the subsections of maps of the names in these fields, one after another. It needs their extents.
 fn put_subsections<S: Sink>(
     fields: &[ModuleField],
     maps: &[NameMap],
+    extents: &[MapExtent],
     reaches: &Reaches,
+    checkpoints: &Checkpoints,
     out: &mut S,
 ) -> Result<(), Refusal>
-    requires { IsTrue (are_reaches fields.now reaches.now) }
+    requires extents { IsTrue (each_extent fields.now maps.now extents.now) }
+    requires reaches { IsTrue (are_reaches fields.now reaches.now) }
+    requires checkpoints { Tells types_within fields.now checkpoints.now.every checkpoints.now.before }
     ensures { Writes S.rules (All (λ m. All InRangeNameSubsection (map_names fields.now m)) maps.now)
         out.old out.new (flat_map (λ m. flat_map name_subsection (map_names fields.now m)) maps.now) result }
 {
     let start = out.size();
-    for map in maps {
-        let result = put_subsection(fields, map, reaches, out);
+    for i in 0..maps.len() {
+        let result = put_subsection(fields, &maps[i], extents[i], reaches, checkpoints, out);
         if result.is_err() {
             out.cut(start);
             return result;
@@ -287,7 +309,7 @@ fn put_subsections<S: Sink>(
 }
 
 /// The maps of names, in the order of their subsections.
-const NAME_MAPS: [NameMap; 13] = [
+pub(crate) const NAME_MAPS: [NameMap; 13] = [
     NameMap::Items(Space::Func),
     NameMap::Within(Within::Locals),
     NameMap::Within(Within::Labels),
@@ -322,94 +344,104 @@ impl Encode for ModuleName<'_> {
     }
 }
 
-/// Appends what stands before the maps of names, and then those of these fields.
+/// Appends what stands before the maps of names, and then those of these fields. It needs their extents.
 fn put_behind<P: Encode, S: Sink>(
     fields: &[ModuleField],
     front: &P,
+    extents: &[MapExtent],
     reaches: &Reaches,
+    checkpoints: &Checkpoints,
     out: &mut S,
 ) -> Result<(), Refusal>
     requires front { IsTrue (P.is_ready front.now) }
+    requires extents { IsTrue (are_map_extents fields.now extents.now) }
     requires reaches { IsTrue (are_reaches fields.now reaches.now) }
+    requires checkpoints { Tells types_within fields.now checkpoints.now.every checkpoints.now.before }
     ensures { Writes S.rules (P.in_range front.now × All (λ m. All InRangeNameSubsection (map_names fields.now m)) name_maps)
         out.old out.new (P.spelling front.now ++ flat_map (λ m. flat_map name_subsection (map_names fields.now m)) name_maps) result }
 {
     let start = out.size();
     front.encode(out)?;
     let maps = NAME_MAPS;
-    let second = put_subsections(fields, &maps, reaches, out);
+    let second = put_subsections(fields, &maps, extents, reaches, checkpoints, out);
     if second.is_err() {
         out.cut(start);
     }
     second
 }
 
-/// How long the subsections are, of a module with this name and these fields.
-fn subsections_size(
-    fields: &[ModuleField],
-    name: Option<&str>,
-    reaches: &Reaches,
-) -> Result<u32, Refusal>
-    requires { IsTrue (are_reaches fields.now reaches.now) }
-    ensures ok { IfOk result (λ n. (n ≡ length (flat_map name_subsection (name_subsections (text_seen name.entry) fields.now)))
-        × InRangeNames (text_seen name.entry) fields.now) }
-    ensures err { IfErr result (λ e. (e ≡ refusal.TooLarge)
-        × (InRangeSized (All InRangeNameSubsection) (flat_map name_subsection) (name_subsections (text_seen name.entry) fields.now) → ⊥)) }
+/// The checkpoints of these fields. Where no type is looked up, they are not walked over.
+fn checkpoints_of(fields: &[ModuleField], is_asked: bool) -> Checkpoints
+    ensures { Tells types_within fields.now result.every result.before }
 {
-    let mut length = Length::new();
-    put_behind(fields, &ModuleName(name), reaches, &mut length)?;
-    match u32::try_from(length.count()) {
-        Ok(count) => Ok(count),
-        Err(_) => Err(Refusal::TooLarge),
+    if !is_asked {
+        return Checkpoints::new(0);
     }
+    Checkpoints::of(fields)
 }
 
-/// How long the payload of the name section is, of a module with this name and these resolved fields; 0 where there are
-/// no names, and the section is left out (custom sections, name section). It needs where in these fields those of each kind
-/// stand, as [`Reaches::of`] tells it, and goes through those alone that can have names. It takes no memory, and refuses
-/// only as too large, where a number, count or length in the section is out of range.
-pub fn names_size(
+/// Whether a type may be looked up by a function: types and functions stand in the list.
+fn may_ask(reaches: &Reaches) -> bool {
+    reaches.of_kind(FieldKind::Func).end != 0
+        && (reaches.of_kind(FieldKind::Ty).end != 0 || reaches.of_kind(FieldKind::Rec).end != 0)
+}
+
+/// The extent of the name section of a module with this name and these resolved fields: how long its payload is, 0 where
+/// there are no names, and the section is left out; and how many entries each map of names has, and how long these are
+/// (custom sections, name section). It needs where in these fields those of each kind stand, as [`Reaches::of`] tells it, and
+/// goes through those alone that can have names: for each map once, and where it has names once more. It takes no memory, and
+/// refuses only as too large, where a number, count or length in the section is out of range.
+pub fn names_extent(
     fields: &[ModuleField],
     name: Option<&str>,
     reaches: &Reaches,
-) -> Result<u32, Refusal>
+) -> Result<NamesExtent, Refusal>
     requires { IsTrue (are_reaches fields.now reaches.now) }
-    ensures ok { IfOk result (λ n. n ≡ length (names_payload_of (name_subsections (text_seen name.entry) fields.now))) }
+    ensures ok { IfOk result (λ e. (e.size ≡ length (names_payload_of (name_subsections (text_seen name.entry) fields.now)))
+        × IsTrue (are_map_extents fields.now e.maps)) }
     ensures err { IfErr result (λ e. (e ≡ refusal.TooLarge)
         × (All InRangePart (names_part (name_subsections (text_seen name.entry) fields.now))
         × InRangeNames (text_seen name.entry) fields.now → ⊥)) }
 {
-    let subsections = subsections_size(fields, name, reaches)?;
+    let checkpoints = checkpoints_of(fields, may_ask(reaches));
+    let maps = map_extents(fields, reaches, &checkpoints)?;
+    let front = length_of(&ModuleName(name))?;
+    let subsections = u64::from(front) + subsections_size(&maps);
     if subsections == 0 {
-        return Ok(0);
+        return Ok(NamesExtent { size: 0, maps });
     }
     // `name` as a name: its length, and four bytes
-    match u32::try_from(5 + u64::from(subsections)) {
-        Ok(size) => Ok(size),
+    match u32::try_from(5 + subsections) {
+        Ok(size) => Ok(NamesExtent { size, maps }),
         Err(_) => Err(Refusal::TooLarge),
     }
 }
 
 /// Appends the name section of a module with this name and these resolved fields, where there are names (custom sections,
 /// name section). It needs where in these fields those of each kind stand, as [`Reaches::of`] tells it, and goes through
-/// those alone that can have names; and it needs the length of its payload, as [`names_size`] gives it. It refuses as
-/// [`Encode::encode`] does, as too large where a number, count or length is out of range; then nothing was appended.
+/// those alone that can have names, once for each map that has some; and it needs the extent of the section, as
+/// [`names_extent`] gives it. It refuses as [`Encode::encode`] does, as too large where a number, count or length is out of
+/// range; then nothing was appended.
 pub fn put_names<S: Sink>(
     fields: &[ModuleField],
     name: Option<&str>,
     reaches: &Reaches,
-    size: u32,
+    extent: &NamesExtent,
     out: &mut S,
 ) -> Result<(), Refusal>
     requires reaches { IsTrue (are_reaches fields.now reaches.now) }
-    requires size { size ≡ length (names_payload_of (name_subsections (text_seen name) fields.now)) }
+    requires size { extent.now.size ≡ length (names_payload_of (name_subsections (text_seen name) fields.now)) }
+    requires maps { IsTrue (are_map_extents fields.now extent.now.maps) }
     ensures { Writes S.rules (All InRangePart (names_part (name_subsections (text_seen name.entry) fields.now))
         × InRangeNames (text_seen name.entry) fields.now)
         out.old out.new (flat_map part (names_part (name_subsections (text_seen name.entry) fields.now))) result }
 {
+    let size = extent.size;
     if size == 0 {
         return Ok(());
     }
+    // types are looked up for the names of locals alone, which the second map has
+    let checkpoints = checkpoints_of(fields, extent.maps[1].count != 0 && may_ask(reaches));
     let front = (0u8, (size, (Name("name"), ModuleName(name))));
-    put_behind(fields, &front, reaches, out)
+    put_behind(fields, &front, &extent.maps, reaches, &checkpoints, out)
 }

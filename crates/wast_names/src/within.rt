@@ -1,20 +1,20 @@
 //! What stands within items and has names of its own: locals and labels of functions, fields of structs, parameters of
 //! types and of tags.
 
-ghost use Rattle.std.specs.Prelude.{◌≡◌, ◌<◌, ◌≤◌, ◌+◌, ℕ, List, Option, length, map, slice_get, IfOk, IfErr};
+ghost use Rattle.std.specs.Prelude.{◌≡◌, ◌+◌, ℕ, List, Option, length, map, IfOk};
 ghost use Rattle.std.specs.List.{flat_map};
 ghost use Rattle.wasm_out.specs.NameSectionBytes.{map_entry, InRangeMapEntry};
 ghost use Rattle.wast_names.specs.Tree.ty;
 ghost use Rattle.wast_names.specs.declared.within.Within.{Within};
+ghost use Rattle.wast_names.specs.Checkpoints.{Tells};
 ghost use Rattle.wast_names.specs.GivenNames.{named_from};
 ghost use Rattle.wast_names.specs.FoundNames.{counted, names_listed, lists_found, lists_seen, WritesItems};
-ghost use Rattle.wast_names.specs.WithinItems.{param_name, local_name, lists_in_type, lists_in_func, lists_in_tag, lists_in_imported_func, lists_in_imported_tag, lists_in_kind, lists_in_sig, lists_within, types_within, arity, arity_of, arity_at, behind, params_used, locals_of, locals_in, label_in, labels_in, field_names_of, param_names_of, inline_params, tag_params};
+ghost use Rattle.wast_names.specs.WithinItems.{param_name, local_name, lists_in_type, lists_in_func, lists_in_tag, lists_in_imported_func, lists_in_imported_tag, lists_in_kind, lists_in_sig, lists_within, arity_at, behind, params_used, locals_of, locals_in, label_in, labels_in, field_names_of, param_names_of, inline_params, tag_params};
 
+use crate::arities::{Arities, Checkpoints, FieldTypes, TypesOf};
 use crate::imported::{count_imported, put_imported};
 use crate::name_lists::{Listed, count_found, no_names, none, put_found};
-use crate::name_maps::{CountItems, NameItems, Own, count_each, put_each};
-use std::alloc::AllocError;
-use std::slice;
+use crate::name_maps::{CountItems, NameItems, Own, any_named, count_each, put_each};
 use wasm_ops::{Refusal, Sink};
 use wast_tree::{
     Func, FuncKind, FunctionType, ImportItems, Index, InnerTypeKind, Instruction, ItemKind,
@@ -78,60 +78,17 @@ fn param_names_of<'b, 'a>(kind: &'b InnerTypeKind<'a>) -> Listed<'b, 'a>
     }
 }
 
-/// How many parameters a function type has.
-fn arity(kind: &InnerTypeKind) -> Option<u64>
-    ensures { result ≡ arity kind.now }
-{
-    match kind {
-        InnerTypeKind::Func(ty) => Some(ty.params.len() as u64),
-        InnerTypeKind::Struct(_) | InnerTypeKind::Array(_) | InnerTypeKind::Cont(_) => None,
-    }
-}
-
-/// The types of a field, one by one.
-fn types_within<'b, 'a>(field: &'b ModuleField<'a>) -> &'b [Type<'a>]
-    ensures { result.now ≡ types_within field.now }
-{
-    match field {
-        ModuleField::Ty(ty) => slice::from_ref(ty),
-        ModuleField::Rec(rec) => rec.types.as_slice(),
-        ModuleField::Import(_)
-        | ModuleField::Func(_)
-        | ModuleField::Table(_)
-        | ModuleField::Memory(_)
-        | ModuleField::Global(_)
-        | ModuleField::Export(_)
-        | ModuleField::Start(_)
-        | ModuleField::Elem(_)
-        | ModuleField::Data(_)
-        | ModuleField::Tag(_)
-        | ModuleField::Custom(_) => &[],
-    }
-}
-
-/// A list of fields, as types are looked up in it. It is a type parameter of what looks them up: a proof would else compare
-/// the type of the whole list with itself at each call.
-pub(crate) trait Arities {
-    /// The types of these fields.
-    ghost types: { Self → List ty.«Type» };
-
-    /// How many parameters the function type at an index has, where one stands there. It walks the fields up to that type.
-    fn arity_of(&self, index: usize) -> Option<u64>
-        ensures { result ≡ arity_of (slice_get (types self.now) index) };
-}
-
 /// The same of the index of a type use.
 fn arity_at<A: Arities>(arities: &A, index: &Option<Index>) -> Option<u64>
     ensures { result ≡ arity_at (A.types arities.now) index.now }
 {
     match index {
-        Some(Index::Num(number, _)) => arities.arity_of(*number as usize),
+        Some(Index::Num(number, _)) => arities.arity_of(*number),
         Some(Index::Id(_)) | None => None,
     }
 }
 
-/// The locals behind the parameters of a type use. A walk over the fields goes for each function that has a named local
-/// and no inline type.
+/// The locals behind the parameters of a type use. The type is looked up where a local has a name and no inline type stands.
 fn locals_behind<'b, 'a, A: Arities>(
     arities: &A,
     ty: &'b TypeUse<'a, FunctionType<'a>>,
@@ -143,7 +100,7 @@ fn locals_behind<'b, 'a, A: Arities>(
         let params = inline.params.as_slice();
         return Listed::Locals(params, params.len() as u64, locals);
     }
-    if count_each(&Own, locals) == 0 {
+    if !any_named(&Own, locals) {
         return Listed::Fields(none());
     }
     match arity_at(arities, &ty.index) {
@@ -277,6 +234,7 @@ enum Lists<'b, 'a> {
 }
 
 /// Finds the lists that stand within a field of this list of fields.
+#[inline(always)]
 fn lists_in<'b, 'a, A: Arities>(
     within: Within,
     arities: &A,
@@ -343,19 +301,6 @@ impl<'a> CountItems<ItemSig<'a>> for Within {
     }
 }
 
-/// A field, as its types are looked up. It is a type parameter of what walks over lists of fields, as [`Arities`] are of what
-/// looks types up.
-pub(crate) trait FieldTypes {
-    /// Its types.
-    ghost types: { Self → List ty.«Type» };
-
-    /// How many parameters the type at a place in it has, where that is a function type; how many types it has, where none
-    /// stands there.
-    fn arity_in(&self, index: usize) -> Result<Option<u64>, usize>
-        ensures found { IfOk result (λ n. (index < length (types self.now)) × (n ≡ arity_of (slice_get (types self.now) index))) }
-        ensures past { IfErr result (λ n. (n ≡ length (types self.now)) × (n ≤ index)) };
-}
-
 /// A field, as the lists of names within its items are counted.
 pub(crate) trait CountLists {
     /// These lists, where these are the types of the module.
@@ -381,19 +326,6 @@ pub(crate) trait PutLists {
     ) -> Result<u64, Refusal>
         ensures written { WritesItems S.rules map_entry InRangeMapEntry (lists (A.types arities.now) within self.now) position out.old out.new result }
         ensures next { IfOk result (λ p. p ≡ counted (position + length (lists (A.types arities.now) within self.now))) };
-}
-
-impl FieldTypes for ModuleField<'_> {
-    ghost types = { types_within };
-
-    fn arity_in(&self, index: usize) -> Result<Option<u64>, usize> {
-        let types = types_within(self);
-        if index < types.len() {
-            Ok(arity(&types[index].def.kind))
-        } else {
-            Err(types.len())
-        }
-    }
 }
 
 impl CountLists for ModuleField<'_> {
@@ -426,66 +358,41 @@ impl PutLists for ModuleField<'_> {
     }
 }
 
-/// The types of these fields.
-#[derive(Drop)]
-struct TypesOf<'b, T>(&'b [T]);
-
-impl<T: FieldTypes> Arities for TypesOf<'_, T> {
-    ghost types = { λ t. flat_map T.types t.0.now };
-
-    fn arity_of(&self, index: usize) -> Option<u64> {
-        let mut left = index;
-        for field in self.0 {
-            match field.arity_in(left) {
-                Ok(arity) => return arity,
-                Err(count) => left -= count,
-            }
-        }
-        None
-    }
-}
-
-/// The way to see what stands within the items of these fields.
-pub(crate) struct WithinItems<'b, T> {
-    pub(crate) fields: &'b [T],
+/// The way to see what stands within the items of fields, whose types are looked up so.
+#[derive(Clone, Copy)]
+pub(crate) struct WithinItems<A> {
+    pub(crate) arities: A,
     pub(crate) within: Within,
 }
 
-impl<T> Clone for WithinItems<'_, T> {
-    fn clone(&self) -> Result<Self, AllocError> {
-        Ok(*self)
-    }
-}
-
-impl<T> Copy for WithinItems<'_, T> {}
-
-impl<T: FieldTypes + PutLists> NameItems<T> for WithinItems<'_, T> {
+impl<T: PutLists, A: Arities> NameItems<T> for WithinItems<A> {
     ghost Entry = { List (ℕ × List ℕ) };
 
-    ghost items = { λ w. T.lists (flat_map T.types w.fields.now) w.within };
+    ghost items = { λ w. T.lists (A.types w.arities) w.within };
 
     ghost entry = { map_entry };
 
     ghost in_range = { InRangeMapEntry };
 
     fn put<S: Sink>(&self, part: &T, position: u64, out: &mut S) -> Result<u64, Refusal> {
-        let types = TypesOf(self.fields);
-        part.put_lists(self.within, &types, position, out)
+        part.put_lists(self.within, &self.arities, position, out)
     }
 }
 
-/// How many items of some of these fields have a list of names.
+/// How many items of some of these fields have a list of names. It needs the checkpoints of these fields.
 pub(crate) fn count_lists<'b, T: FieldTypes + CountLists>(
     fields: &'b [T],
     there: &'b [T],
     within: Within,
+    checkpoints: &'b Checkpoints,
 ) -> u64
+    requires { Tells T.types fields.now checkpoints.now.every checkpoints.now.before }
     ensures { result ≡ counted (length (named_from 0 (flat_map (T.lists (flat_map T.types fields.now) within) there.now))) }
 {
-    let types = TypesOf(fields);
+    let arities = TypesOf::new(fields, checkpoints);
     let mut sum = 0u64;
     for part in there {
-        sum = sum.saturating_add(part.count_lists(within, &types));
+        sum = sum.saturating_add(part.count_lists(within, &arities));
     }
     sum
 }

@@ -1,12 +1,26 @@
-use Rattle.std.proofs.Common.{subst, refl}
+use Rattle.std.proofs.Common.{◌≡◌, true, subst, sym, refl}
 use Rattle.wasm_ops.specs.Sinks.{Writes}
 use Rattle.wasm_out.specs.NameSectionBytes.{subsection_id, name_entry, map_entry, InRangeNameEntry, InRangeMapEntry}
 use Rattle.wast_names.specs.GivenNames.{named_from}
 use Rattle.wast_names.specs.FoundNames.{map_bytes, InRangeMap}
+use Rattle.wast_names.specs.MapExtents.{is_extent, is_map_extent}
 use Rattle.wast_names.specs.ModuleNames.{named_of, named_items, named_within, named_lists}
 use Rattle.wast_names.specs.WithinItems.{types_of}
 use Rattle.wast_names.proofs.NameMaps.{direct_written, indirect_written}
 use Rattle.wast_names.proofs.names_payload.put_subsection.Goals as goal
+
+pub put_map-requires : goal.put_map-requires
+put_map-requires g c =
+    let extent = c.args.extent in
+    subst (λ xs. is_extent name_entry (named_from 0 xs) extent ≡ true) (sym c.with_items-there.ensures)
+    (subst (λ m. is_map_extent c.args.fields.now m extent ≡ true) c.in-Items.is c.requires.extent)
+
+pub put_lists-requires-clause-extent : goal.put_lists-requires-clause-extent
+put_lists-requires-clause-extent g c =
+    let fields = c.args.fields.now in
+    let extent = c.args.extent in
+    subst (λ xs. is_extent map_entry (named_from 0 xs) extent ≡ true) (sym (c.with_lists-there.ensures (types_of fields)))
+    (subst (λ m. is_map_extent fields m extent ≡ true) c.in-Within.is c.requires.extent)
 
 pub returns-in-Items : goal.returns-in-Items
 returns-in-Items g c =

@@ -1,39 +1,42 @@
-use Rattle.std.proofs.Common.{ℕ, List, sym, ◌∙◌, take, get_or}
+use Rattle.std.proofs.Common.{ℕ, List, ◌<◌, sym, ◌∙◌, take, get_or, length, arith}
 use Rattle.std.specs.List.{flat_map}
 use Rattle.std.specs.Prelude.{All}
 use Rattle.std.proofs.lemmas.List.{get_or_default}
 use Rattle.std.proofs.lemmas.List.Folds.{length-flat_map-take}
 use Rattle.wasm_ops.proofs.Sinking.{cut_back, one_item_more}
 use Rattle.wasm_out.specs.NameSectionBytes.{name_subsection, InRangeNameSubsection}
-use Rattle.wast_names.specs.Tree.space
 use Rattle.wast_names.specs.declared.names_payload.NameMap.{NameMap}
-use Rattle.wast_names.specs.declared.names_payload.NameMap.TheVariants as map_of
 use Rattle.wast_names.specs.ModuleNames.{map_names}
+use Rattle.wast_names.proofs.MapExtents.{first_map, no_extent, extent_at}
 use Rattle.wast_names.proofs.names_payload.put_subsections.Goals as goal
 
--- what is read where no map stands
-abbrev first_map : NameMap
-first_map = map_of.Items space.Func
+pub bounds-extents-i : goal.bounds-extents-i
+bounds-extents-i g c = (extent_at c.args.fields.now c.args.maps.now c.args.extents.now c.loop-i.i first_map no_extent c.requires.extents (omega arith)).0
+
+pub put_subsection-requires-clause-extent : goal.put_subsection-requires-clause-extent
+put_subsection-requires-clause-extent g c = (extent_at c.args.fields.now c.args.maps.now c.args.extents.now c.loop-i.i first_map no_extent c.requires.extents (omega arith)).1
 
 pub returns-then-is_err : goal.returns-then-is_err
 returns-then-is_err g c =
     let rules = g.S.Sink.rules in
     let xs = c.args.maps.now in
-    let k = c.loop-map.map-index in
+    let k = c.loop-i.i in
     let f : NameMap → List ℕ = λ m. flat_map name_subsection (map_names c.args.fields.now m) in
     let fits : NameMap → Type 0 = λ m. All InRangeNameSubsection (map_names c.args.fields.now m) in
     let x = flat_map f (take k xs) in
     let it = get_or xs k first_map in
-    cut_back rules (All fits xs) (fits it) c.args.out.now c.loop-map.out c.put_subsection-result.new.out c.cut.new.self x (f it) (flat_map f xs) c.size-start.result c.put_subsection-result.result
-    g.met.S.Sink.laws (length-flat_map-take f xs k first_map c.loop-map-test.true) (λ t. t k first_map c.loop-map-test.true) c.loop-map.invariant.told c.put_subsection-result.ensures (sym c.is_err.ensures.value ∙ c.if-is_err.true) c.size-start.ensures c.cut.ensures
+    let lt : k < length xs = omega arith in
+    cut_back rules (All fits xs) (fits it) c.args.out.now c.loop-i.out c.put_subsection-result.new.out c.cut.new.self x (f it) (flat_map f xs) c.size-start.result c.put_subsection-result.result
+    g.met.S.Sink.laws (length-flat_map-take f xs k first_map lt) (λ t. t k first_map lt) c.loop-i.invariant.told c.put_subsection-result.ensures (sym c.is_err.ensures.value ∙ c.if-is_err.true) c.size-start.ensures c.cut.ensures
 
-pub loop-map-preserved : goal.loop-map-preserved
-loop-map-preserved g c =
+pub loop-i-preserved : goal.loop-i-preserved
+loop-i-preserved g c =
     let rules = g.S.Sink.rules in
     let xs = c.args.maps.now in
-    let k = c.loop-map.map-index in
+    let k = c.loop-i.i in
     let it = get_or xs k first_map in
-    let i = c.loop-map.invariant in
-    let more = one_item_more rules (λ m. flat_map name_subsection (map_names c.args.fields.now m)) (λ m. All InRangeNameSubsection (map_names c.args.fields.now m)) c.args.out.now c.loop-map.out c.put_subsection-result.new.out xs k it c.put_subsection-result.result
-    g.met.S.Sink.laws c.loop-map-test.true (get_or_default xs k first_map it c.loop-map-test.true) i.told i.fitting c.put_subsection-result.ensures (sym c.is_err.ensures.value ∙ c.if-is_err.false) in
+    let i = c.loop-i.invariant in
+    let lt : k < length xs = omega arith in
+    let more = one_item_more rules (λ m. flat_map name_subsection (map_names c.args.fields.now m)) (λ m. All InRangeNameSubsection (map_names c.args.fields.now m)) c.args.out.now c.loop-i.out c.put_subsection-result.new.out xs k it c.put_subsection-result.result
+    g.met.S.Sink.laws lt (get_or_default xs k first_map it lt) i.told i.fitting c.put_subsection-result.ensures (sym c.is_err.ensures.value ∙ c.if-is_err.false) in
     record { told = more.0; fitting = more.1; at = i.at }

@@ -4,9 +4,9 @@ use Rattle.wasm_out.specs.NameSectionBytes.{name_subsection, InRangeNameSubsecti
 use Rattle.wast_names.specs.ModuleNames.{map_names}
 use Rattle.wast_names.proofs.names_payload.put_subsections.Given as goal
 
-abbrev pub invariant-loop-map : goal.invariant-loop-map
-invariant-loop-map g l = record {
-  told : g.S.Sink.rules.appended l.fn.out l.out (flat_map (λ m. flat_map name_subsection (map_names l.fields m)) (take l.map-index l.maps));
-  fitting : All (λ m. All InRangeNameSubsection (map_names l.fields m)) (take l.map-index l.maps);
+abbrev pub invariant-loop-i : goal.invariant-loop-i
+invariant-loop-i g l = record {
+  told : g.S.Sink.rules.appended l.fn.out l.out (flat_map (λ m. flat_map name_subsection (map_names l.fields m)) (take l.i l.maps));
+  fitting : All (λ m. All InRangeNameSubsection (map_names l.fields m)) (take l.i l.maps);
   at : l.start ≡ g.S.Sink.rules.size_of l.fn.out;
 }

@@ -3,12 +3,12 @@ use Rattle.std.specs.Prelude.{slice_get}
 use Rattle.std.specs.List.{flat_map}
 use Rattle.wast_names.specs.WithinItems.{arity_of}
 use Rattle.wast_names.proofs.ListedNames.{found_at, found_past}
-use Rattle.wast_names.proofs.within.TypesOfArities.arity_of.Goals as goal
+use Rattle.wast_names.proofs.arities.arity_from.Goals as goal
 
 pub returns-in-Ok : goal.returns-in-Ok
 returns-in-Ok g c =
     let types = g.T.FieldTypes.types in
-    let xs = c.args.self.now.0.now in
+    let xs = c.args.fields.now in
     let left = c.loop-field.left in
     let here = c.in-Ok.ensures.found in
     here.1
@@ -17,4 +17,4 @@ returns-in-Ok g c =
 
 pub returns : goal.returns
 returns g c =
-    ap arity_of (sym (found_past g.T.FieldTypes.types c.args.self.now.0.now c.loop-field.field-index c.loop-field.left c.args.index c.loop-field-test.false c.loop-field.invariant))
+    ap arity_of (sym (found_past g.T.FieldTypes.types c.args.fields.now c.loop-field.field-index c.loop-field.left c.args.index c.loop-field-test.false c.loop-field.invariant))

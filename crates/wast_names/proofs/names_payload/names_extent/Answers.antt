@@ -1,0 +1,45 @@
+use Rattle.std.proofs.Common.{◌≡◌, ℕ, ◌+◌, refl, sym, ◌∙◌, arith, ap, length, length-append}
+use Rattle.std.specs.List.{flat_map}
+use Rattle.std.proofs.lemmas.Result.{err_from_is_err_and}
+use Rattle.wasm_out.specs.NameSectionBytes.{name_subsection, InRangeNameSubsection}
+use Rattle.wast_names.specs.FoundNames.{text_seen}
+use Rattle.wast_names.specs.ModuleNames.{map_names, module_name, name_maps, name_subsections}
+use Rattle.wast_names.proofs.NameMaps.{together, all_apart, payload_none, payload_length, payload_in_range, subsections_in_range}
+use Rattle.wast_names.proofs.names_payload.names_extent.Goals as goal
+
+pub returns-in_err-maps-clause-err : goal.returns-in_err-maps-clause-err
+returns-in_err-maps-clause-err c =
+    let fields = c.args.fields.now in
+    let p = err_from_is_err_and c.from_residual.result c.from_residual.ensures.1 in
+    let is = c.in_err-maps.ensures.err in
+    rw p.1 (p.2 ∙ is.0, λ h. is.1 (all_apart InRangeNameSubsection (map_names fields) (module_name (text_seen c.args.name)) name_maps h.1).1)
+
+pub returns-in_err-front-clause-err : goal.returns-in_err-front-clause-err
+returns-in_err-front-clause-err c =
+    let fields = c.args.fields.now in
+    let first = module_name (text_seen c.args.name) in
+    let p = err_from_is_err_and c.from_residual-front.result c.from_residual-front.ensures.1 in
+    let is = c.in_err-front.ensures.err in
+    rw p.1 (
+      p.2 ∙ is.0,
+      λ h.
+          let whole = subsections_in_range (name_subsections (text_seen c.args.name) fields) h in
+          let small = whole.0 in
+          is.1 (
+            omega (
+              arith,
+              ap length (together name_subsection (map_names fields) first name_maps),
+              length-append (flat_map name_subsection first) (flat_map (λ m. flat_map name_subsection (map_names fields m)) name_maps),
+            ),
+            (all_apart InRangeNameSubsection (map_names fields) first name_maps whole.1).0,
+          ),
+    )
+
+pub returns-then-subsections-eq0-clause-ok : goal.returns-then-subsections-eq0-clause-ok
+returns-then-subsections-eq0-clause-ok c = ?
+
+pub returns-in-Ok-clause-ok : goal.returns-in-Ok-clause-ok
+returns-in-Ok-clause-ok c = ?
+
+pub returns-in-Err-clause-err : goal.returns-in-Err-clause-err
+returns-in-Err-clause-err c = ?
