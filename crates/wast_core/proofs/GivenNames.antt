@@ -1,7 +1,7 @@
 -- The names of a module are given unless a custom section is called name; then none are left.
-use Rattle.std.proofs.Common.{◌≡◌, ◌==◌, ◌+◌, not, ℕ, Bool, true, false, List, [], ◌∷◌, length, Option, Result, Ok, Err, refl, sym, ap, ◌∙◌, subst}
+use Rattle.std.proofs.Common.{◌≡◌, ◌==◌, ◌||◌, ◌+◌, not, ℕ, Bool, true, false, List, [], ◌∷◌, length, Option, Result, Ok, Err, refl, sym, ap, ◌∙◌, subst}
 use Rattle.std.specs.Prelude.{All, IfOk, IfErr, if◌then◌else◌}
-use Rattle.std.proofs.lemmas.Bool.{eqb-false, and_parts, not-true}
+use Rattle.std.proofs.lemmas.Bool.{eqb-false, and_from, and_parts, not-true}
 use Rattle.wasm_ops.specs.declared.sink.Refusal.{Refusal}
 use Rattle.wasm_ops.specs.declared.sink.Refusal.TheVariants as refusal
 use Rattle.wasm_out.specs.NameSectionBytes.{InRangeNameSubsection}
@@ -12,8 +12,10 @@ use Rattle.wast_reach.specs.Reaches.{none_pass}
 use Rattle.wast_reach.specs.declared.kinds.FieldKind.TheVariants as kind
 use Rattle.wast_core.specs.Tree.{CustomPlace, ModuleField}
 use Rattle.wast_core.specs.Tree.field
-use Rattle.wast_core.specs.Extents.{is_names_size}
+use Rattle.wast_core.specs.Extents.{is_names_size, is_names_extent}
 use Rattle.wast_core.specs.Meaning.{has_own_names, subsections_of}
+use Rattle.wast_names.specs.declared.extents.NamesExtent.{NamesExtent}
+use Rattle.wast_names.specs.MapExtents.{are_map_extents}
 use Rattle.wast_names.specs.ModuleNames.{name_subsections}
 use Rattle.wast_names.specs.NamesPart.{names_part, names_payload_of}
 
@@ -30,17 +32,23 @@ same_number n m is = by_test (n == m) refl
     by_test true e = e
     by_test false e = absurd (eqb-false n m e is)
 
--- so many bytes stand behind the length of the section
-pub own_sized : (name : Option (List ℕ)) (fields : List ModuleField) → has_own_names fields ≡ true → is_names_size name fields 0 ≡ true
-own_sized name fields e = same_number 0 (length (names_payload_of (subsections_of name fields))) (sym (ap (λ ss. length (names_payload_of ss)) (none_given name fields e)))
+-- the extent of the section
+pub own_sized : (name : Option (List ℕ)) (fields : List ModuleField) (e : NamesExtent) → has_own_names fields ≡ true → e.size ≡ 0 → is_names_extent name fields e ≡ true
+own_sized name fields e own none =
+    and_from (is_names_size name fields e.size) (has_own_names fields || are_map_extents fields e.maps)
+    (same_number e.size (length (names_payload_of (subsections_of name fields))) (none ∙ sym (ap (λ ss. length (names_payload_of ss)) (none_given name fields own))))
+    (ap (λ b. b || are_map_extents fields e.maps) own)
 
-pub given_sized : (name : Option (List ℕ)) (fields : List ModuleField) (r : Result ℕ Refusal) → has_own_names fields ≡ false
-    → IfOk r (λ n. n ≡ length (names_payload_of (name_subsections name fields))) → IfOk r (λ n. is_names_size name fields n ≡ true)
-given_sized name fields (Ok n) e is = same_number n (length (names_payload_of (subsections_of name fields))) (is ∙ sym (ap (λ ss. length (names_payload_of ss)) (given_unless name fields e)))
-given_sized name fields (Err r) e is = is
+pub given_sized : (name : Option (List ℕ)) (fields : List ModuleField) (r : Result NamesExtent Refusal) → has_own_names fields ≡ false
+    → IfOk r (λ e. (e.size ≡ length (names_payload_of (name_subsections name fields))) × (are_map_extents fields e.maps ≡ true)) → IfOk r (λ e. is_names_extent name fields e ≡ true)
+given_sized name fields (Ok e) own is =
+    and_from (is_names_size name fields e.size) (has_own_names fields || are_map_extents fields e.maps)
+    (same_number e.size (length (names_payload_of (subsections_of name fields))) (is.0 ∙ sym (ap (λ ss. length (names_payload_of ss)) (given_unless name fields own))))
+    (ap (λ b. b || are_map_extents fields e.maps) own ∙ is.1)
+given_sized name fields (Err r) own is = is
 
 -- what is out of range in the names that are given is so in those of the module
-pub given_refused : (name : Option (List ℕ)) (fields : List ModuleField) (r : Result ℕ Refusal) → has_own_names fields ≡ false
+pub given_refused : (name : Option (List ℕ)) (fields : List ModuleField) (r : Result NamesExtent Refusal) → has_own_names fields ≡ false
     → IfErr r (λ e. (e ≡ refusal.TooLarge) × (All InRangePart (names_part (name_subsections name fields)) × All InRangeNameSubsection (name_subsections name fields) → ⊥))
     → IfErr r (λ e. (e ≡ refusal.TooLarge) × (All InRangePart (names_part (subsections_of name fields)) × All InRangeNameSubsection (subsections_of name fields) → ⊥))
 given_refused name fields r e h = subst (λ ss. IfErr r (λ e. (e ≡ refusal.TooLarge) × (All InRangePart (names_part ss) × All InRangeNameSubsection ss → ⊥))) (sym (given_unless name fields e)) h

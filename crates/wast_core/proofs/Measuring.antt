@@ -1,14 +1,15 @@
 -- The sections of a module that is measured, each by its extent.
-use Rattle.std.proofs.Common.{◌≡◌, ◌==◌, ℕ, true, List, Option, length}
+use Rattle.std.proofs.Common.{◌≡◌, ◌==◌, ◌||◌, ℕ, true, false, List, Option, length, sym, ap, ◌∙◌}
 use Rattle.std.proofs.lemmas.Bool.{eqb-true}
 use Rattle.wasm_out.specs.Parts.{SectionKind, Types, Imports, Functions, Tables, Memories, Tags, Globals, Exports, Elements, Code, Data}
 use Rattle.wast_core.specs.Tree.{ModuleField}
 use Rattle.wast_conv.specs.Encodable.{is_encodable}
 use Rattle.wast_core.specs.DataCounts.{needs_count}
-use Rattle.wast_core.specs.Extents.{payload_of, IsExtent, is_extent, IsHintsExtent, is_hints_extent, is_counted}
+use Rattle.wast_core.specs.Extents.{payload_of, IsExtent, is_extent, IsHintsExtent, is_hints_extent, is_names_size, is_counted}
 use Rattle.wast_core.specs.Hints.{hinted, hints_payload_of}
 use Rattle.wast_core.specs.Measured.{are_measures}
-use Rattle.wast_core.specs.Meaning.{entries, subsections_of}
+use Rattle.wast_core.specs.Meaning.{entries, has_own_names, subsections_of}
+use Rattle.wast_names.specs.MapExtents.{are_map_extents}
 use Rattle.wast_names.specs.NamesPart.{names_payload_of}
 use Rattle.wast_core.specs.declared.sections.Measures.{Measures}
 use Rattle.wast_conv.proofs.EachPasses.{both_pass}
@@ -40,7 +41,8 @@ pub record Extents (name : Option (List ℕ)) (fields : List ModuleField) (m : M
   pub «data» : IsExtent Data fields m.«data».count m.«data».size
   pub counts : m.is_counted ≡ needs_count fields
   pub hints : IsHintsExtent fields m.hints.count m.hints.size
-  pub names : m.names ≡ length (names_payload_of (subsections_of name fields))
+  pub names : m.names.size ≡ length (names_payload_of (subsections_of name fields))
+  pub maps : has_own_names fields ≡ false → are_map_extents fields m.names.maps ≡ true
 
 pub measured_extents : (name : Option (List ℕ)) (fields : List ModuleField) (m : Measures) → are_measures name fields m ≡ true → Extents name fields m
 measured_extents name fields m h =
@@ -58,6 +60,7 @@ measured_extents name fields m h =
     let of_data = both_pass (is_extent Data fields m.«data».count m.«data».size) _ of_code.1 in
     let of_counts = both_pass (is_counted fields m.is_counted) _ of_data.1 in
     let of_hints = both_pass (is_hints_extent fields m.hints.count m.hints.size) _ of_counts.1 in
+    let of_names = both_pass (is_names_size name fields m.names.size) (has_own_names fields || are_map_extents fields m.names.maps) of_hints.1 in
     record {
       reaches = of_reaches.0;
       types = extent_is Types fields m.types.count m.types.size of_types.0;
@@ -73,5 +76,6 @@ measured_extents name fields m h =
       «data» = extent_is Data fields m.«data».count m.«data».size of_data.0;
       counts = as_told fields m.is_counted of_counts.0;
       hints = hints_are fields m.hints.count m.hints.size of_hints.0;
-      names = eqb-true m.names (length (names_payload_of (subsections_of name fields))) of_hints.1;
+      names = eqb-true m.names.size (length (names_payload_of (subsections_of name fields))) of_names.0;
+      maps = λ e. sym (ap (λ b. b || are_map_extents fields m.names.maps) e) ∙ of_names.1;
     }

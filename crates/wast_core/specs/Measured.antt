@@ -2,7 +2,7 @@
 use Rattle.std.specs.Prelude.{ℕ, Bool, ◌&&◌, List, Option}
 use Rattle.wasm_out.specs.Parts.{Types, Imports, Functions, Tables, Memories, Tags, Globals, Exports, Elements, Code, Data}
 use Rattle.wast_conv.specs.Encodable.{is_encodable}
-use Rattle.wast_core.specs.Extents.{is_extent, is_hints_extent, is_names_size, is_counted}
+use Rattle.wast_core.specs.Extents.{is_extent, is_hints_extent, is_names_extent, is_counted}
 use Rattle.wast_reach.specs.Reaches.{are_reaches}
 use Rattle.wast_core.specs.declared.sections.Measures.{Measures}
 use Rattle.wast_core.specs.Tree.{ModuleField}
@@ -26,4 +26,4 @@ are_measures name fields m =
     && (is_extent Data fields m.«data».count m.«data».size
     && (is_counted fields m.is_counted
     && (is_hints_extent fields m.hints.count m.hints.size
-    && is_names_size name fields m.names))))))))))))))
+    && is_names_extent name fields m.names))))))))))))))

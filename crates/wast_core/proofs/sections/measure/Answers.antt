@@ -63,7 +63,7 @@ returns-in_err-hints_extent-clause-err c =
     let p = err_from_is_err_and c.from_residual-in_err-hints_extent.result c.from_residual-in_err-hints_extent.ensures.1 in
     rw p.1 (p.2 ∙ c.in_err-hints_extent.ensures.err.0, λ h. c.in_err-hints_extent.ensures.err.1 (h 33 slot.Hints (omega arith)))
 
-pub returns-in_err-given_size-clause-err : goal.returns-in_err-given_size-clause-err
-returns-in_err-given_size-clause-err c =
-    let p = err_from_is_err_and c.from_residual-in_err-given_size.result c.from_residual-in_err-given_size.ensures.1 in
-    rw p.1 (p.2 ∙ c.in_err-given_size.ensures.err.0, λ h. c.in_err-given_size.ensures.err.1 (h 40 slot.Hints (omega arith)))
+pub returns-in_err-given_extent-clause-err : goal.returns-in_err-given_extent-clause-err
+returns-in_err-given_extent-clause-err c =
+    let p = err_from_is_err_and c.from_residual-in_err-given_extent.result c.from_residual-in_err-given_extent.ensures.1 in
+    rw p.1 (p.2 ∙ c.in_err-given_extent.ensures.err.0, λ h. c.in_err-given_extent.ensures.err.1 (h 40 slot.Hints (omega arith)))

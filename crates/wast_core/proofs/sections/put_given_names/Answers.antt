@@ -19,16 +19,24 @@ pub put_names-requires-clause-size : goal.put_names-requires-clause-size
 put_names-requires-clause-size g c =
     let name = text_seen c.args.name in
     let fields = c.args.fields.now in
-    let n = c.args.measures.now.names in
+    let n = c.args.measures.now.names.size in
     let names = (measured_extents name fields c.args.measures.now c.requires).names in
     names ∙ ap (λ (ss : List NameSubsection). length (names_payload_of ss)) (given_unless name fields (given_if_some name fields n names c.if-measures-eq0.false))
+
+pub put_names-requires-clause-maps : goal.put_names-requires-clause-maps
+put_names-requires-clause-maps g c =
+    let name = text_seen c.args.name in
+    let fields = c.args.fields.now in
+    let m = c.args.measures.now in
+    let is = measured_extents name fields m c.requires in
+    is.maps (given_if_some name fields m.names.size is.names c.if-measures-eq0.false)
 
 pub returns-then-measures-eq0 : goal.returns-then-measures-eq0
 returns-then-measures-eq0 g c =
     let name = text_seen c.args.name in
     let fields = c.args.fields.now in
     let m = c.args.measures.now in
-    names_absent g.S.Sink.rules c.args.out.now (subsections_of name fields) m.names g.met.S.Sink.laws (measured_extents name fields m c.requires).names c.if-measures-eq0.true
+    names_absent g.S.Sink.rules c.args.out.now (subsections_of name fields) m.names.size g.met.S.Sink.laws (measured_extents name fields m c.requires).names c.if-measures-eq0.true
 
 pub returns : goal.returns
 returns g c =
@@ -36,5 +44,5 @@ returns g c =
     let name = text_seen c.args.name in
     let fields = c.args.fields.now in
     let m = c.args.measures.now in
-    let given = given_unless name fields (given_if_some name fields m.names (measured_extents name fields m c.requires).names c.if-measures-eq0.false) in
+    let given = given_unless name fields (given_if_some name fields m.names.size (measured_extents name fields m c.requires).names c.if-measures-eq0.false) in
     subst (λ (ss : List NameSubsection). Writes rules (All InRangePart (names_part ss) × All InRangeNameSubsection ss) c.args.out.now c.put_names.new.out (flat_map part (names_part ss)) c.put_names.result) (sym given) c.put_names.ensures

@@ -32,4 +32,4 @@ returns-in-Hints-clause-ok c =
 pub returns-in-Names-clause-ok : goal.returns-in-Names-clause-ok
 returns-in-Names-clause-ok c =
     let m = c.args.measures.now in
-    rw c.in-Names.is (names_counted (subsections_of (text_seen c.args.name) c.args.fields.now) m.names c.section_size-in-Names.result (measured_extents (text_seen c.args.name) c.args.fields.now m c.requires).names c.section_size-in-Names.ensures.size c.section_size-in-Names.ensures.within)
+    rw c.in-Names.is (names_counted (subsections_of (text_seen c.args.name) c.args.fields.now) m.names.size c.section_size-in-Names.result (measured_extents (text_seen c.args.name) c.args.fields.now m c.requires).names c.section_size-in-Names.ensures.size c.section_size-in-Names.ensures.within)
