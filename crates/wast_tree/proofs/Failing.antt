@@ -1,17 +1,20 @@
 -- Which clauses fail, of all that a visitor was told.
 use Rattle.std.proofs.Common.{◌≡◌, ℕ, ◌+◌, ◌<◌, Bool, true, false, ◌&&◌, Option, Some, None, List, [], ◌∷◌, ◌++◌, length, get_or, take, flat_map, append-nil, refl, sym, ap, ◌∙◌}
-use Rattle.std.specs.Prelude.{min, map, is_none}
+use Rattle.std.specs.Prelude.{min, map, is_none, is_some, ◌||◌}
 use Rattle.std.proofs.lemmas.Grind.{flat_map-append}
 use Rattle.std.proofs.lemmas.List.{take_more}
 use Rattle.std.specs.List.{list_all}
-use Rattle.wast_tree.specs.Tree.{Span}
+use Rattle.wast_base.specs.Ids.{Name, name_of}
+use Rattle.wast_base.specs.Spaces.{is_settled_index}
+use Rattle.wast_tree.specs.Tree.{Span, Space, Index}
+use Rattle.wast_tree.specs.Tree.index
 use Rattle.wast_tree.specs.declared.first_failing.IllFormed.{IllFormed}
 use Rattle.wast_tree.specs.IllFormed.{nearest, failing_at, failing_from}
 use Rattle.wast_tree.specs.Known.{Known}
 use Rattle.wast_tree.specs.Sites.{Ask, Wants, Within, Unasked, Clause, Covered}
 use Rattle.wast_tree.specs.Uncovered.{first, first_of}
 use Rattle.wast_tree.specs.Visits.{Tells, Visits}
-use Rattle.wast_tree.specs.WellFormed.{is_kept, unless_holds, failing, lesser, least_of}
+use Rattle.wast_tree.specs.WellFormed.{is_written_index, is_kept, unless_holds, failing, lesser, least_of}
 use Rattle.wast_tree.proofs.Telling.{first_behind, first_nothing}
 
 -- the least of some numbers, and of more behind them
@@ -27,6 +30,14 @@ least_stays n (m ∷ ms) = least_stays (min n m) ms
 least_unless : (n : ℕ) (b c : Bool) (ns : List ℕ) → is_none (least_of None ns) ≡ c → is_none (least_of None (unless_holds n b ++ ns)) ≡ (b && c)
 least_unless n true c ns h = h
 least_unless n false c ns h = least_stays n ns
+
+-- What is no generated id is settled.
+written_settles : (number : Name → Option ℕ) (i : Index) → is_written_index i ≡ true → is_settled_index number i ≡ true
+written_settles number (index.Num n p) h = refl
+written_settles number (index.Id id) h = ap (λ b. b || is_some (number (name_of id))) h
+
+pub none_unless_generated : (o : Option ℕ) (k : Known) (s : Space) (i : Index) → is_written_index i ≡ true → o ≡ least_of o (failing k (Wants s i))
+none_unless_generated o k s i h = sym (ap (λ b. least_of o (unless_holds 6 b)) (written_settles (k.number s) i h))
 
 -- nothing fails where all is kept
 pub none_fails : (k : Known) (asks : List Ask) → is_none (least_of None (flat_map (failing k) asks)) ≡ list_all (is_kept k) asks

@@ -2,6 +2,7 @@
 
 ghost use Rattle.std.specs.Prelude.{◌≡◌, Bool, true, None, Some, is_none, flat_map};
 ghost use Rattle.wast_tree.specs.Known.{Known, known};
+ghost use Rattle.wast_tree.specs.Sites.{Wants};
 ghost use Rattle.wast_tree.specs.WellFormed.{is_well_formed, unless_holds, failing, lesser, least_of, ill_formed};
 
 use crate::bearers::HasItems;
@@ -49,12 +50,25 @@ impl<S> Least<S> {
     }
 }
 
+impl<S: Settler> Least<S> {
+    /// Notes the clause that a generated id is that of an item, unless it is.
+    fn look_for(&mut self, space: Space, index: &Index<'_>)
+        ensures known { S.known self.new.settler ≡ S.known self.old.settler }
+        ensures clause { self.new.clause ≡ least_of self.old.clause (failing (S.known self.old.settler) (Wants space index.now)) }
+    {
+        let settled = self.is_least(6) || self.settler.settles(space, index);
+        self.note(6, settled);
+    }
+}
+
 impl<S: Settler> Visitor for Least<S> {
     ghost told = { λ old a new. (S.known new.settler ≡ S.known old.settler) × (new.clause ≡ least_of old.clause (failing (S.known old.settler) a)) };
 
+    #[tactic(auto, using(crate::proofs::Failing::none_unless_generated))]
     fn index(&mut self, space: Space, index: &Index<'_>) {
-        let settled = self.is_least(6) || self.settler.settles(space, index);
-        self.note(6, settled);
+        if !is_written(index) {
+            self.look_for(space, index);
+        }
     }
 
     fn within(&mut self, index: &Index<'_>) {
