@@ -1,5 +1,5 @@
 -- What is found among signatures that are kept by their hashes, and what one more changes.
-use Rattle.std.proofs.Common.{◌≡◌, ℕ, Bool, true, false, cond, List, [], ◌∷◌, ◌++◌, Option, Some, None, is_some, refl, sym, ap, ◌∙◌}
+use Rattle.std.proofs.Common.{◌≡◌, ℕ, Bool, true, false, cond, [], ◌∷◌, Option, Some, None, is_some, refl, sym, ap, subst, ◌∙◌}
 use mathlib.Core.Bool.{true≢false}
 use Rattle.std.specs.Cmp.{unsigned_tied, unsigned_Decides, nat_eq_equiv}
 use Rattle.std.specs.Ordering.{nat_cmp, is_eq}
@@ -13,9 +13,10 @@ use Rattle.std.specs.Hash.FoldHasher as folding
 use Rattle.wast_types.specs.Tree.{Index}
 use Rattle.wast_types.specs.Signatures.{Signature, same_signature}
 use Rattle.wast_types.specs.SignatureLaws.{signatures_equiv, signatures_alike}
-use Rattle.wast_types.specs.Expanders.{BoundSignatures, index_of, with_more, Extends}
+use Rattle.wast_types.specs.SignatureOrder.{signature_cmp}
+use Rattle.wast_types.specs.Expanders.{BoundSignatures, index_of, Extends}
 use Rattle.wast_types.specs.Hashed.{hash_of, Firsts, with_hash, bindings_of, ArePlaced, BindsFirst}
-use Rattle.wast_types.proofs.Bound.{same_index_of}
+use Rattle.wast_types.proofs.Bound.{same_index_of, put_once}
 use Rattle.wast_types.proofs.Adding.{lookup-append, or_or}
 
 -- equal signatures have one hash
@@ -131,29 +132,32 @@ module _ {es : Firsts} (fs : Firsts) {others : BoundSignatures} (k : Signature) 
       ∙ ap (λ o. option_or o (cond (same_signature s k) (Some i) None)) (sym (found_in s placed))))
 
 -- One more, whose hash another one has.
-module _ {es : Firsts} {others : BoundSignatures} (k : Signature) (i : Index) (b : Signature × Index) (placed : ArePlaced es others) (found : with_hash es (hash_of k) ≡ Some b) where
-  pub other_placed : (more : BoundSignatures) → Extends others more ((k, i) ∷ []) → ArePlaced es more
-  other_placed more extends = record {
+module _ {es : Firsts} {others : BoundSignatures} (more : BoundSignatures) (k : Signature) (i : Index) (placed : ArePlaced es others) (taken : is_some (with_hash es (hash_of k)) ≡ true)
+    (extends : Extends others more ((k, i) ∷ [])) where
+  other_placed : ArePlaced es more
+  other_placed = record {
     ascending = placed.ascending;
     hashed = placed.hashed;
     shared = λ s none. extends s ∙ (ap (λ o. option_or o (cond (same_signature s k) (Some i) None)) (placed.shared s none)
-        ∙ ap (λ t. cond t (Some i) None) (not_true (same_signature s k) (λ e. ap is_some (sym none ∙ (ap (with_hash es) (same_hash s k e) ∙ found)))));
+        ∙ ap (λ t. cond t (Some i) None) (not_true (same_signature s k) (λ e. ap is_some (sym none ∙ ap (with_hash es) (same_hash s k e)) ∙ taken)));
   }
 
-  pub other_extends : (more : BoundSignatures) → Extends others more ((k, i) ∷ []) → Extends (bindings_of es others) (bindings_of es more) ((k, i) ∷ [])
-  other_extends more extends s =
-      found_in s (other_placed more extends) ∙ (ap (option_or (matching s (with_hash es (hash_of s)))) (extends s)
+  other_extends : Extends (bindings_of es others) (bindings_of es more) ((k, i) ∷ [])
+  other_extends s =
+      found_in s other_placed ∙ (ap (option_or (matching s (with_hash es (hash_of s)))) (extends s)
       ∙ (sym (or_or (matching s (with_hash es (hash_of s))) (index_of others s) (cond (same_signature s k) (Some i) None))
       ∙ ap (λ o. option_or o (cond (same_signature s k) (Some i) None)) (sym (found_in s placed))))
 
-  -- a key that is bound stays so
-  pub first_kept : same_signature b.0 k ≡ true → Extends (bindings_of es others) (bindings_of es others) ((k, i) ∷ [])
-  first_kept same s = kept_bound (same_signature s k) (index_of (bindings_of es others) s) i (λ e. ap is_some (same_index_of (bindings_of es others) s k e ∙ sym (found_at_hash k b placed found same)))
-    where
-      kept_bound : (t : Bool) (o : Option Index) (i : Index) → (t ≡ true → is_some o ≡ true) → o ≡ option_or o (cond t (Some i) None)
-      kept_bound t (Some j) i h = refl
-      kept_bound false None i h = refl
-      kept_bound true None i h = absurd (true≢false (sym (h refl)))
+-- a key that is bound stays so
+kept_bound : (t : Bool) (o : Option Index) (i : Index) → (t ≡ true → is_some o ≡ true) → o ≡ option_or o (cond t (Some i) None)
+kept_bound t (Some j) i h = refl
+kept_bound false None i h = refl
+kept_bound true None i h = absurd (true≢false (sym (h refl)))
+
+first_kept : {es : Firsts} {others : BoundSignatures} (k : Signature) (i : Index) (b : Signature × Index) → ArePlaced es others → with_hash es (hash_of k) ≡ Some b → same_signature b.0 k ≡ true
+    → Extends (bindings_of es others) (bindings_of es others) ((k, i) ∷ [])
+first_kept {es} {others} k i b placed found same s =
+    kept_bound (same_signature s k) (index_of (bindings_of es others) s) i (λ e. ap is_some (same_index_of (bindings_of es others) s k e ∙ sym (found_at_hash k b placed found same)))
 
 -- what the number n is, that the program computed
 pub binds_new : {es fs : Firsts} (k : Signature) (i : Index) (n : ℕ) (w : Signature × Index) → n ≡ hash_of k → w ≡ (k, i) → with_hash es n ≡ None
@@ -165,3 +169,18 @@ binds_new {es} {fs} k i n w is w_is none more ascending others placed =
 
 pub binds_bound : {es : Firsts} (k : Signature) (i : Index) (n : ℕ) (b : Signature × Index) → n ≡ hash_of k → with_hash es n ≡ Some b → same_signature b.0 k ≡ true → BindsFirst es es k i
 binds_bound {es} k i n b is found same others placed = (placed, first_kept k i b placed (ap (with_hash es) (sym is) ∙ found) same)
+
+-- one more among the others, where j is the key that was handed back, and w what stands at it now
+module _ {es fs : Firsts} {others : BoundSignatures} (more : BoundSignatures) (k j : Signature) (i w : Index) (placed : ArePlaced es others) (is : j ≡ k) (taken : is_some (with_hash es (hash_of k)) ≡ true)
+    (stays : fs ≡ es) (w_is : w ≡ unwrap_or (lookup (is_at (signature_cmp j)) others) i)
+    (found : (s : Signature) → lookup (is_at (signature_cmp s)) more ≡ cond (is_at (signature_cmp j) s) (Some w) (lookup (is_at (signature_cmp s)) others)) where
+  extends_others : Extends others more ((k, i) ∷ [])
+  extends_others s =
+      put_once others more k s i w (w_is ∙ ap (λ t. unwrap_or (lookup (is_at (signature_cmp t)) others) i) is)
+      (found s ∙ ap (λ t. cond (is_at (signature_cmp t) s) (Some w) (lookup (is_at (signature_cmp s)) others)) is)
+
+  pub more_placed : ArePlaced fs more
+  more_placed = subst (λ gs. ArePlaced gs more) (sym stays) (other_placed more k i placed taken extends_others)
+
+  pub more_extends : Extends (bindings_of es others) (bindings_of fs more) ((k, i) ∷ [])
+  more_extends = subst (λ gs. Extends (bindings_of es others) (bindings_of gs more) ((k, i) ∷ [])) (sym stays) (other_extends more k i placed taken extends_others)
