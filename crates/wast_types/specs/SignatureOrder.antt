@@ -20,7 +20,7 @@ value_cmp = ordered.ghosts.cmp
 abbrev pub values_cmp : List ValType → List ValType → Ordering
 values_cmp vs ws = slice_cmp value_cmp vs ws
 
--- of signatures, by how many parameters they have: then by how many results, by the parameters and by the results
+-- of signatures: by the number of parameters, then of results, then by the types of the parameters, then of the results
 abbrev pub signature_cmp : Signature → Signature → Ordering
 signature_cmp s t = ordering_then (ordering_then (ordering_then (nat_cmp (length s.0) (length t.0)) (nat_cmp (length s.1) (length t.1))) (values_cmp s.0 t.0)) (values_cmp s.1 t.1)
 

@@ -23,6 +23,9 @@ use wast_tree::{
 ///
 /// Keys are equal where their signatures are equal as they are written (text format, type uses): `(ref $t)` and `(ref 0)`
 /// differ, also where both are one type.
+///
+/// Keys have an order, for maps; the format gives it no meaning. It is by the number of parameters, then of results, then
+/// by the types of the parameters and of the results, in turn.
 #[derive(Debug, Drop)]
 pub struct FuncKey<'a>(pub Seq<ValType<'a>>, pub Seq<ValType<'a>>);
 
@@ -71,7 +74,7 @@ impl<'a> Ord for FuncKey<'a> {
     }
 }
 
-/// What keys are ordered by.
+/// What keys are ordered by: how long their lists are, and then the lists.
 fn by_lengths<'k, 'a>(key: &'k FuncKey<'a>) -> (usize, usize, &'k [ValType<'a>], &'k [ValType<'a>])
     ensures lengths { (result.0 ≡ length key.now.0) × (result.1 ≡ length key.now.1) }
     ensures types { (result.2.now, result.3.now) ≡ key.now }
