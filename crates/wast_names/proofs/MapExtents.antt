@@ -117,14 +117,11 @@ map_put rules entry InRange a b (x ∷ es) id e r h some p =
     (ap (λ n. id ∷ (unsigned n ++ (unsigned e.count ++ flat_map entry (x ∷ es)))) long ∙ ap (λ n. id ∷ (unsigned (length bytes) ++ (unsigned n ++ flat_map entry (x ∷ es)))) parts.0)
     p
 
--- how long a subsection is
-pub subsection_within : (e : MapExtent) → e.size < 4294967296 → subsection_size e ≤ 4294967306
-subsection_within e small = by_test (e.count == 0)
-  where
-    by_test : (b : Bool) → cond b 0 (1 + length (unsigned e.size) + e.size) ≤ 4294967306
-    by_test true = omega arith
-    by_test false = omega (arith, unsigned_fits 4 e.size (omega arith))
+-- how long a number of 32 bits is
+pub narrow : (n : ℕ) → n < 4294967296 → length (unsigned n) ≤ 5
+narrow n small = unsigned_fits 4 n (omega arith)
 
+-- how long a subsection is
 direct_sized : (of : Named) (es : List (ℕ × List ℕ)) (e : MapExtent) → is_extent name_entry es e ≡ true → subsection_size e ≡ length (flat_map name_subsection (direct of es))
 direct_sized of [] e h = ap (λ b. cond b 0 (1 + length (unsigned e.size) + e.size)) (eq-eqb e.count 0 (extent_parts name_entry [] e h).0)
 direct_sized of (x ∷ es) e h =

@@ -1,7 +1,8 @@
 //! How many entries the maps of names have, and how long they are, measured before they are written.
 
-ghost use Rattle.std.specs.Prelude.{◌≡◌, ◌≤◌, ◌*◌, length, All, IfOk, IfErr, IsTrue, List};
+ghost use Rattle.std.specs.Prelude.{◌≡◌, ◌≤◌, ◌+◌, ◌*◌, length, All, IfOk, IfErr, IsTrue, List};
 ghost use Rattle.std.specs.List.{flat_map};
+ghost use Rattle.wasm_ops.specs.Leb128.{unsigned};
 ghost use Rattle.wasm_ops.specs.declared.sink.Refusal.TheVariants as refusal;
 ghost use Rattle.wasm_out.specs.NameSectionBytes.{map_entry, name_subsection, InRangeMapEntry, InRangeNameSubsection};
 ghost use Rattle.wast_reach.specs.Reaches.{are_reaches};
@@ -120,6 +121,15 @@ pub(crate) fn map_extents(
     Ok(extents)
 }
 
+/// How many bytes a subsection has, of how many stand behind its length.
+fn whole_size(content: u32) -> u64
+    ensures size { result ≡ 1 + length (unsigned content) + content }
+    ensures within { result ≤ 4294967306 }
+{
+    let bytes = u64::from(content);
+    1 + (width(bytes) + bytes)
+}
+
 /// How many bytes the subsection of a map has, of the extent of the map.
 fn subsection_size(extent: MapExtent) -> u64
     ensures size { result ≡ subsection_size extent }
@@ -128,8 +138,7 @@ fn subsection_size(extent: MapExtent) -> u64
     if extent.count == 0 {
         return 0;
     }
-    let size = u64::from(extent.size);
-    1 + width(size) + size
+    whole_size(extent.size)
 }
 
 /// How many bytes the subsections of the maps have together.

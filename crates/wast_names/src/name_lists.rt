@@ -68,6 +68,7 @@ impl<'a> NameItems<Instruction<'a>> for Openers {
 }
 
 impl<'a> CountItems<Instruction<'a>> for Openers {
+    #[inline(always)]
     fn count(&self, part: &Instruction<'a>) -> u64 {
         match part.block_type() {
             Some(block) => u64::from(given_name(&block.label_name, &block.label).is_some()),

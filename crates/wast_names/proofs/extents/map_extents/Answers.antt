@@ -1,6 +1,6 @@
-use Rattle.std.proofs.Common.{◌≡◌, ◌<◌, ◌+◌, ℕ, true, length, take, get_or, sym, ◌∙◌, subst, arith, refl}
+use Rattle.std.proofs.Common.{◌≡◌, ◌<◌, ◌≤◌, ◌+◌, ℕ, true, length, take, get_or, sym, ◌∙◌, subst, arith, refl}
 use Rattle.std.specs.Prelude.{All}
-use Rattle.std.proofs.lemmas.List.{length-set}
+use Rattle.std.proofs.lemmas.List.{length-set, take_all}
 use Rattle.std.proofs.lemmas.Result.{err_from_is_err_and}
 use Rattle.wasm_out.specs.NameSectionBytes.{InRangeNameSubsection}
 use Rattle.wast_names.specs.ModuleNames.{map_names, name_maps}
@@ -26,4 +26,7 @@ loop-i-preserved c =
 pub returns-clause-ok : goal.returns-clause-ok
 returns-clause-ok c =
     let i = c.loop-i.invariant in
-    (extents_found c.args.fields.now c.loop-i.extents i.size (λ k lt. i.told k (omega arith)), ?)
+    let past : length name_maps ≤ c.loop-i.i = omega arith in (
+      extents_found c.args.fields.now c.loop-i.extents i.size (λ k lt. i.told k (omega arith)),
+      subst (All (λ m. All InRangeNameSubsection (map_names c.args.fields.now m))) (take_all c.loop-i.i name_maps past) i.fitting,
+    )

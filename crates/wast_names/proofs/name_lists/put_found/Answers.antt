@@ -1,6 +1,9 @@
 use Rattle.std.proofs.Common.{refl}
+use Rattle.std.proofs.lemmas.Bool.{eq-eqb}
+use Rattle.wasm_ops.proofs.Everywhere.{all_one}
 use Rattle.wasm_out.specs.NameSectionBytes.{name_entry, map_entry, InRangeNameEntry, InRangeMapEntry}
 use Rattle.wasm_ops.specs.Spelling.{vec, InRangeVec}
+use Rattle.wast_names.specs.declared.name_lists.CountedNames.{CountedNames}
 use Rattle.wast_names.specs.FoundNames.{names_listed, entry_spelling, InRangeEntryOf}
 use Rattle.wast_names.proofs.NameEntries.{entry_as}
 use Rattle.wast_names.proofs.ListedNames.{is_named}
@@ -10,6 +13,7 @@ pub returns-clause-written : goal.returns-clause-written
 returns-clause-written g c =
     let l = c.in-Some.listed in
     let es = names_listed l in
-    rw (c.in-Some.is, is_named es c.count_listed.result c.count_listed.ensures c.if-count_listed-eq0.false)
-    (entry_as g.S.Sink.rules (entry_spelling (λ l. vec name_entry (names_listed l))) (InRangeEntryOf (λ l. InRangeVec InRangeNameEntry (names_listed l))) map_entry InRangeMapEntry c.args.out.now c.put_entry-2.new.out l es c.args.position c.put_entry-2.result
-    (λ n. refl) (λ n h. h) (λ n h. h) c.put_entry-2.ensures.written)
+    let count = c.count_listed-count.result in
+    rw (c.in-Some.is, is_named es count c.count_listed-count.ensures c.if-count-eq0.false)
+    (entry_as g.S.Sink.rules (entry_spelling (λ (n : CountedNames). vec name_entry (names_listed n.listed))) (InRangeEntryOf (λ (n : CountedNames). InRangeVec InRangeNameEntry (names_listed n.listed))) map_entry InRangeMapEntry c.args.out.now c.put_entry-2.new.out
+    (record { listed = l; count = count }) es c.args.position c.put_entry-2.result (λ n. refl) (λ n h. h) (λ n h. h) c.put_entry-2.ensures.written)

@@ -1,4 +1,4 @@
-use Rattle.std.proofs.Common.{sym}
+use Rattle.std.proofs.Common.{sym, ◌∙◌}
 use Rattle.wast_names.specs.WithinItems.{arity_at}
 use Rattle.wast_names.proofs.ListedNames.{params_then, nameless_then, nothing_named}
 use Rattle.wast_names.proofs.within.locals_behind.Goals as goal
@@ -7,9 +7,9 @@ pub returns-in-Some : goal.returns-in-Some
 returns-in-Some g c =
     rw (c.in-Some.is, c.as_slice-params.ensures) (params_then c.in-Some.inline.params c.args.locals.now)
 
-pub returns-then-count_each-eq0 : goal.returns-then-count_each-eq0
-returns-then-count_each-eq0 g c =
-    rw (c.none.ensures, c.in_default.is) (nothing_named (arity_at (g.A.Arities.types c.args.arities.now) c.args.ty.now.index) c.args.locals.now c.count_each.result c.count_each.ensures c.if-count_each-eq0.true)
+pub returns-else-any_named : goal.returns-else-any_named
+returns-else-any_named g c =
+    rw (c.none.ensures, c.in_default.is) (nothing_named (arity_at (g.A.Arities.types c.args.arities.now) c.args.ty.now.index) c.args.locals.now (sym c.if-any_named.false ∙ c.any_named.ensures))
 
 pub returns-in-Some-arity_at : goal.returns-in-Some-arity_at
 returns-in-Some-arity_at g c =

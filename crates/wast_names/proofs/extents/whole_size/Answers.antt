@@ -1,0 +1,24 @@
+use Rattle.std.proofs.Common.{length, ap, ◌∙◌, arith}
+use Rattle.wasm_ops.specs.Leb128.{unsigned}
+use Rattle.wast_names.proofs.MapExtents.{narrow}
+use Rattle.wast_names.proofs.extents.whole_size.Goals as goal
+
+pub overflow_add-result : goal.overflow_add-result
+overflow_add-result c =
+    let same = c.width.ensures ∙ ap (λ n. length (unsigned n)) c.from-bytes.ensures in
+    omega (arith, narrow c.args.content (omega (arith, c.ranges.content.fits)), same, c.from-bytes.ensures, c.ranges.content.fits)
+
+pub overflow_add-result-2 : goal.overflow_add-result-2
+overflow_add-result-2 c =
+    let same = c.width.ensures ∙ ap (λ n. length (unsigned n)) c.from-bytes.ensures in
+    omega (arith, narrow c.args.content (omega (arith, c.ranges.content.fits)), same, c.from-bytes.ensures, c.ranges.content.fits)
+
+pub returns-clause-size : goal.returns-clause-size
+returns-clause-size c =
+    let same = c.width.ensures ∙ ap (λ n. length (unsigned n)) c.from-bytes.ensures in
+    omega (arith, same, c.from-bytes.ensures)
+
+pub returns-clause-within : goal.returns-clause-within
+returns-clause-within c =
+    let same = c.width.ensures ∙ ap (λ n. length (unsigned n)) c.from-bytes.ensures in
+    omega (arith, narrow c.args.content (omega (arith, c.ranges.content.fits)), same, c.from-bytes.ensures, c.ranges.content.fits)
