@@ -57,7 +57,7 @@ extent_of_some entry InRange (e ∷ es) count size is some small sized h =
 pub extent_refused : {A : Type 0} (entry : ℕ × A → List ℕ) (InRange : ℕ × A → Type 0) (es : List (ℕ × A)) (count : ℕ) → count ≡ length es → 0 < count
     → (InRangeU32 (length (unsigned count ++ flat_map entry es)) × (InRangeU32 count × All InRange es) → ⊥) → InRangeMap entry InRange es → ⊥
 extent_refused entry InRange [] count is some never h = absurd (omega arith)
-extent_refused entry InRange (e ∷ es) count is some no h =
+extent_refused entry InRange (e ∷ es) count is some never h =
     never (subst (λ n. InRangeU32 (length (unsigned n ++ flat_map entry (e ∷ es))) × (InRangeU32 n × All InRange (e ∷ es))) (sym is) h)
 
 -- the same of a subsection

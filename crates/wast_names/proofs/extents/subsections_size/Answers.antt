@@ -9,9 +9,9 @@ use Rattle.wast_names.proofs.extents.subsections_size.Goals as goal
 pub loop-extent-preserved : goal.loop-extent-preserved
 loop-extent-preserved c =
     let i = c.loop-extent.invariant in
-    let size = c.subsection_size.ensures in
+    let size = c.subsection_size-sum.ensures in
     record {
-      sum = λ fields h. subsections_more fields c.args.extents.now c.loop-extent.extent-index c.loop-extent.sum c.subsection_size.result h c.requires c.loop-extent-test.true size.size (i.sum fields h);
+      sum = λ fields h. subsections_more fields c.args.extents.now c.loop-extent.extent-index c.loop-extent.sum c.subsection_size-sum.result h c.requires c.loop-extent-test.true size.size (i.sum fields h);
       within = let less = size.within in omega arith;
     }
 
