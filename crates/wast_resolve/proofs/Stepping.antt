@@ -2,7 +2,7 @@
 use Rattle.std.proofs.Common.{◌≡◌, ℕ, suc, ◌+◌, ◌<◌, ◌≤◌, List, [], ◌∷◌, ◌++◌, None, true, refl, sym, ◌∙◌, ap, length, get_or, drop, take, arith, add-one, subst}
 use Rattle.std.proofs.Math.ListN.{set, length-set}
 use Rattle.std.proofs.Math.Seq.{drop-cons, take-suc}
-use Rattle.std.proofs.lemmas.List.{append-nil, drop-drop, drop-set-lt, take_more_set, take-append-drop, take_all}
+use Rattle.std.proofs.lemmas.List.{append-nil, drop-drop, drop-set-lt, set-get_or, take_more_set, take-append-drop, take_all}
 use Rattle.wast_base.specs.Faults.{Told}
 use Rattle.wast_labels.specs.OpenBlocks.{OpenBlocks}
 use Rattle.wast_tree.specs.Sites.{Locals, Here, start, after_all, behind, in_instr, in_instrs}
@@ -11,7 +11,8 @@ use Rattle.wast_map.specs.Mapped.{Change, mapped_instr, mapped_instrs}
 use Rattle.wast_resolve.specs.Tree.{Instruction}
 use Rattle.wast_resolve.specs.Scopes.{Scope}
 use Rattle.wast_resolve.specs.Demands.{first_unmet, Answers, site_demand, site_demands, open_counts, HasMany}
-use Rattle.wast_resolve.specs.Openable.{is_openable, AreOpenable, here, with_blocks}
+use Rattle.wast_resolve.specs.Openable.{is_openable, AreOpenable, IsPassed, here, with_blocks}
+use Rattle.wast_resolve.specs.Resolved.{numbering}
 use Rattle.wast_resolve.proofs.Counted.{many_sites}
 use Rattle.wast_resolve.proofs.Moving.{stands_by}
 use Rattle.wast_resolve.proofs.Parts.{both_met, first_fails, second_fails}
@@ -134,3 +135,17 @@ module _ {c : Scope} {f : Change} {start : Here} {olds nows : List Instruction} 
 
   pub all_become : nows ≡ mapped_instrs f start olds
   all_become = sym (take_all i nows (omega (arith, p.len, le))) ∙ (p.become ∙ ap (mapped_instrs f start) (take_all i olds le))
+
+-- one that a walk passes by stands there as it did
+put_back : (nows : List Instruction) (i : ℕ) (x : Instruction) → x ≡ get_or nows i x → set nows i x ≡ nows
+put_back nows i x is = ap (set nows i) is ∙ set-get_or nows i x
+
+-- and opens and closes no block
+pub along_passed : {s t : OpenBlocks} {olds nows : List Instruction} {i : ℕ} {x : Instruction} → IsPassed x → IsAlong s t olds nows i → i < length olds → x ≡ get_or nows i x → IsAlong s t olds nows (i + 1)
+along_passed {s} {t} {olds} {nows} {i} {x} passed p lt is =
+    subst (λ ys. IsAlong s t olds ys (i + 1)) (put_back nows i x is) (along_more x p lt is (λ l. sym (ap (with_blocks t) (passed.still (here l t)))))
+
+-- and is walked
+pub partway_passed : {c : Scope} {start : Here} {olds nows : List Instruction} {i : ℕ} {x : Instruction} → IsPassed x → IsPartway c (numbering c) start olds nows i → i < length olds → x ≡ get_or nows i x → IsPartway c (numbering c) start olds nows (i + 1)
+partway_passed {c} {start} {olds} {nows} {i} {x} passed p lt is =
+    subst (λ ys. IsPartway c (numbering c) start olds ys (i + 1)) (put_back nows i x is) (partway_more p lt is (passed.met c (reached start olds i)) (sym (passed.stays c (reached start olds i))))

@@ -4,9 +4,13 @@ use Rattle.wast_base.specs.declared.faults.Error.{Error}
 use Rattle.wast_base.specs.Ids.{Name, marked}
 use Rattle.wast_base.specs.Spaces.{name_if}
 use Rattle.wast_tree.specs.Instrs.{block_of}
-use Rattle.wast_tree.specs.Sites.{Site, Locals, Here, after_all}
+use Rattle.wast_tree.specs.Sites.{Site, Locals, Here, after_all, in_instr}
+use Rattle.wast_map.specs.Mapped.{mapped_instr}
 use Rattle.wast_labels.specs.Gathered.{knows}
 use Rattle.wast_labels.specs.OpenBlocks.{OpenBlocks}
+use Rattle.wast_resolve.specs.Demands.{first_unmet, site_demands}
+use Rattle.wast_resolve.specs.Resolved.{numbering}
+use Rattle.wast_resolve.specs.Scopes.{Scope}
 use Rattle.wast_resolve.specs.Tree.{BlockType, Instruction}
 
 -- The label of a block is one of these, where one is opened.
@@ -37,3 +41,9 @@ with_blocks s h = record s { blocks = h.blocks }
 -- A walk over these sites leaves the blocks that are open behind them.
 abbrev pub Moves : {T : Type 0} → OpenBlocks → (Here → List Site) → OpenBlocks → Result T Error → Type 0
 Moves old sites new result = (l : Locals) → OnOk result (new ≡ with_blocks old (after_all (here l old) (sites (here l old))))
+
+-- Wherever an instruction stands, it demands nothing, stays as it is, and opens and closes no block.
+pub record IsPassed (i : Instruction) : Type 0 where
+  pub met : (c : Scope) (h : Here) → first_unmet (site_demands c (in_instr h i)) ≡ None
+  pub stays : (c : Scope) (h : Here) → mapped_instr (numbering c) h i ≡ i
+  pub still : (h : Here) → after_all h (in_instr h i) ≡ h

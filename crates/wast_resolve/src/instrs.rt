@@ -12,7 +12,7 @@ ghost use Rattle.wast_map.specs.Mapped.{mapped_access, mapped_block, mapped_br_t
 ghost use Rattle.wast_namespace.specs.Outcomes.{Outcome};
 ghost use Rattle.wast_resolve.specs.Demands.{first_unmet, site_demands, open_counts_at, HasMany};
 ghost use Rattle.wast_resolve.specs.Locals.{Numbers};
-ghost use Rattle.wast_resolve.specs.Openable.{is_openable, AreOpenable, here, begin, Moves};
+ghost use Rattle.wast_resolve.specs.Openable.{is_openable, AreOpenable, here, begin, Moves, IsPassed};
 ghost use Rattle.wast_resolve.specs.Resolvers.{Resolution, scope_of};
 ghost use Rattle.wast_resolve.specs.Scopes.{Scope};
 ghost use Rattle.wast_resolve.specs.Tree.space;
@@ -29,8 +29,9 @@ use std::alloc::{AllocError, Global};
 use wast_labels::{LabelNames, Labels, gathering_law};
 use wast_tree::{
     ArrayInit, BlockType, Boxed, BrTableIndices, CallIndirect, Error, Expression, Fault,
-    FunctionType, Handle, Id, Index, Instruction, RefType, Resume, ResumeTable, ResumeThrow,
-    ResumeThrowRef, Seq, Space, StructAccess, TryTable, TryTableCatch, TryTableCatchKind, TypeUse,
+    FunctionType, Handle, Id, Index, Instruction, MemArgTarget, RefType, Resume, ResumeTable,
+    ResumeThrow, ResumeThrowRef, Seq, Space, StructAccess, TryTable, TryTableCatch,
+    TryTableCatchKind, TypeUse,
 };
 
 /// Walks over an index of a space. No block is opened.
@@ -525,6 +526,33 @@ fn walk_instr<'a>(
     }
 }
 
+/// Whether nothing stands in an instruction that is looked up, and it opens and closes no block, so that a walk may pass it by.
+/// It may say no of such a one too.
+fn is_passed(instr: &Instruction) -> bool
+    ensures { IsTrue result → IsPassed instr.now }
+{
+    match instr {
+        Instruction::Plain(_)
+        | Instruction::i32_const(_)
+        | Instruction::i64_const(_)
+        | Instruction::f32_const(_)
+        | Instruction::f64_const(_) => true,
+        Instruction::Mem(_, arg) => match &arg.target {
+            MemArgTarget::Memory(memory) => memory.is_resolved(),
+            MemArgTarget::Array(_) => false,
+        },
+        Instruction::local_get(index) => index.is_resolved(),
+        Instruction::local_set(index) => index.is_resolved(),
+        Instruction::local_tee(index) => index.is_resolved(),
+        Instruction::global_get(index) => index.is_resolved(),
+        Instruction::global_set(index) => index.is_resolved(),
+        Instruction::call(index) => index.is_resolved(),
+        Instruction::br(index) => index.is_resolved(),
+        Instruction::br_if(index) => index.is_resolved(),
+        _ => false,
+    }
+}
+
 /// Walks over instructions, in order.
 ///
 /// It needs that the labels of all blocks that they open were gathered.
@@ -539,6 +567,9 @@ fn walk_instrs<'a>(
         WalksBodies names.now (in_instrs (here l labels.old)) (λ f. mapped_instrs f (here l labels.old)) instrs.old instrs.new result }
 {
     for i in 0..instrs.len() {
+        if is_passed(&instrs.as_slice()[i]) {
+            continue;
+        }
         walk_instr(names, locals, labels, instrs.at_mut(i))?;
     }
     Ok(())

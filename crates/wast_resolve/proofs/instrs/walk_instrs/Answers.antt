@@ -1,17 +1,17 @@
 use Rattle.std.specs.Prelude.{⊤}
-use Rattle.std.proofs.Common.{arith, ◌≤◌, ◌<◌, length, take, subst, ◌≡◌, None}
+use Rattle.std.proofs.Common.{arith, ◌≤◌, ◌<◌, length, get_or, take, subst, ◌≡◌, None, refl}
 use Rattle.std.proofs.lemmas.Result.{err_from_is_err_and}
 use Rattle.wast_base.specs.Faults.{told}
 use Rattle.wast_map.specs.Mapped.{mapped_instr}
 use Rattle.wast_tree.specs.Sites.{Here, Locals, in_instr, in_instrs}
 use Rattle.wast_resolve.specs.Demands.{first_unmet, site_demands, open_counts, HasMany, Answers}
 use Rattle.wast_resolve.specs.Locals.{Numbers}
-use Rattle.wast_resolve.specs.Openable.{here}
+use Rattle.wast_resolve.specs.Openable.{here, IsPassed}
 use Rattle.wast_resolve.specs.Resolved.{numbering}
 use Rattle.wast_resolve.specs.Resolvers.{scope_of}
 use Rattle.wast_resolve.proofs.Moving.{stands_by}
 use Rattle.wast_resolve.proofs.Parts.{more_answers}
-use Rattle.wast_resolve.proofs.Stepping.{reached, along_more, along_openable, partway_more, partway_stops, partway_many, all_met, all_become}
+use Rattle.wast_resolve.proofs.Stepping.{reached, along_more, along_openable, along_passed, partway_more, partway_passed, partway_stops, partway_many, all_met, all_become}
 use Rattle.wast_resolve.proofs.instrs.walk_instrs.Goals as goal
 
 pub returns-in_err-walk_instr : goal.returns-in_err-walk_instr
@@ -54,3 +54,10 @@ at_mut-requires c = omega (arith, c.loop-i.invariant.0.len, c.loop-i-test.true, 
 
 pub walk_instr-requires : goal.walk_instr-requires
 walk_instr-requires c = along_openable c.loop-i.invariant.0 (omega (arith, c.loop-i-test.true, c.len-i-end.ensures)) c.at_mut.ensures.value c.requires
+
+pub loop-i-preserved-then-is_passed : goal.loop-i-preserved-then-is_passed
+loop-i-preserved-then-is_passed c =
+    let lt : c.loop-i.i < length c.args.instrs.now = omega (arith, c.loop-i-test.true, c.len-i-end.ensures) in
+    let passed : IsPassed c.index-as_slice-i.result = c.if-is_passed.ensures refl in
+    let is : c.index-as_slice-i.result ≡ get_or c.loop-i.instrs c.loop-i.i c.index-as_slice-i.result = subst (λ ys. c.index-as_slice-i.result ≡ get_or ys c.loop-i.i c.index-as_slice-i.result) c.as_slice.ensures c.index-as_slice-i.is in
+    (along_passed passed c.loop-i.invariant.0 lt is, λ l numbers. partway_passed passed (c.loop-i.invariant.1 l numbers) lt is)
