@@ -15,7 +15,7 @@ ghost use Rattle.wast_names.specs.Tree.{ModuleField};
 ghost use Rattle.wast_names.specs.WithinItems.{types_within};
 
 use crate::arities::{Checkpoints, FieldTypes, TypesOf};
-use crate::name_maps::{count_each, extent_of};
+use crate::name_maps::{extent_of, measured};
 use crate::named_fields::{with_items, with_lists};
 use crate::names_payload::{NAME_MAPS, NameMap};
 use crate::within::{PutLists, Within, WithinItems, count_lists};
@@ -90,8 +90,7 @@ fn map_extent(
     match map {
         NameMap::Items(space) => {
             let there = with_items(*space, fields, reaches);
-            let count = count_each(space, there);
-            extent_of(*space, there, count)
+            measured(*space, there)
         }
         NameMap::Within(within) => {
             let there = with_lists(*within, fields, reaches);

@@ -94,7 +94,7 @@ fn is_named(listed: Listed) -> bool
 {
     match listed {
         Listed::Fields(fields) => any_named(&Own, fields),
-        Listed::Locals(params, _, locals) => any_named(&Own, params) || any_named(&Own, locals),
+        Listed::Locals(params, _, locals) => any_named(&Own, params) | any_named(&Own, locals),
         Listed::Labels(instrs) => any_named(&Openers, instrs),
     }
 }

@@ -160,6 +160,19 @@ pub(crate) fn extent_of<'b, T, W: NameItems<T> + Copy>(
     Ok(MapExtent { count, size })
 }
 
+/// The same of items that are counted.
+pub(crate) fn measured<'b, T, W: CountItems<T> + Copy>(
+    way: W,
+    parts: &'b [T],
+) -> Result<MapExtent, Refusal>
+    ensures ok { IfOk result (λ e. IsTrue (is_extent W.entry (named_from 0 (flat_map (W.items way) parts.now)) e)
+        × InRangeMap W.entry W.in_range (named_from 0 (flat_map (W.items way) parts.now))) }
+    ensures err { IfErr result (λ e. (e ≡ refusal.TooLarge)
+        × (InRangeMap W.entry W.in_range (named_from 0 (flat_map (W.items way) parts.now)) → ⊥)) }
+{
+    extent_of(way, parts, count_each(&way, parts))
+}
+
 /// A map as a subsection of this id, where it has entries. It needs its extent.
 pub(crate) fn put_map<'b, T, W: NameItems<T> + Copy, S: Sink>(
     id: u8,

@@ -12,14 +12,14 @@ use Rattle.wast_names.proofs.extents.map_extent.Goals as goal
 pub returns-in-Items-clause-ok : goal.returns-in-Items-clause-ok
 returns-in-Items-clause-ok c =
     let space = c.in-Items.space in
-    rw c.in-Items.is (direct_measured (named_of space) (named_items space c.args.fields.now) c.extent_of.result
-    (subst (λ xs. IfOk c.extent_of.result (λ e. (is_extent name_entry (named_from 0 xs) e ≡ true) × InRangeMap name_entry InRangeNameEntry (named_from 0 xs))) c.with_items-there.ensures c.extent_of.ensures.ok))
+    rw c.in-Items.is (direct_measured (named_of space) (named_items space c.args.fields.now) c.measured.result
+    (subst (λ xs. IfOk c.measured.result (λ e. (is_extent name_entry (named_from 0 xs) e ≡ true) × InRangeMap name_entry InRangeNameEntry (named_from 0 xs))) c.with_items-there.ensures c.measured.ensures.ok))
 
 pub returns-in-Items-clause-err : goal.returns-in-Items-clause-err
 returns-in-Items-clause-err c =
     let space = c.in-Items.space in
-    rw c.in-Items.is (direct_refused (named_of space) (named_items space c.args.fields.now) c.extent_of.result
-    (subst (λ xs. IfErr c.extent_of.result (λ e. (e ≡ refusal.TooLarge) × (InRangeMap name_entry InRangeNameEntry (named_from 0 xs) → ⊥))) c.with_items-there.ensures c.extent_of.ensures.err))
+    rw c.in-Items.is (direct_refused (named_of space) (named_items space c.args.fields.now) c.measured.result
+    (subst (λ xs. IfErr c.measured.result (λ e. (e ≡ refusal.TooLarge) × (InRangeMap name_entry InRangeNameEntry (named_from 0 xs) → ⊥))) c.with_items-there.ensures c.measured.ensures.err))
 
 pub returns-in-Within-clause-ok : goal.returns-in-Within-clause-ok
 returns-in-Within-clause-ok c =

@@ -1,4 +1,4 @@
-use Rattle.std.proofs.Common.{◌∙◌, take, drop, ap, refl, sym, nat_lt, length}
+use Rattle.std.proofs.Common.{◌∙◌, ◌+◌, take, drop, ap, refl, sym, nat_lt, length}
 use Rattle.std.specs.List.{flat_map}
 use Rattle.std.proofs.lemmas.List.{take_all}
 use Rattle.wast_names.specs.GivenNames.{named_from}

@@ -19,7 +19,7 @@ pub returns-in_err-front-clause-err : goal.returns-in_err-front-clause-err
 returns-in_err-front-clause-err c =
     let fields = c.args.fields.now in
     let first = module_name (text_seen c.args.name) in
-    let p = err_from_is_err_and c.from_residual-front.result c.from_residual-front.ensures.1 in
+    let p = err_from_is_err_and c.from_residual-in_err-front.result c.from_residual-in_err-front.ensures.1 in
     let is = c.in_err-front.ensures.err in
     rw p.1 (
       p.2 ∙ is.0,
@@ -50,22 +50,22 @@ pub returns-then-subsections-eq0-clause-ok : goal.returns-then-subsections-eq0-c
 returns-then-subsections-eq0-clause-ok c =
     let fields = c.args.fields.now in
     let maps = c.in_ok-maps.ensures.ok.0 in
-    let size = whole fields (module_name (text_seen c.args.name)) c.in_ok-front.front c.subsections_size-subsections.result c.in_ok-front.ensures.ok.0 (c.subsections_size-subsections.ensures.size fields maps) in
-    (payload_none (name_subsections (text_seen c.args.name) fields) (c.in_ok-front.front + c.subsections_size-subsections.result) size (omega arith), maps)
+    let size = whole fields (module_name (text_seen c.args.name)) c.in_ok-front.front c.subsections_size.result c.in_ok-front.ensures.ok.0 (c.subsections_size.ensures.size fields maps) in
+    (payload_none (name_subsections (text_seen c.args.name) fields) (c.in_ok-front.front + c.subsections_size.result) size (omega arith), maps)
 
 pub returns-in-Ok-clause-ok : goal.returns-in-Ok-clause-ok
 returns-in-Ok-clause-ok c =
     let fields = c.args.fields.now in
     let maps = c.in_ok-maps.ensures.ok.0 in
-    let front = c.from-subsections.ensures in
-    let size = whole fields (module_name (text_seen c.args.name)) c.in_ok-front.front c.subsections_size-subsections.result c.in_ok-front.ensures.ok.0 (c.subsections_size-subsections.ensures.size fields maps) in
+    let front = c.from.ensures in
+    let size = whole fields (module_name (text_seen c.args.name)) c.in_ok-front.front c.subsections_size.result c.in_ok-front.ensures.ok.0 (c.subsections_size.ensures.size fields maps) in
     let told = c.in-Ok.ensures.1 in
-    (omega (arith, payload_length (name_subsections (text_seen c.args.name) fields) (c.in_ok-front.front + c.subsections_size-subsections.result) size (λ z. c.if-subsections-eq0.false (omega arith))), maps)
+    (omega (arith, payload_length (name_subsections (text_seen c.args.name) fields) (c.in_ok-front.front + c.subsections_size.result) size (λ z. c.if-subsections-eq0.false (omega arith))), maps)
 
 pub returns-in-Err-clause-err : goal.returns-in-Err-clause-err
 returns-in-Err-clause-err c =
     let fields = c.args.fields.now in
     let maps = c.in_ok-maps.ensures.ok.0 in
-    let front = c.from-subsections.ensures in
-    let size = whole fields (module_name (text_seen c.args.name)) c.in_ok-front.front c.subsections_size-subsections.result c.in_ok-front.ensures.ok.0 (c.subsections_size-subsections.ensures.size fields maps) in
-    (refl, λ h. c.in-Err.ensures (omega (arith, payload_in_range (name_subsections (text_seen c.args.name) fields) (c.in_ok-front.front + c.subsections_size-subsections.result) size (λ z. c.if-subsections-eq0.false (omega arith)) h)))
+    let front = c.from.ensures in
+    let size = whole fields (module_name (text_seen c.args.name)) c.in_ok-front.front c.subsections_size.result c.in_ok-front.ensures.ok.0 (c.subsections_size.ensures.size fields maps) in
+    (refl, λ h. c.in-Err.ensures (omega (arith, payload_in_range (name_subsections (text_seen c.args.name) fields) (c.in_ok-front.front + c.subsections_size.result) size (λ z. c.if-subsections-eq0.false (omega arith)) h)))

@@ -13,8 +13,11 @@ use Rattle.wast_names.proofs.names_payload.put_subsections.Goals as goal
 pub bounds-extents-i : goal.bounds-extents-i
 bounds-extents-i g c = (extent_at c.args.fields.now c.args.maps.now c.args.extents.now c.loop-i.i first_map no_extent c.requires.extents (omega arith)).0
 
-pub put_subsection-requires-clause-extent : goal.put_subsection-requires-clause-extent
-put_subsection-requires-clause-extent g c = (extent_at c.args.fields.now c.args.maps.now c.args.extents.now c.loop-i.i first_map no_extent c.requires.extents (omega arith)).1
+pub put_subsection-result-requires-clause-extent : goal.put_subsection-result-requires-clause-extent
+put_subsection-result-requires-clause-extent g c = (extent_at c.args.fields.now c.args.maps.now c.args.extents.now c.loop-i.i first_map no_extent c.requires.extents (omega arith)).1
+
+pub offset_bounds-extents-i : goal.offset_bounds-extents-i
+offset_bounds-extents-i g c = omega (arith, c.well_formed, (extent_at c.args.fields.now c.args.maps.now c.args.extents.now c.loop-i.i first_map no_extent c.requires.extents (omega arith)).0)
 
 pub returns-then-is_err : goal.returns-then-is_err
 returns-then-is_err g c =

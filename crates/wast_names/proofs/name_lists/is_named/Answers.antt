@@ -1,0 +1,11 @@
+use Rattle.std.proofs.Common.{◌≡◌, ◌∙◌, ◌∷◌, [], ◌||◌, Bool, ap}
+use Rattle.std.specs.List.{flat_map}
+use Rattle.wast_names.specs.WithinItems.{param_name, local_name}
+use Rattle.wast_names.proofs.ListedNames.{either_named}
+use Rattle.wast_names.proofs.name_lists.is_named.Goals as goal
+
+pub returns-in-Locals : goal.returns-in-Locals
+returns-in-Locals c =
+    let params = flat_map (λ p. param_name p ∷ []) c.in-Locals.params.now in
+    let locals = flat_map (λ l. local_name l ∷ []) c.in-Locals.locals.now in
+    rw (c.in-Locals.is, c.any_named-in-Locals.ensures, c.any_named-in-Locals-2.ensures) (either_named params locals c.in-Locals.field-1)
