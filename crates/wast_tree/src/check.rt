@@ -51,7 +51,9 @@ impl<S> Least<S> {
 }
 
 impl<S: Settler> Least<S> {
-    /// Notes the clause that a generated id is that of an item, unless it is.
+    /// Notes the clause that a generated id is that of an item, unless it is. It stands apart so that written ids are quick.
+    #[cold]
+    #[inline(never)]
     fn look_for(&mut self, space: Space, index: &Index<'_>)
         ensures known { S.known self.new.settler ≡ S.known self.old.settler }
         ensures clause { self.new.clause ≡ least_of self.old.clause (failing (S.known self.old.settler) (Wants space index.now)) }
@@ -64,6 +66,7 @@ impl<S: Settler> Least<S> {
 impl<S: Settler> Visitor for Least<S> {
     ghost told = { λ old a new. (S.known new.settler ≡ S.known old.settler) × (new.clause ≡ least_of old.clause (failing (S.known old.settler) a)) };
 
+    #[inline(always)]
     #[tactic(auto, using(crate::proofs::Failing::none_unless_generated))]
     fn index(&mut self, space: Space, index: &Index<'_>) {
         if !is_written(index) {

@@ -18,6 +18,7 @@ use wast_base::{Error, Index, Seq, Span};
 
 /// Puts a field at the end of a list. It may take memory. The only error is E12, where that is refused; then the list stays
 /// as it was, and the field is dropped.
+#[inline(always)]
 pub fn push_field<'a, 'e>(
     fields: &mut Seq<ModuleField<'a>>,
     field: ModuleField<'a>,
@@ -42,6 +43,7 @@ pub fn fields_with_capacity<'a, 'e>(
 }
 
 /// The field that stands in a place, where a `start` of number 0 stays. It takes no memory.
+#[inline(always)]
 pub fn take_field<'a>(place: &mut ModuleField<'a>) -> ModuleField<'a>
     ensures taken { result ≡ place.old }
     ensures left { place.new ≡ field.Start (index.Num 0 (record { offset = 0 })) }
