@@ -1,28 +1,26 @@
--- A value behind its length, for which a byte is kept until the value is there.
-use Rattle.std.proofs.Common.{◌≡◌, ◌≤◌, ◌<◌, ◌+◌, ◌-◌, ℕ, Bool, true, false, List, [], ◌∷◌, ◌++◌, Result, Ok, Err, is_err, refl, sym, ap, ◌∙◌, subst, inl, inr, arith, length, length-append}
+-- A value behind a number, for which a byte is kept until the value is there.
+use Rattle.std.proofs.Common.{◌≡◌, ◌≤◌, ◌+◌, ◌-◌, ℕ, Bool, true, false, List, [], ◌∷◌, ◌++◌, Result, Err, is_err, subst, inl, inr, arith, length, length-append}
 use Rattle.wasm_ops.specs.Leb128.{unsigned}
 use Rattle.wasm_ops.specs.declared.sink.Refusal.{Refusal}
-use Rattle.wasm_ops.specs.declared.sink.Refusal.TheVariants as refusal
 use Rattle.wasm_ops.specs.Sinks.{SinkRules, Writes, Sets, AppendLaws}
-use Rattle.wasm_ops.specs.Spelling.{InRangeU32}
 use Rattle.wasm_ops.proofs.Numbers.{unsigned-nonempty}
 use Rattle.wasm_ops.proofs.Sinking.{was_put, after_nothing, puts_as}
 
--- a value behind its length
-abbrev with_length : List ℕ → List ℕ
-with_length y = unsigned (length y) ++ y
+-- a value behind a number
+abbrev behind : ℕ → List ℕ → List ℕ
+behind m y = unsigned m ++ y
 
--- a byte and the value are no longer than the length and the value
-pub no_longer : (y : List ℕ) → 1 + length y ≤ length (with_length y)
-no_longer y = omega (arith, length-append (unsigned (length y)) y, unsigned-nonempty (length y))
+-- a byte and the value are no longer than the number and the value
+pub no_longer : (m : ℕ) (y : List ℕ) → 1 + length y ≤ length (behind m y)
+no_longer m y = omega (arith, length-append (unsigned m) y, unsigned-nonempty m)
 
 -- no byte fitted, so the whole does not
-pub no_byte : {S : Type 0} (A : Type 0) (rules : SinkRules S) (all : Type 0) (a b : S) (byte : ℕ) (y : List ℕ) (e : Refusal)
-    → AppendLaws rules → Writes {A = A} rules (Unit {0}) a b (byte ∷ []) (Err e) → Writes {A = A} rules all a b (with_length y) (Err e)
-no_byte A rules all a b byte y e laws p = (
+pub no_byte : {S : Type 0} (A : Type 0) (rules : SinkRules S) (all : Type 0) (a b : S) (byte m : ℕ) (y : List ℕ) (e : Refusal)
+    → AppendLaws rules → Writes {A = A} rules (Unit {0}) a b (byte ∷ []) (Err e) → Writes {A = A} rules all a b (behind m y) (Err e)
+no_byte A rules all a b byte m y e laws p = (
   p.0,
   elim p.1 [
-    | inl q ↦ inl (q.0, λ f. q.1 (laws.fits_less a 1 (length (with_length y)) (omega (arith, no_longer y)) f))
+    | inl q ↦ inl (q.0, λ f. q.1 (laws.fits_less a 1 (length (behind m y)) (omega (arith, no_longer m y)) f))
     | inr q ↦ absurd (q.1 tt)
   ],
 )
@@ -44,18 +42,17 @@ pub cut_whole : {S : Type 0} (rules : SinkRules S) (a c d : S) (x : List ℕ) (n
     → AppendLaws rules → rules.appended a c x → n ≡ rules.size_of a → rules.is_cut c n d → rules.appended a d []
 cut_whole rules a c d x n laws h at k = laws.cuts_back a c d x h (subst (λ (m : ℕ). rules.is_cut c m d) at k)
 
--- the length was set
-pub length_set : {S : Type 0} (rules : SinkRules S) (a c d : S) (byte : ℕ) (y : List ℕ) (n size : ℕ) (says : Bool)
-    → AppendLaws rules → rules.appended a c (byte ∷ y) → n ≡ rules.size_of a → size ≡ length y → Sets rules c d n size says → says ≡ true → rules.appended a d (with_length y)
-length_set rules a c d byte y n size true laws h at is k says_yes =
-    subst (λ (m : ℕ). rules.appended a d (unsigned m ++ y)) is (laws.sets a c d byte size y h (subst (λ (m : ℕ). rules.is_set c m size d) at k))
-length_set rules a c d byte y n size false laws h at is k says_yes = absurd cc
+-- the number was set
+pub number_set : {S : Type 0} (rules : SinkRules S) (a c d : S) (byte m : ℕ) (y : List ℕ) (n : ℕ) (says : Bool)
+    → AppendLaws rules → rules.appended a c (byte ∷ y) → n ≡ rules.size_of a → Sets rules c d n m says → says ≡ true → rules.appended a d (behind m y)
+number_set rules a c d byte m y n true laws h at k says_yes = laws.sets a c d byte m y h (subst (λ (i : ℕ). rules.is_set c i m d) at k)
+number_set rules a c d byte m y n false laws h at k says_yes = absurd cc
 
--- the length was not set, all is cut off, and put anew
-pub put_anew : {S A : Type 0} (rules : SinkRules S) (all : Type 0) (a c d e f : S) (byte : ℕ) (y : List ℕ) (n size : ℕ) (says : Bool) (r : Result A Refusal)
-    → AppendLaws rules → rules.appended a c (byte ∷ y) → n ≡ rules.size_of a → Sets rules c d n size says → says ≡ false → rules.is_cut d n e → all → Writes rules (Unit {0}) e f (with_length y) r → Writes rules all a f (with_length y) r
-put_anew rules all a c d e f byte y n size true r laws h at k says_no cut fits p = absurd cc
-put_anew rules all a c d e f byte y n size false r laws h at k says_no cut fits p =
-    let whole = laws.joins a c d (byte ∷ y) [] h k in
-    puts_as rules (Unit {0}) all a f (with_length y) r (λ u. fits) (λ i. tt)
-    (after_nothing rules (Unit {0}) a e f (with_length y) r laws (cut_whole rules a d e ((byte ∷ y) ++ []) n laws whole at cut) p)
+-- the number was not set, all is cut off, and put anew
+pub put_anew : {S A : Type 0} (rules : SinkRules S) (one all : Type 0) (a c d e f : S) (byte m : ℕ) (y whole : List ℕ) (n : ℕ) (says : Bool) (r : Result A Refusal)
+    → AppendLaws rules → rules.appended a c (byte ∷ y) → n ≡ rules.size_of a → Sets rules c d n m says → says ≡ false → rules.is_cut d n e → (one → all) → (all → one) → Writes rules one e f whole r → Writes rules all a f whole r
+put_anew rules one all a c d e f byte m y whole n true r laws h at k says_no cut from to p = absurd cc
+put_anew rules one all a c d e f byte m y whole n false r laws h at k says_no cut from to p =
+    let put = laws.joins a c d (byte ∷ y) [] h k in
+    puts_as rules one all a f whole r from to
+    (after_nothing rules one a e f whole r laws (cut_whole rules a d e ((byte ∷ y) ++ []) n laws put at cut) p)

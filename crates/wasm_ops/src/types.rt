@@ -46,6 +46,7 @@ impl Encode for ValType {
 
     ghost is_ready = { is_covered_val_type };
 
+    #[inline(always)]
     fn encode<S: Sink>(&self, out: &mut S) -> Result<(), Refusal> {
         match self {
             ValType::I32 => 0x7fu8.encode(out),

@@ -1,22 +1,23 @@
-use Rattle.std.proofs.Common.{◌≤◌, ◌<◌, ◌-◌, ◌∷◌, [], sym, ◌∙◌, length, refl, inr, subst, rules, arith}
+use Rattle.std.proofs.Common.{◌≤◌, ◌<◌, ◌-◌, ◌∷◌, ◌++◌, [], sym, ◌∙◌, length, refl, inr, subst, rules, arith}
 use Rattle.std.proofs.lemmas.Result.{err_from_is_err_and}
+use Rattle.wasm_ops.specs.Leb128.{unsigned}
 use Rattle.wasm_ops.specs.Spelling.{sized, InRangeSized}
 use Rattle.wasm_ops.proofs.Sinking.{cut_back}
-use Rattle.wasm_ops.proofs.PutLengths.{no_longer, no_byte, both_put, size_behind, cut_whole, length_set, put_anew}
+use Rattle.wasm_ops.proofs.PutLengths.{no_longer, no_byte, both_put, size_behind, cut_whole, number_set, put_anew}
 use Rattle.wasm_ops.proofs.encode.WithLengthEncode.encode.Goals as goal
 
 pub returns-in_err-push_bytes : goal.returns-in_err-push_bytes
 returns-in_err-push_bytes g c =
     let v = c.args.self.now.0 in
     let p = err_from_is_err_and c.from_residual.result c.from_residual.ensures.1 in
-    rw (p.1, p.2) (no_byte (Unit {0}) g.S.Sink.rules (InRangeSized g.T.Encode.in_range g.T.Encode.spelling v) c.args.out.now c.push_bytes.new.self 0 (g.T.Encode.spelling v) c.in_err-push_bytes.field-0.0 g.met.S.Sink.laws c.in_err-push_bytes.ensures)
+    rw (p.1, p.2) (no_byte (Unit {0}) g.S.Sink.rules (InRangeSized g.T.Encode.in_range g.T.Encode.spelling v) c.args.out.now c.push_bytes.new.self 0 (length (g.T.Encode.spelling v)) (g.T.Encode.spelling v) c.in_err-push_bytes.field-0.0 g.met.S.Sink.laws c.in_err-push_bytes.ensures)
 
 pub returns-then-is_err : goal.returns-then-is_err
 returns-then-is_err g c =
     let v = c.args.self.now.0 in
     let y = g.T.Encode.spelling v in
     cut_back g.S.Sink.rules (InRangeSized g.T.Encode.in_range g.T.Encode.spelling v) (g.T.Encode.in_range v) c.args.out.now c.push_bytes.new.self c.encode-value.new.out c.cut.new.self (0 ∷ []) y (sized g.T.Encode.spelling v) c.size-start.result c.encode-value.result
-    g.met.S.Sink.laws (no_longer y) (λ i. i.1) c.in_ok-push_bytes.ensures.0 c.encode-value.ensures (sym c.is_err.ensures.value ∙ c.if-is_err.true) c.size-start.ensures c.cut.ensures
+    g.met.S.Sink.laws (no_longer (length y) y) (λ i. i.1) c.in_ok-push_bytes.ensures.0 c.encode-value.ensures (sym c.is_err.ensures.value ∙ c.if-is_err.true) c.size-start.ensures c.cut.ensures
 
 pub returns-then-is_err-2 : goal.returns-then-is_err-2
 returns-then-is_err-2 g c =
@@ -38,7 +39,8 @@ returns-then-set_number g c =
     let put = both_put of (g.T.Encode.in_range v) c.args.out.now c.push_bytes.new.self c.encode-value.new.out 0 y c.encode-value.result laws c.in_ok-push_bytes.ensures.0 c.encode-value.ensures (sym c.is_err.ensures.value ∙ c.if-is_err.false) in
     let size = size_behind of c.args.out.now c.encode-value.new.out 0 y c.size-start.result c.size.result laws put.0 c.size-start.ensures c.size.ensures in
     let few : c.size.result - c.size-start.result - 1 < 4294967296 = search rules in
-    (length_set of c.args.out.now c.encode-value.new.out c.set_number.new.self 0 y c.size-start.result (c.size.result - c.size-start.result - 1) c.set_number.result laws put.0 c.size-start.ensures size c.set_number.ensures c.if-set_number.true, (subst (λ n. n < 4294967296) size few, put.1))
+    let set = number_set of c.args.out.now c.encode-value.new.out c.set_number.new.self 0 (c.size.result - c.size-start.result - 1) y c.size-start.result c.set_number.result laws put.0 c.size-start.ensures c.set_number.ensures c.if-set_number.true in
+    (subst (λ n. of.appended c.args.out.now c.set_number.new.self (unsigned n ++ y)) size set, (subst (λ n. n < 4294967296) size few, put.1))
 
 pub returns : goal.returns
 returns g c =
@@ -49,5 +51,5 @@ returns g c =
     let put = both_put of (g.T.Encode.in_range v) c.args.out.now c.push_bytes.new.self c.encode-value.new.out 0 y c.encode-value.result laws c.in_ok-push_bytes.ensures.0 c.encode-value.ensures (sym c.is_err.ensures.value ∙ c.if-is_err.false) in
     let size = size_behind of c.args.out.now c.encode-value.new.out 0 y c.size-start.result c.size.result laws put.0 c.size-start.ensures c.size.ensures in
     let few : c.size.result - c.size-start.result - 1 < 4294967296 = search rules in
-    put_anew of (InRangeSized g.T.Encode.in_range g.T.Encode.spelling v) c.args.out.now c.encode-value.new.out c.set_number.new.self c.cut-2.new.self c.put_sized.new.out 0 y c.size-start.result (c.size.result - c.size-start.result - 1) c.set_number.result c.put_sized.result
-    laws put.0 c.size-start.ensures c.set_number.ensures c.if-set_number.false c.cut-2.ensures (subst (λ n. n < 4294967296) size few, put.1) c.put_sized.ensures
+    put_anew of (Unit {0}) (InRangeSized g.T.Encode.in_range g.T.Encode.spelling v) c.args.out.now c.encode-value.new.out c.set_number.new.self c.cut-2.new.self c.put_sized.new.out 0 (c.size.result - c.size-start.result - 1) y (sized g.T.Encode.spelling v) c.size-start.result c.set_number.result c.put_sized.result
+    laws put.0 c.size-start.ensures c.set_number.ensures c.if-set_number.false c.cut-2.ensures (λ u. (subst (λ n. n < 4294967296) size few, put.1)) (λ i. tt) c.put_sized.ensures
