@@ -43,27 +43,6 @@ next_local f xs at u x lt is told =
     ap (map f) (drop-cons xs at x lt) ∙ ap (λ y. f y ∷ map f (drop (suc at) xs)) (sym is)
     ∙ ap (λ v. v ∷ map f (drop (suc at) xs)) (sym told) ∙ ap (λ k. u ∷ map f (drop k xs)) (sym (add-one at))
 
-own_twice : (t : ValType) (rs : List LocalRun) → length (with_local t (with_local t rs)) ≡ length (with_local t rs)
-own_twice t [] = ap length (with_own 1 t [])
-own_twice t (r ∷ rs) = own_front (is_same_type t r.1) t r rs
-  where
-    own_front : (b : Bool) (t : ValType) (r : LocalRun) (rs : List LocalRun) → length (with_local t (in_front b t r rs)) ≡ length (in_front b t r rs)
-    own_front true t r rs = ap length (with_own (r.0 + 1) t rs)
-    own_front false t r rs = ap length (with_own 1 t (r ∷ rs))
-
--- the next item is of the type in front of it, and begins no run
-pub count_same : {X : Type 0} (f : X → ValType) (xs : List X) (at : ℕ) (t u : ValType) (x : X) → at < length xs → x ≡ get_or xs at x → u ≡ f x → is_same_type t u ≡ true
-    → length (local_runs (t ∷ map f (drop at xs))) ≡ length (local_runs (t ∷ map f (drop (at + 1) xs)))
-count_same f xs at t u x lt is told same =
-    let us = map f (drop (at + 1) xs) in
-    ap (λ l. length (local_runs (t ∷ l))) (next_local f xs at u x lt is told) ∙ ap (λ v. length (local_runs (t ∷ v ∷ us))) (sym (type_is t u same)) ∙ own_twice t (local_runs us)
-
--- the next item is of another type, and begins a run
-pub count_other : {X : Type 0} (f : X → ValType) (xs : List X) (at : ℕ) (t u : ValType) (x : X) → at < length xs → x ≡ get_or xs at x → u ≡ f x → is_same_type t u ≡ false
-    → length (local_runs (t ∷ map f (drop at xs))) ≡ suc (length (local_runs (u ∷ map f (drop (at + 1) xs))))
-count_other f xs at t u x lt is told other =
-    ap (λ l. length (local_runs (t ∷ l))) (next_local f xs at u x lt is told) ∙ ap length (with_other t u (local_runs (map f (drop (at + 1) xs))) other)
-
 -- the next item is of the type of those in front
 pub run_grows : {X : Type 0} (f : X → ValType) (xs : List X) (at n : ℕ) (t u : ValType) (x : X) → at < length xs → x ≡ get_or xs at x → u ≡ f x → is_same_type t u ≡ true
     → local_runs (replicate n t ++ map f (drop at xs)) ≡ local_runs (replicate (n + 1) t ++ map f (drop (at + 1) xs))

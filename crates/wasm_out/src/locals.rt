@@ -1,6 +1,6 @@
 //! The locals of a body: maximal runs of equal types (binary format, code section).
 
-ghost use Rattle.std.specs.Prelude.{◌≡◌, ◌∷◌, ◌<◌, ◌≤◌, ◌+◌, ◌&&◌, Bool, true, length, map, drop, All, IsTrue};
+ghost use Rattle.std.specs.Prelude.{◌≡◌, ◌<◌, ◌^◌, ◌&&◌, Bool, true, length, map, All, IsTrue, IfOk};
 ghost use Rattle.std.specs.List.{flat_map, list_all};
 ghost use Rattle.wasm_ops.specs.Covered.{is_covered_val_type};
 ghost use Rattle.wasm_ops.specs.Sinks.{Writes};
@@ -42,74 +42,102 @@ fn is_same(one: ValType, other: ValType) -> bool
     one == other
 }
 
-/// How many maximal runs of equal types there are.
-fn count_runs<T, W: LocalType<T>>(items: &[T], way: &W) -> usize
-    requires { IsTrue (list_all (λ x. W.is_ready way.now x && is_covered_val_type (W.ty way.now x)) items.now) }
-    ensures { result ≡ length (local_runs (map (W.ty way.now) items.now)) }
+/// Appends a run: its length, and its type. It needs a length below 2^32. It refuses as [`Encode::encode`] does.
+#[inline(always)]
+fn put_run<S: Sink>(out: &mut S, run: (usize, ValType)) -> Result<(), Refusal>
+    requires few { run.0 < 2 ^ 32 }
+    requires covered { IsTrue (is_covered_val_type run.1) }
+    ensures { Writes S.rules (InRangeRun run) out.old out.new (local_run run) result }
+{
+    (run.0 as u32, run.1).encode(out)
+}
+
+/// Appends the maximal runs of equal types one after another, and answers how many they are. It needs less than 2^32 items,
+/// whose types are covered. It refuses as [`Encode::encode`] does; then nothing was appended.
+fn put_runs<T, W: LocalType<T>, S: Sink>(
+    items: &[T],
+    way: &W,
+    out: &mut S,
+) -> Result<usize, Refusal>
+    requires few { length items.now < 2 ^ 32 }
+    requires ready { IsTrue (list_all (λ x. W.is_ready way.now x && is_covered_val_type (W.ty way.now x)) items.now) }
+    ensures runs { let runs = local_runs (map (W.ty way.now) items.now) in Writes S.rules (All InRangeRun runs) out.old out.new (flat_map local_run runs) result }
+    ensures count { IfOk result (λ n. n ≡ length (local_runs (map (W.ty way.now) items.now))) }
 {
     if items.is_empty() {
-        return 0;
+        return Ok(0);
     }
-    let mut ty = way.local_type(&items[0]);
+    let start = out.size();
+    let mut run = (1, way.local_type(&items[0]));
     let mut count = 1;
     for at in 1..items.len() {
         let next = way.local_type(&items[at]);
-        if is_same(ty, next) {
+        if is_same(run.1, next) {
+            run.0 += 1;
             continue;
         }
-        ty = next;
+        let result = put_run(out, run);
+        if let Err(refusal) = result {
+            out.cut(start);
+            return Err(refusal);
+        }
+        run = (1, next);
         count += 1;
     }
-    count
-}
-
-/// Appends a run: its length, and its type. It refuses as [`Encode::encode`] does.
-fn put_run<S: Sink>(out: &mut S, run: (usize, ValType)) -> Result<(), Refusal>
-    requires { IsTrue (is_covered_val_type run.1) }
-    ensures { Writes S.rules (InRangeRun run) out.old out.new (local_run run) result }
-{
-    let Ok(count) = u32::try_from(run.0) else {
-        return Err(Refusal::TooLarge);
-    };
-    (count, run.1).encode(out)
-}
-
-/// `Runs(items, way)`: the maximal runs of equal types one after another, without their number.
-#[derive(Drop)]
-struct Runs<'a, T, W>(&'a [T], &'a W);
-
-impl<'a, T, W: LocalType<T>> Encode for Runs<'a, T, W> {
-    ghost spelling = { λ s. flat_map local_run (local_runs (map (W.ty s.1.now) s.0.now)) };
-
-    ghost in_range = { λ s. All InRangeRun (local_runs (map (W.ty s.1.now) s.0.now)) };
-
-    ghost is_ready = { λ s. list_all (λ x. W.is_ready s.1.now x && is_covered_val_type (W.ty s.1.now x)) s.0.now };
-
-    fn encode<S: Sink>(&self, out: &mut S) -> Result<(), Refusal> {
-        if self.0.is_empty() {
-            return Ok(());
-        }
-        let start = out.size();
-        let mut run = (1, self.1.local_type(&self.0[0]));
-        for at in 1..self.0.len() {
-            let next = self.1.local_type(&self.0[at]);
-            if is_same(run.1, next) {
-                run.0 += 1;
-                continue;
-            }
-            let result = put_run(out, run);
-            if result.is_err() {
-                out.cut(start);
-                return result;
-            }
-            run = (1, next);
-        }
-        let last = put_run(out, run);
-        if last.is_err() {
-            out.cut(start);
-        }
-        last
+    let last = put_run(out, run);
+    if let Err(refusal) = last {
+        out.cut(start);
+        return Err(refusal);
     }
+    Ok(count)
+}
+
+/// Appends the number of runs, which is known, and the runs.
+fn put_counted<T, W: LocalType<T>, S: Sink>(
+    items: &[T],
+    way: &W,
+    count: usize,
+    out: &mut S,
+) -> Result<(), Refusal>
+    requires few { length items.now < 2 ^ 32 }
+    requires ready { IsTrue (list_all (λ x. W.is_ready way.now x && is_covered_val_type (W.ty way.now x)) items.now) }
+    requires count { count ≡ length (local_runs (map (W.ty way.now) items.now)) }
+    ensures { let types = map (W.ty way.now) items.now in Writes S.rules (All InRangeRun (local_runs types)) out.old out.new (locals types) result }
+{
+    let start = out.size();
+    out.push_number(count as u64)?;
+    let runs = put_runs(items, way, out);
+    if let Err(refusal) = runs {
+        out.cut(start);
+        return Err(refusal);
+    }
+    Ok(())
+}
+
+/// Appends the number of runs, and the runs. A byte keeps the place of their number, which is known once they were put.
+fn put_locals<T, W: LocalType<T>, S: Sink>(
+    items: &[T],
+    way: &W,
+    out: &mut S,
+) -> Result<(), Refusal>
+    requires few { length items.now < 2 ^ 32 }
+    requires ready { IsTrue (list_all (λ x. W.is_ready way.now x && is_covered_val_type (W.ty way.now x)) items.now) }
+    ensures { let types = map (W.ty way.now) items.now in Writes S.rules (All InRangeRun (local_runs types)) out.old out.new (locals types) result }
+{
+    let start = out.size();
+    out.push_bytes(&[0])?;
+    let count = match put_runs(items, way, out) {
+        Ok(count) => count,
+        Err(refusal) => {
+            out.cut(start);
+            return Err(refusal);
+        }
+    };
+    if out.set_number(start, count as u64) {
+        return Ok(());
+    }
+    out.cut(start);
+    put_counted(items, way, count, out)
 }
 
 /// `Locals(items, way)`: the items as the locals of a body: the number of maximal runs of equal types, and each run as
@@ -125,12 +153,13 @@ impl<'a, T, W: LocalType<T>> Encode for Locals<'a, T, W> {
 
     ghost is_ready = { λ s. list_all (λ x. W.is_ready s.1 x && is_covered_val_type (W.ty s.1 x)) s.0.now };
 
-    #[tactic(auto, using(crate::proofs::LocalRuns::few_runs))]
     fn encode<S: Sink>(&self, out: &mut S) -> Result<(), Refusal> {
         if u32::try_from(self.0.len()).is_err() {
             return Err(Refusal::TooLarge);
         }
-        let count = count_runs(self.0, &self.1) as u32;
-        (count, Runs(self.0, &self.1)).encode(out)
+        if self.0.is_empty() {
+            return out.push_number(0);
+        }
+        put_locals(self.0, &self.1, out)
     }
 }
