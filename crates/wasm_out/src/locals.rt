@@ -49,7 +49,13 @@ fn put_run<S: Sink>(out: &mut S, run: (usize, ValType)) -> Result<(), Refusal>
     requires covered { IsTrue (is_covered_val_type run.1) }
     ensures { Writes S.rules (InRangeRun run) out.old out.new (local_run run) result }
 {
-    (run.0 as u32, run.1).encode(out)
+    let start = out.size();
+    out.push_number(run.0 as u64)?;
+    let second = run.1.encode(out);
+    if second.is_err() {
+        out.cut(start);
+    }
+    second
 }
 
 /// Appends the maximal runs of equal types one after another, and answers how many they are. It needs less than 2^32 items,
@@ -115,11 +121,7 @@ fn put_counted<T, W: LocalType<T>, S: Sink>(
 }
 
 /// Appends the number of runs, and the runs. A byte keeps the place of their number, which is known once they were put.
-fn put_locals<T, W: LocalType<T>, S: Sink>(
-    items: &[T],
-    way: &W,
-    out: &mut S,
-) -> Result<(), Refusal>
+fn put_locals<T, W: LocalType<T>, S: Sink>(items: &[T], way: &W, out: &mut S) -> Result<(), Refusal>
     requires few { length items.now < 2 ^ 32 }
     requires ready { IsTrue (list_all (λ x. W.is_ready way.now x && is_covered_val_type (W.ty way.now x)) items.now) }
     ensures { let types = map (W.ty way.now) items.now in Writes S.rules (All InRangeRun (local_runs types)) out.old out.new (locals types) result }
