@@ -34,3 +34,9 @@ returns-in_err-put_measured-clause-refusal c =
       | inl h ↦ inr (p.2 ∙ ap refused_as h.0, λ w. h.1 (omega (arith, w.length, left, c.in_ok-size.ensures.ok)))
       | inr h ↦ inr (p.2 ∙ ap refused_as h.0, λ w. h.1 w.in_range)
     ])
+
+pub returns-in_err-size-clause-refusal : goal.returns-in_err-size-clause-refusal
+returns-in_err-size-clause-refusal c =
+    let p = err_from_is_err_and c.from_residual-in_err-size.result c.from_residual-in_err-size.ensures.1 in
+    let is = c.in_err-size.ensures.err in
+    rw p.1 (inr (p.2 ∙ ap refused_as is.0, λ w. is.1 w.in_range))
