@@ -12,11 +12,11 @@ use Rattle.wasm_out.specs.Reads.{header}
 use Rattle.wast_tree.specs.Generations.{greatest_generation}
 use Rattle.wast_map.specs.Mapped.{mapped}
 use Rattle.wast_map.specs.Laws.{all_mapped}
-use Rattle.wast_resolve.specs.Explicit.{by_positions}
-use Rattle.wast_resolve.specs.Resolved.{resolved}
-use Rattle.wast_resolve.specs.Finished.{finished}
-use Rattle.wast_resolve.specs.Stripped.{stripping}
-use Rattle.wast_resolve.specs.Laws.{SamePositions}
+use Rattle.wast_demands.specs.Explicit.{by_positions}
+use Rattle.wast_demands.specs.Resolved.{resolved}
+use Rattle.wast_demands.specs.Finished.{finished}
+use Rattle.wast_demands.specs.Stripped.{stripping}
+use Rattle.wast_alike.specs.Laws.{SamePositions}
 use Rattle.wast_core.specs.Tree.{ModuleField}
 use Rattle.wast_core.specs.declared.slots.Slot.{Slot}
 use Rattle.wast_core.specs.declared.slots.Slot.TheVariants as slot

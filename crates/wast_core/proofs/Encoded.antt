@@ -9,9 +9,9 @@ use Rattle.wast_tree.specs.Generations.{greatest_generation}
 use Rattle.wast_tree.specs.Items.{items}
 use Rattle.wast_tree.specs.Known.{known}
 use Rattle.wast_tree.specs.WellFormed.{is_well_formed}
-use Rattle.wast_resolve.specs.Finished.{finished}
-use Rattle.wast_resolve.specs.Resolvers.{KnownNames}
-use Rattle.wast_resolve.specs.Laws.{FinishedStaysWellFormed, FinishedIsResolved, FinishedIsWrittenOut, SamePositions}
+use Rattle.wast_demands.specs.Finished.{finished}
+use Rattle.wast_passes.specs.Resolvers.{KnownNames}
+use Rattle.wast_alike.specs.Laws.{FinishedStaysWellFormed, FinishedIsResolved, FinishedIsWrittenOut, SamePositions}
 use Rattle.wasm_ops.specs.Sinks.{SinkRules, AppendLaws}
 use Rattle.wasm_out.specs.Reads.{Reads}
 use Rattle.wast_conv.specs.Encodable.{is_at_rest}

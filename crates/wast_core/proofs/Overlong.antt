@@ -21,9 +21,9 @@ use Rattle.wast_types.specs.ImpliedTypes.{implied}
 use Rattle.wast_types.specs.Expanded.{unnamed_type, binding}
 use Rattle.wast_types.specs.Completed.{completed}
 use Rattle.wast_types.specs.Positioned.{position_for}
-use Rattle.wast_resolve.specs.Explicit.{by_positions}
-use Rattle.wast_resolve.specs.Resolved.{numbering, resolved}
-use Rattle.wast_resolve.specs.Scopes.{scope}
+use Rattle.wast_demands.specs.Explicit.{by_positions}
+use Rattle.wast_demands.specs.Resolved.{numbering, resolved}
+use Rattle.wast_demands.specs.Scopes.{scope}
 use Rattle.wast_core.specs.Tree.{Index, Memory, MemoryKind, ModuleField}
 use Rattle.wast_core.specs.Tree.space
 use Rattle.wast_core.specs.Tree.export

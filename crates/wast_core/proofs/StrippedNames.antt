@@ -10,7 +10,7 @@ use Rattle.wast_tree.specs.Items.{space_of_kind}
 use Rattle.wast_tree.specs.Sites.{Here, behind, param_marks, local_marks, body_here}
 use Rattle.wast_map.specs.Mapped.{mapped_type, mapped_tag_type, mapped_item_kind, mapped_sig, mapped_import_items, mapped_instr, mapped_instrs, mapped_local, mapped_func_kind, mapped_func, mapped}
 use Rattle.wast_map.specs.Laws.{all_mapped}
-use Rattle.wast_resolve.specs.Stripped.{written_id, at_start, stripped_use, stripping}
+use Rattle.wast_demands.specs.Stripped.{written_id, at_start, stripped_use, stripping}
 use Rattle.wast_core.specs.Tree.{Id, Index, NameAnnotation, FunctionType, TypeUse, TagType, ItemKind, ItemSig, ImportItems, Instruction, FuncKind, Func, ModuleField}
 use Rattle.wast_core.specs.Tree.index
 use Rattle.wast_core.specs.Tree.space

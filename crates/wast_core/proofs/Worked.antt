@@ -18,9 +18,9 @@ use Rattle.wasm_out.specs.WorkedBytes as out
 use Rattle.wast_tree.specs.Items.{items}
 use Rattle.wast_tree.specs.WorkedModules as worked
 use Rattle.wast_tree.specs.WorkedModules.{Address}
-use Rattle.wast_resolve.specs.Explicit.{explicit, by_positions}
-use Rattle.wast_resolve.specs.Demands.{item_counts, body_counts, HasMany, IsCrowded}
-use Rattle.wast_resolve.specs.Resolved.{resolved}
+use Rattle.wast_demands.specs.Explicit.{explicit, by_positions}
+use Rattle.wast_demands.specs.Demands.{item_counts, body_counts, HasMany, IsCrowded}
+use Rattle.wast_demands.specs.Resolved.{resolved}
 use Rattle.wast_core.specs.Tree.{ModuleField}
 use Rattle.wast_core.specs.declared.slots.Slot.{Slot}
 use Rattle.wast_core.specs.declared.slots.Slot.TheVariants as slot

@@ -3,9 +3,9 @@ use Rattle.std.specs.Prelude.{ℕ, ◌+◌, ◌<◌, ◌^◌, ◌++◌, List, le
 use Rattle.std.specs.List.{flat_map}
 use Rattle.wasm_out.specs.Parts.{part, InRangePart}
 use Rattle.wasm_out.specs.Reads.{header}
-use Rattle.wast_resolve.specs.Explicit.{explicit, by_positions, ids_filled}
-use Rattle.wast_resolve.specs.Demands.{IsCrowded}
-use Rattle.wast_resolve.specs.Resolved.{resolved}
+use Rattle.wast_demands.specs.Explicit.{explicit, by_positions, ids_filled}
+use Rattle.wast_demands.specs.Demands.{IsCrowded}
+use Rattle.wast_demands.specs.Resolved.{resolved}
 use Rattle.wast_core.specs.Tree.{ModuleField}
 use Rattle.wast_core.specs.Hints.{hinted, InRangeHints}
 use Rattle.wast_core.specs.Meaning.{in_slot, parts, subsections_of}

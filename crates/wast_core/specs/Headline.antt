@@ -10,10 +10,10 @@ use Rattle.wast_base.specs.Faults.{refused, too_large, out_of_memory}
 use Rattle.wast_tree.specs.Known.{known}
 use Rattle.wast_tree.specs.Items.{items}
 use Rattle.wasm_out.specs.Reads.{Reads}
-use Rattle.wast_resolve.specs.Explicit.{explicit, explicit_from, ids_filled}
-use Rattle.wast_resolve.specs.Demands.{demands, first_unmet, IsUnresolved}
-use Rattle.wast_resolve.specs.Finished.{finished}
-use Rattle.wast_resolve.specs.Resolvers.{KnownNames, known_to}
+use Rattle.wast_demands.specs.Explicit.{explicit, explicit_from, ids_filled}
+use Rattle.wast_demands.specs.Demands.{demands, first_unmet, IsUnresolved}
+use Rattle.wast_demands.specs.Finished.{finished}
+use Rattle.wast_passes.specs.Resolvers.{KnownNames, known_to}
 use Rattle.wast_core.specs.Tree.{ModuleField}
 use Rattle.wast_core.specs.declared.module.Module.{Module}
 use Rattle.wast_core.specs.declared.module.ModuleKind.{ModuleKind}

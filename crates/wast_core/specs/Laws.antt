@@ -4,11 +4,11 @@ use Rattle.std.specs.Prelude.{◌≡◌, ℕ, ◌<◌, List, [], ◌∷◌, Opti
 use Rattle.std.specs.List.{filter}
 use Rattle.wast_tree.specs.Customs.{custom_place}
 use Rattle.wast_tree.specs.Generations.{greatest_generation}
-use Rattle.wast_resolve.specs.Finished.{finished}
+use Rattle.wast_demands.specs.Finished.{finished}
 use Rattle.wast_core.specs.Tree.{Custom, ModuleField}
 use Rattle.wast_core.specs.Slots.{order, is_place}
 use Rattle.wast_core.specs.declared.slots.Slot.TheVariants as slot
-use Rattle.wast_resolve.specs.Demands.{IsTooLarge}
+use Rattle.wast_demands.specs.Demands.{IsTooLarge}
 use Rattle.wast_core.specs.Bounded.{IsBounded}
 use Rattle.wast_core.specs.Headline.{IsMet}
 use Rattle.wast_core.specs.Meaning.{parts, meaning}

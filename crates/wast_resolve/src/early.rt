@@ -2,12 +2,11 @@
 
 ghost use Rattle.std.specs.Prelude.{◌≡◌, ⊤, None, IfErr, OnOk};
 ghost use Rattle.wast_base.specs.Faults.{told};
-ghost use Rattle.wast_resolve.specs.Demands.{first_unmet, Answers, HasManyItems};
-ghost use Rattle.wast_resolve.specs.Early.{early_demands};
+ghost use Rattle.wast_demands.specs.Demands.{first_unmet, Answers, HasManyItems};
+ghost use Rattle.wast_demands.specs.Early.{early_demands};
 
-use crate::imports::check_order;
-use crate::spaces::name_spaces;
 use std::alloc::Global;
+use wast_passes::{check_order, name_spaces};
 use wast_tree::{Error, ModuleField};
 
 /// The first fault of fields as far as it can be told without changing them, so that a tool can show them beside it (text

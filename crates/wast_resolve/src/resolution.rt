@@ -6,21 +6,19 @@ ghost use Rattle.wast_tree.specs.Known.{known};
 ghost use Rattle.wast_tree.specs.WellFormed.{is_well_formed};
 ghost use Rattle.wast_tree.specs.Generations.{greatest_generation};
 ghost use Rattle.wast_resolve.specs.Tree.space;
-ghost use Rattle.wast_resolve.specs.Demands.{first_unmet, demands, IsUnresolved};
-ghost use Rattle.wast_resolve.specs.Resolved.{numbered_at};
-ghost use Rattle.wast_resolve.specs.Explicit.{explicit, explicit_from, ids_filled};
-ghost use Rattle.wast_resolve.specs.Finished.{finished};
+ghost use Rattle.wast_demands.specs.Demands.{first_unmet, demands, IsUnresolved};
+ghost use Rattle.wast_demands.specs.Resolved.{numbered_at};
+ghost use Rattle.wast_demands.specs.Explicit.{explicit, explicit_from, ids_filled};
+ghost use Rattle.wast_demands.specs.Finished.{finished};
 ghost use Rattle.std.specs.FinMap as finmap;
 ghost use Rattle.wast_namespace.specs.Places.{entries_of};
-ghost use Rattle.wast_resolve.specs.Resolvers.{no_names, known_to, space_in};
-ghost use Rattle.wast_resolve.specs.LookUps.{IsSettledFor, IsMetBy, AnswersFor};
+ghost use Rattle.wast_passes.specs.Resolvers.{no_names, known_to, space_in};
+ghost use Rattle.wast_passes.specs.LookUps.{IsSettledFor, IsMetBy, AnswersFor};
 
-use crate::imports::in_order;
-use crate::passes;
-use crate::resolver::Resolver;
 use std::alloc::Global;
 use std::marker::Model;
 use wast_deinline::deinline;
+use wast_passes::{Resolver, in_order, names};
 use wast_tree::{Error, Gensym, Id, Index, ModuleField, Seq, Space};
 use wast_types::types;
 
@@ -31,7 +29,7 @@ pub struct Names<'a> {
 }
 
 impl<'a> Model for Names<'a> {
-    ghost use Rattle.wast_resolve.specs.Resolvers.{KnownNames, coded_names};
+    ghost use Rattle.wast_passes.specs.Resolvers.{KnownNames, coded_names};
 
     ghost Value = { KnownNames };
 
@@ -42,7 +40,7 @@ impl<'a> Model for Names<'a> {
 
 impl<'a> Names<'a> {
     /// Binds nothing. It takes no memory.
-    #[tactic(auto, using(crate::proofs::Trying::nothing_known))]
+    #[tactic(auto, using(wast_passes::proofs::Trying::nothing_known))]
     pub fn empty(alloc: Global) -> Self
         ensures names { known_to result ≡ known [] }
         ensures value { result ≡ no_names }
@@ -154,7 +152,7 @@ pub fn resolve<'a>(
     let fields = deinline::run(alloc, fields, gensym)?;
     let fields = in_order(fields)?;
     let fields = types::expand(alloc, fields, gensym)?;
-    let (fields, resolver) = passes::resolve(alloc, fields)?;
+    let (fields, resolver) = names::resolve(alloc, fields)?;
     Ok((fields, Names { resolver }))
 }
 

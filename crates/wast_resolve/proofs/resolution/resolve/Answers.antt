@@ -7,10 +7,10 @@ use Rattle.wast_types.specs.Expanded.{ids_wanted}
 use Rattle.wast_namespace.specs.FirstUnmet.{first_unmet, Answers}
 use Rattle.wast_base.specs.Faults.{told}
 use Rattle.wast_resolve.specs.Tree.{ModuleField}
-use Rattle.wast_resolve.specs.Demands.{order_demands}
-use Rattle.wast_resolve.specs.Resolved.{resolved}
-use Rattle.wast_resolve.proofs.Explicit.{wants_as_many}
-use Rattle.wast_resolve.proofs.Resolving.{expands_all, unordered_still, unexpanded_still, met_still, unnumbered_still}
+use Rattle.wast_demands.specs.Demands.{order_demands}
+use Rattle.wast_demands.specs.Resolved.{resolved}
+use Rattle.wast_alike.proofs.Explicit.{wants_as_many}
+use Rattle.wast_alike.proofs.Resolving.{expands_all, unordered_still, unexpanded_still, met_still, unnumbered_still}
 use Rattle.wast_resolve.proofs.resolution.resolve.Goals as goal
 
 pub returns-in_err-fields-2-clause-refusal : goal.returns-in_err-fields-2-clause-refusal

@@ -1,0 +1,112 @@
+-- Where no items clash, uses of an expanded list demand what they demand in the completed one: each index that is filled in is
+-- known, and an inline type matches it once its names are known.
+use Rattle.std.proofs.Common.{◌≡◌, ℕ, Bool, true, false, List, [], ◌∷◌, ◌++◌, map, append-nil, Option, Some, None, refl, sym, ap, ◌∙◌, subst}
+use Rattle.std.specs.Prelude.{codes}
+use Rattle.std.specs.Option.{option_or}
+use Rattle.wast_base.specs.Ids.{mark_of}
+use Rattle.wast_base.specs.Faults.{Cause}
+use Rattle.wast_base.specs.Spaces.{word_of}
+use Rattle.wast_tree.specs.Items.{items}
+use Rattle.wast_tree.specs.Known.{Known, known}
+use Rattle.wast_tree.specs.Sites.{Ask, Wants, Where, OfItem, OfCall, OfBlock, Locals, Site, Asked, Used, LocalAt, if_there, in_index, in_signature, in_module}
+use Rattle.wast_map.specs.Mapped.{mapped_locals, mapped_site}
+use Rattle.wast_map.proofs.Laws.{stands}
+use Rattle.wast_types.specs.Signatures.{Signature, signature_of}
+use Rattle.wast_types.specs.NeedingUses.{inline_signature, needs_type}
+use Rattle.wast_types.specs.Expanders.{LookUp, index_of}
+use Rattle.wast_types.specs.Expanded.{typed, bindings, bound_if, bound_index, bound_inline, binding, expanded}
+use Rattle.wast_types.specs.Completed.{completed}
+use Rattle.wast_alike.specs.Tree.{Index, Span, FunctionType, ModuleField}
+use Rattle.wast_alike.specs.Tree.space
+use Rattle.wast_demands.specs.Scopes.{Scope, scope}
+use Rattle.wast_demands.specs.Demands.{Demand, first_unmet, unknown, ask_demand, ask_demands, item_demands, match_demands, match_if, site_demand, site_demands}
+use Rattle.wast_demands.proofs.Unmet.{first_unmet-or}
+use Rattle.wast_alike.proofs.ExpandedItems.{bound_items}
+use Rattle.wast_alike.proofs.FoundMatches.{what_is_found, it_matches}
+use Rattle.wast_alike.proofs.ExpandedAsks.{bound_ask, typed_asks}
+use Rattle.wast_alike.proofs.FoundTypes.{IsTypeOf, found}
+use Rattle.wast_alike.proofs.Nameless.{by_names}
+
+module _ (n : ℕ) (fields : List ModuleField) where
+  abbrev types : List ModuleField
+  types = typed n fields
+
+  abbrev find : LookUp
+  find = index_of (bindings types)
+
+  abbrev new : Known
+  new = known (items (expanded n fields))
+
+  abbrev new_scope : Scope
+  new_scope = scope (expanded n fields)
+
+  -- What a signature is bound to is a known type.
+  pub found_known : (s : Signature) (i : Index) → find s ≡ Some i → IsTypeOf (items (expanded n fields)) i
+  found_known s i e = subst (λ xs. IsTypeOf xs i) (sym (bound_items find types)) (found types s i e)
+
+  found_met : (i : Index) → IsTypeOf (items (expanded n fields)) i → (asks : List Ask) → first_unmet (ask_demands new (Wants space.Ty i ∷ asks)) ≡ first_unmet (ask_demands new asks)
+  found_met i h asks =
+      ap (λ j. first_unmet (ask_demands new (Wants space.Ty j ∷ asks))) h.is
+      ∙ ap (λ b. first_unmet (unknown (word_of space.Ty) (mark_of h.id) b ++ ask_demands new asks)) h.borne
+
+  module _ (free : first_unmet (item_demands (items (expanded n fields))) ≡ None) where
+    nothing_more : (o p : Option (Cause × Span)) → (o ≡ None → p ≡ None) → option_or o p ≡ option_or o None
+    nothing_more None p h = h refl
+    nothing_more (Some f) p h = refl
+
+    abbrev use_demanded : (i : Option Index) (inline : Option FunctionType) → List Demand
+    use_demanded i inline = ask_demands new (if_there (in_index space.Ty) i ++ if_there in_signature inline) ++ match_if new_scope i inline
+
+    given_index : (i : Index) (inline : Option FunctionType) → find (inline_signature inline) ≡ Some i → first_unmet (use_demanded (Some i) inline) ≡ first_unmet (use_demanded None inline)
+    given_index i None e = ap first_unmet (append-nil (ask_demands new (Wants space.Ty i ∷ []))) ∙ found_met i (found_known (inline_signature None) i e) []
+    given_index i (Some t) e =
+        let asked = in_signature t in
+        let matched = match_demands new_scope i t in
+        let known : first_unmet (ask_demands new (Wants space.Ty i ∷ asked)) ≡ first_unmet (ask_demands new asked) = found_met i (found_known (signature_of t) i e) asked in
+        first_unmet-or (ask_demands new (Wants space.Ty i ∷ asked)) matched
+        ∙ (ap (λ o. option_or o (first_unmet matched)) known
+        ∙ (nothing_more (first_unmet (ask_demands new asked)) (first_unmet matched) (λ met. it_matches new_scope t i (what_is_found n fields free (signature_of t) i e) met)
+        ∙ sym (first_unmet-or (ask_demands new asked) [])))
+
+    index_met : (w : Where) (i : Option Index) (inline : Option FunctionType) → first_unmet (use_demanded (bound_index find w i inline) inline) ≡ first_unmet (use_demanded i inline)
+    index_met w (Some i) inline = refl
+    index_met w None inline = by_need (needs_type w inline)
+      where
+        by_found : (o : Option Index) → find (inline_signature inline) ≡ o → first_unmet (use_demanded o inline) ≡ first_unmet (use_demanded None inline)
+        by_found None e = refl
+        by_found (Some i) e = given_index i inline e
+
+        by_need : (b : Bool) → first_unmet (use_demanded (bound_if b (find (inline_signature inline))) inline) ≡ first_unmet (use_demanded None inline)
+        by_need true = by_found (find (inline_signature inline)) refl
+        by_need false = refl
+
+    -- the inline type that a block is given demands nothing
+    bound_use_met : (w : Where) (i : Option Index) (inline : Option FunctionType) → first_unmet (use_demanded (bound_index find w i inline) (bound_inline w i inline)) ≡ first_unmet (use_demanded i inline)
+    bound_use_met OfItem i inline = index_met OfItem i inline
+    bound_use_met OfCall i inline = index_met OfCall i inline
+    bound_use_met OfBlock (Some i) inline = refl
+    bound_use_met OfBlock None (Some t) = index_met OfBlock None (Some t)
+    bound_use_met OfBlock None None = refl
+
+    local_met : (l : Locals) (i : Index) → site_demand new_scope (LocalAt (mapped_locals (binding find) l) i) ≡ site_demand new_scope (LocalAt l i)
+    local_met l i = by_names new_scope (mapped_locals (binding find) l) (codes "local") i ∙ sym (by_names new_scope l (codes "local") i)
+
+    site_met : (s : Site) → first_unmet (site_demand new_scope (mapped_site (binding find) s)) ≡ first_unmet (site_demand new_scope s)
+    site_met (Asked a) = ap (λ b. first_unmet (ask_demand new b)) (bound_ask find a)
+    site_met (Used w u) = bound_use_met w u.index u.inline
+    site_met (LocalAt locals i) = ap first_unmet (local_met locals i)
+    site_met s = refl
+
+    sites_met : (ss : List Site) → first_unmet (site_demands new_scope (map (mapped_site (binding find)) ss)) ≡ first_unmet (site_demands new_scope ss)
+    sites_met [] = refl
+    sites_met (s ∷ ss) =
+        let one = mapped_site (binding find) s in
+        let bound = map (mapped_site (binding find)) ss in
+        first_unmet-or (site_demand new_scope one) (site_demands new_scope bound)
+        ∙ (ap (λ o. option_or o (first_unmet (site_demands new_scope bound))) (site_met s)
+        ∙ (ap (option_or (first_unmet (site_demand new_scope s))) (sites_met ss) ∙ sym (first_unmet-or (site_demand new_scope s) (site_demands new_scope ss))))
+
+    pub uses_met : first_unmet (site_demands new_scope (in_module (expanded n fields))) ≡ first_unmet (site_demands new_scope (in_module (completed fields)))
+    uses_met =
+        ap (λ ss. first_unmet (site_demands new_scope ss)) (stands (binding find) (λ u. refl) types)
+        ∙ (sites_met (in_module types) ∙ ap (λ ss. first_unmet (site_demands new_scope ss)) (typed_asks n fields))

@@ -1,0 +1,91 @@
+-- Binding type uses, giving ids to types and appending implied types leave what the order of imports demands.
+use Rattle.std.proofs.Common.{◌≡◌, ℕ, ◌+◌, Bool, true, false, List, [], ◌∷◌, ◌++◌, map, Option, None, refl, sym, ap, ◌∙◌}
+use Rattle.std.specs.Option.{option_or}
+use Rattle.wast_map.specs.Mapped.{mapped_func_kind, mapped_table_kind, mapped_global_kind}
+use Rattle.wast_map.proofs.Alone.{defines_alone}
+use Rattle.wast_types.specs.Signatures.{Signature}
+use Rattle.wast_types.specs.ImpliedTypes.{implied}
+use Rattle.wast_types.specs.Expanders.{LookUp, index_of}
+use Rattle.wast_base.specs.Filling.{given_if, one_if, filled, wanted}
+use Rattle.wast_types.specs.Expanded.{lacks_id, with_type_id, unnamed_type, implied_types, typed, bindings, binding, bound_field, expanded}
+use Rattle.wast_types.specs.Completed.{completed}
+use Rattle.wast_alike.specs.Tree.{Space, Span, FuncKind, TableKind, GlobalKind, FunctionType, TypeUse, ModuleField}
+use Rattle.wast_alike.specs.Tree.func
+use Rattle.wast_alike.specs.Tree.table
+use Rattle.wast_alike.specs.Tree.global
+use Rattle.wast_alike.specs.Tree.field
+use Rattle.wast_tree.specs.Imports.{defined_space}
+use Rattle.wast_demands.specs.ImportOrder.{func_place, table_place, global_place, import_place, unless_import, defines, nothing_defined}
+use Rattle.wast_demands.specs.Demands.{order_demands}
+use Rattle.wast_demands.proofs.Orders.{orders_from, orders_are}
+
+-- a field and a changed one, which import and define the same
+record Alike (x y : ModuleField) : Type 0 where
+  place : import_place x ≡ import_place y
+  space : defined_space x ≡ defined_space y
+
+one_alike : (last : Option Space) (x y : ModuleField) (xs ys : List ModuleField) → Alike x y → ((o : Option Space) → orders_from o xs ≡ orders_from o ys) → orders_from last (x ∷ xs) ≡ orders_from last (y ∷ ys)
+one_alike last x y xs ys a rest =
+    ap (λ o. nothing_defined last o ++ orders_from (option_or (unless_import o (defined_space x)) last) xs) a.place
+    ∙ (ap (λ o. nothing_defined last (import_place y) ++ orders_from (option_or (unless_import (import_place y) o) last) xs) a.space
+    ∙ ap (λ ds. nothing_defined last (import_place y) ++ ds) (rest (option_or (defines y) last)))
+
+-- what is imported in place stays so
+bound_func : (find : LookUp) (span : Span) (u : TypeUse FunctionType) (k : FuncKind) → func_place span (mapped_func_kind (binding find) u k) ≡ func_place span k
+bound_func find span u (func.Import source exact) = refl
+bound_func find span u (func.Inline locals e) = refl
+
+bound_table : (find : LookUp) (span : Span) (k : TableKind) → table_place span (mapped_table_kind (binding find) k) ≡ table_place span k
+bound_table find span (table.Import source ty) = refl
+bound_table find span k = refl
+
+bound_global : (find : LookUp) (span : Span) (k : GlobalKind) → global_place span (mapped_global_kind (binding find) k) ≡ global_place span k
+bound_global find span (global.Import source) = refl
+bound_global find span (global.Inline e) = refl
+
+bound_place : (find : LookUp) (x : ModuleField) → import_place (bound_field find x) ≡ import_place x
+bound_place find (field.Func f) = bound_func find f.span f.ty f.kind
+bound_place find (field.Table t) = bound_table find t.span t.kind
+bound_place find (field.Global g) = bound_global find g.span g.kind
+bound_place find x = refl
+
+bound_alike : (find : LookUp) (x : ModuleField) → Alike (bound_field find x) x
+bound_alike find x = record { place = bound_place find x; space = defines_alone (binding find) x }
+
+bound_orders : (find : LookUp) (last : Option Space) (xs : List ModuleField) → orders_from last (map (bound_field find) xs) ≡ orders_from last xs
+bound_orders find last [] = refl
+bound_orders find last (x ∷ xs) = one_alike last (bound_field find x) x (map (bound_field find) xs) xs (bound_alike find x) (λ o. bound_orders find o xs)
+
+given_alike : (b : Bool) (n : ℕ) (x : ModuleField) → Alike (given_if b with_type_id n x) x
+given_alike false n x = record { place = refl; space = refl }
+given_alike true n (field.Ty t) = record { place = refl; space = refl }
+given_alike true n x = record { place = refl; space = refl }
+
+filled_orders : (n : ℕ) (last : Option Space) (xs : List ModuleField) → orders_from last (filled lacks_id with_type_id n xs) ≡ orders_from last xs
+filled_orders n last [] = refl
+filled_orders n last (x ∷ xs) =
+    one_alike last (given_if (lacks_id x) with_type_id n x) x (filled lacks_id with_type_id (n + one_if (lacks_id x)) xs) xs (given_alike (lacks_id x) n x) (λ o. filled_orders (n + one_if (lacks_id x)) o xs)
+
+-- Types demand nothing of it.
+none_unnamed : (last : Option Space) (ss : List Signature) → orders_from last (map unnamed_type ss) ≡ []
+none_unnamed last [] = refl
+none_unnamed last (s ∷ ss) = none_unnamed last ss
+
+none_implied : (n : ℕ) (last : Option Space) (ss : List Signature) → orders_from last (implied_types n ss) ≡ []
+none_implied n last [] = refl
+none_implied n last (s ∷ ss) = none_implied (n + 1) last ss
+
+behind : (ys : List ModuleField) → ((o : Option Space) → orders_from o ys ≡ []) → (last : Option Space) (xs : List ModuleField) → orders_from last (xs ++ ys) ≡ orders_from last xs
+behind ys none last [] = none last
+behind ys none last (x ∷ xs) = ap (λ ds. nothing_defined last (import_place x) ++ ds) (behind ys none (option_or (defines x) last) xs)
+
+pub completed_orders : (fields : List ModuleField) → order_demands (completed fields) ≡ order_demands fields
+completed_orders fields = orders_are (completed fields) ∙ (behind (map unnamed_type (implied fields)) (λ o. none_unnamed o (implied fields)) None fields ∙ sym (orders_are fields))
+
+pub expanded_orders : (n : ℕ) (fields : List ModuleField) → order_demands (expanded n fields) ≡ order_demands (completed fields)
+expanded_orders n fields =
+    let m : ℕ = n + wanted lacks_id fields in
+    orders_are (expanded n fields)
+    ∙ (bound_orders (index_of (bindings (typed n fields))) None (typed n fields)
+    ∙ (behind (implied_types m (implied fields)) (λ o. none_implied m o (implied fields)) None (filled lacks_id with_type_id n fields)
+    ∙ (filled_orders n None fields ∙ (sym (orders_are fields) ∙ sym (completed_orders fields)))))

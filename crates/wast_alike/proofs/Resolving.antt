@@ -1,0 +1,87 @@
+-- What numbering the expanded list answers is what resolving the fields answers.
+use Rattle.std.proofs.Common.{◌≡◌, ℕ, ◌+◌, ◌<◌, ◌≤◌, ◌^◌, ◌⊎◌, List, None, inl, inr, sym, ap, ◌∙◌, subst, arith}
+use Rattle.std.specs.Prelude.{⊤}
+use Rattle.wast_base.specs.Faults.{told, too_large, out_of_memory}
+use Rattle.wast_base.specs.declared.faults.Error.{Error}
+use Rattle.wast_base.specs.Filling.{RunsOut}
+use Rattle.wast_tree.specs.Items.{items}
+use Rattle.wast_tree.specs.Generations.{greatest_generation}
+use Rattle.wast_deinline.specs.Written.{written_out_from, references_wanted, CannotBeWritten}
+use Rattle.wast_types.specs.Expanded.{expanded, ids_wanted}
+use Rattle.wast_types.specs.Completed.{completed}
+use Rattle.wast_alike.specs.Tree.{ModuleField}
+use Rattle.wast_demands.specs.Explicit.{explicit, explicit_from}
+use Rattle.wast_demands.specs.Demands.{first_unmet, Answers, item_demands, order_demands, name_demands, demands, item_counts, body_counts, HasMany, IsCrowded, IsTooLarge, IsUnnumbered, IsUnresolved}
+use Rattle.wast_alike.proofs.Composed.{same_names, same_counts, same_bodies, same_clashes}
+use Rattle.wast_alike.proofs.Explicit.{next, wants_as_many, still_above, unmet_alike}
+use Rattle.wast_alike.proofs.OrderKept.{completed_orders}
+use Rattle.wast_demands.proofs.Unmet.{first_unmet-append, answers_more, answers_first, answers_after}
+use Rattle.wast_alike.proofs.WrittenAlike.{clashes_alike, written_counts, written_bodies}
+
+-- There is as much in a list that has as many items, which clash alike, and as much in its bodies where none clash.
+crowded_as : (xs ys : List ModuleField) → item_counts (items xs) ≡ item_counts (items ys) → first_unmet (item_demands (items xs)) ≡ first_unmet (item_demands (items ys))
+    → (first_unmet (item_demands (items ys)) ≡ None → body_counts xs ≡ body_counts ys) → IsCrowded xs → IsCrowded ys
+crowded_as xs ys counts clashes bodies h = elim h [ inl many ↦ inl (subst HasMany counts many) | inr inside ↦ let free = sym clashes ∙ inside.0 in inr (free, subst HasMany (bodies free) inside.1) ]
+
+-- The counter would run out, or too much is asked for: so it is told, whatever is unmet.
+out_of : (n : ℕ) (fields : List ModuleField) (too_much : Type 0) (e : Error) → (too_much → IsTooLarge n fields) → (e ≡ out_of_memory) ⊎ ((e ≡ too_large) × too_much) → IsUnresolved n fields e
+out_of n fields too_much e large h = elim h [ inl memory ↦ subst (IsUnresolved n fields) (sym memory) tt | inr much ↦ subst (IsUnresolved n fields) (sym much.0) (large much.1) ]
+
+pub unwritten_still : (n : ℕ) (fields : List ModuleField) (e : Error) → CannotBeWritten n fields e → IsUnresolved n fields e
+unwritten_still n fields e h =
+    elim h [ inl runs_out ↦ out_of n fields (2 ^ 64 ≤ n + references_wanted fields) e (λ m. inr (inl (omega (arith, m)))) runs_out | inr many ↦ out_of n fields _ e (λ m. inr (inr m)) many ]
+
+-- What is expanded after abbreviations are written out is the list in which nothing is left out.
+pub expands_all : (n : ℕ) (fields : List ModuleField) {m : ℕ} {xs ys zs : List ModuleField} → xs ≡ written_out_from n fields → m ≡ n + references_wanted fields → ys ≡ xs → zs ≡ expanded m ys → zs ≡ explicit_from n fields
+expands_all n fields w c o e = e ∙ (λ i. expanded (c i) ((o ∙ w) i))
+
+module _ (n : ℕ) (fields : List ModuleField) (above : greatest_generation fields < n) where
+  abbrev rest : List ModuleField
+  rest = written_out_from n fields
+
+  -- what is so large of what is written out
+  abbrev IsLarge : Type 0
+  IsLarge = IsCrowded (completed rest) ⊎ (2 ^ 64 ≤ next n fields + ids_wanted rest)
+
+  crowded_alike : IsCrowded (completed rest) → IsTooLarge n fields
+  crowded_alike h = inl (crowded_as (completed rest) (explicit fields) (written_counts n fields above) (clashes_alike n fields above) (λ free. written_bodies n fields above) h)
+
+  large_alike : IsLarge → IsTooLarge n fields
+  large_alike h = elim h [ inl crowded ↦ crowded_alike crowded | inr counter ↦ inr (inl (subst (λ m. 2 ^ 64 ≤ m) (wants_as_many n fields) counter)) ]
+
+  answered_alike : (e : Error) → Answers ⊤ IsLarge (told e) (first_unmet (demands (completed rest))) → IsUnresolved n fields e
+  answered_alike e h = answers_more (told e) (first_unmet (demands (completed rest))) (first_unmet (demands (explicit fields))) (λ l. l) large_alike (λ f g. sym (unmet_alike n fields above) ∙ g) h
+
+  -- An import that stands behind what is defined is answered first.
+  pub unordered_still : (e : Error) → Answers ⊥ ⊥ (told e) (first_unmet (order_demands rest)) → IsUnresolved n fields e
+  unordered_still e h =
+      answered_alike e
+      (answers_first (told e) (order_demands (completed rest)) (name_demands (completed rest)) (λ l. absurd l) (λ m. absurd m)
+      (subst (λ ds. Answers ⊥ ⊥ (told e) (first_unmet ds)) (sym (completed_orders rest)) h))
+
+  pub unexpanded_still : (e : Error) → RunsOut (next n fields + ids_wanted rest) e → IsUnresolved n fields e
+  unexpanded_still e h = out_of n fields (2 ^ 64 ≤ next n fields + ids_wanted rest) e (λ m. large_alike (inr m)) h
+
+  -- xs is the expanded list
+  module _ (xs : List ModuleField) (expands : xs ≡ explicit_from n fields) where
+    same_unmet : first_unmet (name_demands xs) ≡ first_unmet (name_demands (completed rest))
+    same_unmet = ap (λ (ys : List ModuleField). first_unmet (name_demands ys)) expands ∙ same_names (next n fields) rest (still_above n fields above)
+
+    crowded_still : IsCrowded xs → IsLarge
+    crowded_still h =
+        let over = still_above n fields above in
+        inl (crowded_as (expanded (next n fields) rest) (completed rest) (same_counts (next n fields) rest over) (same_clashes (next n fields) rest over) (same_bodies (next n fields) rest over)
+        (subst IsCrowded expands h))
+
+    module _ (ordered : first_unmet (order_demands rest) ≡ None) where
+      still_ordered : first_unmet (order_demands (completed rest)) ≡ None
+      still_ordered = ap first_unmet (completed_orders rest) ∙ ordered
+
+      pub met_still : first_unmet (name_demands xs) ≡ None → first_unmet (demands (explicit fields)) ≡ None
+      met_still h = sym (unmet_alike n fields above) ∙ (first_unmet-append (order_demands (completed rest)) (name_demands (completed rest)) still_ordered ∙ (sym same_unmet ∙ h))
+
+      pub unnumbered_still : (e : Error) → IsUnnumbered xs e → IsUnresolved n fields e
+      unnumbered_still e h =
+          answered_alike e
+          (answers_after (told e) (order_demands (completed rest)) (name_demands (completed rest)) (λ l. l) (λ m. m) still_ordered
+          (answers_more (told e) (first_unmet (name_demands xs)) (first_unmet (name_demands (completed rest))) (λ l. l) crowded_still (λ f g. sym same_unmet ∙ g) h))

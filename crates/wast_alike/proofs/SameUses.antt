@@ -1,0 +1,128 @@
+-- Lists are told alike, generated ids and places of type uses aside, where each index that stands in them is numbered alike and
+-- where their type uses are bound to indices that are numbered alike.
+use Rattle.std.proofs.Common.{◌≡◌, ℕ, ◌+◌, Bool, true, false, List, [], ◌∷◌, Option, Some, None, option_map, refl, sym, ap, ◌∙◌}
+use Rattle.wast_base.specs.Ids.{Name}
+use Rattle.wast_base.specs.Spaces.{position_of}
+use Rattle.wast_tree.specs.Sites.{Ask, Wants, Within, Unasked, Clause, Covered, Where, OfItem, OfCall, OfBlock, Site, Asked, Used, Declared, LocalAt, FieldAt, LabelAt, Repeated, Begins, Ends, if_there, in_index, in_signature, in_type_use, in_module, asked_in, asked}
+use Rattle.wast_tree.specs.Known.{Known}
+use Rattle.wast_tree.specs.Types.{inline_alone}
+use Rattle.wast_map.specs.Mapped.{Change, same, then, mapped_signature, JoinsAsk, Joins, Each}
+use Rattle.wast_map.specs.Laws.{all_mapped}
+use Rattle.wast_map.proofs.Ways.{each_first, each_rest, option_at}
+use Rattle.wast_map.proofs.Types.{signature_at}
+use Rattle.wast_map.proofs.Laws.{twice, alike}
+use Rattle.wast_types.specs.Signatures.{Signature}
+use Rattle.wast_types.specs.NeedingUses.{inline_signature, needs_type}
+use Rattle.wast_types.specs.Expanders.{LookUp}
+use Rattle.wast_types.specs.Expanded.{bound_if, bound_index, bound_inline, bound_use, binding}
+use Rattle.wast_alike.specs.Tree.{Index, FunctionType, TypeUse, ModuleField}
+use Rattle.wast_alike.specs.Tree.space
+use Rattle.wast_demands.specs.Scopes.{Shape, Scope, denoted, type_at, field_in, nameless}
+use Rattle.wast_demands.specs.Resolved.{numbered, numbered_at, numbering}
+use Rattle.wast_demands.specs.Stripped.{at_start, stripping}
+use Rattle.wast_alike.proofs.Bodies.{Stands, all_stand}
+use Rattle.wast_alike.proofs.Nameless.{number_of, denoted_number, number_at, unsaid_alike}
+use Rattle.wast_demands.proofs.Numbering.{numbering_keeps}
+
+-- what is told of a list whose type uses are bound, once each index is a number: one change
+abbrev pub telling : Scope → LookUp → Change
+telling c find = then (then (binding find) (numbering c)) stripping
+
+pub one_pass : (c : Scope) (find : LookUp) (xs : List ModuleField) → all_mapped stripping (all_mapped (numbering c) (all_mapped (binding find) xs)) ≡ all_mapped (telling c find) xs
+one_pass c find xs =
+    ap (all_mapped stripping) (twice (binding find) (numbering c) (λ u. refl) xs) ∙ twice (then (binding find) (numbering c)) stripping (λ u. numbering_keeps c ((binding find).used OfItem u)) xs
+
+-- a local by its name, behind some parameters without names
+abbrev behind_nameless : List (Option Name) → Index → ℕ → Index
+behind_nameless names i n = numbered (λ name. option_map (λ p. n + p) (position_of name names)) i
+
+module _ (c d : Scope) where
+  -- an index that is asked for is numbered alike, and so is each
+  abbrev pub SameAsk : Ask → Type 0
+  SameAsk a = JoinsAsk same.index (numbered_at c.known) (numbered_at d.known) a
+
+  abbrev pub Same : List Ask → Type 0
+  Same asks = Each SameAsk asks
+
+  abbrev inline_at : Known → Option FunctionType → Option FunctionType
+  inline_at k t = option_map (mapped_signature (numbered_at k)) t
+
+  inline_alike : (t : Option FunctionType) → Same (if_there in_signature t) → inline_at c.known t ≡ inline_at d.known t
+  inline_alike t h =
+      let a = option_at signature_at t in
+      ap (inline_at c.known) (sym a.still) ∙ a.joins same (numbering c) (numbering d) (record { keeps = λ u. refl; ids = λ o. refl }) h
+
+  -- the inline type that a block is given has no index
+  given_alike : (w : Where) (i : Option Index) (t : Option FunctionType) → inline_at c.known t ≡ inline_at d.known t → inline_at c.known (bound_inline w i t) ≡ inline_at d.known (bound_inline w i t)
+  given_alike OfItem i t h = h
+  given_alike OfCall i t h = h
+  given_alike OfBlock (Some i) t h = h
+  given_alike OfBlock None (Some t) h = h
+  given_alike OfBlock None None h = refl
+
+  -- whether an index is there, its place does not tell
+  alone_at : (i : Option Index) (t : Option FunctionType) → inline_alone i t ≡ inline_alone (option_map at_start i) t
+  alone_at None t = refl
+  alone_at (Some i) t = refl
+
+  alone_alike : (i j : Option Index) (t u : Option FunctionType) → option_map at_start i ≡ option_map at_start j → t ≡ u → inline_alone i t ≡ inline_alone j u
+  alone_alike i j t u same inline = alone_at i t ∙ (ap (λ o. inline_alone o t) same ∙ (sym (alone_at j t) ∙ ap (inline_alone j) inline))
+
+  module _ (find other : LookUp) (found : (s : Signature) → number_at c.known (find s) ≡ number_at d.known (other s)) where
+    found_if : (b : Bool) (s : Signature) → number_at c.known (bound_if b (find s)) ≡ number_at d.known (bound_if b (other s))
+    found_if true s = found s
+    found_if false s = refl
+
+    index_alike : (w : Where) (i : Option Index) (t : Option FunctionType) → Same (if_there (in_index space.Ty) i) → number_at c.known (bound_index find w i t) ≡ number_at d.known (bound_index other w i t)
+    index_alike w None t h = found_if (needs_type w t) (inline_signature t)
+    index_alike w (Some i) t h = ap (λ j. Some (at_start j)) h.0
+
+    its_index : (w : Where) (u : TypeUse FunctionType) → Same (in_type_use u) → number_at c.known (bound_index find w u.index u.inline) ≡ number_at d.known (bound_index other w u.index u.inline)
+    its_index w u h = index_alike w u.index u.inline (each_first SameAsk (if_there (in_index space.Ty) u.index) (if_there in_signature u.inline) h)
+
+    use_alike : (w : Where) (u : TypeUse FunctionType) → Same (in_type_use u) → (telling c find).used w u ≡ (telling d other).used w u
+    use_alike w u h = by_place w (its_index w u h) (given_alike w u.index u.inline (inline_alike u.inline (each_rest SameAsk (if_there (in_index space.Ty) u.index) (if_there in_signature u.inline) h)))
+      where
+        by_place : (w : Where)
+            → number_at c.known (bound_index find w u.index u.inline) ≡ number_at d.known (bound_index other w u.index u.inline)
+            → inline_at c.known (bound_inline w u.index u.inline) ≡ inline_at d.known (bound_inline w u.index u.inline)
+            → (telling c find).used w u ≡ (telling d other).used w u
+        by_place OfItem index inline i = record { index = index i; inline = inline i }
+        by_place OfCall index inline i = record { index = index i; inline = alone_alike _ _ _ _ index inline i }
+        by_place OfBlock index inline i = record { index = index i; inline = alone_alike _ _ _ _ index inline i }
+
+    -- A local stands in a function whose type use is told alike, so that as many parameters have no name.
+    module _ (types : c.types ≡ d.types) where
+      nameless_alike : (o : Option (TypeUse FunctionType)) → Same (if_there in_type_use o)
+          → nameless c (option_map (λ u. bound_use find OfItem u) (option_map (λ u. u) o)) ≡ nameless d (option_map (λ u. bound_use other OfItem u) o)
+      nameless_alike None h = refl
+      nameless_alike (Some u) h = unsaid_alike c d types (bound_index find OfItem u.index u.inline) (bound_index other OfItem u.index u.inline) u.inline (its_index OfItem u h)
+
+      -- A field stands in the type that its owner denotes.
+      field_alike : (owner i : Index) → numbered_at c.known space.Ty owner ≡ numbered_at d.known space.Ty owner
+          → numbered (field_in (type_at c.types (denoted (c.known.number space.Ty) owner))) i ≡ numbered (field_in (type_at d.types (denoted (d.known.number space.Ty) owner))) i
+      field_alike owner i same =
+          let number_alike = denoted_number (c.known.number space.Ty) owner ∙ (ap (λ j. number_of (at_start j)) same ∙ sym (denoted_number (d.known.number space.Ty) owner)) in
+          ap (λ o. numbered (field_in (type_at c.types o)) i) number_alike ∙ ap (λ (ts : List Shape). numbered (field_in (type_at ts (denoted (d.known.number space.Ty) owner))) i) types
+
+      site_alike : (s : Site) → Same (asked_in s) → Stands SameAsk s → Joins same (telling c find) (telling d other) s
+      site_alike (Asked (Wants s i)) h o = h.0
+      site_alike (Asked (Within i)) h o = tt
+      site_alike (Asked (Unasked m)) h o = tt
+      site_alike (Asked (Clause n holds)) h o = tt
+      site_alike (Asked (Covered form holds)) h o = tt
+      site_alike (Used w u) h o = use_alike w u h
+      site_alike (LocalAt locals i) h o = ap (behind_nameless locals.names i) (nameless_alike locals.owner o)
+      site_alike (FieldAt owner i) h o = (h.0, field_alike owner i h.0)
+      site_alike (LabelAt blocks i) h o = refl
+      site_alike (Declared before m) h o = tt
+      site_alike (Repeated blocks m) h o = tt
+      site_alike (Begins blocks m) h o = tt
+      site_alike Ends h o = tt
+
+      sites_alike : (ss : List Site) → Same (asked ss) → Each (Stands SameAsk) ss → Each (Joins same (telling c find) (telling d other)) ss
+      sites_alike [] h o = tt
+      sites_alike (s ∷ ss) h o = (site_alike s (each_first SameAsk (asked_in s) (asked ss) h) o.0, sites_alike ss (each_rest SameAsk (asked_in s) (asked ss) h) o.1)
+
+      pub all_same : (xs : List ModuleField) → Same (asked (in_module xs)) → all_mapped (telling c find) xs ≡ all_mapped (telling d other) xs
+      all_same xs h = alike (telling c find) (telling d other) (λ o. refl) xs (sites_alike (in_module xs) h (all_stand SameAsk xs h))

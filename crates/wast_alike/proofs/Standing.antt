@@ -1,0 +1,60 @@
+-- What is asked of the resolved list was asked, each index numbered; and what a function declares is what it declared.
+use Rattle.std.proofs.Common.{◌≡◌, Bool, true, ◌&&◌, List, ◌++◌, map, refl, sym, ap, ◌∙◌}
+use Rattle.std.specs.Prelude.{Option, Some, None}
+use Rattle.std.specs.List.{flat_map, list_all}
+use Rattle.std.specs.Cmp.{first_so}
+use Rattle.std.proofs.lemmas.List.Folds.{list_all-map}
+use Rattle.wast_tree.specs.Sites.{Ask, Wants, Where, OfItem, OfCall, OfBlock, Site, Used, if_there, in_index, in_signature, in_type_use, asked_in, asked, in_module}
+use Rattle.wast_tree.specs.Types.{inline_alone}
+use Rattle.wast_map.specs.Mapped.{Change, mapped_ask, mapped_site, mapped_func_kind, mapped}
+use Rattle.wast_map.proofs.Ways.{index_in, both_at, option_at}
+use Rattle.wast_map.proofs.Types.{signature_at}
+use Rattle.wast_map.proofs.Fields.{marks_still}
+use Rattle.wast_map.proofs.Laws.{stands}
+use Rattle.wast_alike.specs.Tree.{Index, FunctionType, TypeUse, FuncKind, ModuleField}
+use Rattle.wast_alike.specs.Tree.space
+use Rattle.wast_alike.specs.Tree.func
+use Rattle.wast_demands.specs.Scopes.{Scope}
+use Rattle.wast_demands.specs.Demands.{kind_marks}
+use Rattle.wast_demands.specs.Resolved.{numbered_at, numbered_use, resolved_use, numbering}
+use Rattle.wast_alike.proofs.ImpliedSignatures.{all_pass, all_parts}
+use Rattle.wast_demands.proofs.Numbering.{numbering_keeps}
+
+module _ (c : Scope) where
+  pub use_stands : (u : TypeUse FunctionType) → in_type_use (numbered_use c.known u) ≡ map (mapped_ask (numbered_at c.known)) (in_type_use u)
+  use_stands u = (both_at u.index u.inline (option_at (index_in space.Ty) u.index) (option_at signature_at u.inline)).stands (numbering c) (numbering_keeps c)
+
+  -- what is asked at a site once it is numbered, its inline type beside an index too
+  abbrev pub numbered_in : Site → List Ask
+  numbered_in (Used w u) = map (mapped_ask (numbered_at c.known)) (in_type_use u)
+  numbered_in s = asked_in (mapped_site (numbering c) s)
+
+  -- What passes of that passes of what is asked then: no inline type says more than it did.
+  module _ (ok : Ask → Bool) where
+    said_passes : (i : Option Index) (inline : Option FunctionType) → list_all ok (if_there (in_index space.Ty) i ++ if_there in_signature inline) ≡ true
+        → list_all ok (if_there (in_index space.Ty) i ++ if_there in_signature (inline_alone i inline)) ≡ true
+    said_passes None inline h = h
+    said_passes (Some i) inline h = ap (λ b. b && true) (first_so (ok (Wants space.Ty i)) (list_all ok (if_there in_signature inline)) h)
+
+    use_passes : (w : Where) (u : TypeUse FunctionType) → list_all ok (map (mapped_ask (numbered_at c.known)) (in_type_use u)) ≡ true → list_all ok (in_type_use (resolved_use c.known w u)) ≡ true
+    use_passes OfItem u h = ap (list_all ok) (use_stands u) ∙ h
+    use_passes OfCall u h = said_passes (numbered_use c.known u).index (numbered_use c.known u).inline (ap (list_all ok) (use_stands u) ∙ h)
+    use_passes OfBlock u h = said_passes (numbered_use c.known u).index (numbered_use c.known u).inline (ap (list_all ok) (use_stands u) ∙ h)
+
+    site_passes : (s : Site) → list_all ok (numbered_in s) ≡ true → list_all ok (asked_in (mapped_site (numbering c) s)) ≡ true
+    site_passes (Used w u) h = use_passes w u h
+    site_passes s h = h
+
+    pub sites_pass : (ss : List Site) → list_all ok (flat_map numbered_in ss) ≡ true → list_all ok (asked (map (mapped_site (numbering c)) ss)) ≡ true
+    sites_pass ss h =
+        all_parts ok asked_in (map (mapped_site (numbering c)) ss)
+        ∙ (list_all-map (λ s. list_all ok (asked_in s)) (mapped_site (numbering c)) ss
+        ∙ all_pass (λ s. list_all ok (numbered_in s)) (λ s. list_all ok (asked_in (mapped_site (numbering c) s))) site_passes ss (sym (all_parts ok numbered_in ss) ∙ h))
+
+    pub asked_passes : (fields : List ModuleField) → list_all ok (flat_map numbered_in (in_module fields)) ≡ true → list_all ok (asked (in_module (map (mapped (numbering c)) fields))) ≡ true
+    asked_passes fields h = ap (λ ss. list_all ok (asked ss)) (stands (numbering c) (numbering_keeps c) fields) ∙ sites_pass (in_module fields) h
+
+-- What a function declares stays, whatever changes.
+pub kind_declared : (f : Change) (u : TypeUse FunctionType) (k : FuncKind) → kind_marks (mapped_func_kind f u k) ≡ kind_marks k
+kind_declared f u (func.Import import exact) = refl
+kind_declared f u (func.Inline locals e) = marks_still f locals

@@ -1,0 +1,11 @@
+pub mod Counted
+pub mod CustomsAsk
+pub mod Matching
+pub mod Numbering
+pub mod Orders
+pub mod PartsOfTypes
+pub mod Ranks
+pub mod TypeParts
+pub mod Unmet
+pub mod Unmoved
+pub mod Worked

@@ -1,0 +1,17 @@
+pub mod CoreTypes
+pub mod Demands
+pub mod Early
+pub mod Explicit
+pub mod Finished
+pub mod ImportOrder
+pub mod Matches
+pub mod Resolved
+pub mod Scopes
+pub mod Stripped
+pub mod Tree
+pub mod WorkedAnswers
+pub mod WorkedBodies
+pub mod WorkedEarly
+pub mod WorkedFields
+pub mod WorkedImports
+pub mod WorkedUnknowns

@@ -1,0 +1,101 @@
+-- What a function demands, part by part, as it is walked.
+use Rattle.std.specs.Prelude.{⊤, Option, Some, None, option_map}
+use Rattle.std.proofs.Common.{◌≡◌, ℕ, ◌+◌, ◌≤◌, ◌^◌, List, [], ◌∷◌, ◌++◌, length, refl, sym, ap, ◌∙◌, subst, map}
+use Rattle.std.proofs.lemmas.Grind.{flat_map-append}
+use Rattle.std.specs.List.{flat_map}
+use Rattle.wast_base.specs.Ids.{Name, Mark, name_of}
+use Rattle.wast_base.specs.Spaces.{name_if, position_of}
+use Rattle.wast_tree.specs.Sites.{Here, Locals, in_local, local_marks, param_marks, declaring, body_here, in_expression, in_func_kind, asking}
+use Rattle.wast_map.specs.Mapped.{Change, mapped_signature, mapped_func_kind}
+use Rattle.wast_map.proofs.Fields.{marks_still}
+use Rattle.wast_passes.specs.Tree.{Id, Index, FunctionType, TypeUse, FuncKind}
+use Rattle.wast_passes.specs.Tree.index
+use Rattle.wast_passes.specs.Tree.space
+use Rattle.wast_passes.specs.Tree.func
+use Rattle.wast_demands.specs.Scopes.{Scope, denoted, type_at, params_of, unsaid_params, nameless, local_number}
+use Rattle.wast_demands.specs.Demands.{ask_demands, site_demand, site_demands, declared, kind_marks, open_counts_at, open_counts, HasMany}
+use Rattle.wast_passes.specs.Locals.{LocalSpace, opening, names, locals_in, NumbersIn, SaysAsMuch, kind_counts}
+use Rattle.wast_passes.specs.Openable.{begin}
+use Rattle.wast_demands.specs.Resolved.{numbered_by, numbered, numbered_at, numbered_use}
+use Rattle.wast_passes.specs.TwoSteps.{in_locals, in_body, with_locals, with_body}
+use Rattle.wast_demands.proofs.Counted.{many_one, many_left, many_right}
+use Rattle.wast_demands.proofs.Numbering.{inline_keeps}
+use Rattle.wast_passes.proofs.Parts.{asking_demands}
+
+-- where the body of a function stands
+abbrev pub inside : TypeUse FunctionType → FuncKind → Here
+inside u k = begin (locals_in u k)
+
+-- the types of the locals, the names of parameters and locals, and the body
+pub kind_demands : (c : Scope) (u : TypeUse FunctionType) (k : FuncKind)
+    → site_demands c (in_func_kind u k) ≡ ask_demands c.known (in_locals k) ++ (site_demands c (opening (param_marks u.inline) k) ++ site_demands c (in_body (inside u k) k))
+kind_demands c u (func.Import import exact) = refl
+kind_demands c u (func.Inline locals e) =
+    let marks = param_marks u.inline ++ local_marks locals in
+    let types = flat_map in_local locals in
+    let body = in_expression (body_here u marks) e in
+    flat_map-append (site_demand c) (asking types) (declaring [] marks ++ body)
+    ∙ (ap (λ ds. ds ++ site_demands c (declaring [] marks ++ body)) (asking_demands c types) ∙ ap (λ ds. ask_demands c.known types ++ ds) (flat_map-append (site_demand c) (declaring [] marks) body))
+
+-- where there are too many blocks in the body, or too many parameters and locals
+body_many : (u : TypeUse FunctionType) (k : FuncKind) → HasMany (open_counts (in_body (inside u k) k)) → HasMany (open_counts (in_func_kind u k))
+body_many u (func.Import import exact) m = m
+body_many u (func.Inline locals e) m =
+    let marks = param_marks u.inline ++ local_marks locals in
+    let types = asking (flat_map in_local locals) in
+    let body = in_expression (body_here u marks) e in
+    subst HasMany (sym (flat_map-append open_counts_at types (declaring [] marks ++ body)))
+    (many_right (open_counts types) (open_counts (declaring [] marks ++ body))
+    (subst HasMany (sym (flat_map-append open_counts_at (declaring [] marks) body)) (many_right (open_counts (declaring [] marks)) (open_counts body) m)))
+
+module _ (c : Scope) (u : TypeUse FunctionType) (k : FuncKind) where
+  pub many_blocks : HasMany (open_counts (in_body (inside u k) k)) → HasMany (kind_counts c u k)
+  many_blocks m = many_right ((nameless c (Some u) + length (declared u.inline k)) ∷ []) (open_counts (in_func_kind u k)) (body_many u k m)
+
+  pub many_locals : 2 ^ 32 ≤ nameless c (Some u) + length (declared u.inline k) → HasMany (kind_counts c u k)
+  many_locals le =
+      let n = nameless c (Some u) + length (declared u.inline k) in
+      many_left (n ∷ []) (open_counts (in_func_kind u k)) (many_one n le)
+
+module _ (f : Change) where
+  -- the body, and what is declared, stay while the types of locals are walked
+  pub body_stays : (h : Here) (k : FuncKind) → in_body h (with_locals f k) ≡ in_body h k
+  body_stays h (func.Import import exact) = refl
+  body_stays h (func.Inline locals e) = refl
+
+  pub marks_stay : (k : FuncKind) → kind_marks (with_locals f k) ≡ kind_marks k
+  marks_stay (func.Import import exact) = refl
+  marks_stay (func.Inline locals e) = marks_still f locals
+
+  pub opening_stays : (params : List (Option Mark)) (k : FuncKind) → opening params (with_locals f k) ≡ opening params k
+  opening_stays params (func.Import import exact) = refl
+  opening_stays params (func.Inline locals e) = ap (λ ms. declaring [] (params ++ ms)) (marks_still f locals)
+
+  -- and then the body
+  pub kind_becomes : (u : TypeUse FunctionType) (k : FuncKind) → with_body f (inside u k) (with_locals f k) ≡ mapped_func_kind f u k
+  kind_becomes u (func.Import import exact) = refl
+  kind_becomes u (func.Inline locals e) = refl
+
+-- names denote the same among as many parameters without names, and the same names behind them
+pub numbers_still : (c : Scope) (l m : Locals) (k : FuncKind) (s : LocalSpace) → nameless c l.owner ≡ nameless c m.owner → l.names ≡ m.names → NumbersIn c l k s → NumbersIn c m k s
+numbers_still c l m (func.Import import exact) s some same h = tt
+numbers_still c l m (func.Inline locals e) s some same h = λ name. h name ∙ (λ i. option_map (λ p. some i + p) (position_of name (same i)))
+
+-- an index with its number denotes what it denoted
+denoted_still : (number : Name → Option ℕ) (i : Index) → denoted number (numbered number i) ≡ denoted number i
+denoted_still number (index.Num n p) = refl
+denoted_still number (index.Id id) = by_number (number (name_of id)) refl
+  where
+    by_number : (o : Option ℕ) → number (name_of id) ≡ o → denoted number (numbered_by o id) ≡ number (name_of id)
+    by_number None is = refl
+    by_number (Some n) is = sym is
+
+unsaid_still : (c : Scope) (index : Option Index) (inline : Option FunctionType)
+    → unsaid_params c (option_map (numbered_at c.known space.Ty) index) (option_map (mapped_signature (numbered_at c.known)) inline) ≡ unsaid_params c index inline
+unsaid_still c index (Some t) = refl
+unsaid_still c None None = refl
+unsaid_still c (Some i) None = ap (λ o. params_of (type_at c.types o)) (denoted_still (c.known.number space.Ty) i)
+
+-- a type use that is numbered says as much of the parameters
+pub numbered_says : (c : Scope) (u v : TypeUse FunctionType) → v ≡ numbered_use c.known u → SaysAsMuch c u v
+numbered_says c u v is = subst (SaysAsMuch c u) (sym is) record { nameless = unsaid_still c u.index u.inline; marks = inline_keeps (numbered_at c.known) u.inline }

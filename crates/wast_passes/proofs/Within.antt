@@ -1,0 +1,80 @@
+-- Indices of what stands within a function: locals by the names of the function, and labels by the open blocks.
+use Rattle.std.proofs.Common.{◌≡◌, ℕ, List, [], ◌∷◌, ◌++◌, Option, Some, None, is_some, Bool, true, false, cond, codes, Result, Ok, Err, refl, sym, ap, ◌∙◌, subst, append-nil}
+use Rattle.std.specs.FinMap.{get-empty}
+use Rattle.std.specs.Prelude.{⊤, ◌+◌, option_map}
+use Rattle.wast_base.specs.Blocks.{Blocks}
+use Rattle.wast_base.specs.declared.faults.Error.{Error}
+use Rattle.wast_base.specs.Faults.{Cause, Labels, Told, At, Nowhere, told}
+use Rattle.wast_base.specs.Ids.{Name, Mark, name_of, mark_of, marked}
+use Rattle.wast_labels.specs.OpenBlocks.{denotes, expects}
+use Rattle.wast_labels.specs.Asked as labels
+use Rattle.wast_labels.specs.Asked.{Tells, unknown_label, unless_denoted, wrong_label}
+use Rattle.wast_namespace.specs.FirstUnmet.{unknown}
+use Rattle.wast_namespace.specs.Namespaces.{key_of, key_cmp, empty_from}
+use Rattle.wast_namespace.specs.Outcomes.{Outcome}
+use Rattle.wast_passes.specs.Tree.{Span, Id, Index}
+use Rattle.wast_passes.specs.Tree.index
+use Rattle.wast_demands.specs.Scopes.{Scope, local_number}
+use Rattle.wast_demands.specs.Resolved.{numbered_by, numbered}
+use Rattle.wast_demands.specs.Demands.{first_unmet, known_index, site_demands, repeated_demand, Answers}
+use Rattle.wast_passes.specs.Locals.{LocalSpace, local_in, Numbers}
+use Rattle.wast_passes.specs.Walking.{Walks}
+use Rattle.wast_demands.proofs.Unmet.{answers_more}
+use Rattle.wast_tree.specs.Sites.{Locals, LocalAt, Repeated, start}
+
+-- where names denote the same, indices do
+module _ (f g : Name → Option ℕ) (same : (name : Name) → f name ≡ g name) where
+  same_known : (word : List ℕ) (i : Index) → known_index f word i ≡ known_index g word i
+  same_known word (index.Num n p) = refl
+  same_known word (index.Id id) = ap (λ o. unknown word (mark_of id) (is_some o)) (same (name_of id))
+
+  same_numbered : (i : Index) → numbered f i ≡ numbered g i
+  same_numbered (index.Num n p) = refl
+  same_numbered (index.Id id) = ap (λ o. numbered_by o id) (same (name_of id))
+
+-- a local
+pub local_walked : (M : Type 0) (c : Scope) (l : Locals) (s : LocalSpace) (i new : Index) (result : Result (Unit {0}) Error) → Numbers c l s
+    → Outcome ⊥ ⊥ (first_unmet (known_index (local_in s) (codes "local") i)) result → new ≡ numbered (local_in s) i
+    → Walks ⊤ M (site_demands c (LocalAt l i ∷ [])) (numbered (local_number c l) i) new result
+local_walked M c l s i new (Ok x) h met is =
+    (ap first_unmet (append-nil (known_index (local_number c l) (codes "local") i) ∙ sym (same_known (local_in s) (local_number c l) h (codes "local") i)) ∙ met, is ∙ same_numbered (local_in s) (local_number c l) h i)
+local_walked M c l s i new (Err e) h unmet is =
+    let all = append-nil (known_index (local_number c l) (codes "local") i) ∙ sym (same_known (local_in s) (local_number c l) h (codes "local") i) in
+    answers_more (told e) _ _ (λ l. absurd l) (λ m. absurd m) (λ f g. ap first_unmet all ∙ g) unmet
+
+-- what is told of labels is an answer
+pub tells_answers : (K M : Type 0) (t : Told) (o : Option (Cause × Span)) → Tells t o → Answers K M t o
+tells_answers K M (At fault place) o h = h
+tells_answers K M (Nowhere fault) o h = absurd h
+
+denoted_unmet : (o : Option ℕ) (id : Id) → unless_denoted o id ≡ first_unmet (unknown (codes "label") (mark_of id) (is_some o) ++ [])
+denoted_unmet None id = refl
+denoted_unmet (Some n) id = refl
+
+-- a label that denotes no open block
+pub label_unmet : (blocks : Blocks) (i : Index) → unknown_label blocks i ≡ first_unmet (known_index (λ name. denotes name blocks) (codes "label") i ++ [])
+label_unmet blocks (index.Num n p) = refl
+label_unmet blocks (index.Id id) = denoted_unmet (denotes (name_of id) blocks) id
+
+same_by : (o : Option ℕ) (id : Id) → labels.numbered_by o id ≡ numbered_by o id
+same_by None id = refl
+same_by (Some n) id = refl
+
+pub label_numbered : (blocks : Blocks) (i : Index) → labels.numbered blocks i ≡ numbered (λ name. denotes name blocks) i
+label_numbered blocks (index.Num n p) = refl
+label_numbered blocks (index.Id id) = same_by (denotes (name_of id) blocks) id
+
+-- a label that is not expected
+pub repeated_unmet : (blocks : Blocks) (m : Option Mark) → wrong_label blocks m ≡ first_unmet (repeated_demand blocks m ++ [])
+repeated_unmet blocks None = refl
+repeated_unmet blocks (Some m) = refl
+
+-- a label at an `else` or an `end`
+pub label_checked : (M : Type 0) (c : Scope) (blocks : Blocks) (o : Option Id) (result : Result (Unit {0}) Error) → labels.Outcome (wrong_label blocks (marked o)) result
+    → Walks ⊤ M (site_demands c (Repeated blocks (marked o) ∷ [])) o o result
+label_checked M c blocks o (Ok x) h = (sym (repeated_unmet blocks (marked o)) ∙ h, refl)
+label_checked M c blocks o (Err e) h = tells_answers ⊤ M (told e) _ (subst (Tells (told e)) (repeated_unmet blocks (marked o)) h)
+
+-- a constant expression has no names
+pub none_numbers : (c : Scope) (s : LocalSpace) → s ≡ record { space = empty_from 0; nameless = 0 } → Numbers c start.locals s
+none_numbers c s is name = ap (λ (s : LocalSpace). local_in s name) is ∙ ap (option_map (λ n. 0 + n)) (get-empty key_cmp (key_of name))

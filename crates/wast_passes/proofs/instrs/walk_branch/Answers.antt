@@ -1,0 +1,14 @@
+use Rattle.std.specs.Prelude.{⊤, []}
+use Rattle.wast_labels.specs.OpenBlocks.{denotes}
+use Rattle.wast_tree.specs.Sites.{at_label}
+use Rattle.wast_demands.specs.Demands.{HasMany, site_demands}
+use Rattle.wast_demands.specs.Resolved.{numbered}
+use Rattle.wast_passes.specs.Resolvers.{scope_of}
+use Rattle.wast_passes.proofs.Parts.{more_refused}
+use Rattle.wast_passes.proofs.instrs.walk_branch.Goals as goal
+
+pub returns : goal.returns
+returns c names =
+    let blocks = c.args.labels.now.blocks in
+    more_refused ⊤ (HasMany []) (site_demands (scope_of names) (at_label blocks c.args.label.now)) (numbered (λ name. denotes name blocks) c.args.label.now)
+    c.walk_label.new.label c.walk_label.result (c.walk_label.ensures names)

@@ -1,0 +1,10 @@
+use Rattle.wast_tree.specs.Sites.{in_handle}
+use Rattle.wast_map.specs.Mapped.{mapped_handle}
+use Rattle.wast_demands.specs.Demands.{site_demand}
+use Rattle.wast_demands.specs.Resolved.{numbering}
+use Rattle.wast_passes.specs.Resolvers.{scope_of}
+use Rattle.wast_passes.proofs.Each.{IsHalfway}
+use Rattle.wast_passes.proofs.instrs.walk_handles.Given as goal
+
+abbrev pub invariant-loop-i : goal.invariant-loop-i
+invariant-loop-i l = IsHalfway (site_demand (scope_of l.names)) (in_handle l.labels.blocks) (mapped_handle (numbering (scope_of l.names)) l.labels.blocks) l.fn.handles l.handles l.i

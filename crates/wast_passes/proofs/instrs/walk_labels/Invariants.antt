@@ -1,0 +1,10 @@
+use Rattle.wast_labels.specs.OpenBlocks.{denotes}
+use Rattle.wast_tree.specs.Sites.{at_label}
+use Rattle.wast_demands.specs.Demands.{site_demand}
+use Rattle.wast_demands.specs.Resolved.{numbered}
+use Rattle.wast_passes.specs.Resolvers.{Resolution, scope_of}
+use Rattle.wast_passes.proofs.Each.{IsHalfway}
+use Rattle.wast_passes.proofs.instrs.walk_labels.Given as goal
+
+abbrev pub invariant-loop-i : goal.invariant-loop-i
+invariant-loop-i l = (names : Resolution) → IsHalfway (site_demand (scope_of names)) (at_label l.labels.blocks) (numbered (λ name. denotes name l.labels.blocks)) l.fn.indices l.indices l.i

@@ -1,0 +1,82 @@
+use Rattle.std.specs.Prelude.{⊤, [], ◌∷◌, ◌++◌, flat_map}
+use Rattle.std.proofs.Common.{◌≡◌, ap, sym, subst, ◌∙◌, None, true}
+use Rattle.std.proofs.lemmas.Grind.{flat_map-append}
+use Rattle.std.proofs.lemmas.Result.{err_from_is_err_and}
+use Rattle.wast_base.specs.Faults.{told}
+use Rattle.wast_base.specs.Ids.{marked}
+use Rattle.wast_base.specs.Spaces.{name_if}
+use Rattle.wast_labels.specs.Gathered.{knows}
+use Rattle.wast_labels.specs.OpenBlocks.{with_open}
+use Rattle.wast_tree.specs.Sites.{Here, OfBlock, Begins, after_all, in_catch, in_try_table, in_use}
+use Rattle.wast_tree.proofs.Behind.{after-append}
+use Rattle.wast_passes.specs.Tree.{BlockType, Id}
+use Rattle.wast_demands.specs.Demands.{HasMany, open_counts_at, open_counts, first_unmet, site_demand, site_demands, Answers}
+use Rattle.wast_passes.specs.Openable.{with_blocks, here}
+use Rattle.wast_passes.specs.Resolvers.{scope_of}
+use Rattle.wast_demands.proofs.Counted.{many_right}
+use Rattle.wast_demands.proofs.Unmoved.{catches_stay}
+use Rattle.wast_passes.proofs.Parts.{both_met, fails_first, fails_second, more_answers}
+use Rattle.wast_passes.proofs.instrs.walk_try_table.Goals as goal
+
+pub open_label-requires : goal.open_label-requires
+open_label-requires c =
+    let same = ap (λ (b : BlockType). b.label) (c.get.ensures ∙ c.in_ok-walk_block_type.ensures.1) in
+    subst (λ o. knows c.args.labels.now.known (name_if (marked o)) ≡ true) (sym same) c.requires
+
+pub returns-in_err-walk_block_type-clause-walks : goal.returns-in_err-walk_block_type-clause-walks
+returns-in_err-walk_block_type-clause-walks c =
+    let x = c.args.table.now in
+    let blocks = c.args.labels.now.blocks in
+    let p = err_from_is_err_and c.from_residual.result c.from_residual.ensures.1 in
+    rw (p.1, p.2) (fails_first ⊤ (HasMany (open_counts (in_try_table blocks x))) (scope_of c.args.names.now) (in_use OfBlock x.block.ty) (flat_map (in_catch blocks) x.catches ++ Begins blocks (marked x.block.label) ∷ []) (told c.in_err-walk_block_type.field-0.0)
+    c.in_err-walk_block_type.ensures)
+
+pub returns-in_err-walk_catches-clause-walks : goal.returns-in_err-walk_catches-clause-walks
+returns-in_err-walk_catches-clause-walks c =
+    let x = c.args.table.now in
+    let blocks = c.args.labels.now.blocks in
+    let s = scope_of c.args.names.now in
+    let t = told c.in_err-walk_catches.field-0.0 in
+    let many = HasMany (open_counts (in_try_table blocks x)) in
+    let begins = Begins blocks (marked x.block.label) ∷ [] in
+    let p = err_from_is_err_and c.from_residual-in_err-walk_catches.result c.from_residual-in_err-walk_catches.ensures.1 in
+    rw (p.1, p.2) (fails_second ⊤ many s (in_use OfBlock x.block.ty) (flat_map (in_catch blocks) x.catches ++ begins) t c.in_ok-walk_block_type.ensures.0
+    (fails_first ⊤ many s (flat_map (in_catch blocks) x.catches) begins t c.in_err-walk_catches.ensures))
+
+pub returns-in_err-open_label-clause-walks : goal.returns-in_err-open_label-clause-walks
+returns-in_err-open_label-clause-walks c =
+    let x = c.args.table.now in
+    let blocks = c.args.labels.now.blocks in
+    let s = scope_of c.args.names.now in
+    let t = told c.in_err-open_label.field-0.0 in
+    let many = HasMany (open_counts (in_try_table blocks x)) in
+    let begins = Begins blocks (marked x.block.label) ∷ [] in
+    let caught = flat_map (in_catch blocks) x.catches in
+    let all = flat_map-append open_counts_at caught begins in
+    let p = err_from_is_err_and c.from_residual-in_err-open_label.result c.from_residual-in_err-open_label.ensures.1 in
+    rw (p.1, p.2) (fails_second ⊤ many s (in_use OfBlock x.block.ty) (caught ++ begins) t c.in_ok-walk_block_type.ensures.0
+    (fails_second ⊤ many s caught begins t c.in_ok-walk_catches.ensures.0
+    (more_answers ⊤ (HasMany (open_counts begins)) many t _ (λ m. subst HasMany (sym all) (many_right (open_counts caught) (open_counts begins) m)) (c.in_err-open_label.ensures.walks c.args.names.now))))
+
+pub returns-clause-walks : goal.returns-clause-walks
+returns-clause-walks c =
+    let x = c.args.table.now in
+    let blocks = c.args.labels.now.blocks in
+    let d = site_demand (scope_of c.args.names.now) in
+    let typed = c.in_ok-walk_block_type.ensures in
+    let named = c.in_ok-walk_catches.ensures in
+    let opened = c.in_ok-open_label.ensures.walks c.args.names.now in
+    let begins = Begins blocks (marked x.block.label) ∷ [] in
+    let caught = flat_map (in_catch blocks) x.catches in
+    (both_met d (in_use OfBlock x.block.ty) (caught ++ begins) typed.0 (both_met d caught begins named.0 opened.0), λ i. record { block = typed.1 i; catches = named.1 i })
+
+pub returns-clause-blocks : goal.returns-clause-blocks
+returns-clause-blocks c l =
+    let x = c.args.table.now in
+    let s = c.args.labels.now in
+    let h = here l s in
+    let begins = Begins s.blocks (marked x.block.label) ∷ [] in
+    let caught = flat_map (in_catch s.blocks) x.catches in
+    let same = ap (λ (b : BlockType). b.label) (c.get.ensures ∙ c.in_ok-walk_block_type.ensures.1) in
+    let stays : after_all h (caught ++ begins) ≡ after_all h begins = after-append h caught begins ∙ ap (λ (g : Here). after_all g begins) (catches_stay h s.blocks x.catches) in
+    c.in_ok-open_label.ensures.blocks l ∙ (ap (λ o. with_open (name_if (marked o)) s) same ∙ sym (ap (with_blocks s) stays))

@@ -1,0 +1,10 @@
+use Rattle.wast_tree.specs.Sites.{in_field}
+use Rattle.wast_demands.specs.Demands.{site_demand}
+use Rattle.wast_map.specs.Mapped.{mapped}
+use Rattle.wast_demands.specs.Resolved.{numbering}
+use Rattle.wast_passes.specs.Resolvers.{known_of, scope_of}
+use Rattle.wast_passes.proofs.Each.{IsHalfway}
+use Rattle.wast_passes.proofs.walks.walk_fields.Given as goal
+
+abbrev pub invariant-loop-i : goal.invariant-loop-i
+invariant-loop-i l = IsHalfway (site_demand (scope_of l.names)) in_field (mapped (numbering (scope_of l.names))) l.fn.fields l.fields l.i

@@ -1,0 +1,11 @@
+pub mod Clashes
+pub mod Gathers
+pub mod Laws
+pub mod Locals
+pub mod LookUps
+pub mod Openable
+pub mod Resolvers
+pub mod Shaping
+pub mod Tree
+pub mod TwoSteps
+pub mod Walking

@@ -1,0 +1,629 @@
+//! Walks over bodies: each instruction by the names of the module and of the function, and by the open blocks.
+#![tactic(auto, using(crate::proofs::Parts::both_met, crate::proofs::Parts::first_fails, crate::proofs::Parts::second_fails))]
+
+ghost use Rattle.std.specs.Prelude.{◌≡◌, ◌≤◌, ◌^◌, ◌+◌, ◌++◌, ◌∷◌, [], List, length, map, flat_map, IsTrue, IfOk, OnOk};
+ghost use Rattle.wast_base.specs.Blocks.{closed};
+ghost use Rattle.wast_base.specs.Ids.{marked};
+ghost use Rattle.wast_base.specs.Spaces.{name_if};
+ghost use Rattle.wast_labels.specs.Gathered.{knows};
+ghost use Rattle.wast_labels.specs.OpenBlocks.{OpenBlocks};
+ghost use Rattle.wast_labels.specs.Turns.{gathered};
+ghost use Rattle.wast_map.specs.Mapped.{mapped_access, mapped_block, mapped_br_table, mapped_catch, mapped_caught, mapped_expression, mapped_handle, mapped_handlers, mapped_indirect, mapped_instr, mapped_instrs, mapped_try_table};
+ghost use Rattle.wast_namespace.specs.Outcomes.{Outcome};
+ghost use Rattle.wast_demands.specs.Demands.{first_unmet, site_demands, open_counts_at, HasMany};
+ghost use Rattle.wast_passes.specs.Locals.{Numbers};
+ghost use Rattle.wast_passes.specs.Openable.{is_openable, AreOpenable, here, begin, Moves, IsPassed};
+ghost use Rattle.wast_passes.specs.Resolvers.{Resolution, scope_of};
+ghost use Rattle.wast_demands.specs.Scopes.{Scope};
+ghost use Rattle.wast_passes.specs.Tree.space;
+ghost use Rattle.wast_passes.specs.TwoSteps.{in_handler_tag, in_handler_label, with_handler_tag, with_handler_label};
+ghost use Rattle.wast_passes.specs.Walking.{WalksAsks, WalksSites, WalksBodies, WalksCast};
+ghost use Rattle.wast_tree.specs.Instrs.{turn_of, turns};
+ghost use Rattle.wast_tree.specs.Sites.{Begins, Ends, Repeated, LocalAt, Locals, OfBlock, OfCall, asking, at_index, at_label, in_access, in_block, in_br_table, in_catch, in_caught, in_handle, in_handlers, in_indirect, in_instr, in_instrs, in_pair, in_try_table, in_use};
+
+use crate::apart::{walk_outside, walk_outside_index};
+use crate::local_names::LocalNames;
+use crate::resolver::Resolver;
+use crate::walks::{Walk, walk_body_type, walk_index};
+use std::alloc::{AllocError, Global};
+use wast_labels::{LabelNames, Labels, gathering_law};
+use wast_tree::{
+    ArrayInit, BlockType, Boxed, BrTableIndices, CallIndirect, Error, Expression, Fault,
+    FunctionType, Handle, Id, Index, Instruction, MemArgTarget, RefType, Resume, ResumeTable,
+    ResumeThrow, ResumeThrowRef, Seq, Space, StructAccess, TryTable, TryTableCatch,
+    TryTableCatchKind, TypeUse,
+};
+
+/// Walks over an index of a space. No block is opened.
+fn walk_number<'a>(
+    names: &Resolver<'a>,
+    space: Space,
+    index: &mut Index<'a>,
+) -> Result<(), Error<'a>>
+    ensures { WalksBodies names.now (at_index space) (λ f. f.index space) index.old index.new result }
+{
+    walk_outside_index(names, space, index)
+}
+
+/// Walks over a part of an instruction in which only names of the module are asked for.
+fn walk_part<'a, T: Walk<'a>>(names: &Resolver<'a>, part: &mut T) -> Result<(), Error<'a>>
+    ensures { WalksBodies names.now (λ part. asking (T.asks part)) T.mapped part.old part.new result }
+{
+    walk_outside(names, part)
+}
+
+/// Walks over the index of a local: E4 at an id that denotes none.
+fn walk_local<'a>(locals: &LocalNames<'a>, index: &mut Index<'a>) -> Result<(), Error<'a>>
+    ensures { (names : Resolution) (l : Locals) → Numbers (scope_of names) l locals.now →
+        WalksBodies names (λ i. LocalAt l i ∷ []) (λ f. f.local l) index.old index.new result }
+{
+    locals.number(index)
+}
+
+/// Walks over a label: E4 at an id that no open block has.
+fn walk_label<'a>(labels: &Labels<'a>, label: &mut Index<'a>) -> Result<(), Error<'a>>
+    ensures { (names : Resolution) →
+        WalksSites names (at_label labels.now.blocks) (λ f. f.label labels.now.blocks) label.old label.new result }
+{
+    labels.number(label)?;
+    Ok(())
+}
+
+/// Walks over the label of a branch. No block is opened.
+fn walk_branch<'a>(labels: &Labels<'a>, label: &mut Index<'a>) -> Result<(), Error<'a>>
+    ensures { (names : Resolution) →
+        WalksBodies names (at_label labels.now.blocks) (λ f. f.label labels.now.blocks) label.old label.new result }
+{
+    walk_label(labels, label)
+}
+
+/// Walks over labels, in order.
+fn walk_labels<'a>(labels: &Labels<'a>, indices: &mut Seq<Index<'a>>) -> Result<(), Error<'a>>
+    ensures { (names : Resolution) →
+        WalksSites names (flat_map (at_label labels.now.blocks)) (λ f. map (f.label labels.now.blocks)) indices.old indices.new result }
+{
+    for i in 0..indices.len() {
+        walk_label(labels, indices.at_mut(i))?;
+    }
+    Ok(())
+}
+
+/// Walks over the labels that a number chooses from, and then the one for all others.
+fn walk_br_table<'a>(labels: &Labels<'a>, table: &mut BrTableIndices<'a>) -> Result<(), Error<'a>>
+    ensures { (names : Resolution) →
+        WalksBodies names (in_br_table labels.now.blocks) (λ f. mapped_br_table f labels.now.blocks) table.old table.new result }
+{
+    walk_labels(labels, &mut table.labels)?;
+    walk_label(labels, &mut table.default)?;
+    Ok(())
+}
+
+/// Walks over an indirect call: its table, and then its type.
+fn walk_indirect<'a>(names: &Resolver<'a>, call: &mut CallIndirect<'a>) -> Result<(), Error<'a>>
+    ensures { WalksBodies names.now in_indirect mapped_indirect call.old call.new result }
+{
+    walk_outside_index(names, Space::Table, &mut call.table)?;
+    walk_body_type(names, &mut call.ty)?;
+    Ok(())
+}
+
+/// Opens a block: E10 where 4,294,967,295 are open, E12 where memory is refused.
+fn open_label<'a>(labels: &mut Labels<'a>, label: Option<Id<'a>>) -> Result<(), Error<'a>>
+    requires { IsTrue (knows labels.old.known (name_if (marked label))) }
+    ensures walks { (names : Resolution) →
+        WalksBodies names (λ o. Begins labels.old.blocks (marked o) ∷ []) (λ f o. o) label.entry label.entry result }
+    ensures blocks { Moves labels.old (λ h. Begins labels.old.blocks (marked label.entry) ∷ []) labels.new result }
+{
+    if labels.is_full() {
+        return Err(Error::refusal(Fault::TooLarge));
+    }
+    labels.open(label)?;
+    Ok(())
+}
+
+/// Walks over the type of a block.
+fn walk_block_type<'a>(
+    names: &Resolver<'a>,
+    block: &mut Boxed<BlockType<'a>>,
+) -> Result<(), Error<'a>>
+    ensures { WalksSites names.now (λ b. in_use OfBlock b.ty) mapped_block block.old block.new result }
+{
+    walk_body_type(names, &mut block.get_mut().ty)?;
+    Ok(())
+}
+
+/// Walks over a block: its type, and then it is opened.
+fn walk_block<'a>(
+    names: &Resolver<'a>,
+    labels: &mut Labels<'a>,
+    block: &mut Boxed<BlockType<'a>>,
+) -> Result<(), Error<'a>>
+    requires { IsTrue (knows labels.old.known (name_if (marked block.old.label))) }
+    ensures walks { WalksBodies names.now (in_block labels.old.blocks) mapped_block block.old block.new result }
+    ensures blocks { Moves labels.old (λ h. in_block labels.old.blocks block.old) labels.new result }
+{
+    walk_block_type(names, block)?;
+    open_label(labels, block.get().label)?;
+    Ok(())
+}
+
+/// Walks over what a clause of `try_table` catches.
+fn walk_caught<'a>(names: &Resolver<'a>, kind: &mut TryTableCatchKind<'a>) -> Result<(), Error<'a>>
+    ensures { WalksAsks names.now in_caught (λ f. mapped_caught f.index) kind.old kind.new result }
+{
+    match kind {
+        TryTableCatchKind::Catch(tag) => walk_index(names, Space::Tag, tag),
+        TryTableCatchKind::CatchRef(tag) => walk_index(names, Space::Tag, tag),
+        TryTableCatchKind::CatchAll => Ok(()),
+        TryTableCatchKind::CatchAllRef => Ok(()),
+    }
+}
+
+/// Walks over a clause of `try_table`: what it catches, and then its label.
+fn walk_catch<'a>(
+    names: &Resolver<'a>,
+    labels: &Labels<'a>,
+    catch: &mut TryTableCatch<'a>,
+) -> Result<(), Error<'a>>
+    ensures { WalksSites names.now (in_catch labels.now.blocks) (λ f. mapped_catch f labels.now.blocks) catch.old catch.new result }
+{
+    walk_caught(names, &mut catch.kind)?;
+    walk_label(labels, &mut catch.label)?;
+    Ok(())
+}
+
+/// Walks over the clauses of `try_table`, in order.
+fn walk_catches<'a>(
+    names: &Resolver<'a>,
+    labels: &Labels<'a>,
+    catches: &mut Seq<TryTableCatch<'a>>,
+) -> Result<(), Error<'a>>
+    ensures { WalksSites names.now (flat_map (in_catch labels.now.blocks))
+        (λ f. map (mapped_catch f labels.now.blocks)) catches.old catches.new result }
+{
+    for i in 0..catches.len() {
+        walk_catch(names, labels, catches.at_mut(i))?;
+    }
+    Ok(())
+}
+
+/// Walks over a block that catches: its type, what it catches, and then it is opened.
+fn walk_try_table<'a>(
+    names: &Resolver<'a>,
+    labels: &mut Labels<'a>,
+    table: &mut TryTable<'a>,
+) -> Result<(), Error<'a>>
+    requires { IsTrue (knows labels.old.known (name_if (marked table.old.block.label))) }
+    ensures walks { WalksBodies names.now (in_try_table labels.old.blocks)
+        (λ f. mapped_try_table f labels.old.blocks) table.old table.new result }
+    ensures blocks { Moves labels.old (λ h. in_try_table labels.old.blocks table.old) labels.new result }
+{
+    walk_block_type(names, &mut table.block)?;
+    walk_catches(names, labels, &mut table.catches)?;
+    open_label(labels, table.block.get().label)?;
+    Ok(())
+}
+
+/// Walks over the label at an `else`: E8 where it is not that of the innermost open block.
+fn walk_else<'a>(labels: &Labels<'a>, label: &Option<Id<'a>>) -> Result<(), Error<'a>>
+    ensures { (names : Resolution) →
+        WalksBodies names (λ o. Repeated labels.now.blocks (marked o) ∷ []) (λ f o. o) label.now label.now result }
+{
+    labels.check(*label)
+}
+
+/// Walks over the label at an `end`: E8 where it is not that of the innermost open block, which is closed then.
+fn walk_end<'a>(labels: &mut Labels<'a>, label: &Option<Id<'a>>) -> Result<(), Error<'a>>
+    ensures walks { (names : Resolution) →
+        WalksBodies names (λ o. Repeated labels.old.blocks (marked o) ∷ Ends ∷ []) (λ f o. o) label.now label.now result }
+    ensures blocks { Moves labels.old (λ h. Repeated labels.old.blocks (marked label.now) ∷ Ends ∷ []) labels.new result }
+{
+    walk_else(labels, label)?;
+    labels.close();
+    Ok(())
+}
+
+/// Closes the innermost open block, and then walks over the label of `delegate`.
+fn walk_delegate<'a>(labels: &mut Labels<'a>, label: &mut Index<'a>) -> Result<(), Error<'a>>
+    ensures walks { (names : Resolution) →
+        WalksBodies names (λ l. Ends ∷ at_label (closed labels.old.blocks) l)
+        (λ f. f.label (closed labels.old.blocks)) label.old label.new result }
+    ensures blocks { Moves labels.old (λ h. Ends ∷ at_label (closed labels.old.blocks) label.old) labels.new result }
+{
+    labels.close();
+    walk_label(labels, label)?;
+    Ok(())
+}
+
+/// Walks over an access to a field of a struct: the type of the struct, and then the field.
+fn walk_access<'a>(names: &Resolver<'a>, access: &mut StructAccess<'a>) -> Result<(), Error<'a>>
+    ensures { WalksBodies names.now in_access mapped_access access.old access.new result }
+{
+    names.number_access(access)
+}
+
+/// Walks over an array that is filled from a segment of a space: its type, and then the segment.
+fn walk_array_init<'a>(
+    names: &Resolver<'a>,
+    segments: Space,
+    init: &mut ArrayInit<'a>,
+) -> Result<(), Error<'a>>
+    ensures { WalksBodies names.now (λ a. asking (in_pair space.Ty a.array segments a.segment))
+        (λ f a. record { array = f.index space.Ty a.array; segment = f.index segments a.segment }) init.old init.new result }
+{
+    walk_outside_index(names, Space::Ty, &mut init.array)?;
+    walk_outside_index(names, segments, &mut init.segment)?;
+    Ok(())
+}
+
+/// Walks over a branch on a cast: its label, the type that is cast to, and the type that is cast from.
+fn walk_cast<'a>(
+    names: &Resolver<'a>,
+    labels: &Labels<'a>,
+    label: &mut Index<'a>,
+    to: &mut RefType<'a>,
+    from: &mut RefType<'a>,
+) -> Result<(), Error<'a>>
+    ensures { WalksCast names.now labels.now.blocks (label.old, (to.old, from.old)) (label.new, (to.new, from.new)) result }
+{
+    walk_label(labels, label)?;
+    walk_outside(names, to)?;
+    walk_outside(names, from)?;
+    Ok(())
+}
+
+/// Walks over the tag of a handler of a resumption.
+fn walk_handler_tag<'a>(names: &Resolver<'a>, handle: &mut Handle<'a>) -> Result<(), Error<'a>>
+    ensures { WalksSites names.now in_handler_tag with_handler_tag handle.old handle.new result }
+{
+    match handle {
+        Handle::OnLabel { tag, .. } => walk_outside_index(names, Space::Tag, tag),
+        Handle::OnSwitch { tag } => walk_outside_index(names, Space::Tag, tag),
+    }
+}
+
+/// Walks over the label of a handler of a resumption, if it has one.
+fn walk_handler_label<'a>(labels: &Labels<'a>, handle: &mut Handle<'a>) -> Result<(), Error<'a>>
+    ensures { (names : Resolution) → WalksSites names (in_handler_label labels.now.blocks)
+        (λ f. with_handler_label f labels.now.blocks) handle.old handle.new result }
+{
+    match handle {
+        Handle::OnLabel { label, .. } => walk_label(labels, label),
+        Handle::OnSwitch { .. } => Ok(()),
+    }
+}
+
+/// Walks over a handler of a resumption: its tag, and then its label if it has one.
+fn walk_handle<'a>(
+    names: &Resolver<'a>,
+    labels: &Labels<'a>,
+    handle: &mut Handle<'a>,
+) -> Result<(), Error<'a>>
+    ensures { WalksSites names.now (in_handle labels.now.blocks) (λ f. mapped_handle f labels.now.blocks) handle.old handle.new result }
+{
+    walk_handler_tag(names, handle)?;
+    walk_handler_label(labels, handle)?;
+    Ok(())
+}
+
+/// Walks over handlers, in order.
+fn walk_handles<'a>(
+    names: &Resolver<'a>,
+    labels: &Labels<'a>,
+    handles: &mut Seq<Handle<'a>>,
+) -> Result<(), Error<'a>>
+    ensures { WalksSites names.now (flat_map (in_handle labels.now.blocks))
+        (λ f. map (mapped_handle f labels.now.blocks)) handles.old handles.new result }
+{
+    for i in 0..handles.len() {
+        walk_handle(names, labels, handles.at_mut(i))?;
+    }
+    Ok(())
+}
+
+/// Walks over the handlers of a resumption.
+fn walk_handlers<'a>(
+    names: &Resolver<'a>,
+    labels: &Labels<'a>,
+    table: &mut ResumeTable<'a>,
+) -> Result<(), Error<'a>>
+    ensures { WalksSites names.now (in_handlers labels.now.blocks) (λ f. mapped_handlers f labels.now.blocks) table.old table.new result }
+{
+    walk_handles(names, labels, &mut table.handlers)?;
+    Ok(())
+}
+
+/// Walks over a resumption: its type, and then its handlers.
+fn walk_resume<'a>(
+    names: &Resolver<'a>,
+    labels: &Labels<'a>,
+    resume: &mut Resume<'a>,
+) -> Result<(), Error<'a>>
+    ensures { WalksBodies names.now (λ a. at_index space.Ty a.type_index ++ in_handlers labels.now.blocks a.table)
+        (λ f a. record { type_index = f.index space.Ty a.type_index; table = mapped_handlers f labels.now.blocks a.table }) resume.old resume.new result }
+{
+    walk_outside_index(names, Space::Ty, &mut resume.type_index)?;
+    walk_handlers(names, labels, &mut resume.table)?;
+    Ok(())
+}
+
+/// Walks over a resumption that throws: its type, its tag, and then its handlers.
+fn walk_resume_throw<'a>(
+    names: &Resolver<'a>,
+    labels: &Labels<'a>,
+    resume: &mut ResumeThrow<'a>,
+) -> Result<(), Error<'a>>
+    ensures { WalksBodies names.now
+        (λ a. asking (in_pair space.Ty a.type_index space.Tag a.tag_index) ++ in_handlers labels.now.blocks a.table)
+        (λ f a. record { type_index = f.index space.Ty a.type_index; tag_index = f.index space.Tag a.tag_index; table = mapped_handlers f labels.now.blocks a.table }) resume.old resume.new result }
+{
+    walk_outside_index(names, Space::Ty, &mut resume.type_index)?;
+    walk_outside_index(names, Space::Tag, &mut resume.tag_index)?;
+    walk_handlers(names, labels, &mut resume.table)?;
+    Ok(())
+}
+
+/// Walks over a resumption that throws what is referred to: its type, and then its handlers.
+fn walk_resume_throw_ref<'a>(
+    names: &Resolver<'a>,
+    labels: &Labels<'a>,
+    resume: &mut ResumeThrowRef<'a>,
+) -> Result<(), Error<'a>>
+    ensures { WalksBodies names.now (λ a. at_index space.Ty a.type_index ++ in_handlers labels.now.blocks a.table)
+        (λ f a. record { type_index = f.index space.Ty a.type_index; table = mapped_handlers f labels.now.blocks a.table }) resume.old resume.new result }
+{
+    walk_outside_index(names, Space::Ty, &mut resume.type_index)?;
+    walk_handlers(names, labels, &mut resume.table)?;
+    Ok(())
+}
+
+/// Walks over an instruction. A block that it opens or closes is opened or closed then.
+///
+/// It needs that the label of a block that it opens was gathered.
+fn walk_instr<'a>(
+    names: &Resolver<'a>,
+    locals: &LocalNames<'a>,
+    labels: &mut Labels<'a>,
+    instr: &mut Instruction<'a>,
+) -> Result<(), Error<'a>>
+    requires { IsTrue (is_openable labels.old.known instr.old) }
+    ensures walks { (l : Locals) → Numbers (scope_of names.now) l locals.now →
+        WalksBodies names.now (in_instr (here l labels.old)) (λ f. mapped_instr f (here l labels.old)) instr.old instr.new result }
+    ensures blocks { Moves labels.old (λ h. in_instr h instr.old) labels.new result }
+{
+    match instr {
+        Instruction::Plain(_) => Ok(()),
+        Instruction::Mem(_, arg) => walk_part(names, arg),
+        Instruction::Lane(..) => Ok(()),
+        Instruction::MemLane(_, arg) => walk_part(names, arg),
+        Instruction::block(block) => walk_block(names, labels, block),
+        Instruction::loop_(block) => walk_block(names, labels, block),
+        Instruction::if_(block) => walk_block(names, labels, block),
+        Instruction::else_(label) => walk_else(labels, label),
+        Instruction::try_(block) => walk_block(names, labels, block),
+        Instruction::try_table(table) => walk_try_table(names, labels, table),
+        Instruction::end_(label) => walk_end(labels, label),
+        Instruction::delegate(label) => walk_delegate(labels, label),
+        Instruction::br(label) => walk_branch(labels, label),
+        Instruction::br_if(label) => walk_branch(labels, label),
+        Instruction::br_table(table) => walk_br_table(labels, table),
+        Instruction::br_on_null(label) => walk_branch(labels, label),
+        Instruction::br_on_non_null(label) => walk_branch(labels, label),
+        Instruction::rethrow(label) => walk_branch(labels, label),
+        Instruction::catch(tag) => walk_number(names, Space::Tag, tag),
+        Instruction::throw(tag) => walk_number(names, Space::Tag, tag),
+        Instruction::call(func) => walk_number(names, Space::Func, func),
+        Instruction::return_call(func) => walk_number(names, Space::Func, func),
+        Instruction::call_indirect(call) => walk_indirect(names, call),
+        Instruction::return_call_indirect(call) => walk_indirect(names, call),
+        Instruction::call_ref(ty) => walk_number(names, Space::Ty, ty),
+        Instruction::return_call_ref(ty) => walk_number(names, Space::Ty, ty),
+        Instruction::select(types) => walk_part(names, types),
+        Instruction::local_get(local) => walk_local(locals, local),
+        Instruction::local_set(local) => walk_local(locals, local),
+        Instruction::local_tee(local) => walk_local(locals, local),
+        Instruction::global_get(global) => walk_number(names, Space::Global, global),
+        Instruction::global_set(global) => walk_number(names, Space::Global, global),
+        Instruction::table_get(arg) => walk_number(names, Space::Table, &mut arg.dst),
+        Instruction::table_set(arg) => walk_number(names, Space::Table, &mut arg.dst),
+        Instruction::table_init(arg) => walk_part(names, arg),
+        Instruction::elem_drop(elem) => walk_number(names, Space::Elem, elem),
+        Instruction::table_copy(arg) => walk_part(names, arg),
+        Instruction::table_grow(arg) => walk_number(names, Space::Table, &mut arg.dst),
+        Instruction::table_size(arg) => walk_number(names, Space::Table, &mut arg.dst),
+        Instruction::table_fill(arg) => walk_number(names, Space::Table, &mut arg.dst),
+        Instruction::memory_size(arg) => walk_number(names, Space::Memory, &mut arg.mem),
+        Instruction::memory_grow(arg) => walk_number(names, Space::Memory, &mut arg.mem),
+        Instruction::memory_init(arg) => walk_part(names, arg),
+        Instruction::data_drop(data) => walk_number(names, Space::Data, data),
+        Instruction::memory_copy(arg) => walk_part(names, arg),
+        Instruction::memory_fill(arg) => walk_number(names, Space::Memory, &mut arg.mem),
+        Instruction::i32_const(_) => Ok(()),
+        Instruction::i64_const(_) => Ok(()),
+        Instruction::f32_const(_) => Ok(()),
+        Instruction::f64_const(_) => Ok(()),
+        Instruction::ref_null(heap) => walk_part(names, heap),
+        Instruction::ref_func(func) => walk_number(names, Space::Func, func),
+        Instruction::struct_new(ty) => walk_number(names, Space::Ty, ty),
+        Instruction::struct_new_default(ty) => walk_number(names, Space::Ty, ty),
+        Instruction::struct_get(access) => walk_access(names, access),
+        Instruction::struct_get_s(access) => walk_access(names, access),
+        Instruction::struct_get_u(access) => walk_access(names, access),
+        Instruction::struct_set(access) => walk_access(names, access),
+        Instruction::array_new(ty) => walk_number(names, Space::Ty, ty),
+        Instruction::array_new_default(ty) => walk_number(names, Space::Ty, ty),
+        Instruction::array_new_fixed(arg) => walk_number(names, Space::Ty, &mut arg.array),
+        Instruction::array_new_data(arg) => walk_part(names, arg),
+        Instruction::array_new_elem(arg) => walk_part(names, arg),
+        Instruction::array_get(ty) => walk_number(names, Space::Ty, ty),
+        Instruction::array_get_s(ty) => walk_number(names, Space::Ty, ty),
+        Instruction::array_get_u(ty) => walk_number(names, Space::Ty, ty),
+        Instruction::array_set(ty) => walk_number(names, Space::Ty, ty),
+        Instruction::array_fill(arg) => walk_number(names, Space::Ty, &mut arg.array),
+        Instruction::array_copy(arg) => walk_part(names, arg),
+        Instruction::array_init_data(arg) => walk_array_init(names, Space::Data, arg),
+        Instruction::array_init_elem(arg) => walk_array_init(names, Space::Elem, arg),
+        Instruction::ref_test(arg) => walk_part(names, &mut arg.rt),
+        Instruction::ref_cast(arg) => walk_part(names, &mut arg.rt),
+        Instruction::ref_cast_desc_eq(arg) => walk_part(names, &mut arg.rt),
+        Instruction::br_on_cast(arg) => {
+            walk_cast(
+                names,
+                labels,
+                &mut arg.label,
+                &mut arg.to_type,
+                &mut arg.from_type,
+            )
+        }
+        Instruction::br_on_cast_fail(arg) => {
+            walk_cast(
+                names,
+                labels,
+                &mut arg.label,
+                &mut arg.to_type,
+                &mut arg.from_type,
+            )
+        }
+        Instruction::br_on_cast_desc_eq(arg) => {
+            walk_cast(
+                names,
+                labels,
+                &mut arg.label,
+                &mut arg.to_type,
+                &mut arg.from_type,
+            )
+        }
+        Instruction::br_on_cast_desc_eq_fail(arg) => {
+            walk_cast(
+                names,
+                labels,
+                &mut arg.label,
+                &mut arg.to_type,
+                &mut arg.from_type,
+            )
+        }
+        Instruction::v128_const(_) => Ok(()),
+        Instruction::i8x16_shuffle(_) => Ok(()),
+        Instruction::atomic_fence(_) => Ok(()),
+        Instruction::GlobalAtomic(access) => walk_number(names, Space::Global, &mut access.inner),
+        Instruction::TableAtomic(access) => {
+            walk_number(names, Space::Table, &mut access.inner.dst)
+        }
+        Instruction::StructAtomic(access) => walk_access(names, &mut access.inner),
+        Instruction::ArrayAtomic(access) => walk_number(names, Space::Ty, &mut access.inner),
+        Instruction::struct_new_desc(ty) => walk_number(names, Space::Ty, ty),
+        Instruction::struct_new_default_desc(ty) => walk_number(names, Space::Ty, ty),
+        Instruction::ref_get_desc(ty) => walk_number(names, Space::Ty, ty),
+        Instruction::cont_new(ty) => walk_number(names, Space::Ty, ty),
+        Instruction::cont_bind(arg) => walk_part(names, arg),
+        Instruction::suspend(tag) => walk_number(names, Space::Tag, tag),
+        Instruction::resume(arg) => walk_resume(names, labels, arg),
+        Instruction::resume_throw(arg) => walk_resume_throw(names, labels, arg),
+        Instruction::resume_throw_ref(arg) => walk_resume_throw_ref(names, labels, arg),
+        Instruction::switch(arg) => walk_part(names, arg),
+        Instruction::memory_discard(arg) => walk_number(names, Space::Memory, &mut arg.mem),
+        Instruction::Beyond(_) => Ok(()),
+    }
+}
+
+/// Whether nothing stands in an instruction that is looked up, and it opens and closes no block, so that a walk may pass it by.
+/// It may say no of such a one too.
+fn is_passed(instr: &Instruction) -> bool
+    ensures { IsTrue result → IsPassed instr.now }
+{
+    match instr {
+        Instruction::Plain(_)
+        | Instruction::i32_const(_)
+        | Instruction::i64_const(_)
+        | Instruction::f32_const(_)
+        | Instruction::f64_const(_) => true,
+        Instruction::Mem(_, arg) => match &arg.target {
+            MemArgTarget::Memory(memory) => memory.is_resolved(),
+            MemArgTarget::Array(_) => false,
+        },
+        Instruction::local_get(index) => index.is_resolved(),
+        Instruction::local_set(index) => index.is_resolved(),
+        Instruction::local_tee(index) => index.is_resolved(),
+        Instruction::global_get(index) => index.is_resolved(),
+        Instruction::global_set(index) => index.is_resolved(),
+        Instruction::call(index) => index.is_resolved(),
+        Instruction::br(index) => index.is_resolved(),
+        Instruction::br_if(index) => index.is_resolved(),
+        _ => false,
+    }
+}
+
+/// Walks over instructions, in order.
+///
+/// It needs that the labels of all blocks that they open were gathered.
+fn walk_instrs<'a>(
+    names: &Resolver<'a>,
+    locals: &LocalNames<'a>,
+    labels: &mut Labels<'a>,
+    instrs: &mut Seq<Instruction<'a>>,
+) -> Result<(), Error<'a>>
+    requires { AreOpenable labels.old.known instrs.old }
+    ensures { (l : Locals) → Numbers (scope_of names.now) l locals.now →
+        WalksBodies names.now (in_instrs (here l labels.old)) (λ f. mapped_instrs f (here l labels.old)) instrs.old instrs.new result }
+{
+    for i in 0..instrs.len() {
+        if is_passed(&instrs.as_slice()[i]) {
+            continue;
+        }
+        walk_instr(names, locals, labels, instrs.at_mut(i))?;
+    }
+    Ok(())
+}
+
+/// Takes in the label of a block, where an instruction opens one.
+fn gather_label<'a>(labels: &mut LabelNames<'a>, instr: &Instruction<'a>) -> Result<(), AllocError>
+    ensures { OnOk result (labels.new ≡ gathered labels.old (turn_of instr.now ∷ [])) }
+{
+    match instr.block_type() {
+        Some(block) => labels.add(block.label),
+        None => Ok(()),
+    }
+}
+
+/// The labels of the blocks that instructions open, in order.
+fn gather_labels<'a>(
+    alloc: Global,
+    instrs: &[Instruction<'a>],
+) -> Result<LabelNames<'a>, AllocError>
+    ensures { IfOk result (λ labels. labels ≡ gathered [] (turns instrs.now)) }
+{
+    let mut labels = LabelNames::new(alloc);
+    for instr in instrs {
+        gather_label(&mut labels, instr)?;
+    }
+    Ok(labels)
+}
+
+/// The labels that instructions may open, with no block open. It takes memory only where there is a label.
+fn table_of_labels<'a>(alloc: Global, instrs: &[Instruction<'a>]) -> Result<Labels<'a>, AllocError>
+    ensures known { IfOk result (λ labels. AreOpenable labels.known instrs.now) }
+    ensures none_open { IfOk result (λ labels. labels.blocks ≡ []) }
+{
+    // the label of each opener is known to the table of what was gathered
+    gathering_law();
+    let labels = gather_labels(alloc, instrs)?.table(alloc)?;
+    Ok(labels)
+}
+
+/// Walks over the instructions of an expression, in a function whose parameters and locals have these names.
+///
+/// It takes memory for the labels, where there are any, and for the open blocks: E12 where it is refused, and E10 only where
+/// 2^32 blocks or more would be open at once.
+pub(crate) fn walk_expression<'a>(
+    alloc: Global,
+    names: &Resolver<'a>,
+    locals: &LocalNames<'a>,
+    expression: &mut Expression<'a>,
+) -> Result<(), Error<'a>>
+    ensures { (l : Locals) → Numbers (scope_of names.now) l locals.now → let h = begin l in
+        WalksBodies names.now (λ e. in_instrs h e.instrs) (λ f. mapped_expression f h) expression.old expression.new result }
+{
+    let mut labels = table_of_labels(alloc, expression.instrs.as_slice())?;
+    walk_instrs(names, locals, &mut labels, &mut expression.instrs)?;
+    Ok(())
+}

@@ -1,0 +1,84 @@
+//! What the names of parameters and locals denote.
+
+ghost use Rattle.std.specs.Prelude.{◌≡◌, codes, IfOk};
+ghost use Rattle.wast_base.specs.Ids.{name_of};
+ghost use Rattle.wast_namespace.specs.FirstUnmet.{first_unmet, known_index};
+ghost use Rattle.wast_namespace.specs.Namespaces.{empty_from};
+ghost use Rattle.wast_namespace.specs.Outcomes.{Outcome};
+ghost use Rattle.wast_demands.specs.Resolved.{numbered};
+ghost use Rattle.wast_passes.specs.Locals.{local_in, AreFew};
+
+use std::alloc::Global;
+use std::marker::Model;
+use wast_namespace::Namespace;
+use wast_tree::{Error, Fault, Id, Index};
+
+/// The names of the parameters and locals of a function, and what they denote (text format, indices: locals).
+#[derive(Drop)]
+pub(crate) struct LocalNames<'a> {
+    // by their positions among the parameters and locals that can have names
+    space: Namespace<'a>,
+    // how many stand before those, of which no name is written
+    nameless: u32,
+}
+
+impl<'a> Model for LocalNames<'a> {
+    ghost use Rattle.std.specs.Coded.{codes};
+    ghost use Rattle.wast_namespace.specs.Namespaces.{coded_space};
+    ghost use Rattle.wast_passes.specs.Locals.{LocalSpace, AreFew};
+
+    ghost Value = { LocalSpace };
+
+    ghost coded = { Prim.hlevel (codes, coded_space) };
+
+    ghost view = { λ s. record { space = s.space; nameless = s.nameless } };
+
+    ghost invariant = { λ s. AreFew (record { space = s.space; nameless = s.nameless }) };
+}
+
+impl<'a> LocalNames<'a> {
+    /// No names. It takes no memory.
+    pub(crate) fn none(alloc: Global) -> Self
+        ensures { result ≡ record { space = empty_from 0; nameless = 0 } }
+    {
+        LocalNames {
+            space: Namespace::new(alloc),
+            nameless: 0,
+        }
+    }
+
+    /// These names, behind parameters of which no name is written.
+    pub(crate) fn behind(nameless: u32, space: Namespace<'a>) -> Self
+        requires { AreFew (record { space = space; nameless = nameless }) }
+        ensures { result ≡ record { space = space.entry; nameless = nameless } }
+    {
+        LocalNames { space, nameless }
+    }
+
+    /// The number that an id denotes, if it denotes one.
+    fn find(&self, id: &Id<'a>) -> Option<u32>
+        ensures { result ≡ local_in self.now (name_of id.now) }
+    {
+        match self.space.find(id) {
+            Some(number) => Some(self.nameless + number),
+            None => None,
+        }
+    }
+
+    /// Numbers the index of a local: a number passes, and an id that is known is replaced by its number, at the id's place;
+    /// E4 at the place of an unknown one, and then the index stays.
+    pub(crate) fn number(&self, idx: &mut Index<'a>) -> Result<(), Error<'a>>
+        ensures answer { Outcome ⊥ ⊥ (first_unmet (known_index (local_in self.now) (codes "local") idx.old)) result }
+        ensures index { idx.new ≡ numbered (local_in self.now) idx.old }
+    {
+        let id = match *idx {
+            Index::Num(_, _) => return Ok(()),
+            Index::Id(id) => id,
+        };
+        let Some(number) = self.find(&id) else {
+            return Err(Error::new(id.span(), Fault::Unknown("local", id.name())));
+        };
+        *idx = Index::Num(number, id.span());
+        Ok(())
+    }
+}
