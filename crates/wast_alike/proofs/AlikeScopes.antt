@@ -9,11 +9,11 @@ use Rattle.std.proofs.lemmas.Bool.{ltb-true}
 use Rattle.std.proofs.lemmas.List.Folds.{list_all-append}
 use Rattle.wast_base.specs.Ids.{Name, name_of, generation_of, mark_of, span_of_index}
 use Rattle.wast_base.specs.Spaces.{word_of}
-use Rattle.wast_tree.specs.Items.{items}
-use Rattle.wast_tree.specs.Known.{known}
-use Rattle.wast_tree.specs.Types.{types_of}
-use Rattle.wast_tree.specs.Sites.{Ask, Wants, Within, Covered, Site, Asked, Used, LocalAt, FieldAt, if_there, in_index, in_signature, in_inner, in_descriptor, in_type, in_rec, in_type_use, in_func_kind, asked_in, in_field, in_module, asked}
-use Rattle.wast_tree.proofs.Visiting.{asked_both, asked_asking}
+use Rattle.wast_nodes.specs.Items.{items}
+use Rattle.wast_nodes.specs.Known.{known}
+use Rattle.wast_nodes.specs.Types.{types_of}
+use Rattle.wast_nodes.specs.Sites.{Ask, Wants, Within, Covered, Site, Asked, Used, LocalAt, FieldAt, if_there, in_index, in_signature, in_inner, in_descriptor, in_type, in_rec, in_type_use, in_func_kind, asked_in, in_field, in_module, asked}
+use Rattle.wast_nodes.proofs.Asking.{asked_both, asked_asking}
 use Rattle.wast_types.specs.Signatures.{Signature, signature_of}
 use Rattle.wast_alike.specs.Tree.{Index, Space, FunctionType, InnerTypeKind, ModuleField}
 use Rattle.wast_alike.specs.Tree.index

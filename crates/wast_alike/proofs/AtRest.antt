@@ -10,12 +10,12 @@ use native.Mathlib.Omega.{arith}
 use Rattle.wast_base.specs.Ids.{Name, name_of, mark_of, is_number, Mark}
 use Rattle.wast_base.specs.Faults.{Cause}
 use Rattle.wast_base.specs.Spaces.{is_settled_index}
-use Rattle.wast_tree.specs.Items.{items}
-use Rattle.wast_tree.specs.Sites.{Ask, Wants, Within, Unasked, Clause, Covered, Site, Asked, Used, Declared, LocalAt, FieldAt, LabelAt, Repeated, Begins, Ends, in_type_use, mark_asked, asked_in, asked, in_module}
-use Rattle.wast_tree.specs.Known.{Known, known}
-use Rattle.wast_tree.specs.Generations.{generation_at, generation_in, greatest_item, greatest_asked, greatest_generation}
-use Rattle.wast_tree.specs.WellFormed.{is_written_index, is_kept, are_kept, is_well_formed}
-use Rattle.wast_tree.specs.Resolved.{is_numbered, are_numbered, has_numbers}
+use Rattle.wast_nodes.specs.Items.{items}
+use Rattle.wast_nodes.specs.Sites.{Ask, Wants, Within, Unasked, Clause, Covered, Site, Asked, Used, Declared, LocalAt, FieldAt, LabelAt, Repeated, Begins, Ends, in_type_use, mark_asked, asked_in, asked, in_module}
+use Rattle.wast_nodes.specs.Known.{Known, known}
+use Rattle.wast_nodes.specs.Generations.{generation_at, generation_in, greatest_item, greatest_asked, greatest_generation}
+use Rattle.wast_nodes.specs.WellFormed.{is_written_index, is_kept, are_kept, is_well_formed}
+use Rattle.wast_nodes.specs.Resolved.{is_numbered, are_numbered, has_numbers}
 use Rattle.wast_map.specs.Mapped.{mapped_ask, mapped, Each}
 use Rattle.wast_map.proofs.Alone.{items_alone}
 use Rattle.wast_deinline.proofs.Below.{each_below, greatest_below}

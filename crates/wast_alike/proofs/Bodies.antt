@@ -5,9 +5,9 @@ use Rattle.std.proofs.Common.{◌≡◌, false, not, List, [], ◌∷◌, ◌++�
 use Rattle.std.specs.List.{flat_map}
 use Rattle.wast_base.specs.Ids.{Name, Mark}
 use Rattle.wast_base.specs.Spaces.{name_if}
-use Rattle.wast_tree.specs.Clauses.{suits}
-use Rattle.wast_tree.specs.Sites.{Ask, Clause, Covered, Site, Asked, Declared, LocalAt, OfItem, asking, if_there, at_index, in_ref, in_val, in_id, in_type, in_type_use, in_use, in_expression, in_constant, in_local, declaring, param_marks, local_marks, body_here, in_func_kind, in_tag_type, in_item_kind, in_sig, in_import, uncovered, in_payload, in_table_kind, in_memory_kind, in_global_kind, in_elem_kind, in_data_kind, in_subsection, in_custom, in_field, in_module, asked}
-use Rattle.wast_tree.proofs.Visiting.{asked_both}
+use Rattle.wast_nodes.specs.Clauses.{suits}
+use Rattle.wast_nodes.specs.Sites.{Ask, Clause, Covered, Site, Asked, Declared, LocalAt, OfItem, asking, if_there, at_index, in_ref, in_val, in_id, in_type, in_type_use, in_use, in_expression, in_constant, in_local, declaring, param_marks, local_marks, body_here, in_func_kind, in_tag_type, in_item_kind, in_sig, in_import, uncovered, in_payload, in_table_kind, in_memory_kind, in_global_kind, in_elem_kind, in_data_kind, in_subsection, in_custom, in_field, in_module, asked}
+use Rattle.wast_nodes.proofs.Asking.{asked_both}
 use Rattle.wast_map.specs.Mapped.{Each}
 use Rattle.wast_map.proofs.Ways.{each_first, each_rest}
 use Rattle.wast_alike.specs.Tree.{Index, FunctionType, TypeUse, Expression, Local, FuncKind, TagType, ItemKind, ImportItems, TableKind, MemoryKind, GlobalKind, ElemKind, ElemPayload, DataKind, Custom, Dylink0Subsection, ModuleField}

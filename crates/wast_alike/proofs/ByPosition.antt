@@ -4,10 +4,10 @@ use Rattle.std.specs.List.{slice_get}
 use Rattle.std.proofs.lemmas.List.{map-append}
 use Rattle.wast_base.specs.Ids.{Name, name_of, generation_of}
 use Rattle.wast_base.specs.Filling.{one_if, given_if, filled, wanted}
-use Rattle.wast_tree.specs.Items.{items}
-use Rattle.wast_tree.specs.Known.{Known, known}
-use Rattle.wast_tree.specs.Sites.{Ask, Wants, Within, Unasked, Clause, Covered, asked, in_module}
-use Rattle.wast_tree.specs.Generations.{generation_in, greatest_asked, greatest_generation}
+use Rattle.wast_nodes.specs.Items.{items}
+use Rattle.wast_nodes.specs.Known.{Known, known}
+use Rattle.wast_nodes.specs.Sites.{Ask, Wants, Within, Unasked, Clause, Covered, asked, in_module}
+use Rattle.wast_nodes.specs.Generations.{generation_in, greatest_asked, greatest_generation}
 use Rattle.wast_map.specs.Mapped.{mapped, mapped_def}
 use Rattle.wast_map.specs.Laws.{all_mapped}
 use Rattle.wast_types.specs.Signatures.{Signature}

@@ -7,10 +7,10 @@ use mathlib.Core.Path.{fun_ext}
 use Rattle.wast_base.specs.Ids.{Name, Written, Generated, same_name, generation_of, Mark}
 use Rattle.wast_base.specs.Faults.{Cause, Duplicate}
 use Rattle.wast_base.specs.Spaces.{spaces, word_of, name_if, same_space, is_called, position_of, is_borne}
-use Rattle.wast_tree.specs.Items.{Item}
-use Rattle.wast_tree.specs.Known.{name_in, names_in}
-use Rattle.wast_tree.specs.Generations.{generation_or_zero, greatest_item}
-use Rattle.wast_tree.proofs.Bearing.{borne_among, borne_by_both}
+use Rattle.wast_nodes.specs.Items.{Item}
+use Rattle.wast_nodes.specs.Known.{name_in, names_in}
+use Rattle.wast_nodes.specs.Generations.{generation_or_zero, greatest_item}
+use Rattle.wast_nodes.proofs.Bearing.{borne_among, borne_by_both}
 use Rattle.wast_alike.specs.Tree.{Span, Space}
 use Rattle.wast_demands.specs.Demands.{first_unmet, each_after, new_name_by, own_demand, field_demands, item_demand, item_demands, space_counts, field_counts, item_counts}
 use Rattle.wast_namespace.proofs.Called.{position_head}

@@ -7,9 +7,9 @@ use Rattle.std.proofs.Math.Bool.{and-true}
 use Rattle.std.proofs.lemmas.Bool.{lt-ltb}
 use Rattle.std.proofs.lemmas.List.Folds.{list_all-append, list_all-map}
 use Rattle.std.proofs.lemmas.Grind.{flat_map-append}
-use Rattle.wast_tree.specs.Sites.{Ask, Covered, Where, Site, Used, if_there, in_index, in_id, in_val, in_param, in_signature, in_field, in_module, asking, asked_in, asked}
-use Rattle.wast_tree.specs.Generations.{generation_in, greatest_asked}
-use Rattle.wast_tree.proofs.Visiting.{asked_both, asked_asking}
+use Rattle.wast_nodes.specs.Sites.{Ask, Covered, Where, Site, Used, if_there, in_index, in_id, in_val, in_param, in_signature, in_field, in_module, asking, asked_in, asked}
+use Rattle.wast_nodes.specs.Generations.{generation_in, greatest_asked}
+use Rattle.wast_nodes.proofs.Asking.{asked_both, asked_asking}
 use Rattle.wast_types.specs.Signatures.{Signature, type_of_param, signature_of}
 use Rattle.wast_types.specs.NeedingUses.{inline_signature, needs_type, needed_if, needed_without, needed_at, needed_in}
 use Rattle.wast_types.specs.ImpliedTypes.{implied}

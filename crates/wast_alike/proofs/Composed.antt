@@ -3,11 +3,11 @@ use Rattle.std.proofs.Common.{◌≡◌, ℕ, ◌+◌, ◌<◌, true, not, ◌&&
 use Rattle.std.specs.Prelude.{max}
 use Rattle.std.proofs.Math.Bool.{or-true}
 use Rattle.wast_base.specs.Ids.{Name, name_of, generation_of, is_generated}
-use Rattle.wast_tree.specs.Items.{items}
-use Rattle.wast_tree.specs.Known.{Known, known}
-use Rattle.wast_tree.specs.Sites.{Ask, Wants, asked, in_module}
-use Rattle.wast_tree.specs.Generations.{generation_in, greatest_item, greatest_asked, greatest_generation}
-use Rattle.wast_tree.specs.WellFormed.{is_kept, are_kept, is_well_formed}
+use Rattle.wast_nodes.specs.Items.{items}
+use Rattle.wast_nodes.specs.Known.{Known, known}
+use Rattle.wast_nodes.specs.Sites.{Ask, Wants, asked, in_module}
+use Rattle.wast_nodes.specs.Generations.{generation_in, greatest_item, greatest_asked, greatest_generation}
+use Rattle.wast_nodes.specs.WellFormed.{is_kept, are_kept, is_well_formed}
 use Rattle.wast_types.specs.Expanders.{LookUp, index_of}
 use Rattle.wast_types.specs.Expanded.{typed, bindings, expanded, ids_wanted}
 use Rattle.wast_types.specs.Completed.{completed}

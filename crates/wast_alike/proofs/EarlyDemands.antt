@@ -7,10 +7,10 @@ use Rattle.std.proofs.Math.Bool.{or-false}
 use Rattle.wast_base.specs.Ids.{Name, Mark}
 use Rattle.wast_base.specs.Faults.{Duplicate}
 use Rattle.wast_base.specs.Spaces.{word_of, same_space, is_borne}
-use Rattle.wast_tree.specs.Items.{Item, item, items_in, items}
-use Rattle.wast_tree.specs.Known.{names_in}
-use Rattle.wast_tree.specs.Sites.{in_module}
-use Rattle.wast_tree.proofs.Bearing.{borne_by_both}
+use Rattle.wast_nodes.specs.Items.{Item, item, items_in, items}
+use Rattle.wast_nodes.specs.Known.{names_in}
+use Rattle.wast_nodes.specs.Sites.{in_module}
+use Rattle.wast_nodes.proofs.Bearing.{borne_by_both}
 use Rattle.wast_deinline.specs.WriteOut.{Reference, export_of, exports_of, elem_in, data_in, func_alone, table_alone, memory_alone, global_alone, tag_alone, write_out}
 use Rattle.wast_deinline.specs.Referring.{by_position}
 use Rattle.wast_deinline.specs.Written.{written_after, written_out}

@@ -2,7 +2,7 @@
 use Rattle.std.proofs.Common.{◌≡◌, ℕ, ◌+◌, Bool, true, false, List, [], ◌∷◌, ◌++◌, map, append_assoc, Option, Some, None, refl, sym, ap, ◌∙◌}
 use Rattle.std.proofs.lemmas.Grind.{flat_map-append}
 use Rattle.wast_base.specs.Filling.{one_if, given_if, filled, wanted}
-use Rattle.wast_tree.specs.Sites.{Ask, Wants, Where, OfItem, OfCall, OfBlock, Site, Asked, Used, if_there, in_index, in_signature, in_type_use, asked_in, asked, in_field, in_module}
+use Rattle.wast_nodes.specs.Sites.{Ask, Wants, Where, OfItem, OfCall, OfBlock, Site, Asked, Used, if_there, in_index, in_signature, in_type_use, asked_in, asked, in_field, in_module}
 use Rattle.wast_map.specs.Mapped.{mapped_ask, mapped_site}
 use Rattle.wast_map.proofs.Laws.{stands}
 use Rattle.wast_types.specs.Signatures.{Signature}

@@ -3,8 +3,8 @@
 use Rattle.std.proofs.Common.{◌≡◌, ℕ, ◌+◌, true, List, [], ◌∷◌, ◌++◌, map, length, Option, Some, None, refl, ap, ◌∙◌, arith}
 use Rattle.std.specs.List.{flat_map}
 use Rattle.std.proofs.lemmas.Grind.{common_steps}
-use Rattle.wast_tree.specs.Items.{items}
-use Rattle.wast_tree.specs.Sites.{Site, OfItem, param_marks, in_field}
+use Rattle.wast_nodes.specs.Items.{items}
+use Rattle.wast_nodes.specs.Sites.{Site, OfItem, param_marks, in_field}
 use Rattle.wast_map.specs.Mapped.{Change, KeepsMarks, mapped_site, mapped_func_kind, mapped}
 use Rattle.wast_map.proofs.Fields.{field_at}
 use Rattle.wast_types.specs.Signatures.{empty_signature, same_signature}

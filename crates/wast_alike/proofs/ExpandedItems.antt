@@ -6,9 +6,9 @@ use Rattle.std.proofs.lemmas.List.{map-append}
 use Rattle.std.proofs.lemmas.Grind.{flat_map-append}
 use Rattle.wast_base.specs.Ids.{Name, generation_of}
 use Rattle.wast_base.specs.Spaces.{position_of}
-use Rattle.wast_tree.specs.Items.{Item, field_ids, fields_of, item, items_in, items}
-use Rattle.wast_tree.specs.Known.{names_in}
-use Rattle.wast_tree.specs.Generations.{greatest_item}
+use Rattle.wast_nodes.specs.Items.{Item, field_ids, fields_of, item, items_in, items}
+use Rattle.wast_nodes.specs.Known.{names_in}
+use Rattle.wast_nodes.specs.Generations.{greatest_item}
 use Rattle.wast_map.proofs.Alone.{items_alone}
 use Rattle.wast_types.specs.Signatures.{Signature}
 use Rattle.wast_types.specs.ImpliedTypes.{implied}

@@ -6,9 +6,9 @@ use Rattle.std.specs.Option.{option_or}
 use Rattle.wast_base.specs.Ids.{mark_of}
 use Rattle.wast_base.specs.Faults.{Cause}
 use Rattle.wast_base.specs.Spaces.{word_of}
-use Rattle.wast_tree.specs.Items.{items}
-use Rattle.wast_tree.specs.Known.{Known, known}
-use Rattle.wast_tree.specs.Sites.{Ask, Wants, Where, OfItem, OfCall, OfBlock, Locals, Site, Asked, Used, LocalAt, if_there, in_index, in_signature, in_module}
+use Rattle.wast_nodes.specs.Items.{items}
+use Rattle.wast_nodes.specs.Known.{Known, known}
+use Rattle.wast_nodes.specs.Sites.{Ask, Wants, Where, OfItem, OfCall, OfBlock, Locals, Site, Asked, Used, LocalAt, if_there, in_index, in_signature, in_module}
 use Rattle.wast_map.specs.Mapped.{mapped_locals, mapped_site}
 use Rattle.wast_map.proofs.Laws.{stands}
 use Rattle.wast_types.specs.Signatures.{Signature, signature_of}

@@ -1,6 +1,6 @@
 -- What is so of the list in which nothing is left out: it is the expanded list of what is written out.
 use Rattle.std.proofs.Common.{◌≡◌, ℕ, ◌+◌, ◌<◌, List, None, ap, ◌∙◌, arith}
-use Rattle.wast_tree.specs.Generations.{greatest_generation}
+use Rattle.wast_nodes.specs.Generations.{greatest_generation}
 use Rattle.wast_deinline.specs.Written.{written_out_from, references_wanted}
 use Rattle.wast_deinline.proofs.Left.{nothing_is_left}
 use Rattle.wast_deinline.proofs.Below.{written_below}

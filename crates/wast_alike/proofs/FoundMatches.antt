@@ -8,9 +8,9 @@ use Rattle.std.proofs.lemmas.List.Quantifiers.{position-Some}
 use Rattle.std.proofs.lemmas.Grind.{flat_map-append}
 use Rattle.wast_base.specs.Ids.{Name, name_of, place_of, marked}
 use Rattle.wast_base.specs.Spaces.{name_if, position_of}
-use Rattle.wast_tree.specs.Items.{item, item_of_sig, items_of_type, space_of_kind, items_of_import, items_in, items}
-use Rattle.wast_tree.specs.Known.{name_in, names_in}
-use Rattle.wast_tree.specs.Sites.{in_signature}
+use Rattle.wast_nodes.specs.Items.{item, item_of_sig, items_of_type, space_of_kind, items_of_import, items_in, items}
+use Rattle.wast_nodes.specs.Known.{name_in, names_in}
+use Rattle.wast_nodes.specs.Sites.{in_signature}
 use Rattle.wast_types.specs.Signatures.{Signature, signature_of, same_signature}
 use Rattle.wast_types.specs.TypeSpace.{taken_kind, types_in, type_space, has_signature, index_for, ids_in, type_ids, index_by_id, index_by_id_at}
 use Rattle.wast_types.specs.Expanders.{index_of}

@@ -3,10 +3,10 @@ use Rattle.std.proofs.Common.{◌≡◌, ◌≤◌, Bool, true, false, cond, ◌
 use Rattle.std.specs.List.{list_any}
 use Rattle.wast_base.specs.Ids.{name_of, generation_of}
 use Rattle.wast_base.specs.Spaces.{name_if, same_space, is_called, is_borne}
-use Rattle.wast_tree.specs.Items.{Item, fields_of, item, items_in, items}
-use Rattle.wast_tree.specs.Known.{names_in}
-use Rattle.wast_tree.specs.Generations.{greatest_item}
-use Rattle.wast_tree.proofs.Bearing.{borne_among, borne_by_both}
+use Rattle.wast_nodes.specs.Items.{Item, fields_of, item, items_in, items}
+use Rattle.wast_nodes.specs.Known.{names_in}
+use Rattle.wast_nodes.specs.Generations.{greatest_item}
+use Rattle.wast_nodes.proofs.Bearing.{borne_among, borne_by_both}
 use Rattle.wast_types.specs.Signatures.{Signature, signature_of, same_signature}
 use Rattle.wast_types.specs.Expanders.{index_of}
 use Rattle.wast_types.specs.Expanded.{binding_of, bindings}

@@ -3,10 +3,10 @@ use Rattle.std.proofs.Common.{◌≡◌, ℕ, zero, suc, ◌<◌, Bool, true, fa
 use Rattle.std.proofs.lemmas.Bool.{eqb-true}
 use Rattle.wast_base.specs.Ids.{Name, Mark}
 use Rattle.wast_base.specs.Spaces.{same_space, rank_of, word_of, name_if, is_called, position_of, is_borne}
-use Rattle.wast_tree.specs.Items.{Item}
-use Rattle.wast_tree.specs.Known.{names_in}
+use Rattle.wast_nodes.specs.Items.{Item}
+use Rattle.wast_nodes.specs.Known.{names_in}
 use Rattle.wast_base.specs.Faults.{Cause, Duplicate}
-use Rattle.wast_tree.proofs.Bearing.{borne_by_both}
+use Rattle.wast_nodes.proofs.Bearing.{borne_by_both}
 use Rattle.wast_alike.specs.Tree.{Span, Space}
 use Rattle.wast_demands.specs.Demands.{first_unmet, new_name_in, own_demand, field_demands, item_demand, item_demands, each_after}
 use Rattle.wast_namespace.proofs.Called.{same_name_itself, position_head}

@@ -7,9 +7,9 @@ use Rattle.std.specs.List.{list_all}
 use Rattle.std.proofs.lemmas.List.{length-map}
 use Rattle.std.proofs.lemmas.List.Folds.{list_all-map}
 use Rattle.wast_base.specs.Ids.{is_number}
-use Rattle.wast_tree.specs.Sites.{Where, OfItem, OfCall, OfBlock, Site, Asked, Used, LocalAt, FieldAt, LabelAt, in_type_use, asked_in, asked, in_module}
-use Rattle.wast_tree.specs.Types.{is_short, says_enough}
-use Rattle.wast_tree.specs.Resolved.{is_numbered, are_numbered, is_resolved_site}
+use Rattle.wast_nodes.specs.Sites.{Where, OfItem, OfCall, OfBlock, Site, Asked, Used, LocalAt, FieldAt, LabelAt, in_type_use, asked_in, asked, in_module}
+use Rattle.wast_nodes.specs.Types.{is_short, says_enough}
+use Rattle.wast_nodes.specs.Resolved.{is_numbered, are_numbered, is_resolved_site}
 use Rattle.wast_map.specs.Mapped.{mapped_val, mapped_param, mapped_signature, mapped_site, mapped}
 use Rattle.wast_map.proofs.Laws.{stands}
 use Rattle.wast_types.specs.Signatures.{Signature, signature_of}

@@ -5,12 +5,12 @@ use Rattle.std.proofs.Math.Bool.{and-false, or-false}
 use Rattle.std.proofs.lemmas.Grind.{flat_map-append}
 use Rattle.wast_base.specs.Ids.{Name, name_of, generation_of, is_generated}
 use Rattle.wast_base.specs.Spaces.{name_if, same_space, is_called, is_borne}
-use Rattle.wast_tree.specs.Items.{Item, items, items_in}
-use Rattle.wast_tree.specs.Known.{Known, names_in}
-use Rattle.wast_tree.specs.Sites.{Ask, Wants}
-use Rattle.wast_tree.specs.Generations.{generation_in, greatest_asked}
-use Rattle.wast_tree.specs.WellFormed.{is_kept, are_kept}
-use Rattle.wast_tree.proofs.Bearing.{borne_among, borne_by_both}
+use Rattle.wast_nodes.specs.Items.{Item, items, items_in}
+use Rattle.wast_nodes.specs.Known.{Known, names_in}
+use Rattle.wast_nodes.specs.Sites.{Ask, Wants}
+use Rattle.wast_nodes.specs.Generations.{generation_in, greatest_asked}
+use Rattle.wast_nodes.specs.WellFormed.{is_kept, are_kept}
+use Rattle.wast_nodes.proofs.Bearing.{borne_among, borne_by_both}
 use Rattle.wast_types.specs.Signatures.{Signature}
 use Rattle.wast_types.specs.ImpliedTypes.{implied}
 use Rattle.wast_types.specs.Expanded.{unnamed_type}

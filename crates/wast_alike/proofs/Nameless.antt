@@ -3,8 +3,8 @@
 use Rattle.std.proofs.Common.{◌≡◌, ℕ, ◌+◌, List, Option, Some, None, option_map, is_some, refl, sym, ap, ◌∙◌}
 use Rattle.wast_base.specs.Ids.{Name, name_of, mark_of}
 use Rattle.wast_base.specs.Spaces.{position_of}
-use Rattle.wast_tree.specs.Known.{Known}
-use Rattle.wast_tree.specs.Sites.{Locals}
+use Rattle.wast_nodes.specs.Known.{Known}
+use Rattle.wast_nodes.specs.Sites.{Locals}
 use Rattle.wast_alike.specs.Tree.{Index, FunctionType}
 use Rattle.wast_alike.specs.Tree.index
 use Rattle.wast_alike.specs.Tree.space

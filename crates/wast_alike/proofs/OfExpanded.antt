@@ -1,10 +1,10 @@
 -- What is so of each expanded list, where the counter begins above the generations of the fields.
 use Rattle.std.specs.Prelude.{◌≡◌, ℕ, ◌+◌, ◌<◌, true, [], None, List}
-use Rattle.wast_tree.specs.Items.{items}
-use Rattle.wast_tree.specs.WellFormed.{is_well_formed}
-use Rattle.wast_tree.specs.Resolved.{has_numbers, is_resolved}
-use Rattle.wast_tree.specs.WrittenOut.{is_written_out}
-use Rattle.wast_tree.specs.Generations.{greatest_generation}
+use Rattle.wast_nodes.specs.Items.{items}
+use Rattle.wast_nodes.specs.WellFormed.{is_well_formed}
+use Rattle.wast_nodes.specs.Resolved.{has_numbers, is_resolved}
+use Rattle.wast_nodes.specs.WrittenOut.{is_written_out}
+use Rattle.wast_nodes.specs.Generations.{greatest_generation}
 use Rattle.wast_types.specs.NeedingUses.{needed}
 use Rattle.wast_types.specs.Expanded.{expanded, ids_wanted}
 use Rattle.wast_types.specs.Completed.{completed}

@@ -14,7 +14,7 @@ use Rattle.wast_alike.specs.Tree.func
 use Rattle.wast_alike.specs.Tree.table
 use Rattle.wast_alike.specs.Tree.global
 use Rattle.wast_alike.specs.Tree.field
-use Rattle.wast_tree.specs.Imports.{defined_space}
+use Rattle.wast_nodes.specs.Imports.{defined_space}
 use Rattle.wast_demands.specs.ImportOrder.{func_place, table_place, global_place, import_place, unless_import, defines, nothing_defined}
 use Rattle.wast_demands.specs.Demands.{order_demands}
 use Rattle.wast_demands.proofs.Orders.{orders_from, orders_are}

@@ -6,9 +6,9 @@ use Rattle.std.proofs.lemmas.Grind.{common_steps}
 use Rattle.std.proofs.lemmas.List.{map-append}
 use Rattle.wast_base.specs.Blocks.{Blocks, is_balanced}
 use Rattle.wast_base.specs.Ids.{marked}
-use Rattle.wast_tree.specs.Clauses.{hints_stand}
-use Rattle.wast_tree.specs.Instrs.{turns}
-use Rattle.wast_tree.specs.Sites.{Ask, Within, Clause, Covered, Site, Asked, LocalAt, Begins, Here, Locals, OfBlock, after, after_all, behind, start, asking, uncovered, if_there, in_heap, in_ref, in_index, in_pair, in_signature, in_type_use, in_mem_arg, in_select, in_use, at_index, at_label, in_cast, in_handle, in_handlers, in_catch, in_try_table, in_br_table, in_instr, in_instrs, in_expression, in_constant}
+use Rattle.wast_nodes.specs.Clauses.{hints_stand}
+use Rattle.wast_nodes.specs.Instrs.{turns}
+use Rattle.wast_nodes.specs.Sites.{Ask, Within, Clause, Covered, Site, Asked, LocalAt, Begins, Here, Locals, OfBlock, after, after_all, behind, start, asking, uncovered, if_there, in_heap, in_ref, in_index, in_pair, in_signature, in_type_use, in_mem_arg, in_select, in_use, at_index, at_label, in_cast, in_handle, in_handlers, in_catch, in_try_table, in_br_table, in_instr, in_instrs, in_expression, in_constant}
 use Rattle.wast_alike.specs.Tree.{Index, Space, Form, RefType, HeapType, FunctionType, TypeUse, Handle, ResumeTable, BrTableIndices, TryTable, TryTableCatch, MemArg, MemArgTarget, Instruction, Expression}
 use Rattle.wast_alike.specs.Tree.space
 use Rattle.wast_alike.specs.Tree.form

@@ -4,8 +4,8 @@ use Rattle.std.specs.Prelude.{⊤}
 use Rattle.wast_base.specs.Faults.{told, too_large, out_of_memory}
 use Rattle.wast_base.specs.declared.faults.Error.{Error}
 use Rattle.wast_base.specs.Filling.{RunsOut}
-use Rattle.wast_tree.specs.Items.{items}
-use Rattle.wast_tree.specs.Generations.{greatest_generation}
+use Rattle.wast_nodes.specs.Items.{items}
+use Rattle.wast_nodes.specs.Generations.{greatest_generation}
 use Rattle.wast_deinline.specs.Written.{written_out_from, references_wanted, CannotBeWritten}
 use Rattle.wast_types.specs.Expanded.{expanded, ids_wanted}
 use Rattle.wast_types.specs.Completed.{completed}

@@ -8,8 +8,8 @@ use Rattle.std.proofs.lemmas.Bool.{eq-eqb}
 use Rattle.std.proofs.lemmas.Grind.{flat_map-append}
 use Rattle.wast_base.specs.Ids.{name_of, same_index}
 use Rattle.wast_base.specs.Faults.{Cause}
-use Rattle.wast_tree.specs.Known.{Known}
-use Rattle.wast_tree.specs.Sites.{Ask, Wants, Covered, if_there, in_index, in_id, in_heap, in_val, in_param, in_signature}
+use Rattle.wast_nodes.specs.Known.{Known}
+use Rattle.wast_nodes.specs.Sites.{Ask, Wants, Covered, if_there, in_index, in_id, in_heap, in_val, in_param, in_signature}
 use Rattle.wast_types.specs.Signatures.{Signature, type_of_param, signature_of, same_heap_by, same_value_by, same_values_by, same_signature_by}
 use Rattle.wast_alike.specs.Tree.{Id, Index, Span, NameAnnotation, HeapType, ValType, FunctionType}
 use Rattle.wast_alike.specs.Tree.index

@@ -3,9 +3,9 @@
 use Rattle.std.proofs.Common.{◌≡◌, ℕ, ◌+◌, Bool, true, false, List, [], ◌∷◌, Option, Some, None, option_map, refl, sym, ap, ◌∙◌}
 use Rattle.wast_base.specs.Ids.{Name}
 use Rattle.wast_base.specs.Spaces.{position_of}
-use Rattle.wast_tree.specs.Sites.{Ask, Wants, Within, Unasked, Clause, Covered, Where, OfItem, OfCall, OfBlock, Site, Asked, Used, Declared, LocalAt, FieldAt, LabelAt, Repeated, Begins, Ends, if_there, in_index, in_signature, in_type_use, in_module, asked_in, asked}
-use Rattle.wast_tree.specs.Known.{Known}
-use Rattle.wast_tree.specs.Types.{inline_alone}
+use Rattle.wast_nodes.specs.Sites.{Ask, Wants, Within, Unasked, Clause, Covered, Where, OfItem, OfCall, OfBlock, Site, Asked, Used, Declared, LocalAt, FieldAt, LabelAt, Repeated, Begins, Ends, if_there, in_index, in_signature, in_type_use, in_module, asked_in, asked}
+use Rattle.wast_nodes.specs.Known.{Known}
+use Rattle.wast_nodes.specs.Types.{inline_alone}
 use Rattle.wast_map.specs.Mapped.{Change, same, then, mapped_signature, JoinsAsk, Joins, Each}
 use Rattle.wast_map.specs.Laws.{all_mapped}
 use Rattle.wast_map.proofs.Ways.{each_first, each_rest, option_at}

@@ -4,8 +4,8 @@ use Rattle.std.specs.Prelude.{Option, Some, None}
 use Rattle.std.specs.List.{flat_map, list_all}
 use Rattle.std.specs.Cmp.{first_so}
 use Rattle.std.proofs.lemmas.List.Folds.{list_all-map}
-use Rattle.wast_tree.specs.Sites.{Ask, Wants, Where, OfItem, OfCall, OfBlock, Site, Used, if_there, in_index, in_signature, in_type_use, asked_in, asked, in_module}
-use Rattle.wast_tree.specs.Types.{inline_alone}
+use Rattle.wast_nodes.specs.Sites.{Ask, Wants, Where, OfItem, OfCall, OfBlock, Site, Used, if_there, in_index, in_signature, in_type_use, asked_in, asked, in_module}
+use Rattle.wast_nodes.specs.Types.{inline_alone}
 use Rattle.wast_map.specs.Mapped.{Change, mapped_ask, mapped_site, mapped_func_kind, mapped}
 use Rattle.wast_map.proofs.Ways.{index_in, both_at, option_at}
 use Rattle.wast_map.proofs.Types.{signature_at}

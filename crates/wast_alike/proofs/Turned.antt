@@ -5,9 +5,9 @@ use Rattle.wast_base.specs.Ids.{marked}
 use Rattle.wast_base.specs.Blocks.{Blocks}
 use Rattle.wast_labels.specs.Laws.{WalksAsCounted}
 use Rattle.wast_labels.specs.Turns.{after, walked}
-use Rattle.wast_tree.specs.Instrs.{turn_of, turns}
-use Rattle.wast_tree.specs.Sites.{Here, Begins, after_all, at_label, behind, in_catch, in_heap, in_instr, in_instrs, in_mem_arg, in_select, uncovered, in_ref, in_cast}
-use Rattle.wast_tree.proofs.Behind.{after-append}
+use Rattle.wast_nodes.specs.Instrs.{turn_of, turns}
+use Rattle.wast_nodes.specs.Sites.{Here, Begins, after_all, at_label, behind, in_catch, in_heap, in_instr, in_instrs, in_mem_arg, in_select, uncovered, in_ref, in_cast}
+use Rattle.wast_nodes.proofs.Behind.{after-append}
 use Rattle.wast_alike.specs.Tree.{Instruction}
 use Rattle.wast_alike.specs.Tree.form
 use Rattle.wast_alike.specs.Tree.instr

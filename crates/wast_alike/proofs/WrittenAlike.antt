@@ -1,9 +1,9 @@
 -- The list that is written out by ids is, in all that is demanded and counted, the one that is written out by positions.
 use Rattle.std.proofs.Common.{◌≡◌, ℕ, ◌<◌, true, List, None, ap, ◌∙◌, arith}
 use Rattle.std.proofs.lemmas.Bool.{lt-ltb}
-use Rattle.wast_tree.specs.Items.{items}
-use Rattle.wast_tree.specs.Sites.{Covered, in_module, asked}
-use Rattle.wast_tree.specs.Generations.{generation_in, greatest_item, greatest_generation}
+use Rattle.wast_nodes.specs.Items.{items}
+use Rattle.wast_nodes.specs.Sites.{Covered, in_module, asked}
+use Rattle.wast_nodes.specs.Generations.{generation_in, greatest_item, greatest_generation}
 use Rattle.wast_deinline.specs.Written.{written_out_from, written_out}
 use Rattle.wast_deinline.proofs.WrittenAsks.{written_out_pass}
 use Rattle.wast_deinline.proofs.Below.{each_below}

@@ -3,9 +3,9 @@ use Rattle.std.proofs.Common.{◌≡◌, ℕ, ◌+◌, ◌<◌, Bool, true, fals
 use Rattle.std.specs.Prelude.{max}
 use Rattle.std.proofs.lemmas.Grind.{flat_map-append}
 use Rattle.wast_base.specs.Ids.{Name, generation_of}
-use Rattle.wast_tree.specs.Items.{Item, items_in, items}
-use Rattle.wast_tree.specs.Known.{known}
-use Rattle.wast_tree.specs.Generations.{generation_or_zero, greatest_item}
+use Rattle.wast_nodes.specs.Items.{Item, items_in, items}
+use Rattle.wast_nodes.specs.Known.{known}
+use Rattle.wast_nodes.specs.Generations.{generation_or_zero, greatest_item}
 use Rattle.wast_base.specs.Filling.{one_if, given_if}
 use Rattle.wast_types.specs.ImpliedTypes.{implied}
 use Rattle.wast_types.specs.Expanded.{unnamed_type}

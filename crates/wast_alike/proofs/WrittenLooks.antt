@@ -6,9 +6,9 @@ use Rattle.std.specs.List.{flat_map, position}
 use Rattle.std.specs.Option.{option_or}
 use Rattle.std.proofs.lemmas.List.{map-append}
 use Rattle.wast_base.specs.Ids.{generated}
-use Rattle.wast_tree.specs.Items.{Item, items_in}
-use Rattle.wast_tree.specs.Sites.{in_field}
-use Rattle.wast_tree.proofs.Visiting.{each_of_each}
+use Rattle.wast_nodes.specs.Items.{Item, items_in}
+use Rattle.wast_nodes.specs.Sites.{in_field}
+use Rattle.wast_nodes.proofs.Asking.{each_of_each}
 use Rattle.wast_base.specs.Filling.{one_if, wanted}
 use Rattle.wast_deinline.specs.Referring.{wants_id}
 use Rattle.wast_deinline.specs.Written.{written_out_from, written_out}

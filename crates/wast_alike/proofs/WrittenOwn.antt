@@ -6,8 +6,8 @@ use Rattle.std.proofs.lemmas.Bool.{eqb-true}
 use Rattle.std.proofs.lemmas.Grind.{flat_map-append}
 use Rattle.wast_base.specs.Ids.{Name, name_of, place_of, marked, generated}
 use Rattle.wast_base.specs.Spaces.{rank_of, same_space, name_if}
-use Rattle.wast_tree.specs.Items.{Item, item, items_in, items}
-use Rattle.wast_tree.specs.Known.{Known, known, name_in, names_in}
+use Rattle.wast_nodes.specs.Items.{Item, item, items_in, items}
+use Rattle.wast_nodes.specs.Known.{Known, known, name_in, names_in}
 use Rattle.wast_base.specs.Filling.{one_if, given_if}
 use Rattle.wast_deinline.specs.WriteOut.{write_out}
 use Rattle.wast_deinline.specs.Referring.{by_id, wants_id, with_item_id}

@@ -1,9 +1,9 @@
 -- The list that is written out by ids has, once each index is a number, the numbers of the one by positions.
 use Rattle.std.proofs.Common.{◌≡◌, ℕ, ◌<◌, List, None, sym, ap, ◌∙◌, arith}
-use Rattle.wast_tree.specs.Items.{items}
-use Rattle.wast_tree.specs.Known.{known}
-use Rattle.wast_tree.specs.Sites.{in_module, asked}
-use Rattle.wast_tree.specs.Generations.{greatest_asked, greatest_generation}
+use Rattle.wast_nodes.specs.Items.{items}
+use Rattle.wast_nodes.specs.Known.{known}
+use Rattle.wast_nodes.specs.Sites.{in_module, asked}
+use Rattle.wast_nodes.specs.Generations.{greatest_asked, greatest_generation}
 use Rattle.wast_map.specs.Laws.{all_mapped}
 use Rattle.wast_deinline.specs.Written.{written_out_from, written_out}
 use Rattle.wast_deinline.proofs.Below.{written_out_below}

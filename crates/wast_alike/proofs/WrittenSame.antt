@@ -6,9 +6,9 @@ use Rattle.std.specs.List.{flat_map}
 use Rattle.std.proofs.Math.Dec.{eqb-suc-zero}
 use Rattle.std.proofs.lemmas.List.{map-append}
 use Rattle.wast_base.specs.Ids.{place_of, generated}
-use Rattle.wast_tree.specs.Items.{Item, item, items_in}
-use Rattle.wast_tree.specs.Known.{names_in}
-use Rattle.wast_tree.specs.Sites.{exported_space}
+use Rattle.wast_nodes.specs.Items.{Item, item, items_in}
+use Rattle.wast_nodes.specs.Known.{names_in}
+use Rattle.wast_nodes.specs.Sites.{exported_space}
 use Rattle.wast_base.specs.Filling.{one_if, given_if}
 use Rattle.wast_deinline.specs.Tree.{InlineImport, InlineExport}
 use Rattle.wast_deinline.specs.Segments.{data_into, elem_into, has_bytes, has_elements}

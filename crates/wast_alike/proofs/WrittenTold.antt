@@ -2,8 +2,8 @@
 use Rattle.std.proofs.Common.{◌≡◌, ℕ, List, [], Some, None, refl, ap}
 use Rattle.wast_base.specs.Blocks.{Blocks}
 use Rattle.wast_base.specs.Ids.{generated}
-use Rattle.wast_tree.specs.Known.{Known}
-use Rattle.wast_tree.specs.Sites.{Where, Locals}
+use Rattle.wast_nodes.specs.Known.{Known}
+use Rattle.wast_nodes.specs.Sites.{Where, Locals}
 use Rattle.wast_map.specs.Mapped.{Change, mapped, mapped_constant, mapped_payload}
 use Rattle.wast_map.specs.Laws.{all_mapped}
 use Rattle.wast_deinline.specs.Segments.{at_zero}

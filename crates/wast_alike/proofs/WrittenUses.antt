@@ -6,7 +6,7 @@ use Rattle.std.specs.Option.{option_or}
 use Rattle.wast_base.specs.Ids.{name_of, mark_of}
 use Rattle.wast_base.specs.Faults.{Cause}
 use Rattle.wast_base.specs.Spaces.{word_of}
-use Rattle.wast_tree.specs.Sites.{Wants, Site, Asked, LocalAt, in_module, FieldAt}
+use Rattle.wast_nodes.specs.Sites.{Wants, Site, Asked, LocalAt, in_module, FieldAt}
 use Rattle.wast_map.specs.Mapped.{Change, mapped_locals, mapped_site}
 use Rattle.wast_map.specs.Laws.{all_mapped}
 use Rattle.wast_map.proofs.Laws.{stands}

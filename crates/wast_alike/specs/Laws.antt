@@ -1,14 +1,14 @@
 -- What is so of the resolved list of fields, where the counter begins above the generations of their ids; of the open blocks
 -- of a body; and of what can be told of fields early.
 use Rattle.std.specs.Prelude.{◌≡◌, ℕ, ◌+◌, ◌<◌, true, [], Some, None, List, IsTrue}
-use Rattle.wast_tree.specs.Items.{items}
+use Rattle.wast_nodes.specs.Items.{items}
 use Rattle.wast_labels.specs.Turns.{open_blocks}
-use Rattle.wast_tree.specs.Instrs.{turns}
-use Rattle.wast_tree.specs.Sites.{Here, after_all, in_instrs, in_module}
-use Rattle.wast_tree.specs.WellFormed.{is_well_formed}
-use Rattle.wast_tree.specs.WrittenOut.{is_written_out}
+use Rattle.wast_nodes.specs.Instrs.{turns}
+use Rattle.wast_nodes.specs.Sites.{Here, after_all, in_instrs, in_module}
+use Rattle.wast_nodes.specs.WellFormed.{is_well_formed}
+use Rattle.wast_nodes.specs.WrittenOut.{is_written_out}
 use Rattle.wast_base.specs.Faults.{Cause}
-use Rattle.wast_tree.specs.Generations.{greatest_generation}
+use Rattle.wast_nodes.specs.Generations.{greatest_generation}
 use Rattle.wast_types.specs.NeedingUses.{needed}
 use Rattle.wast_alike.specs.Tree.{Span, Instruction, ModuleField}
 use Rattle.wast_demands.specs.Demands.{first_unmet, demands, item_demands, site_demands, item_counts, body_counts}
@@ -16,7 +16,7 @@ use Rattle.wast_demands.specs.Early.{early_demands}
 use Rattle.wast_demands.specs.Scopes.{scope}
 use Rattle.wast_demands.specs.Explicit.{explicit, explicit_from, by_positions, ids_filled}
 use Rattle.wast_map.specs.Laws.{all_mapped}
-use Rattle.wast_tree.specs.Resolved.{has_numbers, is_resolved}
+use Rattle.wast_nodes.specs.Resolved.{has_numbers, is_resolved}
 use Rattle.wast_demands.specs.Resolved.{resolved}
 use Rattle.wast_demands.specs.Stripped.{stripping}
 use Rattle.wast_demands.specs.Finished.{finished}

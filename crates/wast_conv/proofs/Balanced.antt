@@ -8,8 +8,8 @@ use Rattle.wast_base.specs.declared.mem_ops.MemOp.{MemOp}
 use Rattle.wast_base.specs.declared.plain.Plain.{Plain}
 use Rattle.wast_base.specs.declared.lane_ops.LaneOp.{LaneOp}
 use Rattle.wast_base.specs.declared.lane_ops.MemLaneOp.{MemLaneOp}
-use Rattle.wast_tree.specs.Instrs as tree
-use Rattle.wast_tree.specs.Instrs.{turns}
+use Rattle.wast_nodes.specs.Instrs as tree
+use Rattle.wast_nodes.specs.Instrs.{turns}
 use Rattle.wasm_ops.specs.CastInstrs.{cast_key, cast_instr}
 use Rattle.wasm_ops.specs.MemoryInstrs.{mem_instr}
 use Rattle.wasm_ops.specs.Opcodes.{opcode_of}

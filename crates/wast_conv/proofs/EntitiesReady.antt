@@ -1,8 +1,8 @@
 -- What types of tables, globals and imports the encoder takes: they become covered values.
 use Rattle.std.proofs.Common.{◌≡◌, true, false, refl, sym, ◌∙◌}
 use Rattle.std.specs.Prelude.{not}
-use Rattle.wast_tree.specs.Resolved.{is_resolved_site}
-use Rattle.wast_tree.specs.Sites.{OfItem, Used, in_ref, in_val, in_table_type, in_global_type, in_item_kind}
+use Rattle.wast_nodes.specs.Resolved.{is_resolved_site}
+use Rattle.wast_nodes.specs.Sites.{OfItem, Used, in_ref, in_val, in_table_type, in_global_type, in_item_kind}
 use Rattle.wasm_ops.specs.Entities.{is_covered_table_type, is_covered_global_type, is_covered_entity_type}
 use Rattle.wast_conv.specs.Tree.{TableType, GlobalType, ItemKind}
 use Rattle.wast_conv.specs.Tree.kind

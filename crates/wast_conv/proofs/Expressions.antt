@@ -4,8 +4,8 @@ use Rattle.std.specs.Prelude.{All}
 use Rattle.std.specs.List.{flat_map, list_all}
 use Rattle.std.proofs.lemmas.List.Elements.{All-map}
 use Rattle.std.proofs.lemmas.List.Folds.{flat_map-map}
-use Rattle.wast_tree.specs.Instrs.{turns}
-use Rattle.wast_tree.specs.Sites.{OfBlock, start, asking, in_heap, in_ref, in_mem_arg, in_cast, in_select, in_use}
+use Rattle.wast_nodes.specs.Instrs.{turns}
+use Rattle.wast_nodes.specs.Sites.{OfBlock, start, asking, in_heap, in_ref, in_mem_arg, in_cast, in_select, in_use}
 use Rattle.wast_base.specs.Blocks.{is_balanced}
 use Rattle.wast_base.specs.declared.faults.Error.{Error}
 use Rattle.wasm_ops.specs.CastInstrs.{cast_instr, br_cast_instr}

@@ -18,8 +18,8 @@ use Rattle.wasm_ops.proofs.Everywhere.{all_right, all_unmap}
 use Rattle.wasm_ops.proofs.Sinking.{puts_as, written_as}
 use Rattle.wasm_out.specs.Bodies.{Body, locals}
 use Rattle.wasm_out.specs.Hints.{branch_hint, InRangeBranchHint}
-use Rattle.wast_tree.specs.Clauses.{stands, stand_from, hints_stand}
-use Rattle.wast_tree.specs.Sites.{in_local}
+use Rattle.wast_nodes.specs.Clauses.{stands, stand_from, hints_stand}
+use Rattle.wast_nodes.specs.Sites.{in_local}
 use Rattle.wast_conv.specs.Tree.{BranchHint, Instruction, Expression, Local}
 use Rattle.wast_conv.specs.Tree.func
 use Rattle.wast_conv.specs.Encodable.{are_encodable, is_encodable_instr, is_encodable_kind}

@@ -6,8 +6,8 @@ use Rattle.std.proofs.lemmas.Bool.{eqb-true}
 use Rattle.std.proofs.lemmas.Nat.{ones_le_self}
 use Rattle.std.proofs.lemmas.Nat.Bits.{bit_at-trailing_zeros}
 use Rattle.wast_base.specs.Ids.{is_number}
-use Rattle.wast_tree.specs.Sites.{in_target, in_mem_arg}
-use Rattle.wast_tree.specs.Resolved.{are_numbered}
+use Rattle.wast_nodes.specs.Sites.{in_target, in_mem_arg}
+use Rattle.wast_nodes.specs.Resolved.{are_numbered}
 use Rattle.wasm_ops.specs.Memargs.{is_covered_target, is_covered_memarg}
 use Rattle.wast_conv.specs.Tree.{MemArg, MemArgTarget, MemArgOrdering}
 use Rattle.wast_conv.specs.Tree.target

@@ -4,14 +4,14 @@ use Rattle.std.proofs.Common.{◌≡◌, Bool, true, false, ◌&&◌, ◌||◌, 
 use Rattle.std.specs.Prelude.{is_some, Option, Some, None}
 use Rattle.std.specs.List.{flat_map, list_all}
 use Rattle.wast_base.specs.Ids.{is_number}
-use Rattle.wast_tree.specs.Clauses.{hints_stand, suits}
-use Rattle.wast_tree.specs.Types.{says_enough}
-use Rattle.wast_tree.specs.Sites.{Ask, Wants, Within, Unasked, Clause, Covered, OfItem, OfCall, Site, Asked, Used, Declared, LocalAt, FieldAt, LabelAt, start, asking, if_there, at_index, in_type, in_rec, in_ref, in_type_use, in_use, in_indirect, in_local, in_func, in_func_kind, in_expression, in_table_type, in_global_type, in_tag_type, in_import, in_constant, in_payload, in_table_kind, in_memory_kind, in_global_kind, in_global, in_elem_kind, in_elem, in_data_kind, in_field, in_module, asked_in, asked}
-use Rattle.wast_tree.specs.Known.{Known}
-use Rattle.wast_tree.specs.WellFormed.{is_kept, are_kept}
-use Rattle.wast_tree.specs.Uncovered.{is_covered_ask, uncovered_in, uncovered_forms, first}
-use Rattle.wast_tree.specs.Resolved.{is_numbered, are_numbered, is_resolved_site, is_resolved}
-use Rattle.wast_tree.specs.WrittenOut.{exports_nothing, is_written_func, is_written_table, is_written_memory, is_written_global, is_written_field, is_written_out}
+use Rattle.wast_nodes.specs.Clauses.{hints_stand, suits}
+use Rattle.wast_nodes.specs.Types.{says_enough}
+use Rattle.wast_nodes.specs.Sites.{Ask, Wants, Within, Unasked, Clause, Covered, OfItem, OfCall, Site, Asked, Used, Declared, LocalAt, FieldAt, LabelAt, start, asking, if_there, at_index, in_type, in_rec, in_ref, in_type_use, in_use, in_indirect, in_local, in_func, in_func_kind, in_expression, in_table_type, in_global_type, in_tag_type, in_import, in_constant, in_payload, in_table_kind, in_memory_kind, in_global_kind, in_global, in_elem_kind, in_elem, in_data_kind, in_field, in_module, asked_in, asked}
+use Rattle.wast_nodes.specs.Known.{Known}
+use Rattle.wast_nodes.specs.WellFormed.{is_kept, are_kept}
+use Rattle.wast_nodes.specs.Uncovered.{is_covered_ask, uncovered_in, uncovered_forms, first}
+use Rattle.wast_nodes.specs.Resolved.{is_numbered, are_numbered, is_resolved_site, is_resolved}
+use Rattle.wast_nodes.specs.WrittenOut.{exports_nothing, is_written_func, is_written_table, is_written_memory, is_written_global, is_written_field, is_written_out}
 use Rattle.wast_conv.specs.Tree.{Index, Space, CallIndirect, TypeUse, FunctionType, Expression, Rec, Imports, FuncKind, Func, TableKind, Table, Memory, GlobalKind, Global, Export, ElemKind, ElemPayload, Elem, DataKind, Data, Tag, ModuleField}
 use Rattle.wast_conv.specs.Tree.space
 use Rattle.wast_conv.specs.Tree.ty

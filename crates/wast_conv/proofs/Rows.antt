@@ -3,7 +3,7 @@ use Rattle.std.proofs.Common.{◌≡◌, ℕ, Bool, true, false, ◌&&◌, List,
 use Rattle.std.specs.Prelude.{All, option_map}
 use Rattle.std.specs.List.{list_all}
 use Rattle.std.proofs.lemmas.List.Elements.{All-map}
-use Rattle.wast_tree.specs.Sites.{Ask, Site, start, asking, uncovered, in_index, at_index, in_pair, in_ref, in_access, in_cast, in_handle, in_handlers}
+use Rattle.wast_nodes.specs.Sites.{Ask, Site, start, asking, uncovered, in_index, at_index, in_pair, in_ref, in_access, in_cast, in_handle, in_handlers}
 use Rattle.wasm_ops.specs.Table.{HasRow, kinds_of, table}
 use Rattle.wasm_ops.proofs.Instructing.{plain_row, mem_row, lane_row, mem_lane_row, cast_row, select_row}
 use Rattle.wasm_ops.specs.declared.casts.CastOp.TheVariants as cast

@@ -7,8 +7,8 @@ use Rattle.std.proofs.lemmas.Grind.{common_steps}
 use Rattle.std.proofs.lemmas.List.{length-map}
 use Rattle.std.proofs.lemmas.List.Elements.{All-map}
 use Rattle.wast_base.specs.declared.faults.Error.{Error}
-use Rattle.wast_tree.specs.Clauses as tree
-use Rattle.wast_tree.specs.Sites.{in_ref}
+use Rattle.wast_nodes.specs.Clauses as tree
+use Rattle.wast_nodes.specs.Sites.{in_ref}
 use Rattle.wasm_ops.specs.ConstExprs.{expression, InRangeExpression}
 use Rattle.wasm_ops.specs.Spelling.{InRangeU32, vec, InRangeRefType}
 use Rattle.wasm_ops.specs.declared.sink.Refusal.{Refusal}

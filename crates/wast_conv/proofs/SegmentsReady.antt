@@ -3,8 +3,8 @@ use Rattle.std.proofs.Common.{◌≡◌, true, ◌&&◌, List, refl}
 use Rattle.std.specs.List.{list_all}
 use Rattle.std.proofs.lemmas.List.Elements.{All-map}
 use Rattle.wast_base.specs.Ids.{is_number}
-use Rattle.wast_tree.specs.Sites.{in_ref}
-use Rattle.wast_tree.specs.Clauses.{suits}
+use Rattle.wast_nodes.specs.Sites.{in_ref}
+use Rattle.wast_nodes.specs.Clauses.{suits}
 use Rattle.wasm_ops.specs.ConstExprs.{is_covered_expression, HasRowsExpression}
 use Rattle.wasm_ops.specs.Turns.{are_balanced}
 use Rattle.wasm_out.specs.DataSegments.{is_covered_data_mode, HasRowsDataMode, is_balanced_data_mode}

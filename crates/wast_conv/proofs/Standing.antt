@@ -6,10 +6,10 @@ use Rattle.std.proofs.lemmas.List.Folds.{list_all-append}
 use Rattle.wast_base.specs.Blocks.{Blocks, is_balanced}
 use Rattle.wast_base.specs.Ids.{Name, Mark, marked, is_number}
 use Rattle.wast_base.specs.Spaces.{name_if}
-use Rattle.wast_tree.specs.Clauses.{hints_stand}
-use Rattle.wast_tree.specs.Instrs.{turns}
-use Rattle.wast_tree.specs.Sites.{Ask, Wants, Clause, OfBlock, Site, Asked, Used, LabelAt, Begins, Here, start, behind, body_here, param_marks, local_marks, declaring, asking, if_there, in_id, in_index, at_index, in_local, at_label, in_use, in_caught, in_catch, in_try_table, in_br_table, in_ref, in_access, in_cast, in_handle, in_handlers, uncovered, in_instr, in_instrs, in_expression, in_constant, in_func_kind}
-use Rattle.wast_tree.specs.Resolved.{is_numbered, are_numbered}
+use Rattle.wast_nodes.specs.Clauses.{hints_stand}
+use Rattle.wast_nodes.specs.Instrs.{turns}
+use Rattle.wast_nodes.specs.Sites.{Ask, Wants, Clause, OfBlock, Site, Asked, Used, LabelAt, Begins, Here, start, behind, body_here, param_marks, local_marks, declaring, asking, if_there, in_id, in_index, at_index, in_local, at_label, in_use, in_caught, in_catch, in_try_table, in_br_table, in_ref, in_access, in_cast, in_handle, in_handlers, uncovered, in_instr, in_instrs, in_expression, in_constant, in_func_kind}
+use Rattle.wast_nodes.specs.Resolved.{is_numbered, are_numbered}
 use Rattle.wast_conv.specs.Tree.{Id, Index, Space, TypeUse, FunctionType, BrTableIndices, TryTable, TryTableCatch, RefType, StructAccess, ResumeTable, Instruction, Expression, Local}
 use Rattle.wast_conv.specs.Tree.form
 use Rattle.wast_conv.specs.Tree.instr as instruction

@@ -5,8 +5,8 @@ use Rattle.std.specs.Prelude.{not, is_none, Option, Some, None, option_map}
 use Rattle.std.specs.List.{flat_map, list_all}
 use Rattle.std.proofs.lemmas.Grind.{common_steps}
 use Rattle.wast_base.specs.Ids.{is_number}
-use Rattle.wast_tree.specs.Sites.{Ask, Covered, is_continuation, is_sequential, asking, if_there, in_index, in_heap, in_val, in_select, in_storage, in_param, in_signature, OfBlock, Used, in_type_use, in_use, in_struct_field, in_descriptor, in_inner, in_def, in_type, in_rec, in_local}
-use Rattle.wast_tree.specs.Resolved.{are_numbered}
+use Rattle.wast_nodes.specs.Sites.{Ask, Covered, is_continuation, is_sequential, asking, if_there, in_index, in_heap, in_val, in_select, in_storage, in_param, in_signature, OfBlock, Used, in_type_use, in_use, in_struct_field, in_descriptor, in_inner, in_def, in_type, in_rec, in_local}
+use Rattle.wast_nodes.specs.Resolved.{are_numbered}
 use Rattle.wasm_ops.specs.CastInstrs.{fence_instr}
 use Rattle.wasm_ops.specs.Control.{is_covered_block_type}
 use Rattle.wasm_ops.specs.Memargs.{is_covered_ordering}

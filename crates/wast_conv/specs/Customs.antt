@@ -6,8 +6,8 @@ use Rattle.wasm_ops.specs.Leb128.{unsigned}
 use Rattle.wasm_ops.specs.Spelling.{InRangeU32, vec, InRangeVec, InRangeSized, name, InRangeName}
 use Rattle.wasm_out.specs.Parts.{Custom, CustomPart, Part, section}
 use Rattle.wasm_out.specs.Producers.{producers, InRangeProducers}
-use Rattle.wast_tree.specs.Customs.{custom_name, subsection_id}
-use Rattle.wast_tree.specs.Sites.{in_subsection, in_custom}
+use Rattle.wast_nodes.specs.Customs.{custom_name, subsection_id}
+use Rattle.wast_nodes.specs.Sites.{in_subsection, in_custom}
 use Rattle.wast_conv.specs.Encodable.{are_encodable, encodable}
 use Rattle.wast_conv.specs.Tree as tree
 use Rattle.wast_conv.specs.Tree.{Dylink0Subsection}

@@ -4,12 +4,12 @@ use Rattle.std.specs.Prelude.{Bool, true, false, ◌&&◌, ◌||◌, is_some, Li
 use Rattle.std.specs.List.{list_all, flat_map}
 use Rattle.wast_base.specs.Blocks.{is_balanced}
 use Rattle.wast_base.specs.Ids.{is_number}
-use Rattle.wast_tree.specs.Clauses.{suits}
-use Rattle.wast_tree.specs.Instrs.{turns}
-use Rattle.wast_tree.specs.Types.{says_enough}
-use Rattle.wast_tree.specs.Sites.{Ask, Wants, Within, Unasked, Clause, Covered, OfItem, Site, Asked, Used, Declared, LocalAt, FieldAt, LabelAt, Repeated, Begins, Ends, start, in_type, in_ref, in_type_use, in_catch, in_handle, in_instr, in_instrs, in_local, in_table_type, in_global_type, in_import, in_tag_type, in_field, in_module, asked}
-use Rattle.wast_tree.specs.Resolved.{is_resolved_site, is_resolved}
-use Rattle.wast_tree.specs.WrittenOut.{is_written_memory, is_written_field, is_written_out}
+use Rattle.wast_nodes.specs.Clauses.{suits}
+use Rattle.wast_nodes.specs.Instrs.{turns}
+use Rattle.wast_nodes.specs.Types.{says_enough}
+use Rattle.wast_nodes.specs.Sites.{Ask, Wants, Within, Unasked, Clause, Covered, OfItem, Site, Asked, Used, Declared, LocalAt, FieldAt, LabelAt, Repeated, Begins, Ends, start, in_type, in_ref, in_type_use, in_catch, in_handle, in_instr, in_instrs, in_local, in_table_type, in_global_type, in_import, in_tag_type, in_field, in_module, asked}
+use Rattle.wast_nodes.specs.Resolved.{is_resolved_site, is_resolved}
+use Rattle.wast_nodes.specs.WrittenOut.{is_written_memory, is_written_field, is_written_out}
 use Rattle.wast_conv.specs.Tree.{Index, TypeUse, FunctionType, TryTableCatch, Handle, Instruction, Expression, FuncKind, Imports, TableKind, Table, Memory, GlobalKind, Global, Tag, ElemKind, ElemPayload, Elem, DataKind, Data, ModuleField}
 use Rattle.wast_conv.specs.Tree.ty
 use Rattle.wast_conv.specs.Tree.func

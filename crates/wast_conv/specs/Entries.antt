@@ -1,6 +1,6 @@
 -- What an entry of a section holds.
 use Rattle.std.specs.Prelude.{Bool}
-use Rattle.wast_tree.specs.Sites.{in_rec}
+use Rattle.wast_nodes.specs.Sites.{in_rec}
 use Rattle.wasm_out.specs.Parts.{TypeEntry, Single}
 use Rattle.wast_conv.specs.Encodable.{are_encodable, is_encodable_type}
 use Rattle.wast_conv.specs.Meaning as meaning

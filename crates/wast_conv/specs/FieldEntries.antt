@@ -1,6 +1,6 @@
 -- What fields are as entries of sections (binary format, modules: the sections of types to data).
 use Rattle.std.specs.Prelude.{ℕ, Bool, false, List, [], map, Option, None, option_map}
-use Rattle.wast_tree.specs.DataBytes.{all_bytes}
+use Rattle.wast_nodes.specs.DataBytes.{all_bytes}
 use Rattle.wasm_ops.specs.Table.{Instr}
 use Rattle.wasm_ops.specs.declared.entities.MemoryType.{MemoryType}
 use Rattle.wasm_ops.specs.declared.entities.TagType.{TagType}

@@ -5,7 +5,7 @@ use Rattle.wasm_ops.specs.Table.{instrs, InRangeInstr}
 use Rattle.wasm_out.specs.Bodies.{Body, locals}
 use Rattle.wasm_out.specs.Hints.{branch_hint, InRangeBranchHint}
 use Rattle.wasm_out.specs.declared.hints.BranchHint.{BranchHint}
-use Rattle.wast_tree.specs.Clauses.{hints_stand}
+use Rattle.wast_nodes.specs.Clauses.{hints_stand}
 use Rattle.wast_conv.specs.Tree as tree
 use Rattle.wast_conv.specs.Tree.{FuncKind}
 use Rattle.wast_conv.specs.Tree.func

@@ -4,8 +4,8 @@ ghost use Rattle.std.specs.Prelude.{◌≡◌, Bool, true, map, option_map, IfOk
 ghost use Rattle.std.specs.List.{All, flat_map, list_all};
 ghost use Rattle.wast_base.specs.Ids.{is_number};
 ghost use Rattle.wast_base.specs.Faults.{out_of_memory};
-ghost use Rattle.wast_tree.specs.Sites.{in_heap, in_ref, in_val, in_param, in_storage, in_struct_field, in_array, in_struct, in_signature, in_inner, in_def, in_type};
-ghost use Rattle.wast_tree.specs.Resolved.{are_numbered};
+ghost use Rattle.wast_nodes.specs.Sites.{in_heap, in_ref, in_val, in_param, in_storage, in_struct_field, in_array, in_struct, in_signature, in_inner, in_def, in_type};
+ghost use Rattle.wast_nodes.specs.Resolved.{are_numbered};
 ghost use Rattle.wasm_ops.specs.ConstExprs.{InRangeExpression};
 ghost use Rattle.wasm_ops.specs.Table.{instr, instrs, InRangeInstr};
 ghost use Rattle.wasm_out.specs.Built.{IsRefused};
@@ -26,10 +26,8 @@ use wasm_ops::{
     CompositeInnerType, CompositeType, ConstExpr, ContType, Each, Encode, FuncType, StructType,
     SubType,
 };
-use wast_tree::{
-    Error, Expression, FunctionType, Id, Index, InnerTypeKind, Instruction, NameAnnotation, Seq,
-    Type, TypeDef,
-};
+use wast_base::{Error, Id, Index, NameAnnotation, Seq};
+use wast_nodes::{Expression, FunctionType, InnerTypeKind, Instruction, Type, TypeDef};
 
 /// A part of the tree that stands for a value of the binary format, and takes no memory for it.
 pub(crate) trait Convert {
@@ -85,44 +83,44 @@ impl Convert for Index<'_> {
     }
 }
 
-fn abstract_type(ty: wast_tree::AbstractHeapType) -> wasm_ops::AbstractHeapType
+fn abstract_type(ty: wast_nodes::AbstractHeapType) -> wasm_ops::AbstractHeapType
     ensures { result ≡ meaning.as_abstract_type ty }
 {
     match ty {
-        wast_tree::AbstractHeapType::Func => wasm_ops::AbstractHeapType::Func,
-        wast_tree::AbstractHeapType::Extern => wasm_ops::AbstractHeapType::Extern,
-        wast_tree::AbstractHeapType::Exn => wasm_ops::AbstractHeapType::Exn,
-        wast_tree::AbstractHeapType::NoExn => wasm_ops::AbstractHeapType::NoExn,
-        wast_tree::AbstractHeapType::Any => wasm_ops::AbstractHeapType::Any,
-        wast_tree::AbstractHeapType::Eq => wasm_ops::AbstractHeapType::Eq,
-        wast_tree::AbstractHeapType::Struct => wasm_ops::AbstractHeapType::Struct,
-        wast_tree::AbstractHeapType::Array => wasm_ops::AbstractHeapType::Array,
-        wast_tree::AbstractHeapType::NoFunc => wasm_ops::AbstractHeapType::NoFunc,
-        wast_tree::AbstractHeapType::NoExtern => wasm_ops::AbstractHeapType::NoExtern,
-        wast_tree::AbstractHeapType::None => wasm_ops::AbstractHeapType::None,
-        wast_tree::AbstractHeapType::I31 => wasm_ops::AbstractHeapType::I31,
-        wast_tree::AbstractHeapType::Cont => wasm_ops::AbstractHeapType::Cont,
-        wast_tree::AbstractHeapType::NoCont => wasm_ops::AbstractHeapType::NoCont,
+        wast_nodes::AbstractHeapType::Func => wasm_ops::AbstractHeapType::Func,
+        wast_nodes::AbstractHeapType::Extern => wasm_ops::AbstractHeapType::Extern,
+        wast_nodes::AbstractHeapType::Exn => wasm_ops::AbstractHeapType::Exn,
+        wast_nodes::AbstractHeapType::NoExn => wasm_ops::AbstractHeapType::NoExn,
+        wast_nodes::AbstractHeapType::Any => wasm_ops::AbstractHeapType::Any,
+        wast_nodes::AbstractHeapType::Eq => wasm_ops::AbstractHeapType::Eq,
+        wast_nodes::AbstractHeapType::Struct => wasm_ops::AbstractHeapType::Struct,
+        wast_nodes::AbstractHeapType::Array => wasm_ops::AbstractHeapType::Array,
+        wast_nodes::AbstractHeapType::NoFunc => wasm_ops::AbstractHeapType::NoFunc,
+        wast_nodes::AbstractHeapType::NoExtern => wasm_ops::AbstractHeapType::NoExtern,
+        wast_nodes::AbstractHeapType::None => wasm_ops::AbstractHeapType::None,
+        wast_nodes::AbstractHeapType::I31 => wasm_ops::AbstractHeapType::I31,
+        wast_nodes::AbstractHeapType::Cont => wasm_ops::AbstractHeapType::Cont,
+        wast_nodes::AbstractHeapType::NoCont => wasm_ops::AbstractHeapType::NoCont,
     }
 }
 
 /// What a reference refers to (binary format, heap types). It needs a resolved index.
-pub fn heap_type(ty: &wast_tree::HeapType) -> wasm_ops::HeapType
+pub fn heap_type(ty: &wast_nodes::HeapType) -> wasm_ops::HeapType
     requires { IsTrue (are_numbered (in_heap ty.now)) }
     ensures { result ≡ meaning.as_heap_type ty.now }
 {
     match ty {
-        wast_tree::HeapType::Abstract { shared, ty } => wasm_ops::HeapType::Abstract {
+        wast_nodes::HeapType::Abstract { shared, ty } => wasm_ops::HeapType::Abstract {
             shared: *shared,
             ty: abstract_type(*ty),
         },
-        wast_tree::HeapType::Concrete(of) => wasm_ops::HeapType::Concrete(index(of)),
-        wast_tree::HeapType::Exact(of) => wasm_ops::HeapType::Exact(index(of)),
+        wast_nodes::HeapType::Concrete(of) => wasm_ops::HeapType::Concrete(index(of)),
+        wast_nodes::HeapType::Exact(of) => wasm_ops::HeapType::Exact(index(of)),
     }
 }
 
 /// A reference type (binary format, reference types). It needs a resolved index.
-pub fn ref_type(ty: &wast_tree::RefType) -> wasm_ops::RefType
+pub fn ref_type(ty: &wast_nodes::RefType) -> wasm_ops::RefType
     requires { IsTrue (are_numbered (in_ref ty.now)) }
     ensures { result ≡ meaning.as_ref_type ty.now }
 {
@@ -133,34 +131,34 @@ pub fn ref_type(ty: &wast_tree::RefType) -> wasm_ops::RefType
 }
 
 /// A value type (binary format, value types). It needs a resolved index.
-pub fn val_type(ty: &wast_tree::ValType) -> wasm_ops::ValType
+pub fn val_type(ty: &wast_nodes::ValType) -> wasm_ops::ValType
     requires { IsTrue (are_numbered (in_val ty.now)) }
     ensures { result ≡ meaning.as_val_type ty.now }
 {
     match ty {
-        wast_tree::ValType::I32 => wasm_ops::ValType::I32,
-        wast_tree::ValType::I64 => wasm_ops::ValType::I64,
-        wast_tree::ValType::F32 => wasm_ops::ValType::F32,
-        wast_tree::ValType::F64 => wasm_ops::ValType::F64,
-        wast_tree::ValType::V128 => wasm_ops::ValType::V128,
-        wast_tree::ValType::Ref(ty) => wasm_ops::ValType::Ref(ref_type(ty)),
+        wast_nodes::ValType::I32 => wasm_ops::ValType::I32,
+        wast_nodes::ValType::I64 => wasm_ops::ValType::I64,
+        wast_nodes::ValType::F32 => wasm_ops::ValType::F32,
+        wast_nodes::ValType::F64 => wasm_ops::ValType::F64,
+        wast_nodes::ValType::V128 => wasm_ops::ValType::V128,
+        wast_nodes::ValType::Ref(ty) => wasm_ops::ValType::Ref(ref_type(ty)),
     }
 }
 
 /// What a field of a struct or an element of an array holds (binary format, composite types). It needs a resolved index.
-pub fn storage_type(ty: &wast_tree::StorageType) -> wasm_ops::StorageType
+pub fn storage_type(ty: &wast_nodes::StorageType) -> wasm_ops::StorageType
     requires { IsTrue (are_numbered (in_storage ty.now)) }
     ensures { result ≡ meaning.as_storage_type ty.now }
 {
     match ty {
-        wast_tree::StorageType::I8 => wasm_ops::StorageType::I8,
-        wast_tree::StorageType::I16 => wasm_ops::StorageType::I16,
-        wast_tree::StorageType::Val(ty) => wasm_ops::StorageType::Val(val_type(ty)),
+        wast_nodes::StorageType::I8 => wasm_ops::StorageType::I8,
+        wast_nodes::StorageType::I16 => wasm_ops::StorageType::I16,
+        wast_nodes::StorageType::Val(ty) => wasm_ops::StorageType::Val(val_type(ty)),
     }
 }
 
 /// A field of a struct (binary format, composite types). It needs a resolved index.
-pub fn field_type(field: &wast_tree::StructField) -> wasm_ops::FieldType
+pub fn field_type(field: &wast_nodes::StructField) -> wasm_ops::FieldType
     requires { IsTrue (are_numbered (in_struct_field field.now)) }
     ensures { result ≡ meaning.as_field_type field.now }
 {
@@ -171,7 +169,7 @@ pub fn field_type(field: &wast_tree::StructField) -> wasm_ops::FieldType
 }
 
 /// An array type (binary format, composite types). It needs a resolved index.
-pub fn array_type(ty: &wast_tree::ArrayType) -> wasm_ops::ArrayType
+pub fn array_type(ty: &wast_nodes::ArrayType) -> wasm_ops::ArrayType
     requires { IsTrue (are_numbered (in_array ty.now)) }
     ensures { result ≡ meaning.as_array_type ty.now }
 {
@@ -181,7 +179,7 @@ pub fn array_type(ty: &wast_tree::ArrayType) -> wasm_ops::ArrayType
     })
 }
 
-impl Convert for wast_tree::ValType<'_> {
+impl Convert for wast_nodes::ValType<'_> {
     type Out = wasm_ops::ValType;
 
     ghost becomes = { meaning.as_val_type };
@@ -197,7 +195,7 @@ impl<'a> Convert
     for (
         Option<Id<'a>>,
         Option<NameAnnotation<'a>>,
-        wast_tree::ValType<'a>,
+        wast_nodes::ValType<'a>,
     ) {
     type Out = wasm_ops::ValType;
 
@@ -210,7 +208,7 @@ impl<'a> Convert
     }
 }
 
-impl Convert for wast_tree::StructField<'_> {
+impl Convert for wast_nodes::StructField<'_> {
     type Out = wasm_ops::FieldType;
 
     ghost becomes = { meaning.as_field_type };
@@ -235,7 +233,7 @@ pub fn func_type<'e>(alloc: Global, ty: &FunctionType) -> Result<FuncType, Error
 }
 
 /// A struct type: its fields (binary format, composite types). It needs resolved indices. The only error is out of memory.
-pub fn struct_type<'e>(alloc: Global, ty: &wast_tree::StructType) -> Result<StructType, Error<'e>>
+pub fn struct_type<'e>(alloc: Global, ty: &wast_nodes::StructType) -> Result<StructType, Error<'e>>
     requires { IsTrue (are_numbered (in_struct ty.now)) }
     ensures value { IfOk result (λ made. made ≡ meaning.as_struct_type ty.now) }
     ensures refusal { IfErr result (λ e. e ≡ out_of_memory) }
@@ -245,7 +243,7 @@ pub fn struct_type<'e>(alloc: Global, ty: &wast_tree::StructType) -> Result<Stru
 }
 
 /// A continuation type: the index of its function type (stack switching). It needs a resolved index.
-pub fn cont_type(ty: &wast_tree::ContType) -> ContType
+pub fn cont_type(ty: &wast_nodes::ContType) -> ContType
     requires { IsTrue (is_number ty.now.0) }
     ensures { result ≡ meaning.as_cont_type ty.now }
 {
@@ -310,15 +308,15 @@ pub(crate) fn group<'e>(alloc: Global, types: &[Type]) -> Result<Seq<SubType>, E
 }
 
 /// The kind of what is exported (binary format, export section).
-pub fn export_kind(kind: wast_tree::ExportKind) -> wasm_ops::ExportKind
+pub fn export_kind(kind: wast_nodes::ExportKind) -> wasm_ops::ExportKind
     ensures { result ≡ meaning.as_export_kind kind }
 {
     match kind {
-        wast_tree::ExportKind::Func => wasm_ops::ExportKind::Func,
-        wast_tree::ExportKind::Table => wasm_ops::ExportKind::Table,
-        wast_tree::ExportKind::Memory => wasm_ops::ExportKind::Memory,
-        wast_tree::ExportKind::Global => wasm_ops::ExportKind::Global,
-        wast_tree::ExportKind::Tag => wasm_ops::ExportKind::Tag,
+        wast_nodes::ExportKind::Func => wasm_ops::ExportKind::Func,
+        wast_nodes::ExportKind::Table => wasm_ops::ExportKind::Table,
+        wast_nodes::ExportKind::Memory => wasm_ops::ExportKind::Memory,
+        wast_nodes::ExportKind::Global => wasm_ops::ExportKind::Global,
+        wast_nodes::ExportKind::Tag => wasm_ops::ExportKind::Tag,
     }
 }
 

@@ -1,17 +1,17 @@
 //! Types of tables, memories, globals, tags and imported items as values of the binary format.
 
 ghost use Rattle.std.specs.Prelude.{◌≡◌, IsTrue};
-ghost use Rattle.wast_tree.specs.Sites.{OfItem, in_table_type, in_global_type, in_use, in_tag_type, in_item_kind};
-ghost use Rattle.wast_tree.specs.Resolved.{are_numbered};
+ghost use Rattle.wast_nodes.specs.Sites.{OfItem, in_table_type, in_global_type, in_use, in_tag_type, in_item_kind};
+ghost use Rattle.wast_nodes.specs.Resolved.{are_numbered};
 ghost use Rattle.wast_conv.specs.Encodable.{are_resolved};
 ghost use Rattle.wast_conv.specs.Meaning as meaning;
 
 use crate::conv::{index, ref_type, val_type};
 use wasm_ops::EntityType;
-use wast_tree::{FunctionType, ItemKind, TypeUse};
+use wast_nodes::{FunctionType, ItemKind, TypeUse};
 
 /// A table type (binary format, table types). It needs a resolved index.
-pub fn table_type(ty: &wast_tree::TableType) -> wasm_ops::TableType
+pub fn table_type(ty: &wast_nodes::TableType) -> wasm_ops::TableType
     requires { IsTrue (are_numbered (in_table_type ty.now)) }
     ensures { result ≡ meaning.as_table_type ty.now }
 {
@@ -25,7 +25,7 @@ pub fn table_type(ty: &wast_tree::TableType) -> wasm_ops::TableType
 }
 
 /// A memory type (binary format, memory types).
-pub fn memory_type(ty: &wast_tree::MemoryType) -> wasm_ops::MemoryType
+pub fn memory_type(ty: &wast_nodes::MemoryType) -> wasm_ops::MemoryType
     ensures { result ≡ meaning.as_memory_type ty.now }
 {
     wasm_ops::MemoryType {
@@ -38,7 +38,7 @@ pub fn memory_type(ty: &wast_tree::MemoryType) -> wasm_ops::MemoryType
 }
 
 /// A global type (binary format, global types). It needs a resolved index.
-pub fn global_type(ty: &wast_tree::GlobalType) -> wasm_ops::GlobalType
+pub fn global_type(ty: &wast_nodes::GlobalType) -> wasm_ops::GlobalType
     requires { IsTrue (are_numbered (in_global_type ty.now)) }
     ensures { result ≡ meaning.as_global_type ty.now }
 {
@@ -61,12 +61,12 @@ pub(crate) fn type_index(type_use: &TypeUse<FunctionType>) -> u32
 }
 
 /// A tag type (binary format, tag types). It needs a type use that has an index, and resolved indices.
-pub fn tag_type(ty: &wast_tree::TagType) -> wasm_ops::TagType
+pub fn tag_type(ty: &wast_nodes::TagType) -> wasm_ops::TagType
     requires { IsTrue (are_resolved (in_tag_type ty.now)) }
     ensures { result ≡ meaning.as_tag_type ty.now }
 {
     match ty {
-        wast_tree::TagType::Exception(type_use) => wasm_ops::TagType {
+        wast_nodes::TagType::Exception(type_use) => wasm_ops::TagType {
             func_type_idx: type_index(type_use),
         },
     }

@@ -9,7 +9,7 @@ ghost use Rattle.wast_conv.specs.Meaning as meaning;
 use crate::conv_immediates::handle;
 use std::marker::Model;
 use std::slice;
-use wast_tree::{Handle, ResumeTable};
+use wast_nodes::{Handle, ResumeTable};
 
 /// The handlers of a resumption as values, in order, which contracts see as the list of those that are left. No call on
 /// it takes memory.

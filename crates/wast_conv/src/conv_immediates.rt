@@ -4,15 +4,15 @@ ghost use Rattle.std.specs.Int.{w64, is_power_of_two, trailing_zeros};
 ghost use Rattle.std.specs.Prelude.{◌≡◌, ◌<◌, map, IsTrue};
 ghost use Rattle.std.specs.List.{list_all};
 ghost use Rattle.wast_base.specs.Ids.{is_number};
-ghost use Rattle.wast_tree.specs.Sites.{OfBlock, start, if_there, in_val, in_signature, in_use, in_catch, in_target};
-ghost use Rattle.wast_tree.specs.Resolved.{are_numbered};
+ghost use Rattle.wast_nodes.specs.Sites.{OfBlock, start, if_there, in_val, in_signature, in_use, in_catch, in_target};
+ghost use Rattle.wast_nodes.specs.Resolved.{are_numbered};
 ghost use Rattle.wast_conv.specs.Encodable.{are_resolved, is_resolved_handle};
 ghost use Rattle.wast_conv.specs.Meaning as meaning;
 
 use crate::conv::{index, val_type};
 use crate::conv_handles::Handles;
 use crate::conv_vectors::mem_arg_ordering;
-use wast_tree::{
+use wast_nodes::{
     FunctionType, MemoryArg, ResumeTable, TableArg, TryTableCatch, TryTableCatchKind, ValType,
 };
 
@@ -40,7 +40,7 @@ fn short_type(inline: &Option<FunctionType>) -> wasm_ops::BlockType
 
 /// The type of a block (binary format, control instructions). It needs a resolved index, and without one an inline type
 /// that has no parameters and at most one result. The inline type beside an index is not written.
-pub fn block_type(block: &wast_tree::BlockType) -> wasm_ops::BlockType
+pub fn block_type(block: &wast_nodes::BlockType) -> wasm_ops::BlockType
     requires { IsTrue (are_resolved (in_use OfBlock block.now.ty)) }
     ensures { result ≡ meaning.as_block_type block.now }
 {
@@ -88,13 +88,13 @@ pub fn memory_arg(arg: &MemoryArg) -> u32
 }
 
 /// The memory that a memory argument reads or writes, or the type of the array (binary format, memory instructions). It needs a resolved index.
-fn mem_arg_target(target: &wast_tree::MemArgTarget) -> wasm_ops::MemArgTarget
+fn mem_arg_target(target: &wast_nodes::MemArgTarget) -> wasm_ops::MemArgTarget
     requires { IsTrue (are_numbered (in_target target.now)) }
     ensures { result ≡ meaning.as_mem_arg_target target.now }
 {
     match target {
-        wast_tree::MemArgTarget::Memory(memory) => wasm_ops::MemArgTarget::Memory(index(memory)),
-        wast_tree::MemArgTarget::Array(ty) => wasm_ops::MemArgTarget::Array(index(ty)),
+        wast_nodes::MemArgTarget::Memory(memory) => wasm_ops::MemArgTarget::Memory(index(memory)),
+        wast_nodes::MemArgTarget::Array(ty) => wasm_ops::MemArgTarget::Array(index(ty)),
     }
 }
 
@@ -108,7 +108,7 @@ fn logarithm(align: u64) -> u32
 
 /// A memory argument (binary format, memory instructions). It needs a resolved index. The alignment is written as the
 /// number of its trailing zero bits, which is its logarithm where it is a power of two, and then below 64.
-pub fn mem_arg(arg: &wast_tree::MemArg) -> wasm_ops::MemArg
+pub fn mem_arg(arg: &wast_nodes::MemArg) -> wasm_ops::MemArg
     requires { IsTrue (are_numbered (in_target arg.now.target)) }
     ensures value { result ≡ meaning.as_mem_arg arg.now }
     ensures aligned { IsTrue (is_power_of_two arg.now.align) → result.align < 64 }
@@ -122,16 +122,16 @@ pub fn mem_arg(arg: &wast_tree::MemArg) -> wasm_ops::MemArg
 }
 
 /// A handler of a resumption (stack switching). It needs resolved indices.
-pub fn handle(handle: &wast_tree::Handle) -> wasm_ops::Handle
+pub fn handle(handle: &wast_nodes::Handle) -> wasm_ops::Handle
     requires { IsTrue (is_resolved_handle handle.now) }
     ensures { result ≡ meaning.as_handle handle.now }
 {
     match handle {
-        wast_tree::Handle::OnLabel { tag, label } => wasm_ops::Handle::OnLabel {
+        wast_nodes::Handle::OnLabel { tag, label } => wasm_ops::Handle::OnLabel {
             tag: index(tag),
             label: index(label),
         },
-        wast_tree::Handle::OnSwitch { tag } => wasm_ops::Handle::OnSwitch { tag: index(tag) },
+        wast_nodes::Handle::OnSwitch { tag } => wasm_ops::Handle::OnSwitch { tag: index(tag) },
     }
 }
 

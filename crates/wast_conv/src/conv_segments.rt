@@ -2,7 +2,7 @@
 
 ghost use Rattle.std.specs.Prelude.{◌≡◌, IfOk, IfErr, IsTrue};
 ghost use Rattle.std.specs.List.{All, list_all};
-ghost use Rattle.wast_tree.specs.DataBytes.{all_bytes};
+ghost use Rattle.wast_nodes.specs.DataBytes.{all_bytes};
 ghost use Rattle.wast_base.specs.Faults.{out_of_memory};
 ghost use Rattle.wasm_ops.specs.ConstExprs.{InRangeExpression};
 ghost use Rattle.wasm_out.specs.Built.{IsRefused};
@@ -15,7 +15,8 @@ use crate::conv::{const_expr, converted, ref_type};
 use std::alloc::Global;
 use wasm_ops::ConstExpr;
 use wasm_out::Elements;
-use wast_tree::{DataVal, ElemPayload, Error, Expression, Seq};
+use wast_base::{Error, Seq};
+use wast_nodes::{DataVal, ElemPayload, Expression};
 
 /// Each expression of a list.
 fn const_exprs<'e>(alloc: Global, expressions: &[Expression]) -> Result<Seq<ConstExpr>, Error<'e>>

@@ -6,7 +6,7 @@ ghost use Rattle.wast_base.specs.Ids.{is_number};
 ghost use Rattle.wast_conv.specs.Meaning as meaning;
 
 use crate::conv::index;
-use wast_tree::{ArrayFill, F32, F64, I8x16Shuffle, LaneArg, V128Const};
+use wast_nodes::{ArrayFill, F32, F64, I8x16Shuffle, LaneArg, V128Const};
 
 /// The bits of a lane.
 fn byte_at(lanes: &[i8; 16], i: usize) -> u8
@@ -182,17 +182,17 @@ pub fn array_fill(arg: &ArrayFill) -> u32
 }
 
 /// An ordering (binary format, atomic memory instructions).
-pub fn ordering(ordering: wast_tree::Ordering) -> wasm_ops::Ordering
+pub fn ordering(ordering: wast_nodes::Ordering) -> wasm_ops::Ordering
     ensures { result ≡ meaning.as_ordering ordering }
 {
     match ordering {
-        wast_tree::Ordering::SeqCst => wasm_ops::Ordering::SeqCst,
-        wast_tree::Ordering::AcqRel => wasm_ops::Ordering::AcqRel,
+        wast_nodes::Ordering::SeqCst => wasm_ops::Ordering::SeqCst,
+        wast_nodes::Ordering::AcqRel => wasm_ops::Ordering::AcqRel,
     }
 }
 
 /// The ordering of a fence, which is sequentially consistent where none is written.
-pub(crate) fn fence_ordering(written: Option<wast_tree::Ordering>) -> wasm_ops::Ordering
+pub(crate) fn fence_ordering(written: Option<wast_nodes::Ordering>) -> wasm_ops::Ordering
     ensures { result ≡ meaning.fence_ordering written }
 {
     match written {
@@ -202,11 +202,11 @@ pub(crate) fn fence_ordering(written: Option<wast_tree::Ordering>) -> wasm_ops::
 }
 
 /// An ordering that is written on a memory argument (binary format, atomic memory instructions).
-pub fn mem_arg_ordering(written: wast_tree::MemArgOrdering) -> wasm_ops::MemArgOrdering
+pub fn mem_arg_ordering(written: wast_nodes::MemArgOrdering) -> wasm_ops::MemArgOrdering
     ensures { result ≡ meaning.as_mem_arg_ordering written }
 {
     match written {
-        wast_tree::MemArgOrdering::Op(own) => wasm_ops::MemArgOrdering::Op(ordering(own)),
-        wast_tree::MemArgOrdering::Rmw(own) => wasm_ops::MemArgOrdering::Rmw(ordering(own)),
+        wast_nodes::MemArgOrdering::Op(own) => wasm_ops::MemArgOrdering::Op(ordering(own)),
+        wast_nodes::MemArgOrdering::Rmw(own) => wasm_ops::MemArgOrdering::Rmw(ordering(own)),
     }
 }

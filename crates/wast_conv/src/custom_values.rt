@@ -8,7 +8,8 @@ ghost use Rattle.wast_conv.specs.Customs.{as_producer_value, as_producer_field, 
 
 use crate::values::Resolved;
 use wasm_ops::{Counted, Each, Encode, Name, Raw, Refusal, Sink, Spell, WithLength};
-use wast_tree::{Custom, Dylink0Subsection, Seq};
+use wast_base::Seq;
+use wast_nodes::{Custom, Dylink0Subsection};
 
 /// A name in a list (binary format, names).
 impl<'a> Spell<&'a str> for Resolved {

@@ -6,7 +6,7 @@ ghost use Rattle.wasm_ops.specs.Entities.{InRangeMemoryType, InRangeTagType};
 ghost use Rattle.wasm_ops.specs.Spelling.{InRangeU32};
 ghost use Rattle.wasm_out.specs.Built.{Adds};
 ghost use Rattle.wasm_out.specs.Parts.{import_entry, InRangeImport, table_entry, InRangeTable, global_entry, InRangeGlobal};
-ghost use Rattle.wast_tree.specs.Sites.{in_table_type, in_global_type};
+ghost use Rattle.wast_nodes.specs.Sites.{in_table_type, in_global_type};
 ghost use Rattle.wast_conv.specs.Encodable.{are_encodable, is_encodable_expression, is_encodable_init, is_encodable_import, is_encodable_table, is_encodable_memory, is_encodable_global, is_encodable_tag};
 ghost use Rattle.wast_conv.specs.Meaning as meaning;
 
@@ -16,8 +16,9 @@ use crate::values::Resolved;
 use std::alloc::Global;
 use wasm_ops::{Sink, Spell};
 use wasm_out::{GlobalSection, ImportSection, MemorySection, TableSection, TagSection};
-use wast_tree::{
-    CustomPlaceAnchor, Error, Expression, GlobalKind, GlobalType, ImportItems, Imports, Memory,
+use wast_base::Error;
+use wast_nodes::{
+    CustomPlaceAnchor, Expression, GlobalKind, GlobalType, ImportItems, Imports, Memory,
     MemoryKind, Table, TableKind, TableType, Tag,
 };
 
@@ -131,7 +132,7 @@ fn add_global<'e>(
     section.global(&conv::global_type(ty), &conv::const_expr(alloc, init)?)
 }
 
-impl SectionItem for wast_tree::Global<'_> {
+impl SectionItem for wast_nodes::Global<'_> {
     type Section = GlobalSection;
 
     const ANCHOR: CustomPlaceAnchor = CustomPlaceAnchor::Global;

@@ -6,14 +6,14 @@ ghost use Rattle.wasm_ops.specs.Entities as entities;
 ghost use Rattle.wasm_ops.specs.Entities.{InRangeMemoryType, InRangeTagType};
 ghost use Rattle.wasm_ops.specs.Sinks.{Writes};
 ghost use Rattle.wasm_out.specs.Parts.{import_entry, InRangeImport, table_entry, InRangeTable, global_entry, InRangeGlobal};
-ghost use Rattle.wast_tree.specs.Sites.{in_table_type, in_global_type, in_item_kind};
+ghost use Rattle.wast_nodes.specs.Sites.{in_table_type, in_global_type, in_item_kind};
 ghost use Rattle.wast_conv.specs.Encodable.{are_encodable, are_entered, is_encodable_expression, is_encodable_init, is_encodable_import, is_encodable_table, is_encodable_memory, is_encodable_global, is_encodable_tag};
 ghost use Rattle.wast_conv.specs.Meaning as meaning;
 
 use crate::conv;
 use crate::values::Resolved;
 use wasm_ops::{By, Each, Encode, Name, Refusal, Sink, Spell};
-use wast_tree::{
+use wast_nodes::{
     Expression, Global, GlobalKind, GlobalType, ImportItems, Imports, ItemKind, Memory, MemoryKind,
     Table, TableKind, TableType, Tag,
 };

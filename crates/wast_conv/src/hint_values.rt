@@ -8,8 +8,8 @@ ghost use Rattle.wasm_ops.specs.Table.{instr, InRangeInstr};
 ghost use Rattle.wasm_ops.specs.declared.sink.Refusal.TheVariants as refusal;
 ghost use Rattle.wasm_out.specs.Bodies as bodies;
 ghost use Rattle.wasm_out.specs.Hints.{branch_hint, InRangeBranchHint};
-ghost use Rattle.wast_tree.specs.Clauses.{stand_from};
-ghost use Rattle.wast_tree.specs.Sites.{in_local};
+ghost use Rattle.wast_nodes.specs.Clauses.{stand_from};
+ghost use Rattle.wast_nodes.specs.Sites.{in_local};
 ghost use Rattle.wast_conv.specs.Encodable.{are_encodable, is_encodable_instr};
 ghost use Rattle.wast_conv.specs.Hints.{hint_at, as_branch_hint, as_hinted, InRangeHintsOf, body_hints, InRangeBodyHints, are_encodable_hints};
 ghost use Rattle.wast_conv.specs.Meaning as meaning;
@@ -17,7 +17,7 @@ ghost use Rattle.wast_conv.specs.Meaning as meaning;
 use crate::values::Resolved;
 use wasm_ops::{Each, Encode, Length, Refusal, Sink};
 use wasm_out::Locals;
-use wast_tree::{BranchHint, FuncKind, Instruction, Local};
+use wast_nodes::{BranchHint, FuncKind, Instruction, Local};
 
 /// Counts the bytes of the locals of a body.
 fn counted_locals(locals: &[Local]) -> Result<Length, Refusal>

@@ -2,7 +2,7 @@
 
 ghost use Rattle.std.specs.Prelude.{◌≡◌, true, map, option_map, IsTrue};
 ghost use Rattle.wast_base.specs.Ids.{is_number};
-ghost use Rattle.wast_tree.specs.Sites.{OfBlock, start, is_sequential, in_heap, in_ref, in_access, in_cast, in_mem_arg, in_select, in_indirect, in_use, in_br_table, in_try_table};
+ghost use Rattle.wast_nodes.specs.Sites.{OfBlock, start, is_sequential, in_heap, in_ref, in_access, in_cast, in_mem_arg, in_select, in_indirect, in_use, in_br_table, in_try_table};
 ghost use Rattle.wasm_ops.specs.CastInstrs.{cast_instr, br_cast_instr, fence_instr};
 ghost use Rattle.wasm_ops.specs.ConstantInstrs.{ref_null_instr};
 ghost use Rattle.wasm_ops.specs.Control.{catch_clause, InRangeCatch};
@@ -28,10 +28,11 @@ use wasm_ops::{
     IndexPairOp, LaneInstr, LanesInstr, LanesOp, MemInstr, MemLaneInstr, RefNull, Refusal, Sink,
     Spell,
 };
-use wast_tree::{
-    ArrayNewFixed, BlockType, Boxed, BrTableIndices, CallIndirect, HeapType, Index, Instruction,
-    LaneArg, LaneOp, LoadOrStoreLane, MemArg, MemLaneOp, MemOp, Ordering, RefType, SelectTypes,
-    StructAccess, TryTable, TryTableCatch, V128Const,
+use wast_base::{Boxed, Index, LaneOp, MemLaneOp, MemOp};
+use wast_nodes::{
+    ArrayNewFixed, BlockType, BrTableIndices, CallIndirect, HeapType, Instruction, LaneArg,
+    LoadOrStoreLane, MemArg, Ordering, RefType, SelectTypes, StructAccess, TryTable, TryTableCatch,
+    V128Const,
 };
 
 /// An instruction whose one immediate is an index.

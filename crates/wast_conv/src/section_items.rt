@@ -16,7 +16,8 @@ use crate::values::Resolved;
 use std::alloc::Global;
 use wasm_ops::{Counted, Encode, Refusal, Sink, Spell};
 use wasm_out::{Build, ExportSection, FunctionSection, TypeSection};
-use wast_tree::{CustomPlaceAnchor, Error, Export, FunctionType, Rec, Type, TypeUse};
+use wast_base::Error;
+use wast_nodes::{CustomPlaceAnchor, Export, FunctionType, Rec, Type, TypeUse};
 
 /// An item of a section.
 ///

@@ -17,7 +17,8 @@ use crate::values::Resolved;
 use std::alloc::Global;
 use wasm_ops::{Sink, Spell};
 use wasm_out::{DataSection, ElementSection, Elements};
-use wast_tree::{CustomPlaceAnchor, Data, DataKind, Elem, ElemKind, Error};
+use wast_base::Error;
+use wast_nodes::{CustomPlaceAnchor, Data, DataKind, Elem, ElemKind};
 
 /// Adds a segment of elements.
 fn add_elements<'e>(

@@ -1,7 +1,7 @@
 //! Segments of a resolved tree as entries of sections, as they are spelled.
 
 ghost use Rattle.std.specs.Prelude.{◌≡◌, true, IsTrue};
-ghost use Rattle.wast_tree.specs.DataBytes.{data_bytes};
+ghost use Rattle.wast_nodes.specs.DataBytes.{data_bytes};
 ghost use Rattle.wasm_ops.specs.Spelling.{Any};
 ghost use Rattle.wasm_out.specs.BuiltData.{is_ready_data};
 ghost use Rattle.wasm_out.specs.BuiltElements.{is_ready_mode};
@@ -15,7 +15,7 @@ use crate::conv;
 use crate::values::Resolved;
 use wasm_ops::{By, Counted, Each, Encode, Raw, Refusal, Sink, Spell};
 use wasm_out::{DataMode, DataSegment, ElementKind, ElementSegment, SegmentMode};
-use wast_tree::{Data, DataKind, DataVal, Elem, ElemKind, ElemPayload, Expression};
+use wast_nodes::{Data, DataKind, DataVal, Elem, ElemKind, ElemPayload, Expression};
 
 /// Where a segment of elements stands.
 fn mode_of<'b, 'a>(kind: &'b ElemKind<'a>) -> SegmentMode<By<'b, Expression<'a>, Resolved>>

@@ -3,7 +3,7 @@
 ghost use Rattle.std.specs.Prelude.{◌≡◌, IsTrue};
 ghost use Rattle.std.specs.List.{list_all};
 ghost use Rattle.wast_base.specs.Ids.{is_number};
-ghost use Rattle.wast_tree.specs.Sites.{in_val, in_param, in_signature, in_struct_field, in_struct, in_array, in_inner, in_def, in_local};
+ghost use Rattle.wast_nodes.specs.Sites.{in_val, in_param, in_signature, in_struct_field, in_struct, in_array, in_inner, in_def, in_local};
 ghost use Rattle.wasm_ops.specs.declared.types.CompositeInnerType.TheVariants as composite;
 ghost use Rattle.wasm_ops.specs.Leb128.{unsigned};
 ghost use Rattle.wasm_ops.specs.Sinks.{Writes};
@@ -18,9 +18,10 @@ use crate::conv;
 use crate::conv_entities::type_index;
 use wasm_ops::{By, Counted, Each, Encode, Name, Refusal, Sink, Spell};
 use wasm_out::{LocalType, Locals};
-use wast_tree::{
-    ArrayType, Export, FuncKind, FunctionType, Id, Index, InnerTypeKind, Instruction, Local,
-    NameAnnotation, StructField, StructType, Type, TypeDef, TypeUse, ValType,
+use wast_base::{Id, Index, NameAnnotation};
+use wast_nodes::{
+    ArrayType, Export, FuncKind, FunctionType, InnerTypeKind, Instruction, Local, StructField,
+    StructType, Type, TypeDef, TypeUse, ValType,
 };
 
 /// The way to spell parts of a resolved tree: by the numbers of their indices (binary format). It needs covered

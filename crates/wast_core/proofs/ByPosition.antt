@@ -9,7 +9,7 @@ use Rattle.wasm_ops.proofs.Everywhere.{all_both}
 use Rattle.wasm_out.specs.NameSectionBytes.{InRangeNameSubsection}
 use Rattle.wasm_out.specs.Parts.{SectionKind, Data, Part, part, InRangePart}
 use Rattle.wasm_out.specs.Reads.{header}
-use Rattle.wast_tree.specs.Generations.{greatest_generation}
+use Rattle.wast_nodes.specs.Generations.{greatest_generation}
 use Rattle.wast_map.specs.Mapped.{mapped}
 use Rattle.wast_map.specs.Laws.{all_mapped}
 use Rattle.wast_demands.specs.Explicit.{by_positions}
@@ -21,7 +21,7 @@ use Rattle.wast_core.specs.Tree.{ModuleField}
 use Rattle.wast_core.specs.declared.slots.Slot.{Slot}
 use Rattle.wast_core.specs.declared.slots.Slot.TheVariants as slot
 use Rattle.wast_core.specs.Slots.{section_kind, order}
-use Rattle.wast_tree.specs.Customs.{customs_in, customs_at, is_custom_called}
+use Rattle.wast_nodes.specs.Customs.{customs_in, customs_at, is_custom_called}
 use Rattle.wast_core.specs.Tree.{CustomPlace}
 use Rattle.wast_conv.specs.Customs.{custom_part, InRangeCustomBytes}
 use Rattle.wast_core.specs.Tree.field
@@ -30,7 +30,7 @@ use Rattle.wasm_out.specs.Bodies.{Body}
 use Rattle.wast_base.specs.Spaces.{same_space}
 use Rattle.wast_map.specs.Mapped.{mapped_func_kind, mapped_import_items, mapped_sig}
 use Rattle.wast_names.specs.GivenNames.{named_from}
-use Rattle.wast_tree.specs.Imports.{item_sigs}
+use Rattle.wast_nodes.specs.Imports.{item_sigs}
 use Rattle.wast_core.specs.Tree.{FunctionType, TypeUse, FuncKind, ImportItems}
 use Rattle.wast_core.specs.Tree.func
 use Rattle.wast_core.specs.Tree.space

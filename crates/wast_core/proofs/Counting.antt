@@ -9,7 +9,7 @@ use Rattle.wasm_ops.specs.declared.sink.Refusal.{Refusal}
 use Rattle.wasm_ops.specs.Sinks.{SinkRules, Writes}
 use Rattle.wasm_ops.proofs.Sinking.{puts_as}
 use Rattle.wasm_out.specs.Parts.{Data, Part, part, InRangePart}
-use Rattle.wast_tree.specs.Sites.{Here, behind, param_marks, local_marks, body_here}
+use Rattle.wast_nodes.specs.Sites.{Here, behind, param_marks, local_marks, body_here}
 use Rattle.wast_map.specs.Mapped.{Change, mapped_instr, mapped_instrs, mapped_func_kind, mapped}
 use Rattle.wast_map.specs.Laws.{all_mapped}
 use Rattle.wast_reach.specs.Kinds.{is_of}
@@ -20,7 +20,7 @@ use Rattle.wast_reach.proofs.Reaching.{all_there}
 use Rattle.wast_core.specs.Tree.{FunctionType, TypeUse, Instruction, FuncKind, ModuleField}
 use Rattle.wast_core.specs.Tree.func
 use Rattle.wast_core.specs.Tree.field
-use Rattle.wast_tree.specs.Instrs.{needs_data_count}
+use Rattle.wast_nodes.specs.Instrs.{needs_data_count}
 use Rattle.wast_core.specs.DataCounts.{instrs_of, body_instrs, body_needs_count, needs_count, count_parts}
 use Rattle.wast_core.specs.Extents.{is_counted}
 use Rattle.wast_core.specs.Meaning.{entries, data_counts}

@@ -5,10 +5,10 @@ use Rattle.std.specs.Global.{Vec}
 use Rattle.wast_base.specs.declared.faults.Error.{Error}
 use Rattle.wast_base.specs.declared.faults.Form.{Form}
 use Rattle.wast_base.specs.Faults.{too_large}
-use Rattle.wast_tree.specs.Generations.{greatest_generation}
-use Rattle.wast_tree.specs.Items.{items}
-use Rattle.wast_tree.specs.Known.{known}
-use Rattle.wast_tree.specs.WellFormed.{is_well_formed}
+use Rattle.wast_nodes.specs.Generations.{greatest_generation}
+use Rattle.wast_nodes.specs.Items.{items}
+use Rattle.wast_nodes.specs.Known.{known}
+use Rattle.wast_nodes.specs.WellFormed.{is_well_formed}
 use Rattle.wast_demands.specs.Finished.{finished}
 use Rattle.wast_passes.specs.Resolvers.{KnownNames}
 use Rattle.wast_alike.specs.Laws.{FinishedStaysWellFormed, FinishedIsResolved, FinishedIsWrittenOut, SamePositions}

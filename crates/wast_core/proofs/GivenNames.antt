@@ -6,7 +6,7 @@ use Rattle.wasm_ops.specs.declared.sink.Refusal.{Refusal}
 use Rattle.wasm_ops.specs.declared.sink.Refusal.TheVariants as refusal
 use Rattle.wasm_out.specs.NameSectionBytes.{InRangeNameSubsection}
 use Rattle.wasm_out.specs.Parts.{InRangePart}
-use Rattle.wast_tree.specs.Customs.{custom_place, place_rank}
+use Rattle.wast_nodes.specs.Customs.{custom_place, place_rank}
 use Rattle.wast_reach.specs.Kinds.{is_of}
 use Rattle.wast_reach.specs.Reaches.{none_pass}
 use Rattle.wast_reach.specs.declared.kinds.FieldKind.TheVariants as kind

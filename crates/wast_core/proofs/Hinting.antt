@@ -16,13 +16,13 @@ use Rattle.wasm_ops.proofs.Sinking.{written_as, one_written}
 use Rattle.wasm_out.specs.Hints.{function_hints, hints, hints_name, hints_payload}
 use Rattle.wasm_out.specs.Parts.{Custom, Part, part, InRangePart}
 use Rattle.wast_conv.specs.Hints.{HintedBody, as_hinted}
-use Rattle.wast_tree.specs.Imports.{item_sigs}
+use Rattle.wast_nodes.specs.Imports.{item_sigs}
 use Rattle.wast_names.specs.GivenNames.{named_from}
 use Rattle.wast_names.proofs.Each.{each_more, each_around}
 use Rattle.wast_names.proofs.NameEntries.{named_append, as_many}
 use Rattle.wast_reach.specs.Kinds.{is_of}
 use Rattle.wast_reach.specs.declared.kinds.FieldKind.TheVariants as kind
-use Rattle.wast_tree.specs.Items.{space_of_kind}
+use Rattle.wast_nodes.specs.Items.{space_of_kind}
 use Rattle.wast_core.specs.Tree.{Func, FuncKind, ImportItems, ItemSig, ModuleField}
 use Rattle.wast_core.specs.Tree.space
 use Rattle.wast_core.specs.Tree.field

@@ -7,8 +7,8 @@ use Rattle.std.proofs.Math.Bool.{or-true}
 use Rattle.std.proofs.lemmas.Bool.{lt-ltb}
 use Rattle.std.proofs.lemmas.List.Elements.{All-nil, All-head}
 use Rattle.std.proofs.lemmas.List.Folds.{list_any-append}
-use Rattle.wast_tree.specs.DataBytes.{all_bytes}
-use Rattle.wast_tree.specs.Items.{Item, items_in}
+use Rattle.wast_nodes.specs.DataBytes.{all_bytes}
+use Rattle.wast_nodes.specs.Items.{Item, items_in}
 use Rattle.wasm_ops.proofs.Everywhere.{all_left, all_right}
 use Rattle.wasm_out.specs.DataSegments.{DataEntry, InRangeDataEntry}
 use Rattle.wasm_out.specs.Parts.{Data, InRangePart}

@@ -2,7 +2,7 @@
 use Rattle.std.proofs.Common.{◌≡◌, ◌+◌, Bool, true, false, [], ◌∷◌, refl, ap}
 use Rattle.std.specs.Prelude.{if◌then◌else◌}
 use Rattle.std.proofs.lemmas.Bool.{eqb-true, eqb-false}
-use Rattle.wast_tree.specs.Customs.{custom_place, place_rank, stands_at, customs_in}
+use Rattle.wast_nodes.specs.Customs.{custom_place, place_rank, stands_at, customs_in}
 use Rattle.wast_core.specs.Tree.{CustomPlace}
 use Rattle.wasm_out.specs.Parts.{SectionKind, Types, Imports, Functions, Tables, Memories, Tags, Globals, Exports, Elements, Code, Data}
 use Rattle.wast_reach.specs.Kinds.{is_of}

@@ -7,7 +7,7 @@ use Rattle.std.proofs.lemmas.List.Elements.{All-nil, All-map}
 use Rattle.std.proofs.lemmas.Str.{is_utf8-from_IsUtf8}
 use lib.Utf8.{encode}
 use Rattle.wasm_ops.proofs.Everywhere.{all_each, all_one, all_both, all_tested, all_in_flat}
-use Rattle.wast_tree.specs.Sites.{Site, asking, uncovered, in_rec, in_sig, in_import, in_table_type, in_global_type}
+use Rattle.wast_nodes.specs.Sites.{Site, asking, uncovered, in_rec, in_sig, in_import, in_table_type, in_global_type}
 use Rattle.wasm_out.specs.NameSectionBytes.{NameSubsection}
 use Rattle.wasm_out.specs.Parts.{SectionKind, Types, Imports, Functions, Tables, Memories, Tags, Globals, Exports, Elements, Code, Data, Single, Entry, Listed, DataCount, InRangePart}
 use Rattle.wasm_out.specs.Readable.{is_covered_init, HasRowsInit, is_balanced_init, is_covered_entry, HasRows, is_balanced_entry, HasUtf8Name, IsReadable, IsReadablePart}
@@ -33,7 +33,7 @@ use Rattle.wast_conv.specs.Hints.{HintedBody}
 use Rattle.wast_core.specs.Hints.{hinted, hints_part}
 use Rattle.wast_core.specs.Meaning.{Contribution, nothing, subsections_of, of_type, of_rec, of_import, of_func, of_table, of_memory, of_global, of_export, of_start, of_elem, of_data, of_tag, of_kind, contributed, entries_in, entries, listed, start_part, starts_in, in_slot, parts}
 use Rattle.wast_core.specs.Utf8Names.{HasUtf8Items, HasUtf8Names}
-use Rattle.wast_tree.specs.Customs.{stands_at, customs_in, customs_at}
+use Rattle.wast_nodes.specs.Customs.{stands_at, customs_in, customs_at}
 use Rattle.wast_core.specs.Tree.{CustomPlace}
 use Rattle.wast_conv.specs.Customs.{custom_part}
 use Rattle.wast_names.specs.NamesPart.{names_part}

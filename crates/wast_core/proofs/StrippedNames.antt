@@ -5,9 +5,9 @@ use Rattle.std.specs.Borrow.{Bor}
 use Rattle.std.specs.List.{flat_map}
 use Rattle.std.proofs.lemmas.Grind.{common_steps}
 use Rattle.wast_base.specs.Ids.{Name, Written, Generated, name_of, is_generated}
-use Rattle.wast_tree.specs.Imports.{item_sigs}
-use Rattle.wast_tree.specs.Items.{space_of_kind}
-use Rattle.wast_tree.specs.Sites.{Here, behind, param_marks, local_marks, body_here}
+use Rattle.wast_nodes.specs.Imports.{item_sigs}
+use Rattle.wast_nodes.specs.Items.{space_of_kind}
+use Rattle.wast_nodes.specs.Sites.{Here, behind, param_marks, local_marks, body_here}
 use Rattle.wast_map.specs.Mapped.{mapped_type, mapped_tag_type, mapped_item_kind, mapped_sig, mapped_import_items, mapped_instr, mapped_instrs, mapped_local, mapped_func_kind, mapped_func, mapped}
 use Rattle.wast_map.specs.Laws.{all_mapped}
 use Rattle.wast_demands.specs.Stripped.{written_id, at_start, stripped_use, stripping}

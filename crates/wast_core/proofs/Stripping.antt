@@ -4,7 +4,7 @@ use Rattle.std.proofs.Common.{◌≡◌, List, [], ◌∷◌, ◌++◌, map, Opt
 use Rattle.std.specs.Prelude.{unwrap_or}
 use Rattle.std.proofs.lemmas.Grind.{common_steps}
 use Rattle.wast_base.specs.Blocks.{Blocks}
-use Rattle.wast_tree.specs.Sites.{Here, start, behind, param_marks, local_marks, body_here}
+use Rattle.wast_nodes.specs.Sites.{Here, start, behind, param_marks, local_marks, body_here}
 use Rattle.wast_map.specs.Mapped.{mapped_heap, mapped_ref, mapped_def, mapped_type, mapped_table_type, mapped_global_type, mapped_tag_type, mapped_block, mapped_catch, mapped_instr, mapped_instrs, mapped_constant, mapped_local, mapped_func_kind, mapped_item_kind, mapped_import_items, mapped_payload, mapped_table_kind, mapped_global_kind, mapped_elem_kind, mapped_data_kind}
 use Rattle.wast_map.proofs.Types.{heap_at, ref_at, val_at, type_at, table_type_at, global_type_at}
 use Rattle.wast_map.proofs.Fields.{mem_arg_at, select_at}

@@ -15,9 +15,9 @@ use Rattle.wasm_out.specs.NameSectionBytes.{InRangeNameEntry, InRangeNameSubsect
 use Rattle.wasm_out.specs.Parts.{Types, Functions, Exports, Code, InRangeEntry, InRangePart}
 use Rattle.wasm_out.specs.Reads.{Reads}
 use Rattle.wasm_out.specs.WorkedBytes as out
-use Rattle.wast_tree.specs.Items.{items}
-use Rattle.wast_tree.specs.WorkedModules as worked
-use Rattle.wast_tree.specs.WorkedModules.{Address}
+use Rattle.wast_nodes.specs.Items.{items}
+use Rattle.wast_nodes.specs.WorkedModules as worked
+use Rattle.wast_nodes.specs.WorkedModules.{Address}
 use Rattle.wast_demands.specs.Explicit.{explicit, by_positions}
 use Rattle.wast_demands.specs.Demands.{item_counts, body_counts, HasMany, IsCrowded}
 use Rattle.wast_demands.specs.Resolved.{resolved}
@@ -28,7 +28,7 @@ use Rattle.wast_core.specs.Bounded.{InRangeHeld, InRangeSlot, InRangeModule, IsB
 use Rattle.wast_core.specs.Hints.{hinted, InRangeHinted, InRangeHints}
 use Rattle.wast_core.specs.Meaning.{in_slot, subsections_of, parts, meaning}
 use Rattle.wast_core.specs.Utf8Names.{HasUtf8Names}
-use Rattle.wast_tree.specs.Customs.{customs_at}
+use Rattle.wast_nodes.specs.Customs.{customs_at}
 use Rattle.wast_core.specs.Tree.{CustomPlace}
 use Rattle.wast_conv.specs.Customs.{InRangeCustomBytes}
 use Rattle.wast_core.specs.Slots.{order}

@@ -14,7 +14,7 @@ use Rattle.wast_core.specs.declared.slots.Slot.{Slot}
 use Rattle.wast_core.specs.declared.slots.Slot.TheVariants as slot
 use Rattle.wasm_out.specs.NameSectionBytes.{InRangeNameSubsection}
 use Rattle.wast_conv.specs.Customs.{InRangeCustomBytes}
-use Rattle.wast_tree.specs.Customs.{customs_at}
+use Rattle.wast_nodes.specs.Customs.{customs_at}
 
 -- the bytes of a resolved list, of a module with this name
 abbrev pub bytes_of : Option (List ℕ) → List ModuleField → List ℕ

@@ -7,8 +7,8 @@ use Rattle.wast_base.specs.declared.faults.Error.{Error}
 use Rattle.wast_base.specs.declared.faults.Fault.TheVariants as fault
 use Rattle.wast_base.specs.declared.faults.Form.{Form}
 use Rattle.wast_base.specs.Faults.{refused, too_large, out_of_memory}
-use Rattle.wast_tree.specs.Known.{known}
-use Rattle.wast_tree.specs.Items.{items}
+use Rattle.wast_nodes.specs.Known.{known}
+use Rattle.wast_nodes.specs.Items.{items}
 use Rattle.wasm_out.specs.Reads.{Reads}
 use Rattle.wast_demands.specs.Explicit.{explicit, explicit_from, ids_filled}
 use Rattle.wast_demands.specs.Demands.{demands, first_unmet, IsUnresolved}

@@ -8,8 +8,8 @@ use Rattle.wasm_out.specs.Parts.{Custom, Part}
 use Rattle.wasm_out.specs.declared.hints.BranchHint.{BranchHint}
 use Rattle.wast_conv.specs.Hints.{HintedBody, hints_of, as_hinted, as_hints, InRangeBodyHints}
 use Rattle.wast_names.specs.GivenNames.{named_from}
-use Rattle.wast_tree.specs.Imports.{item_sigs}
-use Rattle.wast_tree.specs.Items.{space_of_kind}
+use Rattle.wast_nodes.specs.Imports.{item_sigs}
+use Rattle.wast_nodes.specs.Items.{space_of_kind}
 use Rattle.wast_core.specs.Tree.{FuncKind, ItemSig, ModuleField}
 use Rattle.wast_core.specs.Tree.space
 use Rattle.wast_core.specs.Tree.field

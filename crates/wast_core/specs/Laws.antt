@@ -2,8 +2,8 @@
 -- sections stand.
 use Rattle.std.specs.Prelude.{◌≡◌, ℕ, ◌<◌, List, [], ◌∷◌, Option}
 use Rattle.std.specs.List.{filter}
-use Rattle.wast_tree.specs.Customs.{custom_place}
-use Rattle.wast_tree.specs.Generations.{greatest_generation}
+use Rattle.wast_nodes.specs.Customs.{custom_place}
+use Rattle.wast_nodes.specs.Generations.{greatest_generation}
 use Rattle.wast_demands.specs.Finished.{finished}
 use Rattle.wast_core.specs.Tree.{Custom, ModuleField}
 use Rattle.wast_core.specs.Slots.{order, is_place}

@@ -13,7 +13,7 @@ use Rattle.wasm_out.specs.ElementSegments.{ElementEntry}
 use Rattle.wasm_out.specs.Parts.{SectionKind, Types, Imports, Functions, Tables, Memories, Tags, Globals, Exports, Elements, Code, Data, Entry, TypeEntry, Single, ImportEntry, TableEntry, GlobalEntry, ExportEntry, Start, Listed, Part, part}
 use Rattle.wast_demands.specs.Explicit.{by_positions}
 use Rattle.wast_demands.specs.Resolved.{resolved}
-use Rattle.wast_tree.specs.Customs.{customs_at, is_custom_called}
+use Rattle.wast_nodes.specs.Customs.{customs_at, is_custom_called}
 use Rattle.wast_conv.specs.Customs.{custom_part}
 use Rattle.wasm_out.specs.NameSectionBytes.{NameSubsection}
 use Rattle.wast_names.specs.ModuleNames.{name_subsections}

@@ -1,8 +1,8 @@
 -- Which modules are well formed, the greatest generation of their ids, and when they are ready to be resolved.
 use Rattle.std.specs.Prelude.{ℕ, max, ◌<◌, Bool, true, Option, None, IsTrue}
 use Rattle.wast_base.specs.Ids.{marked}
-use Rattle.wast_tree.specs.WellFormed as fields
-use Rattle.wast_tree.specs.Generations.{generation_or_zero, greatest_generation}
+use Rattle.wast_nodes.specs.WellFormed as fields
+use Rattle.wast_nodes.specs.Generations.{generation_or_zero, greatest_generation}
 use Rattle.wast_core.specs.declared.module.Module.{Module}
 use Rattle.wast_core.specs.declared.module.ModuleKind.{ModuleKind}
 use Rattle.wast_core.specs.declared.module.ModuleKind.TheVariants as kind

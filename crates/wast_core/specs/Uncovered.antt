@@ -1,7 +1,7 @@
 -- Lists of fields without a form that no encoder covers.
 use Rattle.std.specs.Prelude.{◌≡◌, List, None}
 use Rattle.wast_core.specs.Tree.{ModuleField}
-pub use Rattle.wast_tree.specs.Uncovered.{uncovered_forms, first}
+pub use Rattle.wast_nodes.specs.Uncovered.{uncovered_forms, first}
 
 -- each form is covered
 abbrev pub IsCovered : List ModuleField → Type 0

@@ -6,12 +6,12 @@ ghost use Rattle.wasm_ops.specs.Sinks.{Writes};
 ghost use Rattle.wasm_out.specs.Parts.{part, InRangePart};
 ghost use Rattle.wast_core.specs.DataCounts.{body_needs_count, needs_count, count_parts};
 ghost use Rattle.wast_core.specs.Extents.{is_counted};
-ghost use Rattle.wast_tree.specs.Instrs.{needs_data_count};
+ghost use Rattle.wast_nodes.specs.Instrs.{needs_data_count};
 ghost use Rattle.wast_reach.specs.Reaches.{are_reaches};
 
 use wasm_ops::{Encode, Refusal, Sink, WithLength, width};
+use wast_nodes::{FuncKind, Instruction, ModuleField};
 use wast_reach::{FieldKind, Reaches};
-use wast_tree::{FuncKind, Instruction, ModuleField};
 
 /// Whether one of these instructions needs a data count.
 fn any_needs(instrs: &[Instruction]) -> bool

@@ -10,13 +10,13 @@ ghost use Rattle.wast_conv.specs.Encodable.{is_encodable_field, is_encodable};
 ghost use Rattle.wast_core.specs.Meaning.{custom_section, has_own_names};
 ghost use Rattle.wast_names.specs.FoundNames.{counted};
 ghost use Rattle.wast_reach.specs.Reaches.{are_reaches};
-ghost use Rattle.wast_tree.specs.Customs.{customs_in, customs_at, is_custom_called};
+ghost use Rattle.wast_nodes.specs.Customs.{customs_in, customs_at, is_custom_called};
 
 use crate::items::put_items;
 use wasm_ops::{Refusal, Sink, Spell, length_of, width};
 use wast_conv::{CustomPayload, Resolved};
+use wast_nodes::{Custom, CustomPlace, ModuleField};
 use wast_reach::{FieldKind, Reaches};
-use wast_tree::{Custom, CustomPlace, ModuleField};
 
 /// The fields from the first to the last that put a custom section into a place.
 fn custom_fields<'b, 'a>(

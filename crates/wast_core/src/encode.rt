@@ -18,9 +18,11 @@ use crate::sections::{measure, put_measured, size};
 use crate::utf8_names::names_law;
 use std::alloc::Global;
 use wasm_ops::{Room, Sink};
+use wast_base::{Error, Fault, Gensym};
 use wast_names::given_name;
+use wast_nodes::ModuleField;
 use wast_resolve::{discard_names, resolved_laws};
-use wast_tree::{Error, Fault, Gensym, ModuleField, uncovered};
+use wast_visits::uncovered;
 
 /// The bytes of a module with this name, of these resolved fields. It needs names that are UTF-8.
 fn encode_fields<'e>(

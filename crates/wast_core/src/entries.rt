@@ -12,15 +12,15 @@ ghost use Rattle.wast_core.specs.Meaning.{entries_in, entries, listed, starts_in
 ghost use Rattle.wast_names.specs.FoundNames.{counted};
 ghost use Rattle.wast_core.specs.Putting.{puts};
 ghost use Rattle.wast_reach.specs.Reaches.{is_reach, are_reaches};
-ghost use Rattle.wast_tree.specs.declared.fields.ModuleField.{ModuleField};
+ghost use Rattle.wast_nodes.specs.declared.fields.ModuleField.{ModuleField};
 ghost use Rattle.wast_core.specs.Slots.{section_kind};
 
 use crate::items::{counted_size, put_items, put_listed};
 use crate::slots::SectionKind;
 use wasm_ops::{By, Encode, Refusal, Sink, Spell, WithLength, width};
 use wast_conv::{RecOrType, Resolved, conv};
+use wast_nodes::ModuleField;
 use wast_reach::{FieldKind, Reach, Reaches};
-use wast_tree::ModuleField;
 
 /// How many entries a field puts into the section of a kind: at most one.
 fn entries_of(kind: SectionKind, field: &ModuleField) -> u32

@@ -13,13 +13,14 @@ ghost use Rattle.wast_core.specs.Hints.{has_hints, if_hinted, imported_func, fun
 ghost use Rattle.wast_names.specs.FoundNames.{counted, WritesItems};
 ghost use Rattle.wast_names.specs.GivenNames.{named_from};
 ghost use Rattle.wast_reach.specs.Reaches.{are_reaches};
-ghost use Rattle.wast_tree.specs.Imports.{item_sigs};
+ghost use Rattle.wast_nodes.specs.Imports.{item_sigs};
 
 use crate::entries::Extent;
 use wasm_ops::{Encode, Length, Name, Refusal, Sink};
+use wast_base::Space;
 use wast_conv::BodyHints;
+use wast_nodes::{FuncKind, ImportItems, Imports, ModuleField};
 use wast_reach::{FieldKind, Reaches};
-use wast_tree::{FuncKind, ImportItems, Imports, ModuleField, Space};
 
 /// The fields from the first to the last that hold a function.
 fn function_fields<'b, 'a>(

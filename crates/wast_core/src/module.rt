@@ -8,11 +8,10 @@ ghost use Rattle.wast_core.specs.Writing.{IsAtRest};
 use std::alloc::Global;
 use std::fmt::Debug;
 use std::{fmt, mem};
+use wast_base::{Error, Fault, Gensym, Id, NameAnnotation, Seq, Span};
+use wast_nodes::{ModuleField, discard_fields};
 use wast_resolve::{Names, resolved_laws};
-use wast_tree::{
-    Error, Fault, Gensym, Id, ModuleField, NameAnnotation, Seq, Span, discard_fields, gensym_bound,
-    ill_formed, well_formed,
-};
+use wast_visits::{gensym_bound, ill_formed, well_formed};
 
 /// What a module holds.
 #[derive(Drop)]
@@ -79,8 +78,8 @@ impl<'a> Module<'a> {
     /// The least number of a clause of "well formed" that fails in the module, and `None` where it is well formed (text format:
     /// indices, modules). It takes no memory.
     ///
-    /// [`wast_tree::ill_formed`] lists the clauses, of which none fails in a binary module and in one that was refused.
-    /// [`wast_tree::first_ill_formed`] tells a place in fields. Forms that no encoder covers are well formed.
+    /// `ill_formed` of `wast_tree` lists the clauses, of which none fails in a binary module and in one that was refused.
+    /// `first_ill_formed` of `wast_tree` tells a place in fields. Forms that no encoder covers are well formed.
     pub fn ill_formed(&self) -> Option<u8>
         ensures least { result ≡ ill_formed self.now }
         ensures none { is_none result ≡ is_well_formed self.now }

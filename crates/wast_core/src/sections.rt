@@ -24,8 +24,8 @@ use crate::slots::{ORDER, SectionKind, Slot};
 use wasm_ops::{Encode, Raw, Refusal, Sink};
 use wasm_out::HEADER;
 use wast_names::{NamesExtent, names_extent, put_names};
+use wast_nodes::ModuleField;
 use wast_reach::Reaches;
-use wast_tree::ModuleField;
 
 /// What is measured of a module before it is written: where the fields of each kind stand, how long its sections are, and
 /// whether a data count stands in it.

@@ -5,7 +5,7 @@ ghost use Rattle.wast_core.specs.Wats.{IsReadyWat, EncodesWat};
 use crate::encode::EncodeOptions;
 use crate::module::Module;
 use std::alloc::Global;
-use wast_tree::{Error, Fault, Gensym, Span};
+use wast_base::{Error, Fault, Gensym, Span};
 
 /// What a text holds (text format, modules).
 #[derive(Debug, Drop)]

@@ -4,9 +4,9 @@ use Rattle.std.specs.Prelude.{nat_lt}
 use Rattle.std.specs.List.{list_all}
 use Rattle.std.specs.Cmp.Derive.{both_true}
 use Rattle.std.proofs.lemmas.Bool.{and_parts, ltb-true, lt-ltb}
-use Rattle.wast_tree.specs.Items.{Item, item, items}
-use Rattle.wast_tree.specs.Sites.{Ask, Wants, in_module, asked}
-use Rattle.wast_tree.specs.Generations.{greatest, generation_or_zero, generation_in, greatest_item, greatest_asked}
+use Rattle.wast_nodes.specs.Items.{Item, item, items}
+use Rattle.wast_nodes.specs.Sites.{Ask, Wants, in_module, asked}
+use Rattle.wast_nodes.specs.Generations.{greatest, generation_or_zero, generation_in, greatest_item, greatest_asked}
 use Rattle.wast_deinline.specs.Tree.{Span, Id, Space, ModuleField}
 use Rattle.wast_deinline.specs.Referring.{by_id}
 use Rattle.wast_deinline.specs.Written.{referable, written_out_from, references_wanted, written_out}

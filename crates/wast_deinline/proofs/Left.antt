@@ -1,8 +1,8 @@
 -- No abbreviation is left in a list that is written out.
 use Rattle.std.proofs.Common.{◌≡◌, true, List, [], ◌∷◌, ◌++◌, refl}
 use Rattle.std.specs.List.{flat_map}
-use Rattle.wast_tree.specs.Items.{Item, items_in}
-use Rattle.wast_tree.specs.WrittenOut.{is_written_field, is_written_out}
+use Rattle.wast_nodes.specs.Items.{Item, items_in}
+use Rattle.wast_nodes.specs.WrittenOut.{is_written_field, is_written_out}
 use Rattle.wast_deinline.specs.Tree.{Index, Func, FuncKind, Table, TableKind, Memory, MemoryKind, Global, GlobalKind, Tag, TagKind, ModuleField}
 use Rattle.wast_deinline.specs.Tree.space
 use Rattle.wast_deinline.specs.Tree.func

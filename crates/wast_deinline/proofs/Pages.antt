@@ -5,7 +5,7 @@ use Rattle.std.proofs.lemmas.Bool.{le-ltb}
 use Rattle.std.proofs.lemmas.List.{take_more, take-append-drop}
 use Rattle.std.proofs.lemmas.List.Concat.{flat_map-append}
 use Rattle.std.proofs.lemmas.Nat.{pow_below, shr_below, shr_split}
-use Rattle.wast_tree.specs.DataBytes.{data_bytes, all_bytes}
+use Rattle.wast_nodes.specs.DataBytes.{data_bytes, all_bytes}
 use Rattle.wast_deinline.specs.Tree.{DataVal}
 use Rattle.wast_deinline.specs.Segments.{are_too_many}
 

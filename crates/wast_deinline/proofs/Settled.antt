@@ -6,11 +6,11 @@ use Rattle.std.proofs.Math.Bool.{and-false, or-true}
 use Rattle.std.proofs.lemmas.Bool.{and_parts, eq-eqb}
 use Rattle.wast_base.specs.Ids.{Name, Written, Generated, Mark, name_of, is_generated}
 use Rattle.wast_base.specs.Spaces.{rank_of, same_space, name_if, is_called, is_borne}
-use Rattle.wast_tree.specs.Items.{Item, item, items}
-use Rattle.wast_tree.specs.Known.{Known, known, names_in}
-use Rattle.wast_tree.specs.Sites.{Ask, Wants, Within, Unasked, Clause, Covered, in_module, asked}
-use Rattle.wast_tree.specs.WellFormed.{is_kept, are_kept}
-use Rattle.wast_tree.proofs.Bearing.{borne_among, borne_by_both}
+use Rattle.wast_nodes.specs.Items.{Item, item, items}
+use Rattle.wast_nodes.specs.Known.{Known, known, names_in}
+use Rattle.wast_nodes.specs.Sites.{Ask, Wants, Within, Unasked, Clause, Covered, in_module, asked}
+use Rattle.wast_nodes.specs.WellFormed.{is_kept, are_kept}
+use Rattle.wast_nodes.proofs.Bearing.{borne_among, borne_by_both}
 use Rattle.wast_deinline.specs.Tree.{Span, Id, Space, ModuleField}
 use Rattle.wast_deinline.specs.Tree.index
 use Rattle.wast_deinline.specs.Referring.{by_id}

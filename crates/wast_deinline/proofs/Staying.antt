@@ -3,8 +3,8 @@ use Rattle.std.proofs.Common.{◌≡◌, ℕ, ◌+◌, Bool, true, false, not, �
 use Rattle.std.specs.List.{flat_map}
 use Rattle.std.specs.Borrow.{Bor}
 use Rattle.std.proofs.lemmas.Bool.Decides.{Decides-eqb}
-use Rattle.wast_tree.specs.Items.{Item, items_in}
-use Rattle.wast_tree.specs.WrittenOut.{exports_nothing, is_written_func, is_written_table, is_written_memory, is_written_global, is_written_tag, is_written_field, is_written_out}
+use Rattle.wast_nodes.specs.Items.{Item, items_in}
+use Rattle.wast_nodes.specs.WrittenOut.{exports_nothing, is_written_func, is_written_table, is_written_memory, is_written_global, is_written_tag, is_written_field, is_written_out}
 use Rattle.wast_base.specs.Filling.{one_if, given_if, filled, wanted}
 use Rattle.wast_deinline.specs.Tree.{Span, Index, InlineExport, Func, FuncKind, Table, TableKind, Memory, MemoryKind, Global, GlobalKind, Tag, TagKind, ExportKind, ModuleField}
 use Rattle.wast_deinline.specs.Tree.func

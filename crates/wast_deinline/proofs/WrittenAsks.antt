@@ -6,13 +6,13 @@ use Rattle.std.proofs.lemmas.Bool.{and_parts}
 use Rattle.std.proofs.lemmas.List.{map-append}
 use Rattle.std.proofs.lemmas.List.Folds.{list_all-append}
 use Rattle.wast_base.specs.Blocks.{stays_open}
-use Rattle.wast_tree.specs.Items.{Item, item, items_in, items}
-use Rattle.wast_tree.specs.Sites.{Ask, Wants, Clause, Covered, OfItem, Site, Asked, asking, in_ref, in_use, in_func, in_global_type, in_constant, in_payload, in_table_kind, in_global_kind, in_tag_type, in_field, in_module, asked}
-use Rattle.wast_tree.specs.Known.{names_in}
+use Rattle.wast_nodes.specs.Items.{Item, item, items_in, items}
+use Rattle.wast_nodes.specs.Sites.{Ask, Wants, Clause, Covered, OfItem, Site, Asked, asking, in_ref, in_use, in_func, in_global_type, in_constant, in_payload, in_table_kind, in_global_kind, in_tag_type, in_field, in_module, asked}
+use Rattle.wast_nodes.specs.Known.{names_in}
 use Rattle.wast_base.specs.Filling.{one_if, given_if}
-use Rattle.wast_tree.proofs.Visiting.{asked_both}
+use Rattle.wast_nodes.proofs.Asking.{asked_both}
 use Rattle.wast_deinline.specs.Tree.{Span, Id, Index, Space, Func, FuncKind, Table, TableKind, Memory, MemoryKind, Global, GlobalKind, Tag, TagKind, ModuleField}
-use Rattle.wast_tree.specs.Tree.form
+use Rattle.wast_nodes.specs.Tree.form
 use Rattle.wast_deinline.specs.Tree.index
 use Rattle.wast_deinline.specs.Tree.space
 use Rattle.wast_deinline.specs.Tree.func

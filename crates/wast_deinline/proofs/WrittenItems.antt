@@ -7,7 +7,7 @@ use Rattle.std.proofs.lemmas.Bool.{and_parts}
 use Rattle.std.proofs.lemmas.Grind.{flat_map-append}
 use Rattle.std.proofs.lemmas.List.Folds.{list_all-append, list_any-append}
 use Rattle.wast_base.specs.Ids.{generated}
-use Rattle.wast_tree.specs.Items.{Item, item, items_in, items}
+use Rattle.wast_nodes.specs.Items.{Item, item, items_in, items}
 use Rattle.wast_base.specs.Filling.{one_if, given_if, wanted}
 use Rattle.wast_deinline.specs.Tree.{Span, Id, Index, Space, Func, FuncKind, Table, TableKind, Memory, MemoryKind, Global, GlobalKind, Tag, TagKind, ExportKind, ModuleField}
 use Rattle.wast_deinline.specs.Tree.space

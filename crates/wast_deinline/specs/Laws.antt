@@ -1,10 +1,10 @@
 -- What holds of each list that is written out (text format: abbreviations).
 use Rattle.std.specs.Prelude.{◌≡◌, ℕ, ◌+◌, ◌<◌, Bool, true, List, IsTrue}
 use Rattle.std.specs.List.{list_all}
-use Rattle.wast_tree.specs.Generations.{greatest_generation}
-use Rattle.wast_tree.specs.Sites.{Ask, Wants, Within, Unasked, Clause, Covered, asked, in_module}
-use Rattle.wast_tree.specs.WellFormed.{is_well_formed}
-use Rattle.wast_tree.specs.WrittenOut.{is_written_out}
+use Rattle.wast_nodes.specs.Generations.{greatest_generation}
+use Rattle.wast_nodes.specs.Sites.{Ask, Wants, Within, Unasked, Clause, Covered, asked, in_module}
+use Rattle.wast_nodes.specs.WellFormed.{is_well_formed}
+use Rattle.wast_nodes.specs.WrittenOut.{is_written_out}
 use Rattle.wast_deinline.specs.Tree.{ModuleField}
 use Rattle.wast_deinline.specs.Written.{written_out_from, references_wanted, written_out}
 

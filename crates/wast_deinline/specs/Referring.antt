@@ -1,9 +1,9 @@
 -- Which items are referred to once abbreviations are written out, and how (text format: abbreviations).
 use Rattle.std.specs.Prelude.{ℕ, ◌&&◌, ◌||◌, not, is_none, length, Bool, false, List, Option, Some, None}
 use Rattle.wast_base.specs.Ids.{generated, place_of}
-use Rattle.wast_tree.specs.Items.{Item}
-use Rattle.wast_tree.specs.Known.{names_in}
-use Rattle.wast_tree.specs.WrittenOut.{exports_nothing}
+use Rattle.wast_nodes.specs.Items.{Item}
+use Rattle.wast_nodes.specs.Known.{names_in}
+use Rattle.wast_nodes.specs.WrittenOut.{exports_nothing}
 use Rattle.wast_deinline.specs.Tree.{Span, Id, InlineExport, ModuleField}
 use Rattle.wast_deinline.specs.Tree.index
 use Rattle.wast_deinline.specs.Tree.field

@@ -1,7 +1,7 @@
 -- What stands in place in a memory or a table, and how large that makes it (text format: memories, tables; abbreviations).
 use Rattle.std.specs.Prelude.{ℕ, pos, ◌^◌, nat_lt, not, length, Bool, true, false, List, [], ◌∷◌, Option, Some, None}
 use Rattle.std.specs.Int.{div_ceil}
-use Rattle.wast_tree.specs.DataBytes.{all_bytes}
+use Rattle.wast_nodes.specs.DataBytes.{all_bytes}
 use Rattle.wast_deinline.specs.Tree.{Span, Index, RefType, Instruction, Expression, Limits, TableType, MemoryType, ElemPayload, DataVal, TableKind, MemoryKind, ModuleField}
 use Rattle.wast_deinline.specs.Tree.instr
 use Rattle.wast_deinline.specs.Tree.elem

@@ -2,7 +2,7 @@
 use Rattle.std.specs.Prelude.{◌≡◌, ℕ, pos, Bool, true, false, List, [], ◌∷◌, Option, Some, None, codes}
 use Rattle.std.specs.Borrow.{Bor}
 use Rattle.wast_base.specs.Ids.{generated}
-use Rattle.wast_tree.specs.WorkedModules.{Address, text, place, id_at, by_id, by_number, plain_memory_type, plain_global_type}
+use Rattle.wast_nodes.specs.WorkedModules.{Address, text, place, id_at, by_id, by_number, plain_memory_type, plain_global_type}
 use Rattle.wast_deinline.specs.Tree.{Id, Index, RefType, FunctionType, TypeUse, MemoryType, ItemKind, ElemPayload, TableKind, MemoryKind, ExportKind, ModuleField}
 use Rattle.wast_deinline.specs.Tree.index
 use Rattle.wast_deinline.specs.Tree.heap

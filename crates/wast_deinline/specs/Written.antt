@@ -2,7 +2,7 @@
 -- (text format: abbreviations).
 use Rattle.std.specs.Prelude.{◌≡◌, ◌⊎◌, ℕ, ◌+◌, Bool, List, [], ◌∷◌, ◌++◌, flat_map, IsTrue}
 use Rattle.std.specs.List.{list_any}
-use Rattle.wast_tree.specs.Items.{Item, items_in}
+use Rattle.wast_nodes.specs.Items.{Item, items_in}
 use Rattle.wast_base.specs.Faults.{too_large, out_of_memory}
 use Rattle.wast_base.specs.declared.faults.Error.{Error}
 use Rattle.wast_base.specs.Filling.{filled, wanted, RunsOut}

@@ -8,9 +8,8 @@ ghost use Rattle.wast_deinline.specs.Segments.{has_bytes, has_elements};
 ghost use Rattle.wast_deinline.specs.Referring.{by_id, exports_some, wants_id, with_item_id};
 ghost use Rattle.wast_deinline.specs.Written.{referable, references_wanted};
 
-use wast_tree::{
-    Error, Gensym, Id, Index, InlineExport, MemoryKind, ModuleField, Seq, Span, TableKind,
-};
+use wast_base::{Error, Gensym, Id, Index, Seq, Span};
+use wast_nodes::{InlineExport, MemoryKind, ModuleField, TableKind};
 
 /// Gives each item that is referred to an id.
 pub(crate) fn name_items<'a>(

@@ -2,7 +2,7 @@
 
 ghost use Rattle.std.specs.Prelude.{◌≡◌, ◌<◌, ◌^◌, length, Some, None, IsTrue, IfOk, IfErr};
 ghost use Rattle.std.specs.Int.{div_ceil};
-ghost use Rattle.wast_tree.specs.DataBytes.{all_bytes};
+ghost use Rattle.wast_nodes.specs.DataBytes.{all_bytes};
 ghost use Rattle.wast_base.specs.Faults.{too_large, out_of_memory};
 ghost use Rattle.wast_deinline.specs.Tree.field;
 ghost use Rattle.wast_deinline.specs.Tree.data_kind;
@@ -11,9 +11,10 @@ ghost use Rattle.wast_deinline.specs.Segments.{at_zero, element_count, page_coun
 ghost use Rattle.wast_deinline.specs.Written.{IsRefusedWhere};
 
 use std::alloc::Global;
-use wast_tree::{
-    Data, DataKind, DataVal, Elem, ElemKind, ElemPayload, Error, Expression, Fault, Index,
-    Instruction, Limits, MemoryType, ModuleField, RefType, Seq, Span, TableType,
+use wast_base::{Error, Fault, Index, Seq, Span};
+use wast_nodes::{
+    Data, DataKind, DataVal, Elem, ElemKind, ElemPayload, Expression, Instruction, Limits,
+    MemoryType, ModuleField, RefType, TableType,
 };
 
 /// How many bytes there are in all; too many where they are 2^32 or more.

@@ -3,7 +3,7 @@
 ghost use Rattle.std.specs.Prelude.{◌≡◌, ◌≤◌, ◌+◌, ◌++◌, ◌∷◌, [], flat_map, false, IsTrue, IsOk, IfOk, IfErr, OnOk, ◌-◌, ◌^◌, min, length};
 ghost use Rattle.std.specs.List.{list_any};
 ghost use Rattle.wast_base.specs.Faults.{out_of_memory};
-ghost use Rattle.wast_tree.specs.WrittenOut.{is_written_out};
+ghost use Rattle.wast_nodes.specs.WrittenOut.{is_written_out};
 ghost use Rattle.wast_deinline.specs.Tree.field;
 ghost use Rattle.wast_deinline.specs.Tree.table as table_kind;
 ghost use Rattle.wast_deinline.specs.Tree.memory as memory_kind;
@@ -15,12 +15,13 @@ ghost use Rattle.wast_deinline.specs.Written.{written_out_from, references_wante
 use crate::references::{by_id, has_bytes, has_elements, name_items};
 use crate::segments::{at_zero, data_into, elem_into, filled_table_type, filling};
 use std::alloc::Global;
-use wast_tree::{
-    Error, Export, ExportKind, Expression, Func, FuncKind, FunctionType, Gensym, GlobalKind, Id,
-    Imports, Index, InlineExport, InlineImport, ItemKind, ItemSig, Memory, MemoryKind, MemoryType,
-    ModuleField, NameAnnotation, Seq, Span, Table, TableKind, TableType, Tag, TagKind, TypeUse,
-    discard_data, discard_elem_payload, discard_exports, discard_field, discard_fields,
-    fields_with_capacity, is_written_out, push_field, take_field,
+use wast_base::{Error, Gensym, Id, Index, NameAnnotation, Seq, Span};
+use wast_nodes::{
+    Export, ExportKind, Expression, Func, FuncKind, FunctionType, GlobalKind, Imports,
+    InlineExport, InlineImport, ItemKind, ItemSig, Memory, MemoryKind, MemoryType, ModuleField,
+    Table, TableKind, TableType, Tag, TagKind, TypeUse, discard_data, discard_elem_payload,
+    discard_exports, discard_field, discard_fields, fields_with_capacity, is_written_out,
+    push_field, take_field,
 };
 
 /// Writes the abbreviations of fields out (text format: functions, tables, memories, globals, tags; abbreviations).
@@ -30,7 +31,7 @@ use wast_tree::{
 /// its import where that stands in place. A memory with bytes in place has as many pages as hold them, and no more; a
 /// table as many elements. An item that is exported or filled so is referred to by its id, and given a generated one at
 /// the place of its field where it has none. All other fields stay. A function that is imported in place and
-/// exact becomes an exact import. The ids that it makes are new where the counter stands above [`wast_tree::gensym_bound`].
+/// exact becomes an exact import. The ids that it makes are new where the counter stands above `gensym_bound` of `wast_tree`.
 ///
 /// Where nothing stands in place, it gives the fields back as they are, and never an error. Else it takes memory for the
 /// new list and for the offsets of segments. The error is E12 where memory was refused, and E10 only where the counter
@@ -468,10 +469,10 @@ fn write_memory<'a>(
 }
 
 /// A global without what stands in place, or its import.
-fn global_alone<'a>(alloc: Global, global: wast_tree::Global<'a>) -> ModuleField<'a>
+fn global_alone<'a>(alloc: Global, global: wast_nodes::Global<'a>) -> ModuleField<'a>
     ensures { result ≡ global_alone global.entry global.entry.kind }
 {
-    let wast_tree::Global {
+    let wast_nodes::Global {
         span,
         id,
         name,
@@ -482,7 +483,7 @@ fn global_alone<'a>(alloc: Global, global: wast_tree::Global<'a>) -> ModuleField
     discard_exports(exports);
     match kind {
         GlobalKind::Import(source) => import_of(span, id, None, source, ItemKind::Global(ty)),
-        GlobalKind::Inline(expression) => ModuleField::Global(wast_tree::Global {
+        GlobalKind::Inline(expression) => ModuleField::Global(wast_nodes::Global {
             span,
             id,
             name,
@@ -496,7 +497,7 @@ fn global_alone<'a>(alloc: Global, global: wast_tree::Global<'a>) -> ModuleField
 /// Writes a global out.
 fn write_global<'a>(
     alloc: Global,
-    global: wast_tree::Global<'a>,
+    global: wast_nodes::Global<'a>,
     out: &mut Seq<ModuleField<'a>>,
 ) -> Result<(), Error<'a>>
     ensures list { OnOk result (out.new ≡ out.old ++ write_out by_id (field.Global global.entry)) }

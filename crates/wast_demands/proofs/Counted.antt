@@ -2,7 +2,7 @@
 use Rattle.std.proofs.Common.{◌≡◌, ℕ, List, [], ◌∷◌, ◌++◌, ◌≤◌, ◌^◌, refl, sym, ap, ◌∙◌, subst, arith}
 use Rattle.std.proofs.lemmas.List.Elements.{Contains-append_left, Contains-append_right}
 use Rattle.std.proofs.lemmas.Grind.{flat_map-append}
-use Rattle.wast_tree.specs.Sites.{Site}
+use Rattle.wast_nodes.specs.Sites.{Site}
 use Rattle.wast_demands.specs.Demands.{HasMany, open_counts_at, open_counts}
 
 pub many_one : (n : ℕ) → 2 ^ 32 ≤ n → HasMany (n ∷ [])

@@ -1,7 +1,7 @@
 -- Nothing is demanded of a custom section.
 use Rattle.std.proofs.Common.{◌≡◌, List, [], ◌∷◌, refl}
 use Rattle.std.specs.List.{flat_map}
-use Rattle.wast_tree.specs.Sites.{asking, in_subsection, in_custom}
+use Rattle.wast_nodes.specs.Sites.{asking, in_subsection, in_custom}
 use Rattle.wast_demands.specs.Scopes.{Scope}
 use Rattle.wast_demands.specs.Demands.{site_demands}
 use Rattle.wast_demands.specs.Tree.{Custom, Dylink0Subsection}

@@ -2,7 +2,7 @@
 use Rattle.std.proofs.Common.{◌≡◌, ℕ, ◌&&◌, List, [], ◌∷◌, map, Option, Some, None, option_map, refl, ap, ◌∙◌}
 use Rattle.std.specs.Bool.{beq}
 use Rattle.wast_base.specs.Ids.{Name, name_of, span_of_index}
-use Rattle.wast_tree.specs.Known.{Known}
+use Rattle.wast_nodes.specs.Known.{Known}
 use Rattle.wast_map.specs.Mapped.{mapped_heap, mapped_val, mapped_param, mapped_signature}
 use Rattle.wast_types.specs.Signatures.{Signature, type_of_param, same_heap_by, same_value_by, same_values_by}
 use Rattle.wast_demands.specs.Tree.{Id, Index, NameAnnotation, HeapType, ValType, FunctionType, TypeUse}

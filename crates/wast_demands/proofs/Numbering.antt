@@ -1,7 +1,7 @@
 -- Numbering the indices of a module keeps the ids of the parameters in a type use.
 use Rattle.std.proofs.Common.{◌≡◌, List, [], ◌∷◌, refl, ap, map, Option, Some, None, option_map}
 use Rattle.wast_base.specs.Ids.{marked}
-use Rattle.wast_tree.specs.Sites.{param_marks}
+use Rattle.wast_nodes.specs.Sites.{param_marks}
 use Rattle.wast_map.specs.Mapped.{Indices, KeepsMarks, mapped_param, mapped_signature}
 use Rattle.wast_demands.specs.Tree.{Id, NameAnnotation, ValType, FunctionType}
 use Rattle.wast_demands.specs.Scopes.{Scope}

@@ -7,7 +7,7 @@ use Rattle.wast_demands.specs.Tree.ty
 use Rattle.wast_demands.specs.Tree.space
 use Rattle.wast_demands.specs.Tree.inner
 use Rattle.wast_demands.specs.Tree.form
-use Rattle.wast_tree.specs.Sites.{in_heap, in_ref, in_val, in_storage, in_param, in_signature, in_struct_field, in_struct, in_array, in_inner, in_def, in_type}
+use Rattle.wast_nodes.specs.Sites.{in_heap, in_ref, in_val, in_storage, in_param, in_signature, in_struct_field, in_struct, in_array, in_inner, in_def, in_type}
 use Rattle.wast_map.specs.Mapped.{Indices, mapped_heap, mapped_ref, mapped_val, mapped_storage, mapped_param, mapped_signature, mapped_struct_field, mapped_struct, mapped_array, mapped_inner, mapped_def}
 use Rattle.wast_demands.specs.CoreTypes.{indices_of, blank, with_def}
 use Rattle.wast_demands.proofs.TypeParts.{IsTypePart, as_type, const_part, id_part, index_part, descriptor_part, form_part, both_part, part_as, list_part, option_part}

@@ -6,7 +6,7 @@ use Rattle.std.proofs.lemmas.Grind.{flat_map-append}
 use Rattle.std.proofs.lemmas.List.{length-append, map-append}
 use Rattle.wast_demands.specs.Tree.{Id, Index, Form}
 use Rattle.wast_demands.specs.Tree.space
-use Rattle.wast_tree.specs.Sites.{Ask, Wants, Within, Unasked, Clause, Covered, if_there, in_id, in_index, in_descriptor}
+use Rattle.wast_nodes.specs.Sites.{Ask, Wants, Within, Unasked, Clause, Covered, if_there, in_id, in_index, in_descriptor}
 use Rattle.wast_map.specs.Mapped.{Indices}
 use Rattle.wast_demands.specs.CoreTypes.{index_asked, indices_of, blank}
 

@@ -2,8 +2,8 @@
 use Rattle.std.proofs.Common.{◌≡◌, List, [], ◌∷◌, ◌++◌, refl, ap, ◌∙◌}
 use Rattle.std.specs.List.{flat_map}
 use Rattle.wast_base.specs.Blocks.{Blocks}
-use Rattle.wast_tree.specs.Sites.{Ask, Site, Here, after_all, asking, uncovered, at_label, in_ref, in_cast, in_handle, in_handlers, in_catch}
-use Rattle.wast_tree.proofs.Behind.{after-append}
+use Rattle.wast_nodes.specs.Sites.{Ask, Site, Here, after_all, asking, uncovered, at_label, in_ref, in_cast, in_handle, in_handlers, in_catch}
+use Rattle.wast_nodes.proofs.Behind.{after-append}
 use Rattle.wast_demands.specs.Tree.{Index, RefType, Handle, ResumeTable, TryTableCatch, TryTableCatchKind}
 use Rattle.wast_demands.specs.Tree.caught
 use Rattle.wast_demands.specs.Tree.handle

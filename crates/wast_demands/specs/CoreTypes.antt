@@ -1,7 +1,7 @@
 -- What resolving the indices of a type does, by what one call on an index does (text format: types, indices).
 use Rattle.std.specs.Prelude.{ℕ, List, [], ◌∷◌, flat_map, Contains, Result, Ok, Err}
 use Rattle.wast_base.specs.declared.faults.Error.{Error}
-use Rattle.wast_tree.specs.Sites.{Ask, Wants, Within, Unasked, Clause, Covered}
+use Rattle.wast_nodes.specs.Sites.{Ask, Wants, Within, Unasked, Clause, Covered}
 use Rattle.wast_map.specs.Mapped.{Indices, mapped_def}
 use Rattle.wast_demands.specs.Tree.{Index}
 use Rattle.wast_demands.specs.Tree.index

@@ -10,11 +10,11 @@ use Rattle.wast_base.specs.Ids.{Name, text_of, Mark, mark_of, span_of_index}
 use Rattle.wast_base.specs.Faults.{Cause, Duplicate, DuplicateField, OutOfBounds, NotFunc, NoMatch, Labels, NoNamedFields, told}
 use Rattle.wast_base.specs.declared.faults.Error.{Error}
 use Rattle.wast_base.specs.Spaces.{spaces, word_of, name_if, is_borne}
-use Rattle.wast_tree.specs.Items.{Item, items}
+use Rattle.wast_nodes.specs.Items.{Item, items}
 use Rattle.wast_base.specs.Blocks.{Blocks}
 use Rattle.wast_labels.specs.OpenBlocks.{denotes, expects}
-use Rattle.wast_tree.specs.Sites.{Ask, Wants, Within, Unasked, Clause, Covered, Site, Asked, Used, Declared, LocalAt, FieldAt, LabelAt, Repeated, Begins, Ends, in_type_use, param_marks, local_marks, in_field, in_module}
-use Rattle.wast_tree.specs.Known.{Known, names_in}
+use Rattle.wast_nodes.specs.Sites.{Ask, Wants, Within, Unasked, Clause, Covered, Site, Asked, Used, Declared, LocalAt, FieldAt, LabelAt, Repeated, Begins, Ends, in_type_use, param_marks, local_marks, in_field, in_module}
+use Rattle.wast_nodes.specs.Known.{Known, names_in}
 use Rattle.wast_types.specs.Signatures.{Signature}
 use Rattle.wast_deinline.specs.Segments.{overflows}
 use Rattle.wast_demands.specs.Explicit.{explicit, ids_filled}

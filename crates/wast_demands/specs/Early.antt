@@ -1,6 +1,6 @@
 -- What can be told of fields as they stand, without resolving them (text format: modules, identifiers).
 use Rattle.std.specs.Prelude.{List, ◌++◌}
-use Rattle.wast_tree.specs.Items.{items}
+use Rattle.wast_nodes.specs.Items.{items}
 use Rattle.wast_demands.specs.Tree.{ModuleField}
 use Rattle.wast_demands.specs.Demands.{Demand, order_demands, item_demands}
 

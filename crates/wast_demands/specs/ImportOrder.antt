@@ -3,7 +3,7 @@
 use Rattle.std.specs.Prelude.{ℕ, false, List, [], ◌∷◌, Option, Some, None, codes}
 use Rattle.std.specs.Option.{option_or}
 use Rattle.wast_base.specs.Faults.{ImportAfter}
-use Rattle.wast_tree.specs.Imports.{defined_space}
+use Rattle.wast_nodes.specs.Imports.{defined_space}
 use Rattle.wast_base.specs.Spaces.{word_of}
 use Rattle.wast_demands.specs.Tree.{Span, Space, FuncKind, TableKind, MemoryKind, GlobalKind, TagKind, ModuleField}
 use Rattle.wast_demands.specs.Tree.space

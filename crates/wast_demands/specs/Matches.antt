@@ -1,6 +1,6 @@
 -- When an inline type has the signature of the type that an index denotes (text format: type uses).
 use Rattle.std.specs.Prelude.{ℕ, ◌==◌, Bool, false, Option, Some, None}
-use Rattle.wast_tree.specs.Known.{Known}
+use Rattle.wast_nodes.specs.Known.{Known}
 use Rattle.wast_types.specs.Signatures.{Signature, signature_of, same_signature_by}
 use Rattle.wast_demands.specs.Tree.{Index, FunctionType}
 use Rattle.wast_demands.specs.Tree.space

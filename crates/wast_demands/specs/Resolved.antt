@@ -4,9 +4,9 @@ use Rattle.wast_demands.specs.Tree.{FunctionType, TypeUse, ModuleField}
 use Rattle.wast_demands.specs.Tree.space
 use Rattle.wast_labels.specs.OpenBlocks.{denotes}
 use Rattle.wast_demands.specs.Scopes.{Scope, scope, local_number, field_number}
-use Rattle.wast_tree.specs.Sites.{Where, OfItem, OfCall, OfBlock}
-use Rattle.wast_tree.specs.Types.{said_once}
-use Rattle.wast_tree.specs.Known.{Known}
+use Rattle.wast_nodes.specs.Sites.{Where, OfItem, OfCall, OfBlock}
+use Rattle.wast_nodes.specs.Types.{said_once}
+use Rattle.wast_nodes.specs.Known.{Known}
 use Rattle.wast_map.specs.Mapped.{Indices, Change, mapped_signature, mapped}
 pub use Rattle.wast_namespace.specs.Denoted.{numbered_by, numbered}
 

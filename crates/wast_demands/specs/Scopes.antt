@@ -1,14 +1,14 @@
 -- What demands read of a module: what its items make known, and its types by position (text format: indices, types).
 use Rattle.std.specs.Prelude.{ℕ, ◌+◌, cond, is_some, List, length, map, flat_map, Option, Some, None, option_map, slice_get}
 use Rattle.std.specs.List.{list_any}
-use Rattle.wast_tree.specs.Items.{field_ids, items}
-use Rattle.wast_tree.specs.Known.{Known, known}
-use Rattle.wast_tree.specs.Types.{types_of}
+use Rattle.wast_nodes.specs.Items.{field_ids, items}
+use Rattle.wast_nodes.specs.Known.{Known, known}
+use Rattle.wast_nodes.specs.Types.{types_of}
 use Rattle.wast_types.specs.Signatures.{Signature, signature_of}
 pub use Rattle.wast_namespace.specs.Denoted.{denoted}
 use Rattle.wast_base.specs.Ids.{Name}
 use Rattle.wast_base.specs.Spaces.{name_if, position_of}
-use Rattle.wast_tree.specs.Sites.{Locals}
+use Rattle.wast_nodes.specs.Sites.{Locals}
 use Rattle.wast_demands.specs.Tree.{Index, FunctionType, TypeUse, InnerTypeKind, ModuleField}
 use Rattle.wast_demands.specs.Tree.space
 use Rattle.wast_demands.specs.Tree.inner

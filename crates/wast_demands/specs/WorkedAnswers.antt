@@ -1,8 +1,8 @@
 -- What worked modules answer, computed. A text may lie anywhere in memory.
 use Rattle.std.specs.Prelude.{◌≡◌, ℕ, false, List, [], ◌∷◌, ◌++◌, map, Option, Some, None, codes}
 use Rattle.wast_base.specs.Faults.{Duplicate, DuplicateField, Unknown, OutOfBounds, NotFunc, NoMatch}
-use Rattle.wast_tree.specs.Items.{items}
-use Rattle.wast_tree.specs.WorkedModules.{Address, place, id_at, by_id, by_number, plain_def, plain_type, plain_func, type_field, export_field, row27_with, row27, row31, row32}
+use Rattle.wast_nodes.specs.Items.{items}
+use Rattle.wast_nodes.specs.WorkedModules.{Address, place, id_at, by_id, by_number, plain_def, plain_type, plain_func, type_field, export_field, row27_with, row27, row31, row32}
 use Rattle.wast_types.specs.Signatures.{empty_signature}
 use Rattle.wast_types.specs.Expanded.{unnamed_type, implied_type, implied_types, expanded}
 use Rattle.wast_types.specs.Completed.{completed}

@@ -1,7 +1,7 @@
 -- What worked modules answer as they stand, computed. A text may lie anywhere in memory.
 use Rattle.std.specs.Prelude.{◌≡◌, ℕ, ◌+◌, false, [], ◌∷◌, Option, Some, None, codes}
 use Rattle.wast_base.specs.Faults.{ImportAfter, Duplicate}
-use Rattle.wast_tree.specs.WorkedModules.{Address, text, place, id_at, by_id, row32}
+use Rattle.wast_nodes.specs.WorkedModules.{Address, text, place, id_at, by_id, row32}
 use Rattle.wast_types.specs.WorkedExpansions.{func_at}
 use Rattle.wast_demands.specs.Tree.{Id, ModuleField}
 use Rattle.wast_demands.specs.Tree.func

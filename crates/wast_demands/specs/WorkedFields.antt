@@ -2,7 +2,7 @@
 use Rattle.std.specs.Prelude.{◌≡◌, ◌++◌, ℕ, List, [], ◌∷◌, Option, Some, None, codes}
 use Rattle.wast_base.specs.Ids.{generated}
 use Rattle.wast_base.specs.Faults.{Unknown, NoNamedFields}
-use Rattle.wast_tree.specs.WorkedModules.{Address, place, id_at, by_id, by_number}
+use Rattle.wast_nodes.specs.WorkedModules.{Address, place, id_at, by_id, by_number}
 use Rattle.wast_types.specs.Signatures.{empty_signature}
 use Rattle.wast_types.specs.Expanded.{implied_types}
 use Rattle.wast_types.specs.Completed.{completed}

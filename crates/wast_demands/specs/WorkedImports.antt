@@ -1,7 +1,7 @@
 -- What worked modules with imports answer, computed. A text may lie anywhere in memory.
 use Rattle.std.specs.Prelude.{◌≡◌, ℕ, ◌+◌, false, List, [], ◌∷◌, Option, Some, None, codes}
 use Rattle.wast_base.specs.Faults.{ImportAfter, Duplicate, Unknown}
-use Rattle.wast_tree.specs.WorkedModules.{Address, text, place, id_at, by_id}
+use Rattle.wast_nodes.specs.WorkedModules.{Address, text, place, id_at, by_id}
 use Rattle.wast_types.specs.Completed.{completed}
 use Rattle.wast_types.specs.WorkedExpansions.{func_at}
 use Rattle.wast_demands.specs.Tree.{Id, FunctionType, TypeUse, MemoryType, ModuleField}

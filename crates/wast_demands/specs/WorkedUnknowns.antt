@@ -1,7 +1,7 @@
 -- Which unknown name worked modules answer where several stand in a field, computed. A text may lie anywhere in memory.
 use Rattle.std.specs.Prelude.{◌≡◌, false, true, List, [], ◌∷◌, Some, None, codes}
 use Rattle.wast_base.specs.Faults.{Unknown}
-use Rattle.wast_tree.specs.WorkedModules.{Address, place, by_id, by_number}
+use Rattle.wast_nodes.specs.WorkedModules.{Address, place, by_id, by_number}
 use Rattle.wast_demands.specs.Tree.{Index, RefType, Instruction, Expression, ModuleField}
 use Rattle.wast_demands.specs.Tree.heap
 use Rattle.wast_demands.specs.Tree.value

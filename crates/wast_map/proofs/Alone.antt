@@ -14,9 +14,9 @@ use Rattle.wast_map.specs.Tree.table
 use Rattle.wast_map.specs.Tree.global
 use Rattle.wast_map.specs.Tree.field
 use Rattle.wast_base.specs.Ids.{Mark, marked}
-use Rattle.wast_tree.specs.Items.{Item, item, field_ids, fields_of, space_of_kind, items_of_type, item_of_sig, items_of_import, items_in, items}
-use Rattle.wast_tree.specs.Imports.{defined_space}
-use Rattle.wast_tree.specs.WrittenOut.{exports_nothing, is_written_func, is_written_table, is_written_global, is_written_field, is_written_out}
+use Rattle.wast_nodes.specs.Items.{Item, item, field_ids, fields_of, space_of_kind, items_of_type, item_of_sig, items_of_import, items_in, items}
+use Rattle.wast_nodes.specs.Imports.{defined_space}
+use Rattle.wast_nodes.specs.WrittenOut.{exports_nothing, is_written_func, is_written_table, is_written_global, is_written_field, is_written_out}
 use Rattle.wast_map.specs.Mapped.{Change, mapped_struct_field, mapped_inner, mapped_type, mapped_func_kind, mapped_table_kind, mapped_global_kind, mapped_item_kind, mapped_sig, mapped_import_items, mapped}
 use Rattle.wast_map.specs.Laws.{KeepsItems, all_mapped}
 

@@ -5,7 +5,7 @@ use Rattle.std.specs.List.{flat_map}
 use Rattle.std.proofs.lemmas.List.{map-append}
 use Rattle.wast_base.specs.Blocks.{Blocks}
 use Rattle.wast_map.specs.Tree.{Id, Index, Space, TypeUse, FunctionType}
-use Rattle.wast_tree.specs.Sites.{Ask, Wants, Where, Site, Asked, Used, asking, in_index, at_index, at_label, if_there, in_id, in_use}
+use Rattle.wast_nodes.specs.Sites.{Ask, Wants, Where, Site, Asked, Used, asking, in_index, at_index, at_label, if_there, in_id, in_use}
 use Rattle.wast_map.specs.Mapped.{Change, same, mapped_ask, mapped_site, KeepsMarks, JoinsAsk, Joins, AreJoint, Each}
 
 pub each_first : {S : Type 0} (p : S → Type 0) (xs ys : List S) → Each p (xs ++ ys) → Each p xs

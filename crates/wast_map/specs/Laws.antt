@@ -1,9 +1,9 @@
 -- What is so of every map over the fields of a module.
 use Rattle.std.specs.Prelude.{◌≡◌, Option, List, map}
 use Rattle.wast_base.specs.Ids.{marked}
-use Rattle.wast_tree.specs.Items.{items}
-use Rattle.wast_tree.specs.Sites.{in_module}
-use Rattle.wast_tree.specs.WrittenOut.{is_written_out}
+use Rattle.wast_nodes.specs.Items.{items}
+use Rattle.wast_nodes.specs.Sites.{in_module}
+use Rattle.wast_nodes.specs.WrittenOut.{is_written_out}
 use Rattle.wast_map.specs.Tree.{Id, ModuleField}
 use Rattle.wast_map.specs.Mapped.{Change, same, then, mapped, mapped_site, KeepsMarks, Joins, AreJoint, Each}
 

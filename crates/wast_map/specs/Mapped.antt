@@ -24,7 +24,7 @@ use Rattle.wast_map.specs.Tree.elem
 use Rattle.wast_map.specs.Tree.payload
 use Rattle.wast_map.specs.Tree.data_kind
 use Rattle.wast_map.specs.Tree.field
-use Rattle.wast_tree.specs.Sites.{Locals, Here, start, behind, param_marks, local_marks, body_here, exported_space, Ask, Wants, Within, Unasked, Clause, Covered, Where, OfItem, OfCall, OfBlock, Site, Asked, Used, Declared, LocalAt, FieldAt, LabelAt, Repeated, Begins, Ends}
+use Rattle.wast_nodes.specs.Sites.{Locals, Here, start, behind, param_marks, local_marks, body_here, exported_space, Ask, Wants, Within, Unasked, Clause, Covered, Where, OfItem, OfCall, OfBlock, Site, Asked, Used, Declared, LocalAt, FieldAt, LabelAt, Repeated, Begins, Ends}
 
 -- what an index becomes where one of a space is wanted
 abbrev pub Indices : Type 0

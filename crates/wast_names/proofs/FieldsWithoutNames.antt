@@ -1,8 +1,8 @@
 -- Fields of other kinds have no items of a space, and no lists of names within their items.
 use Rattle.std.proofs.Common.{◌≡◌, false, List, [], ◌∷◌, map, refl}
 use Rattle.std.specs.List.{flat_map}
-use Rattle.wast_tree.specs.Imports.{item_sigs}
-use Rattle.wast_tree.specs.Items.{space_of_kind}
+use Rattle.wast_nodes.specs.Imports.{item_sigs}
+use Rattle.wast_nodes.specs.Items.{space_of_kind}
 use Rattle.wast_base.specs.Spaces.{same_space}
 use Rattle.wast_names.specs.FieldsWithNames.{has_items, has_lists}
 use Rattle.wast_names.specs.ModuleNames.{sig_name, given_name_in, names_given}

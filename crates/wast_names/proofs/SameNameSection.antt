@@ -5,7 +5,7 @@ use Rattle.std.specs.List.{flat_map}
 use Rattle.std.proofs.lemmas.List.{map-append}
 use Rattle.std.proofs.lemmas.Option.{slice_get-map}
 use mathlib.Core.Path.{fun_ext}
-use Rattle.wast_tree.specs.Imports.{item_sigs}
+use Rattle.wast_nodes.specs.Imports.{item_sigs}
 use Rattle.wast_names.specs.Tree.{Space, Func, FunctionType, TypeUse, TagType, ItemKind, ItemSig, ImportItems, ModuleField}
 use Rattle.wast_names.specs.Tree.ty
 use Rattle.wast_names.specs.declared.within.Within.{Within}

@@ -2,8 +2,8 @@
 use Rattle.std.specs.Prelude.{ℕ, List, [], ◌∷◌, ◌++◌, Option, Some, None, All, map, if◌then◌else◌}
 use Rattle.std.specs.List.{flat_map}
 use Rattle.wast_base.specs.Spaces.{same_space}
-use Rattle.wast_tree.specs.Items.{space_of_kind}
-use Rattle.wast_tree.specs.Imports.{item_sigs}
+use Rattle.wast_nodes.specs.Items.{space_of_kind}
+use Rattle.wast_nodes.specs.Imports.{item_sigs}
 use Rattle.wast_names.specs.Tree.{Space, ItemSig, ImportItems, ModuleField}
 use Rattle.wast_names.specs.Tree.space
 use Rattle.wast_names.specs.Tree.ty

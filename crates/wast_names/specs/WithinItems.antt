@@ -11,8 +11,8 @@ use Rattle.wast_names.specs.Tree.kind
 use Rattle.wast_names.specs.Tree.field
 use Rattle.wast_names.specs.declared.within.Within.{Within}
 use Rattle.wast_names.specs.declared.within.Within.TheVariants as within
-use Rattle.wast_tree.specs.Imports.{item_sigs}
-use Rattle.wast_tree.specs.Instrs.{block_of}
+use Rattle.wast_nodes.specs.Imports.{item_sigs}
+use Rattle.wast_nodes.specs.Instrs.{block_of}
 use Rattle.wast_names.specs.GivenNames.{given_name, named_from}
 
 -- the name of a parameter

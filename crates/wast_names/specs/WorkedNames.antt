@@ -3,7 +3,7 @@ use Rattle.std.specs.Prelude.{◌≡◌, ℕ, ◌+◌, negsuc, true, false, List
 use Rattle.std.specs.List.{flat_map}
 use Rattle.wasm_out.specs.Parts.{part}
 use Rattle.wast_base.specs.Ids.{generated}
-use Rattle.wast_tree.specs.WorkedModules.{Address, text, place, id_at, by_number, plain_def, plain_type, plain_func, plain_memory}
+use Rattle.wast_nodes.specs.WorkedModules.{Address, text, place, id_at, by_number, plain_def, plain_type, plain_func, plain_memory}
 use Rattle.wast_names.specs.NamesPart.{names_part}
 use Rattle.wast_names.specs.ModuleNames.{name_subsections}
 use Rattle.wast_names.specs.Tree.{Id, NameAnnotation, ValType, FunctionType, TypeUse, InnerTypeKind, BlockType, Instruction, Local, ItemKind, ItemSig, ModuleField}

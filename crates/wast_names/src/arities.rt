@@ -8,7 +8,7 @@ ghost use Rattle.wast_names.specs.WithinItems.{types_within, arity, arity_of};
 
 use std::alloc::AllocError;
 use std::slice;
-use wast_tree::{InnerTypeKind, ModuleField, Type};
+use wast_nodes::{InnerTypeKind, ModuleField, Type};
 
 /// How many parameters a function type has.
 fn arity(kind: &InnerTypeKind) -> Option<u64>

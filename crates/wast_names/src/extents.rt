@@ -20,8 +20,8 @@ use crate::named_fields::{with_items, with_lists};
 use crate::names_payload::{NAME_MAPS, NameMap};
 use crate::within::{PutLists, Within, WithinItems, count_lists};
 use wasm_ops::{Refusal, width};
+use wast_nodes::ModuleField;
 use wast_reach::Reaches;
-use wast_tree::ModuleField;
 
 /// How many entries a map of names has, and how long these are with their number. Both are 0 where there are none.
 #[derive(Clone, Copy)]

@@ -2,14 +2,14 @@
 
 ghost use Rattle.std.specs.Prelude.{◌≡◌, ◌+◌, length, IfOk};
 ghost use Rattle.std.specs.List.{flat_map};
-ghost use Rattle.wast_tree.specs.Imports.{item_sigs};
+ghost use Rattle.wast_nodes.specs.Imports.{item_sigs};
 ghost use Rattle.wast_names.specs.GivenNames.{named_from};
 ghost use Rattle.wast_names.specs.FoundNames.{counted, WritesItems};
 
 use crate::name_maps::{CountItems, NameItems, count_each, put_each};
 use std::slice;
 use wasm_ops::{Refusal, Sink};
-use wast_tree::{ImportItems, ItemSig};
+use wast_nodes::{ImportItems, ItemSig};
 
 /// The way to see the items of a signature in what holds one behind a name.
 #[derive(Clone, Copy)]

@@ -13,7 +13,8 @@ use crate::name_maps::{
 };
 use crate::names_payload::given_name;
 use wasm_ops::{Encode, Refusal, Sink};
-use wast_tree::{Id, Instruction, Local, NameAnnotation, StructField, ValType};
+use wast_base::{Id, NameAnnotation};
+use wast_nodes::{Instruction, Local, StructField, ValType};
 
 type Param<'a> = (Option<Id<'a>>, Option<NameAnnotation<'a>>, ValType<'a>);
 

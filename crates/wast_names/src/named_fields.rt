@@ -10,8 +10,9 @@ ghost use Rattle.wast_names.specs.Tree.ty;
 ghost use Rattle.wast_names.specs.WithinItems.{lists_within};
 
 use crate::within::Within;
+use wast_base::Space;
+use wast_nodes::ModuleField;
 use wast_reach::{FieldKind, Reach, Reaches};
-use wast_tree::{ModuleField, Space};
 
 /// Where the fields of either kind stand.
 fn either(reaches: &Reaches, one: FieldKind, other: FieldKind) -> Reach

@@ -22,8 +22,9 @@ use crate::name_maps::{CountItems, NameItems, count_each, put_each, put_map, put
 use crate::named_fields::{with_items, with_lists};
 use crate::within::{PutLists, Within, WithinItems};
 use wasm_ops::{Encode, Name, Refusal, Sink, WithLength, length_of};
+use wast_base::{Id, NameAnnotation, Space};
+use wast_nodes::{ImportItems, ItemSig, ModuleField, Type};
 use wast_reach::{FieldKind, Reaches};
-use wast_tree::{Id, ImportItems, ItemSig, ModuleField, NameAnnotation, Space, Type};
 
 fn id_text<'a>(id: &Option<Id<'a>>) -> Option<&'a str>
     ensures { text_seen result ≡ id_text id.now }

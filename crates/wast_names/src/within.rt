@@ -16,9 +16,10 @@ use crate::imported::{count_imported, put_imported};
 use crate::name_lists::{Listed, count_found, no_names, none, put_found};
 use crate::name_maps::{CountItems, NameItems, Own, any_named, count_each, put_each};
 use wasm_ops::{Refusal, Sink};
-use wast_tree::{
-    Func, FuncKind, FunctionType, ImportItems, Index, InnerTypeKind, Instruction, ItemKind,
-    ItemSig, Local, ModuleField, TagType, Type, TypeUse,
+use wast_base::Index;
+use wast_nodes::{
+    Func, FuncKind, FunctionType, ImportItems, InnerTypeKind, Instruction, ItemKind, ItemSig,
+    Local, ModuleField, TagType, Type, TypeUse,
 };
 
 /// What stands within items and has names.

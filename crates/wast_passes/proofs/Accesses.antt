@@ -8,7 +8,7 @@ use Rattle.wast_namespace.specs.Namespaces.{NameSpace, number_in}
 use Rattle.std.proofs.lemmas.Option.{slice_get-map}
 use Rattle.wast_base.specs.Ids.{name_of, mark_of}
 use Rattle.wast_base.specs.Spaces.{word_of}
-use Rattle.wast_tree.specs.Sites.{Wants}
+use Rattle.wast_nodes.specs.Sites.{Wants}
 use Rattle.wast_passes.specs.Tree.{Index}
 use Rattle.wast_passes.specs.Tree.index
 use Rattle.wast_passes.specs.Tree.space

@@ -3,9 +3,9 @@ use Rattle.std.specs.Prelude.{⊤, flat_map}
 use Rattle.std.proofs.Common.{◌≡◌, List, None, Option, inl, inr, sym, ◌∙◌, ap, subst, map}
 use Rattle.wast_base.specs.declared.faults.Error.{Error}
 use Rattle.wast_base.specs.Faults.{Told, told}
-use Rattle.wast_tree.specs.Items.{items}
-use Rattle.wast_tree.specs.Sites.{in_module}
-use Rattle.wast_tree.specs.Known.{Known, known}
+use Rattle.wast_nodes.specs.Items.{items}
+use Rattle.wast_nodes.specs.Sites.{in_module}
+use Rattle.wast_nodes.specs.Known.{Known, known}
 use Rattle.wast_passes.specs.declared.resolver.TypeShape.{TypeShape}
 use Rattle.wast_passes.specs.Tree.{ModuleField}
 use Rattle.wast_demands.specs.Scopes.{Scope, scope, shapes}

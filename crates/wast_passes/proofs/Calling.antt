@@ -4,7 +4,7 @@ use Rattle.std.specs.List.{Contains}
 use Rattle.std.proofs.lemmas.List.Elements.{Contains-append_left, Contains-append_right}
 use native.Mathlib.Omega.{arith}
 use Rattle.wast_base.specs.declared.faults.Error.{Error}
-use Rattle.wast_tree.specs.Sites.{Ask, Wants, Covered, if_there, in_id, in_index, in_descriptor, in_inner, in_def}
+use Rattle.wast_nodes.specs.Sites.{Ask, Wants, Covered, if_there, in_id, in_index, in_descriptor, in_inner, in_def}
 use Rattle.wast_passes.specs.Tree.{Id, Index, Space, TypeDef}
 use Rattle.wast_passes.specs.Tree.space
 use Rattle.wast_passes.specs.Tree.form

@@ -6,7 +6,7 @@ use Rattle.std.specs.Prelude.{flat_map}
 use Rattle.std.proofs.lemmas.List.{append-nil, append_assoc, drop-drop, drop-set-lt, take_more_set, take-append-drop, take_all, map-append}
 use Rattle.std.proofs.lemmas.Grind.{flat_map-append}
 use Rattle.wast_base.specs.declared.faults.Error.{Error}
-use Rattle.wast_tree.specs.Sites.{Ask}
+use Rattle.wast_nodes.specs.Sites.{Ask}
 use Rattle.wast_passes.specs.Tree.{Index}
 use Rattle.wast_demands.specs.CoreTypes.{CallsOn, HasNeeds}
 use Rattle.wast_passes.proofs.Calling.{calls_on_none, calls_on_both, first_refused, needs_first, needs_second, needs_kept}

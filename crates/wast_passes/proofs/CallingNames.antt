@@ -3,8 +3,8 @@ use Rattle.std.proofs.Common.{◌≡◌, ℕ, zero, suc, arith, Bool, true, fals
 use Rattle.std.specs.List.{flat_map, Contains}
 use Rattle.wast_base.specs.declared.faults.Error.{Error}
 use Rattle.wast_base.specs.Faults.{told}
-use Rattle.wast_tree.specs.Sites.{Ask, Wants, Within, Unasked, Clause, Covered}
-use Rattle.wast_tree.specs.Known.{Known}
+use Rattle.wast_nodes.specs.Sites.{Ask, Wants, Within, Unasked, Clause, Covered}
+use Rattle.wast_nodes.specs.Known.{Known}
 use Rattle.wast_passes.specs.Tree.{Index}
 use Rattle.wast_passes.specs.Tree.index
 use Rattle.wast_passes.specs.Tree.space

@@ -4,9 +4,9 @@ use Rattle.std.specs.Prelude.{Option, Result, Ok, Err}
 use Rattle.wast_base.specs.declared.faults.Error.{Error}
 use Rattle.wast_base.specs.Ids.{Name}
 use Rattle.wast_base.specs.Faults.{Told, told}
-use Rattle.wast_tree.specs.Items.{Item}
-use Rattle.wast_tree.specs.Known.{name_in, names_in}
-use Rattle.wast_tree.specs.Visits.{Tells, Visits}
+use Rattle.wast_nodes.specs.Items.{Item}
+use Rattle.wast_nodes.specs.Known.{name_in, names_in}
+use Rattle.wast_visits.specs.Visits.{Tells, Visits}
 use Rattle.wast_passes.specs.Tree.{Space}
 use Rattle.wast_passes.specs.Gathers.{Stops, Gathers, GathersItem, gathered_of}
 

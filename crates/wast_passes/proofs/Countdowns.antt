@@ -9,8 +9,8 @@ use Rattle.wast_passes.specs.Tree.{Space, Span}
 use Rattle.wast_base.specs.Ids.{Name, Mark}
 use Rattle.wast_base.specs.Faults.{Cause}
 use Rattle.wast_base.specs.Spaces.{rank_of, same_space, name_if, is_borne}
-use Rattle.wast_tree.specs.Items.{Item}
-use Rattle.wast_tree.specs.Known.{name_in, names_in}
+use Rattle.wast_nodes.specs.Items.{Item}
+use Rattle.wast_nodes.specs.Known.{name_in, names_in}
 use Rattle.wast_demands.specs.Demands.{Demand, first_unmet, new_name_by}
 use Rattle.wast_namespace.specs.Filling.{IsClash, HasFirstClash}
 use Rattle.wast_passes.specs.Clashes.{ahead_of}

@@ -6,7 +6,7 @@ use Rattle.std.proofs.lemmas.List.{map-append, length-map, get_or-map}
 use Rattle.wast_base.specs.Ids.{Name, Mark, marked}
 use Rattle.wast_base.specs.Faults.{Cause, Duplicate, Told, At}
 use Rattle.wast_base.specs.Spaces.{name_if, is_borne}
-use Rattle.wast_tree.specs.Sites.{param_marks, declaring}
+use Rattle.wast_nodes.specs.Sites.{param_marks, declaring}
 use Rattle.wast_passes.specs.Tree.{Span, Id, NameAnnotation, ValType, FunctionType, Expression, Local}
 use Rattle.wast_passes.specs.Tree.func
 use Rattle.wast_demands.specs.Scopes.{Scope}

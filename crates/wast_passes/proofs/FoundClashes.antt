@@ -7,10 +7,10 @@ use Rattle.wast_passes.specs.Tree.{Space, Span}
 use Rattle.wast_base.specs.Ids.{Name, Mark}
 use Rattle.wast_base.specs.Faults.{Cause, Duplicate, Told, At, told}
 use Rattle.wast_base.specs.Spaces.{rank_of, word_of, name_if}
-use Rattle.wast_tree.specs.Items.{Item}
-use Rattle.wast_tree.specs.Known.{names_in}
+use Rattle.wast_nodes.specs.Items.{Item}
+use Rattle.wast_nodes.specs.Known.{names_in}
 use Rattle.wast_passes.specs.declared.clashes.Finder.{Finder}
-use Rattle.wast_tree.specs.Visits.{Tells, Visits}
+use Rattle.wast_visits.specs.Visits.{Tells, Visits}
 use Rattle.wast_demands.specs.Demands.{Demand, first_unmet, own_demand, field_demands, item_demand, item_demands, each_after, Answers}
 use Rattle.wast_namespace.specs.Filling.{IsClash, HasFirstClash}
 use Rattle.wast_passes.specs.Clashes.{Countdown, countdown, ahead_of, counted_down_by, counted_down, Looks, FindsAmong, CountsDown}

@@ -5,7 +5,7 @@ use Rattle.std.proofs.lemmas.Grind.{flat_map-append}
 use Rattle.std.specs.List.{flat_map}
 use Rattle.wast_base.specs.Ids.{Name, Mark, name_of}
 use Rattle.wast_base.specs.Spaces.{name_if, position_of}
-use Rattle.wast_tree.specs.Sites.{Here, Locals, in_local, local_marks, param_marks, declaring, body_here, in_expression, in_func_kind, asking}
+use Rattle.wast_nodes.specs.Sites.{Here, Locals, in_local, local_marks, param_marks, declaring, body_here, in_expression, in_func_kind, asking}
 use Rattle.wast_map.specs.Mapped.{Change, mapped_signature, mapped_func_kind}
 use Rattle.wast_map.proofs.Fields.{marks_still}
 use Rattle.wast_passes.specs.Tree.{Id, Index, FunctionType, TypeUse, FuncKind}

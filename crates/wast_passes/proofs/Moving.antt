@@ -10,9 +10,9 @@ use Rattle.wast_labels.specs.Gathered.{is_among, knows, with_opener, IsTable}
 use Rattle.wast_labels.specs.Laws.{KnowsItsLabels}
 use Rattle.wast_labels.specs.OpenBlocks.{OpenBlocks}
 use Rattle.wast_labels.specs.Turns.{gathered}
-use Rattle.wast_tree.specs.Instrs.{block_of, is_closer, turn_by, turn_of, turns}
-use Rattle.wast_tree.specs.Sites.{Ask, Site, Asked, Used, Declared, LocalAt, FieldAt, LabelAt, Repeated, Begins, Ends, Here, Locals, after, after_all, asking, at_label, in_br_table}
-use Rattle.wast_tree.proofs.Behind.{after-append}
+use Rattle.wast_nodes.specs.Instrs.{block_of, is_closer, turn_by, turn_of, turns}
+use Rattle.wast_nodes.specs.Sites.{Ask, Site, Asked, Used, Declared, LocalAt, FieldAt, LabelAt, Repeated, Begins, Ends, Here, Locals, after, after_all, asking, at_label, in_br_table}
+use Rattle.wast_nodes.proofs.Behind.{after-append}
 use Rattle.wast_passes.specs.Tree.{BlockType, BrTableIndices, Instruction}
 use Rattle.wast_passes.specs.Openable.{is_openable_if, AreOpenable, here, with_blocks}
 

@@ -8,7 +8,7 @@ use Rattle.std.proofs.lemmas.List.{length-map, length-append}
 use Rattle.std.proofs.lemmas.Simd.{map-map}
 use Rattle.wast_base.specs.Ids.{Name, Mark, marked}
 use Rattle.wast_base.specs.Spaces.{name_if, is_called, position_of}
-use Rattle.wast_tree.specs.Items.{field_ids}
+use Rattle.wast_nodes.specs.Items.{field_ids}
 use Rattle.wast_namespace.specs.Namespaces.{NameSpace, key_cmp, key_of, empty_from, number_in}
 use Rattle.wast_namespace.specs.Filling.{IsClash, IsFilled}
 use Rattle.wast_namespace.proofs.Called.{position_head}

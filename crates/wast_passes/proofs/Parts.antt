@@ -3,8 +3,8 @@ use Rattle.std.proofs.Common.{◌≡◌, ap, ◌∙◌, sym, subst, List, [], �
 use Rattle.std.specs.List.{flat_map}
 use Rattle.std.proofs.lemmas.Grind.{flat_map-append}
 use Rattle.wast_base.specs.Faults.{Cause, Told, told}
-use Rattle.wast_tree.specs.Sites.{Ask, Wants, Site, Asked, if_there, in_index, at_index, at_label, in_id, in_ref, in_cast, asking}
-use Rattle.wast_tree.specs.Known.{Known}
+use Rattle.wast_nodes.specs.Sites.{Ask, Wants, Site, Asked, if_there, in_index, at_index, at_label, in_id, in_ref, in_cast, asking}
+use Rattle.wast_nodes.specs.Known.{Known}
 use Rattle.wast_base.specs.declared.faults.Error.{Error}
 use Rattle.wast_base.specs.Blocks.{Blocks}
 use Rattle.std.proofs.lemmas.List.{map-append}

@@ -5,8 +5,8 @@ use Rattle.std.proofs.Math.Seq.{drop-cons, take-suc}
 use Rattle.std.proofs.lemmas.List.{append-nil, drop-drop, drop-set-lt, set-get_or, take_more_set, take-append-drop, take_all}
 use Rattle.wast_base.specs.Faults.{Told}
 use Rattle.wast_labels.specs.OpenBlocks.{OpenBlocks}
-use Rattle.wast_tree.specs.Sites.{Locals, Here, start, after_all, behind, in_instr, in_instrs}
-use Rattle.wast_tree.proofs.Behind.{after-append, instrs-append}
+use Rattle.wast_nodes.specs.Sites.{Locals, Here, start, after_all, behind, in_instr, in_instrs}
+use Rattle.wast_nodes.proofs.Behind.{after-append, instrs-append}
 use Rattle.wast_map.specs.Mapped.{Change, mapped_instr, mapped_instrs}
 use Rattle.wast_passes.specs.Tree.{Instruction}
 use Rattle.wast_demands.specs.Scopes.{Scope}

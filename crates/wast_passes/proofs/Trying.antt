@@ -12,8 +12,8 @@ use Rattle.wast_base.specs.Ids.{Name}
 use Rattle.wast_base.specs.declared.faults.Error.{Error}
 use Rattle.wast_base.specs.Faults.{Told, Cause}
 use Rattle.wast_base.specs.Spaces.{spaces, rank_of, position_of}
-use Rattle.wast_tree.specs.Items.{Item, items}
-use Rattle.wast_tree.specs.Known.{known, names_in}
+use Rattle.wast_nodes.specs.Items.{Item, items}
+use Rattle.wast_nodes.specs.Known.{known, names_in}
 use Rattle.wast_passes.specs.Tree.{Space, Span, ModuleField}
 use Rattle.wast_passes.specs.Tree.space
 use Rattle.wast_demands.specs.Demands.{Answers, HasManyItems, space_counts, field_counts, item_counts}

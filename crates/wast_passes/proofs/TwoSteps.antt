@@ -5,8 +5,8 @@ use Rattle.std.proofs.lemmas.Grind.{flat_map-append}
 use Rattle.wast_base.specs.Faults.{Told}
 use Rattle.wast_base.specs.declared.faults.Error.{Error}
 use Rattle.std.specs.Prelude.{not}
-use Rattle.wast_tree.specs.Clauses.{suits}
-use Rattle.wast_tree.specs.Sites.{Ask, Site, Asked, Clause, Covered, asking, in_ref, in_table_type, in_table_kind, in_global_type, in_global_kind, in_global, in_elem_kind, in_payload, in_elem, in_data_kind}
+use Rattle.wast_nodes.specs.Clauses.{suits}
+use Rattle.wast_nodes.specs.Sites.{Ask, Site, Asked, Clause, Covered, asking, in_ref, in_table_type, in_table_kind, in_global_type, in_global_kind, in_global, in_elem_kind, in_payload, in_elem, in_data_kind}
 use Rattle.wast_map.specs.Mapped.{Change, mapped_table_kind, mapped_elem_kind, mapped_payload, mapped_data_kind}
 use Rattle.wast_passes.specs.Tree.{TableKind, Global, Elem, ElemKind, ElemPayload, DataKind, ModuleField}
 use Rattle.wast_passes.specs.Tree.table
@@ -16,7 +16,7 @@ use Rattle.wast_passes.specs.Tree.data_kind
 use Rattle.wast_base.specs.Blocks.{Blocks}
 use Rattle.wast_passes.specs.Tree.{Handle}
 use Rattle.wast_passes.specs.Tree.handle
-use Rattle.wast_tree.specs.Sites.{in_handle}
+use Rattle.wast_nodes.specs.Sites.{in_handle}
 use Rattle.wast_map.specs.Mapped.{mapped_handle}
 use Rattle.wast_passes.specs.TwoSteps.{in_handler_tag, in_handler_label, with_handler_tag, with_handler_label}
 use Rattle.wast_passes.specs.Tree.form

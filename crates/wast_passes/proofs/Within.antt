@@ -20,7 +20,7 @@ use Rattle.wast_demands.specs.Demands.{first_unmet, known_index, site_demands, r
 use Rattle.wast_passes.specs.Locals.{LocalSpace, local_in, Numbers}
 use Rattle.wast_passes.specs.Walking.{Walks}
 use Rattle.wast_demands.proofs.Unmet.{answers_more}
-use Rattle.wast_tree.specs.Sites.{Locals, LocalAt, Repeated, start}
+use Rattle.wast_nodes.specs.Sites.{Locals, LocalAt, Repeated, start}
 
 -- where names denote the same, indices do
 module _ (f g : Name → Option ℕ) (same : (name : Name) → f name ≡ g name) where

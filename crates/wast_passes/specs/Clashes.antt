@@ -3,7 +3,7 @@ use Rattle.std.specs.Prelude.{◌≡◌, ⊤, ℕ, zero, suc, ◌≤◌, ◌^◌
 use Rattle.wast_base.specs.Ids.{Mark, text_of}
 use Rattle.wast_base.specs.Faults.{Duplicate, DuplicateField, Told, At, told}
 use Rattle.wast_base.specs.Spaces.{word_of, rank_of}
-use Rattle.wast_tree.specs.Items.{Item}
+use Rattle.wast_nodes.specs.Items.{Item}
 use Rattle.wast_passes.specs.declared.clashes.Finder.{Finder}
 use Rattle.wast_demands.specs.Demands.{first_unmet, field_demands, Answers}
 

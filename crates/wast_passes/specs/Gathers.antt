@@ -4,8 +4,8 @@ use Rattle.wast_base.specs.declared.faults.Error.{Error}
 use Rattle.wast_base.specs.Ids.{Name}
 use Rattle.wast_base.specs.Faults.{Told, At, Nowhere, Memory, TooLarge, told}
 use Rattle.wast_base.specs.Spaces.{rank_of}
-use Rattle.wast_tree.specs.Items.{Item}
-use Rattle.wast_tree.specs.Known.{name_in}
+use Rattle.wast_nodes.specs.Items.{Item}
+use Rattle.wast_nodes.specs.Known.{name_in}
 use Rattle.wast_passes.specs.Tree.{Space}
 
 -- Why it stops that begins behind so many items, and has so many at its end: memory was refused, and one more item could

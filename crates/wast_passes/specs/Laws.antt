@@ -1,7 +1,7 @@
 -- What is so of types that the resolver of a module resolves.
 use Rattle.std.specs.Prelude.{◌≡◌, true, List, Result}
 use Rattle.std.specs.Borrow.{Bor}
-use Rattle.wast_tree.specs.Sites.{Ask}
+use Rattle.wast_nodes.specs.Sites.{Ask}
 use Rattle.wast_base.specs.declared.faults.Error.{Error}
 use Rattle.wast_map.specs.Mapped.{Indices}
 use Rattle.wast_passes.specs.Tree.space

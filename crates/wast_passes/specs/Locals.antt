@@ -4,7 +4,7 @@ use Rattle.wast_base.specs.declared.faults.Error.{Error}
 use Rattle.wast_base.specs.Ids.{Name, Mark, marked}
 use Rattle.wast_base.specs.Faults.{Cause, Duplicate, told}
 use Rattle.wast_base.specs.Spaces.{name_if, position_of}
-use Rattle.wast_tree.specs.Sites.{Site, Locals, local_marks, param_marks, declaring, in_func_kind}
+use Rattle.wast_nodes.specs.Sites.{Site, Locals, local_marks, param_marks, declaring, in_func_kind}
 use Rattle.wast_passes.specs.Tree.{Span, Id, NameAnnotation, ValType, FunctionType, TypeUse, Local, FuncKind}
 use Rattle.wast_passes.specs.Tree.func
 use Rattle.wast_demands.specs.Scopes.{Scope, nameless, local_number}

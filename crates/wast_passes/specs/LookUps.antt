@@ -4,8 +4,8 @@ use Rattle.std.specs.List.{list_all}
 use Rattle.wast_base.specs.declared.faults.Error.{Error}
 use Rattle.wast_base.specs.Faults.{told}
 use Rattle.wast_base.specs.Spaces.{is_settled_index}
-use Rattle.wast_tree.specs.Sites.{Ask, Wants, Within, Unasked, Clause, Covered, in_index}
-use Rattle.wast_tree.specs.Known.{Known}
+use Rattle.wast_nodes.specs.Sites.{Ask, Wants, Within, Unasked, Clause, Covered, in_index}
+use Rattle.wast_nodes.specs.Known.{Known}
 use Rattle.wast_passes.specs.Tree.{Space, Index}
 use Rattle.wast_passes.specs.Tree.space
 use Rattle.wast_demands.specs.Demands.{first_unmet, ask_demands, Answers}

@@ -3,8 +3,8 @@ use Rattle.std.specs.Prelude.{◌≡◌, Bool, true, List, [], ◌∷◌, ◌++�
 use Rattle.wast_base.specs.declared.faults.Error.{Error}
 use Rattle.wast_base.specs.Ids.{Name, marked}
 use Rattle.wast_base.specs.Spaces.{name_if}
-use Rattle.wast_tree.specs.Instrs.{block_of}
-use Rattle.wast_tree.specs.Sites.{Site, Locals, Here, after_all, in_instr}
+use Rattle.wast_nodes.specs.Instrs.{block_of}
+use Rattle.wast_nodes.specs.Sites.{Site, Locals, Here, after_all, in_instr}
 use Rattle.wast_map.specs.Mapped.{mapped_instr}
 use Rattle.wast_labels.specs.Gathered.{knows}
 use Rattle.wast_labels.specs.OpenBlocks.{OpenBlocks}

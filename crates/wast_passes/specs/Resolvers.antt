@@ -4,7 +4,7 @@ use Rattle.std.specs.Coded.{Coded, coded_list, code_by}
 use Rattle.wast_passes.specs.Tree.{Space}
 use Rattle.wast_passes.specs.Tree.space
 use Rattle.wast_base.specs.Spaces.{rank_of}
-use Rattle.wast_tree.specs.Known.{Known}
+use Rattle.wast_nodes.specs.Known.{Known}
 use Rattle.wast_types.specs.Signatures.{Signature}
 use Rattle.wast_passes.specs.declared.resolver.Ns.{Ns}
 use Rattle.wast_passes.specs.declared.resolver.TypeShape.{TypeShape}

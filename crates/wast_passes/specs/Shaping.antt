@@ -4,8 +4,8 @@ use Rattle.wast_base.specs.declared.faults.Error.{Error}
 use Rattle.wast_base.specs.Faults.{told}
 use Rattle.wast_base.specs.Ids.{Name, Mark}
 use Rattle.wast_base.specs.Spaces.{name_if, position_of}
-use Rattle.wast_tree.specs.Items.{fields_of, field_ids}
-use Rattle.wast_tree.specs.Types.{types_of}
+use Rattle.wast_nodes.specs.Items.{fields_of, field_ids}
+use Rattle.wast_nodes.specs.Types.{types_of}
 use Rattle.wast_namespace.specs.Namespaces.{NameSpace, number_in}
 use Rattle.wast_passes.specs.Tree.{ModuleField}
 use Rattle.wast_passes.specs.Tree.ty

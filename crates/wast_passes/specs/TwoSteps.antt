@@ -9,7 +9,7 @@ use Rattle.wast_passes.specs.Tree.table
 use Rattle.wast_passes.specs.Tree.elem
 use Rattle.wast_passes.specs.Tree.payload
 use Rattle.wast_passes.specs.Tree.data_kind
-use Rattle.wast_tree.specs.Sites.{Ask, Site, Here, asking, at_index, at_label, if_there, in_ref, in_table_type, in_expression, in_constant, in_payload, in_local}
+use Rattle.wast_nodes.specs.Sites.{Ask, Site, Here, asking, at_index, at_label, if_there, in_ref, in_table_type, in_expression, in_constant, in_payload, in_local}
 use Rattle.wast_map.specs.Mapped.{Change, mapped_ref, mapped_table_type, mapped_expression, mapped_constant, mapped_payload, mapped_local}
 
 -- a function: the types of its locals, and its body from where it stands

@@ -2,11 +2,11 @@
 use Rattle.std.specs.Prelude.{⊤, ◌≡◌, List, None, Result, Ok, Err}
 use Rattle.wast_base.specs.declared.faults.Error.{Error}
 use Rattle.wast_base.specs.Faults.{told}
-use Rattle.wast_tree.specs.Sites.{Ask, Site}
+use Rattle.wast_nodes.specs.Sites.{Ask, Site}
 use Rattle.wast_map.specs.Mapped.{Change}
 use Rattle.wast_demands.specs.Demands.{Demand, first_unmet, ask_demands, site_demands, open_counts, HasMany, Answers}
 use Rattle.wast_base.specs.Blocks.{Blocks}
-use Rattle.wast_tree.specs.Sites.{in_cast}
+use Rattle.wast_nodes.specs.Sites.{in_cast}
 use Rattle.wast_map.specs.Mapped.{mapped_ref}
 use Rattle.wast_passes.specs.Tree.{Index, RefType}
 use Rattle.wast_demands.specs.Resolved.{numbering}

@@ -2,15 +2,16 @@
 #![tactic(auto, using(crate::proofs::Parts::both_met, crate::proofs::Parts::first_fails, crate::proofs::Parts::second_fails))]
 
 ghost use Rattle.std.specs.Prelude.{List, map, flat_map};
-ghost use Rattle.wast_tree.specs.Sites.{OfItem, Site, asking, at_index, in_use, in_tag_type, in_item_kind, in_sig, in_import, in_memory_kind};
+ghost use Rattle.wast_nodes.specs.Sites.{OfItem, Site, asking, at_index, in_use, in_tag_type, in_item_kind, in_sig, in_import, in_memory_kind};
 ghost use Rattle.wast_map.specs.Mapped.{Change, mapped_tag_type, mapped_item_kind, mapped_sig, mapped_import_items, mapped_import, mapped_memory, mapped_tag};
 ghost use Rattle.wast_passes.specs.Walking.{WalksSites};
 
 use crate::resolver::Resolver;
 use crate::walks::{Walk, walk_index, walk_type_use};
-use wast_tree::{
-    Error, FunctionType, ImportItems, Imports, Index, ItemKind, ItemSig, Memory, MemoryKind, Seq,
-    Space, Tag, TagType, TypeUse,
+use wast_base::{Error, Index, Seq, Space};
+use wast_nodes::{
+    FunctionType, ImportItems, Imports, ItemKind, ItemSig, Memory, MemoryKind, Tag, TagType,
+    TypeUse,
 };
 
 /// Walks over a part of a field in which nothing stands in a body.

@@ -4,8 +4,8 @@ ghost use Rattle.std.specs.Prelude.{◌≡◌, ⊤, [], None, IfOk, IfErr, Match
 ghost use Rattle.wast_base.specs.Ids.{marked};
 ghost use Rattle.wast_base.specs.Faults.{told};
 ghost use Rattle.wast_base.specs.Spaces.{name_if, rank_of};
-ghost use Rattle.wast_tree.specs.Items.{field_ids, item, items};
-ghost use Rattle.wast_tree.specs.Known.{names_in};
+ghost use Rattle.wast_nodes.specs.Items.{field_ids, item, items};
+ghost use Rattle.wast_nodes.specs.Known.{names_in};
 ghost use Rattle.wast_passes.specs.Tree.{Space};
 ghost use Rattle.wast_demands.specs.Demands.{first_unmet, item_demands, Answers, HasManyItems};
 ghost use Rattle.wast_namespace.specs.Filling.{HasFirstClash};
@@ -14,7 +14,9 @@ ghost use Rattle.wast_passes.specs.Clashes.{countdown, counted_down, CountsDown,
 
 use crate::gathers::{gather_fields, have_ids};
 use std::alloc::Global;
-use wast_tree::{Error, Fault, Id, ItemVisitor, ModuleField, Space, StructField, visit_items};
+use wast_base::{Error, Fault, Id, Space};
+use wast_nodes::{ModuleField, StructField};
+use wast_visits::{ItemVisitor, visit_items};
 
 /// Counts down to the first clash of each space, until it comes to one of them.
 #[derive(Drop)]

@@ -3,7 +3,7 @@
 
 ghost use Rattle.std.specs.Prelude.{◌≡◌, ℕ, List, Result, flat_map, map, option_map};
 ghost use Rattle.wast_base.specs.declared.faults.Error.{Error};
-ghost use Rattle.wast_tree.specs.Sites.{Ask, if_there, in_index, in_heap, in_ref, in_val, in_storage, in_param, in_signature, in_struct_field, in_struct, in_array, in_inner, in_def, in_type};
+ghost use Rattle.wast_nodes.specs.Sites.{Ask, if_there, in_index, in_heap, in_ref, in_val, in_storage, in_param, in_signature, in_struct_field, in_struct, in_array, in_inner, in_def, in_type};
 ghost use Rattle.wast_passes.specs.Tree.{Index};
 ghost use Rattle.wast_passes.specs.Tree.space;
 ghost use Rattle.wast_map.specs.Mapped.{Indices, mapped_heap, mapped_ref, mapped_val, mapped_storage, mapped_param, mapped_signature, mapped_struct_field, mapped_struct, mapped_array, mapped_inner, mapped_def};
@@ -12,9 +12,10 @@ ghost use Rattle.wast_passes.specs.Resolvers.{known_of};
 ghost use Rattle.wast_demands.specs.CoreTypes.{CallsOn, HasNeeds, blank, with_def};
 
 use crate::resolver::{Ns, Resolver};
-use wast_tree::{
-    ArrayType, Error, FunctionType, HeapType, Id, Index, InnerTypeKind, NameAnnotation, RefType,
-    Seq, StorageType, StructField, StructType, Type, TypeDef, ValType,
+use wast_base::{Error, Id, Index, NameAnnotation, Seq};
+use wast_nodes::{
+    ArrayType, FunctionType, HeapType, InnerTypeKind, RefType, StorageType, StructField,
+    StructType, Type, TypeDef, ValType,
 };
 
 /// A resolver of the indices of types.

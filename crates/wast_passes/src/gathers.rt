@@ -5,17 +5,16 @@ ghost use Rattle.std.specs.List.{list_any};
 ghost use Rattle.wast_base.specs.Faults.{out_of_memory};
 ghost use Rattle.wast_base.specs.Ids.{Mark, marked};
 ghost use Rattle.wast_base.specs.Spaces.{name_if};
-ghost use Rattle.wast_tree.specs.Items.{field_ids, items};
-ghost use Rattle.wast_tree.specs.Known.{names_in};
+ghost use Rattle.wast_nodes.specs.Items.{field_ids, items};
+ghost use Rattle.wast_nodes.specs.Known.{names_in};
 ghost use Rattle.wast_passes.specs.Gathers.{Gathers, GathersItem, gathered_of, with_gathered};
 ghost use Rattle.wast_passes.specs.Tree.{Space};
 
 use std::alloc::Global;
+use wast_base::{Error, Fault, Id, NameAnnotation, Space};
 use wast_namespace::Gathering;
-use wast_tree::{
-    Error, Fault, Id, ItemVisitor, Local, ModuleField, NameAnnotation, Space, StructField, ValType,
-    visit_items,
-};
+use wast_nodes::{Local, ModuleField, StructField, ValType};
+use wast_visits::{ItemVisitor, visit_items};
 
 /// How many ids the items of each space have, by its rank; a guess where there are too many to be counted.
 #[derive(Drop)]

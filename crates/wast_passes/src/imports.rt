@@ -2,15 +2,16 @@
 
 ghost use Rattle.std.specs.Prelude.{◌≡◌, None, IfOk, IfErr, OnOk};
 ghost use Rattle.wast_base.specs.Faults.{told};
-ghost use Rattle.wast_tree.specs.Imports.{defined_space};
+ghost use Rattle.wast_nodes.specs.Imports.{defined_space};
 ghost use Rattle.wast_namespace.specs.FirstUnmet.{first_unmet, Answers};
 ghost use Rattle.wast_namespace.specs.Outcomes.{Outcome};
 ghost use Rattle.wast_demands.specs.ImportOrder.{import_place, defines, defined_word, nothing_defined};
 ghost use Rattle.wast_demands.specs.Demands.{order_demands};
 
-use wast_tree::{
-    Error, Fault, Func, FuncKind, Global, GlobalKind, Imports, Memory, MemoryKind, ModuleField,
-    Seq, Space, Span, Table, TableKind, Tag, TagKind, discard_fields,
+use wast_base::{Error, Fault, Seq, Space, Span};
+use wast_nodes::{
+    Func, FuncKind, Global, GlobalKind, Imports, Memory, MemoryKind, ModuleField, Table, TableKind,
+    Tag, TagKind, discard_fields,
 };
 
 /// The place of a field that is an import, or whose item is imported in place.

@@ -18,20 +18,20 @@ ghost use Rattle.wast_demands.specs.Scopes.{Scope};
 ghost use Rattle.wast_passes.specs.Tree.space;
 ghost use Rattle.wast_passes.specs.TwoSteps.{in_handler_tag, in_handler_label, with_handler_tag, with_handler_label};
 ghost use Rattle.wast_passes.specs.Walking.{WalksAsks, WalksSites, WalksBodies, WalksCast};
-ghost use Rattle.wast_tree.specs.Instrs.{turn_of, turns};
-ghost use Rattle.wast_tree.specs.Sites.{Begins, Ends, Repeated, LocalAt, Locals, OfBlock, OfCall, asking, at_index, at_label, in_access, in_block, in_br_table, in_catch, in_caught, in_handle, in_handlers, in_indirect, in_instr, in_instrs, in_pair, in_try_table, in_use};
+ghost use Rattle.wast_nodes.specs.Instrs.{turn_of, turns};
+ghost use Rattle.wast_nodes.specs.Sites.{Begins, Ends, Repeated, LocalAt, Locals, OfBlock, OfCall, asking, at_index, at_label, in_access, in_block, in_br_table, in_catch, in_caught, in_handle, in_handlers, in_indirect, in_instr, in_instrs, in_pair, in_try_table, in_use};
 
 use crate::apart::{walk_outside, walk_outside_index};
 use crate::local_names::LocalNames;
 use crate::resolver::Resolver;
 use crate::walks::{Walk, walk_body_type, walk_index};
 use std::alloc::{AllocError, Global};
+use wast_base::{Boxed, Error, Fault, Id, Index, Seq, Space};
 use wast_labels::{LabelNames, Labels, gathering_law};
-use wast_tree::{
-    ArrayInit, BlockType, Boxed, BrTableIndices, CallIndirect, Error, Expression, Fault,
-    FunctionType, Handle, Id, Index, Instruction, MemArgTarget, RefType, Resume, ResumeTable,
-    ResumeThrow, ResumeThrowRef, Seq, Space, StructAccess, TryTable, TryTableCatch,
-    TryTableCatchKind, TypeUse,
+use wast_nodes::{
+    ArrayInit, BlockType, BrTableIndices, CallIndirect, Expression, FunctionType, Handle,
+    Instruction, MemArgTarget, RefType, Resume, ResumeTable, ResumeThrow, ResumeThrowRef,
+    StructAccess, TryTable, TryTableCatch, TryTableCatchKind, TypeUse,
 };
 
 /// Walks over an index of a space. No block is opened.

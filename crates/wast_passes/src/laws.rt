@@ -1,6 +1,6 @@
 //! Laws for callers to cite, of types that the resolver of a module resolves.
 
-ghost use Rattle.wast_tree.specs.Sites.{in_heap, in_ref, in_val, in_storage, in_signature, in_def, in_type};
+ghost use Rattle.wast_nodes.specs.Sites.{in_heap, in_ref, in_val, in_storage, in_signature, in_def, in_type};
 ghost use Rattle.wast_map.specs.Mapped.{mapped_heap, mapped_ref, mapped_val, mapped_storage, mapped_signature, mapped_def};
 ghost use Rattle.wast_demands.specs.CoreTypes.{with_def};
 ghost use Rattle.wast_passes.specs.Laws.{ByResolver, NeedsOfResolver};

@@ -10,8 +10,8 @@ ghost use Rattle.wast_passes.specs.Locals.{local_in, AreFew};
 
 use std::alloc::Global;
 use std::marker::Model;
+use wast_base::{Error, Fault, Id, Index};
 use wast_namespace::Namespace;
-use wast_tree::{Error, Fault, Id, Index};
 
 /// The names of the parameters and locals of a function, and what they denote (text format, indices: locals).
 #[derive(Drop)]

@@ -3,7 +3,7 @@
 ghost use Rattle.std.specs.Prelude.{◌≡◌, ◌<◌, ◌≤◌, ◌^◌, ◌+◌, ◌↔◌, [], length, slice_index_or, None, Some, IsTrue, IfOk, IfErr};
 ghost use Rattle.wast_base.specs.Ids.{marked};
 ghost use Rattle.wast_base.specs.Faults.{told};
-ghost use Rattle.wast_tree.specs.Sites.{param_marks, declaring};
+ghost use Rattle.wast_nodes.specs.Sites.{param_marks, declaring};
 ghost use Rattle.wast_passes.specs.Resolvers.{scope_of};
 ghost use Rattle.wast_demands.specs.Scopes.{Scope, nameless as nameless_of};
 ghost use Rattle.wast_demands.specs.Demands.{declared};
@@ -15,10 +15,9 @@ use crate::gathers::{count_ids, gather_each, have_ids};
 use crate::local_names::LocalNames;
 use crate::resolver::Resolver;
 use std::alloc::Global;
+use wast_base::{Error, Fault, Id, NameAnnotation};
 use wast_namespace::{Gathering, Namespace};
-use wast_tree::{
-    Error, Fault, FuncKind, FunctionType, Id, Local, NameAnnotation, TypeUse, ValType,
-};
+use wast_nodes::{FuncKind, FunctionType, Local, TypeUse, ValType};
 
 /// A parameter: its id, its name annotation and its type.
 type Param<'a> = (Option<Id<'a>>, Option<NameAnnotation<'a>>, ValType<'a>);

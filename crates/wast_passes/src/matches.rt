@@ -3,7 +3,7 @@
 ghost use Rattle.std.specs.Prelude.{◌≡◌, List, None, map, IsTrue, OnOk, IfErr};
 ghost use Rattle.wast_base.specs.Ids.{is_number};
 ghost use Rattle.wast_base.specs.Faults.{told};
-ghost use Rattle.wast_tree.specs.Sites.{Ask, in_signature};
+ghost use Rattle.wast_nodes.specs.Sites.{Ask, in_signature};
 ghost use Rattle.wast_types.specs.Signatures.{type_of_param, same_heap_by, same_ref_by, same_value_by, same_values_by};
 ghost use Rattle.wast_passes.specs.Tree.{Index, ValType};
 ghost use Rattle.wast_demands.specs.Scopes.{Scope};
@@ -18,7 +18,8 @@ ghost use Rattle.wast_passes.specs.Resolvers.{known_of, scope_of};
 
 use crate::core_types::resolve_type_func;
 use crate::resolver::Resolver;
-use wast_tree::{Error, FunctionType, HeapType, Id, Index, NameAnnotation, RefType, ValType};
+use wast_base::{Error, Id, Index, NameAnnotation};
+use wast_nodes::{FunctionType, HeapType, RefType, ValType};
 use wast_types::FuncKey;
 
 /// Whether two heap types are one.

@@ -1,8 +1,8 @@
 //! The two passes over the fields of a module: the items of all fields are numbered, and then each index becomes its number.
 
 ghost use Rattle.std.specs.Prelude.{◌≡◌, None, IfOk, IfErr, OnOk};
-ghost use Rattle.wast_tree.specs.Items.{items};
-ghost use Rattle.wast_tree.specs.Known.{known};
+ghost use Rattle.wast_nodes.specs.Items.{items};
+ghost use Rattle.wast_nodes.specs.Known.{known};
 ghost use Rattle.wast_demands.specs.Demands.{first_unmet, name_demands, IsUnnumbered};
 ghost use Rattle.wast_demands.specs.Resolved.{resolved};
 ghost use Rattle.wast_passes.specs.Resolvers.{known_of, scope_of};
@@ -13,7 +13,8 @@ use crate::shapes::type_shapes;
 use crate::spaces::name_spaces;
 use crate::walks::walk_fields;
 use std::alloc::Global;
-use wast_tree::{Error, ModuleField, Seq, discard_fields};
+use wast_base::{Error, Seq};
+use wast_nodes::{ModuleField, discard_fields};
 
 /// Numbers the items of the fields, and replaces each id where an index is wanted by its number, at the id's place (text
 /// format, indices).

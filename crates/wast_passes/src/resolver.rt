@@ -19,8 +19,9 @@ ghost use Rattle.wast_passes.specs.Walking.{Walks};
 use crate::matches::has_signature;
 use std::alloc::Global;
 use std::marker::Model;
+use wast_base::{Error, Fault, Id, Index, Space};
 use wast_namespace::Namespace;
-use wast_tree::{Error, Fault, FunctionType, Id, Index, Space, StructAccess, TypeUse};
+use wast_nodes::{FunctionType, StructAccess, TypeUse};
 use wast_types::FuncKey;
 
 /// A space of items that an index can stand for (text format, indices).

@@ -3,7 +3,7 @@
 ghost use Rattle.std.specs.Prelude.{◌≡◌, ◌≤◌, ◌^◌, None, [], ◌∷◌, ◌++◌, length, map, flat_map, IfOk, IfErr, OnOk};
 ghost use Rattle.wast_base.specs.Faults.{out_of_memory};
 ghost use Rattle.wast_base.specs.Spaces.{name_if};
-ghost use Rattle.wast_tree.specs.Items.{field_ids, fields_of};
+ghost use Rattle.wast_nodes.specs.Items.{field_ids, fields_of};
 ghost use Rattle.wast_types.specs.Signatures.{signature_of};
 ghost use Rattle.wast_demands.specs.Demands.{first_unmet, field_demands, HasMany};
 ghost use Rattle.wast_passes.specs.Resolvers.{read_shape};
@@ -14,8 +14,9 @@ use crate::gathers::{gather_fields, have_ids};
 use crate::resolver::TypeShape;
 use std::alloc::Global;
 use std::slice;
+use wast_base::Error;
 use wast_namespace::Namespace;
-use wast_tree::{Error, FunctionType, InnerTypeKind, ModuleField, StructField, Type};
+use wast_nodes::{FunctionType, InnerTypeKind, ModuleField, StructField, Type};
 use wast_types::TypeReference;
 
 /// What the ids of the fields of a struct denote; no two are the same.

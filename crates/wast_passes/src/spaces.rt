@@ -3,8 +3,8 @@
 ghost use Rattle.std.specs.Prelude.{◌≡◌, ⊤, List, [], Option as Maybe, None, IfOk, IfErr, OnOk, length};
 ghost use Rattle.wast_base.specs.Faults.{told};
 ghost use Rattle.wast_base.specs.Ids.{Name};
-ghost use Rattle.wast_tree.specs.Items.{items};
-ghost use Rattle.wast_tree.specs.Known.{known};
+ghost use Rattle.wast_nodes.specs.Items.{items};
+ghost use Rattle.wast_nodes.specs.Known.{known};
 ghost use Rattle.wast_demands.specs.Demands.{first_unmet, item_demands, Answers, HasManyItems};
 ghost use Rattle.wast_passes.specs.Resolvers.{known_of};
 ghost use Rattle.wast_passes.specs.Gathers.{Gathers, Stops};
@@ -14,8 +14,9 @@ use crate::clashes::first_clash;
 use crate::gathers::gather;
 use crate::resolver::Resolver;
 use std::alloc::Global;
+use wast_base::Error;
 use wast_namespace::{Gathering, Namespace};
-use wast_tree::{Error, ModuleField};
+use wast_nodes::ModuleField;
 
 /// The name space of a space and no clash, or the position of the first item whose id an earlier one bears.
 fn try_space<'a>(

@@ -2,7 +2,7 @@
 #![tactic(auto, using(crate::proofs::Parts::both_met, crate::proofs::Parts::first_fails, crate::proofs::Parts::second_fails, crate::proofs::Parts::id_met))]
 
 ghost use Rattle.std.specs.Prelude.{⊤, List, map, flat_map, option_map};
-ghost use Rattle.wast_tree.specs.Sites.{Ask, OfItem, OfCall, OfBlock, Locals, if_there, in_index, in_heap, in_ref, in_val, in_signature, in_type, in_rec, in_type_use, in_mem_arg, in_pair, in_select, in_local, in_func_kind, in_func, in_use, in_table_type, in_global_type, exported_space, in_field, in_module};
+ghost use Rattle.wast_nodes.specs.Sites.{Ask, OfItem, OfCall, OfBlock, Locals, if_there, in_index, in_heap, in_ref, in_val, in_signature, in_type, in_rec, in_type_use, in_mem_arg, in_pair, in_select, in_local, in_func_kind, in_func, in_use, in_table_type, in_global_type, exported_space, in_field, in_module};
 ghost use Rattle.wast_map.specs.Mapped.{Change, mapped_heap, mapped_ref, mapped_val, mapped_signature, mapped_type, mapped_rec, mapped_table_type, mapped_global_type, mapped_local, mapped_export, mapped_mem_arg, mapped_select, mapped_memory_init, mapped_memory_copy, mapped_table_init, mapped_table_copy, mapped_func_kind, mapped_func, mapped};
 ghost use Rattle.wast_demands.specs.Demands.{match_if, first_unmet, body_counts_in, HasMany};
 ghost use Rattle.wast_passes.specs.Locals.{NumbersIn, SaysAsMuch, kind_counts};
@@ -27,12 +27,13 @@ use crate::local_names::LocalNames;
 use crate::locals::name_locals;
 use crate::resolver::Resolver;
 use std::alloc::Global;
-use wast_tree::{
-    ArrayCopy, ArrayNewData, ArrayNewElem, ArrayType, ContBind, Error, Export, Func, FuncKind,
-    FunctionType, GlobalType, HeapType, Id, Index, InnerTypeKind, LoadOrStoreLane, Local, MemArg,
-    MemArgTarget, MemoryCopy, MemoryInit, ModuleField, NameAnnotation, Rec, RefType, SelectTypes,
-    Seq, Space, StorageType, StructField, StructType, Switch, TableCopy, TableInit, TableType,
-    Type, TypeDef, TypeUse, ValType, discard_said_inline,
+use wast_base::{Error, Id, Index, NameAnnotation, Seq, Space};
+use wast_nodes::{
+    ArrayCopy, ArrayNewData, ArrayNewElem, ArrayType, ContBind, Export, Func, FuncKind,
+    FunctionType, GlobalType, HeapType, InnerTypeKind, LoadOrStoreLane, Local, MemArg,
+    MemArgTarget, MemoryCopy, MemoryInit, ModuleField, Rec, RefType, SelectTypes, StorageType,
+    StructField, StructType, Switch, TableCopy, TableInit, TableType, Type, TypeDef, TypeUse,
+    ValType, discard_said_inline,
 };
 
 /// Walks over an index of a space. The error is E4 at an id that denotes nothing.

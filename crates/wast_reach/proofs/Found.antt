@@ -4,12 +4,12 @@ use Rattle.std.specs.List.{list_all}
 use Rattle.std.proofs.lemmas.Bool.{eqb-true, eqb-false, and_parts}
 use Rattle.std.proofs.lemmas.List.{get_or-replicate, get_or-set_same, get_or-set_other}
 use Rattle.std.proofs.lemmas.List.Folds.{list_all_at}
-use Rattle.wast_tree.specs.declared.fields.ModuleField.{ModuleField}
-use Rattle.wast_tree.specs.declared.customs.CustomPlace.{CustomPlace}
-use Rattle.wast_tree.specs.declared.customs.CustomPlaceAnchor.{CustomPlaceAnchor}
-use Rattle.wast_tree.specs.declared.customs.CustomPlaceAnchor.TheVariants as anchor
-use Rattle.wast_tree.specs.declared.customs.CustomPlace.TheVariants as at
-use Rattle.wast_tree.specs.Customs.{anchor_rank, place_rank}
+use Rattle.wast_nodes.specs.declared.fields.ModuleField.{ModuleField}
+use Rattle.wast_nodes.specs.declared.customs.CustomPlace.{CustomPlace}
+use Rattle.wast_nodes.specs.declared.customs.CustomPlaceAnchor.{CustomPlaceAnchor}
+use Rattle.wast_nodes.specs.declared.customs.CustomPlaceAnchor.TheVariants as anchor
+use Rattle.wast_nodes.specs.declared.customs.CustomPlace.TheVariants as at
+use Rattle.wast_nodes.specs.Customs.{anchor_rank, place_rank}
 use Rattle.wast_reach.specs.declared.finding.Reaches.{Reaches}
 use Rattle.wast_reach.specs.declared.kinds.FieldKind.{FieldKind}
 use Rattle.wast_reach.specs.declared.kinds.FieldKind.TheVariants as kind

@@ -6,7 +6,7 @@ use Rattle.std.proofs.lemmas.Bool.{leb-true, le-leb}
 use Rattle.std.proofs.lemmas.Grind.{flat_map-append}
 use Rattle.std.proofs.lemmas.List.{take-append-le, drop-append-le, take-take, drop-drop}
 use Rattle.std.proofs.lemmas.List.Folds.{list_all-append, drop_split}
-use Rattle.wast_tree.specs.declared.fields.ModuleField.{ModuleField}
+use Rattle.wast_nodes.specs.declared.fields.ModuleField.{ModuleField}
 use Rattle.wast_reach.specs.declared.stretches.Reach.{Reach}
 use Rattle.wast_reach.specs.Reaches.{none_pass, is_inside, is_reach, there}
 

@@ -1,8 +1,8 @@
 -- The kinds of fields (text format, modules).
 use Rattle.std.specs.Prelude.{ℕ, ◌+◌, ◌==◌, Bool, List, ◌∷◌, map}
-use Rattle.wast_tree.specs.declared.fields.ModuleField.{ModuleField}
-use Rattle.wast_tree.specs.declared.fields.ModuleField.TheVariants as field
-use Rattle.wast_tree.specs.Customs.{custom_place, place_rank, places}
+use Rattle.wast_nodes.specs.declared.fields.ModuleField.{ModuleField}
+use Rattle.wast_nodes.specs.declared.fields.ModuleField.TheVariants as field
+use Rattle.wast_nodes.specs.Customs.{custom_place, place_rank, places}
 use Rattle.wast_reach.specs.declared.kinds.FieldKind.{FieldKind}
 use Rattle.wast_reach.specs.declared.kinds.FieldKind.TheVariants as kind
 

@@ -1,15 +1,15 @@
 //! The stretches of all kinds of fields, found in one walk.
 
 ghost use Rattle.std.specs.Prelude.{◌≡◌, ◌<◌, false, [], ◌∷◌, ◌++◌, length, List, IsTrue};
-ghost use Rattle.wast_tree.specs.declared.fields.ModuleField.{ModuleField};
+ghost use Rattle.wast_nodes.specs.declared.fields.ModuleField.{ModuleField};
 ghost use Rattle.wast_reach.specs.Kinds.{is_of};
 ghost use Rattle.wast_reach.specs.Reaches.{none_pass, is_reach, reach_of, are_reaches};
 ghost use Rattle.wast_reach.specs.declared.kinds.FieldKind.TheVariants as kind;
-ghost use Rattle.wast_tree.specs.declared.customs.CustomPlace.{CustomPlace};
+ghost use Rattle.wast_nodes.specs.declared.customs.CustomPlace.{CustomPlace};
 
 use crate::kinds::FieldKind;
 use crate::stretches::Reach;
-use wast_tree::ModuleField;
+use wast_nodes::ModuleField;
 
 /// Where in a list the fields of each kind stand.
 #[derive(Clone, Copy)]

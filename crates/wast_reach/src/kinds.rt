@@ -3,7 +3,7 @@
 ghost use Rattle.std.specs.Prelude.{◌≡◌, ◌<◌};
 ghost use Rattle.wast_reach.specs.Kinds.{kind_in, kind_rank};
 
-use wast_tree::{CustomPlace, ModuleField};
+use wast_nodes::{CustomPlace, ModuleField};
 
 /// A kind of fields: one for each variant of [`ModuleField`] (text format, modules), and of custom sections one for each
 /// place.

@@ -1,10 +1,10 @@
 //! A stretch of a list of fields, outside of which no field of some kinds stands.
 
 ghost use Rattle.std.specs.Prelude.{◌≡◌, ◌<◌, ◌||◌, [], ◌∷◌, ◌++◌, length, Bool, List, IsTrue};
-ghost use Rattle.wast_tree.specs.declared.fields.ModuleField.{ModuleField};
+ghost use Rattle.wast_nodes.specs.declared.fields.ModuleField.{ModuleField};
 ghost use Rattle.wast_reach.specs.Reaches.{is_inside, is_reach, there};
 
-use wast_tree::ModuleField;
+use wast_nodes::ModuleField;
 
 /// A stretch of a list of fields: from a place on, up to an end. Both are 0 where no field is meant.
 #[derive(Clone, Copy)]

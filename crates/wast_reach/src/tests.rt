@@ -1,7 +1,8 @@
 //! That a stretch is no longer than its fields ask, which no contract says.
 
 use crate::{FieldKind, Reach, Reaches};
-use wast_tree::{Export, ExportKind, Index, Maker, ModuleField, Seq, Span, discard_fields};
+use wast_base::{Index, Seq, Span};
+use wast_nodes::{Export, ExportKind, ModuleField, discard_fields, push_field};
 
 fn start<'a>() -> ModuleField<'a> {
     ModuleField::Start(Index::Num(1, Span { offset: 0 }))
@@ -17,6 +18,11 @@ fn export<'a>() -> ModuleField<'a> {
     })
 }
 
+/// Whether a field was put at the end of a list.
+fn put<'a>(fields: &mut Seq<ModuleField<'a>>, field: ModuleField<'a>) -> bool {
+    push_field(fields, field).is_ok()
+}
+
 /// Where the fields of each kind stand. The list is lent as one that may be changed: the prover would compare the whole tree
 /// where a list of one's own is shared.
 fn found(fields: &mut Seq<ModuleField>) -> Reaches {
@@ -29,20 +35,19 @@ fn is(reach: Reach, first: usize, end: usize) -> bool {
 
 #[test]
 fn the_fields_of_a_kind_stand_in_its_reach(rt: HostRuntime) {
-    let mut maker = Maker::new(rt.alloc());
     let mut fields = Seq::new(rt.alloc());
-    maker.push_field(&mut fields, export());
-    maker.push_field(&mut fields, start());
-    maker.push_field(&mut fields, export());
-    maker.push_field(&mut fields, start());
-    maker.push_field(&mut fields, export());
-    maker.push_field(&mut fields, export());
+    let made = put(&mut fields, export())
+        && put(&mut fields, start())
+        && put(&mut fields, export())
+        && put(&mut fields, start())
+        && put(&mut fields, export())
+        && put(&mut fields, export());
     let reaches = found(&mut fields);
     discard_fields(fields);
     let starts = reaches.of_kind(FieldKind::Start);
     let exports = reaches.of_kind(FieldKind::Export);
     let tags = reaches.of_kind(FieldKind::Tag);
-    assert!(rt; !maker.is_refused());
+    assert!(rt; made);
     assert!(rt; is(starts, 1, 4) && is(exports, 0, 6) && is(tags, 0, 0));
     assert!(rt; is(starts.joined(exports), 0, 6));
     assert!(rt; is(starts.joined(tags), 1, 4) && is(tags.joined(starts), 1, 4));

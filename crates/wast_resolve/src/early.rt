@@ -6,8 +6,9 @@ ghost use Rattle.wast_demands.specs.Demands.{first_unmet, Answers, HasManyItems}
 ghost use Rattle.wast_demands.specs.Early.{early_demands};
 
 use std::alloc::Global;
+use wast_base::Error;
+use wast_nodes::ModuleField;
 use wast_passes::{check_order, name_spaces};
-use wast_tree::{Error, ModuleField};
 
 /// The first fault of fields as far as it can be told without changing them, so that a tool can show them beside it (text
 /// format, modules and identifiers).

@@ -1,10 +1,10 @@
 //! What the ids of a resolved module denote.
 
 ghost use Rattle.std.specs.Prelude.{◌≡◌, ◌<◌, ◌≤◌, ◌+◌, [], None, IsTrue, IfOk, IfErr, OnOk};
-ghost use Rattle.wast_tree.specs.Items.{items};
-ghost use Rattle.wast_tree.specs.Known.{known};
-ghost use Rattle.wast_tree.specs.WellFormed.{is_well_formed};
-ghost use Rattle.wast_tree.specs.Generations.{greatest_generation};
+ghost use Rattle.wast_nodes.specs.Items.{items};
+ghost use Rattle.wast_nodes.specs.Known.{known};
+ghost use Rattle.wast_nodes.specs.WellFormed.{is_well_formed};
+ghost use Rattle.wast_nodes.specs.Generations.{greatest_generation};
 ghost use Rattle.wast_resolve.specs.Tree.space;
 ghost use Rattle.wast_demands.specs.Demands.{first_unmet, demands, IsUnresolved};
 ghost use Rattle.wast_demands.specs.Resolved.{numbered_at};
@@ -17,9 +17,10 @@ ghost use Rattle.wast_passes.specs.LookUps.{IsSettledFor, IsMetBy, AnswersFor};
 
 use std::alloc::Global;
 use std::marker::Model;
+use wast_base::{Error, Gensym, Id, Index, Seq, Space};
 use wast_deinline::deinline;
+use wast_nodes::ModuleField;
 use wast_passes::{Resolver, in_order, names};
-use wast_tree::{Error, Gensym, Id, Index, ModuleField, Seq, Space};
 use wast_types::types;
 
 /// What the ids of a module denote, for a caller that has indices of its own (text format, indices).
@@ -122,7 +123,7 @@ impl<'a> Names<'a> {
 /// place are written out, as [`deinline::run`] tells, and after them a type for each signature that a use without an index
 /// needs and no type has; and what the ids denote. A generated id is filled in where a field whose item is so referred to
 /// has none, then where a type has none, in the order of the fields, and is given to each type at the end. It needs well
-/// formed fields, as [`wast_tree::well_formed`] tells, and a counter above [`wast_tree::gensym_bound`], and leaves it above
+/// formed fields, as `well_formed` of `wast_tree` tells, and a counter above `gensym_bound` of `wast_tree`, and leaves it above
 /// the ids that it gives.
 ///
 /// The error is the first demand that is not met: E1 at an import, also one in place, that stands behind a function, table,

@@ -2,10 +2,10 @@
 use Rattle.std.specs.Prelude.{◌≡◌, ◌↔◌, ℕ, false, List, [], ◌∷◌, Some, None, Ok, codes}
 use Rattle.wast_base.specs.declared.ids.Index.TheVariants as index
 use Rattle.wast_base.specs.Ids.{generated}
-use Rattle.wast_tree.specs.declared.fields.MemoryKind.TheVariants as memory
-use Rattle.wast_tree.specs.declared.fields.ModuleField.{ModuleField}
-use Rattle.wast_tree.specs.declared.fields.ModuleField.TheVariants as field
-use Rattle.wast_tree.specs.WorkedModules.{Address, place, plain_type, export_field}
+use Rattle.wast_nodes.specs.declared.fields.MemoryKind.TheVariants as memory
+use Rattle.wast_nodes.specs.declared.fields.ModuleField.{ModuleField}
+use Rattle.wast_nodes.specs.declared.fields.ModuleField.TheVariants as field
+use Rattle.wast_nodes.specs.WorkedModules.{Address, place, plain_type, export_field}
 use Rattle.wast_core.specs.declared.module.Module.{Module}
 use Rattle.wast_core.specs.declared.module.ModuleKind.TheVariants as kind
 use Rattle.wast_rows.specs.Answers.{TellsRow}

@@ -2,11 +2,11 @@
 use Rattle.std.specs.Prelude.{◌≡◌, List, [], ◌∷◌, None}
 use Rattle.wast_base.specs.declared.faults.Form.{Form}
 use Rattle.wast_base.specs.declared.ids.Span.{Span}
-use Rattle.wast_tree.specs.declared.instrs.Instruction.{Instruction}
-use Rattle.wast_tree.specs.declared.fields.FuncKind.TheVariants as func
-use Rattle.wast_tree.specs.declared.fields.ModuleField.{ModuleField}
-use Rattle.wast_tree.specs.declared.fields.ModuleField.TheVariants as field
-use Rattle.wast_tree.specs.Uncovered.{uncovered_forms}
+use Rattle.wast_nodes.specs.declared.instrs.Instruction.{Instruction}
+use Rattle.wast_nodes.specs.declared.fields.FuncKind.TheVariants as func
+use Rattle.wast_nodes.specs.declared.fields.ModuleField.{ModuleField}
+use Rattle.wast_nodes.specs.declared.fields.ModuleField.TheVariants as field
+use Rattle.wast_nodes.specs.Uncovered.{uncovered_forms}
 
 -- this form stands in the fields, once, and no other that the encoder does not cover
 abbrev pub HoldsAlone : Form → List ModuleField → Type 0

@@ -5,10 +5,12 @@ ghost use Rattle.wast_samples.specs.SampledForms.{plain_func};
 
 use crate::samples::{at, id, one, two};
 use std::alloc::Global;
-use wast_tree::{
-    AbstractHeapType, BareOp, BlockKind, BlockType, BrOnCast, Expression, Func, FunctionType,
-    GlobalType, HeapType, Id, Index, InlineExport, Instruction, Maker, ModuleField, Plain, RefType,
-    Seq, Tag, TagKind, TagType, TryTableCatch, TryTableCatchKind, TypeUse, ValType,
+use wast_base::{BareOp, Id, Index, Plain, Seq};
+use wast_makers::{BlockKind, Maker};
+use wast_nodes::{
+    AbstractHeapType, BlockType, BrOnCast, Expression, Func, FunctionType, GlobalType, HeapType,
+    InlineExport, Instruction, ModuleField, RefType, Tag, TagKind, TagType, TryTableCatch,
+    TryTableCatchKind, TypeUse, ValType,
 };
 
 /// `(func ..)` of these instructions, at a place.
@@ -195,7 +197,7 @@ pub(crate) fn global_of<'a>(
 ) -> Seq<ModuleField<'a>> {
     let value = Expression::new(alloc, instrs);
     let ty = GlobalType::new(ValType::I32, false);
-    let global = wast_tree::Global::new(alloc, at(9), None, ty, value);
+    let global = wast_nodes::Global::new(alloc, at(9), None, ty, value);
     one(alloc, maker, ModuleField::Global(global))
 }
 

@@ -1,17 +1,19 @@
 //! The fields of the worked rows about custom sections.
 
 ghost use Rattle.std.specs.Prelude.{◌≡◌, [], ◌∷◌};
-ghost use Rattle.wast_tree.specs.Makers.{Makes};
+ghost use Rattle.wast_makers.specs.Makers.{Makes};
 ghost use Rattle.wast_base.specs.declared.faults.Form.TheVariants as form;
-ghost use Rattle.wast_tree.specs.declared.customs.Custom.TheVariants as custom;
-ghost use Rattle.wast_tree.specs.declared.fields.ModuleField.TheVariants as field;
+ghost use Rattle.wast_nodes.specs.declared.customs.Custom.TheVariants as custom;
+ghost use Rattle.wast_nodes.specs.declared.fields.ModuleField.TheVariants as field;
 ghost use Rattle.wast_samples.specs.SampledForms.{HoldsAlone};
 
 use crate::samples::{at, func, id, one, two};
 use std::alloc::Global;
-use wast_tree::{
-    Custom, CustomPlace, CustomPlaceAnchor, Dylink0, Dylink0Subsection, Maker, ModuleField,
-    Producers, RawCustomSection, Seq, TypeUse,
+use wast_base::Seq;
+use wast_makers::Maker;
+use wast_nodes::{
+    Custom, CustomPlace, CustomPlaceAnchor, Dylink0, Dylink0Subsection, ModuleField, Producers,
+    RawCustomSection, TypeUse,
 };
 
 /// `(@custom ..)` at a place.

@@ -1,16 +1,18 @@
 //! The fields of the worked rows about imports, tables, memories, globals, tags, start, elements and data.
 
 ghost use Rattle.std.specs.Prelude.{◌≡◌, None};
-ghost use Rattle.wast_tree.specs.declared.imports.ImportItems.TheVariants as import_items;
-ghost use Rattle.wast_tree.specs.declared.fields.ModuleField.TheVariants as field;
+ghost use Rattle.wast_nodes.specs.declared.imports.ImportItems.TheVariants as import_items;
+ghost use Rattle.wast_nodes.specs.declared.fields.ModuleField.TheVariants as field;
 
 use crate::samples::{at, func, id, one, three, two};
 use crate::type_samples::taking;
 use std::alloc::Global;
-use wast_tree::{
-    Data, DataKind, DataVal, Elem, ElemKind, ElemPayload, GlobalType, Id, Imports, Index,
-    InlineExport, Instruction, ItemKind, ItemSig, Limits, Maker, Memory, MemoryType, ModuleField,
-    RefType, Seq, Table, TableType, Tag, TagKind, TagType, TypeUse, ValType,
+use wast_base::{Id, Index, Seq};
+use wast_makers::Maker;
+use wast_nodes::{
+    Data, DataKind, DataVal, Elem, ElemKind, ElemPayload, GlobalType, Imports, InlineExport,
+    Instruction, ItemKind, ItemSig, Limits, Memory, MemoryType, ModuleField, RefType, Table,
+    TableType, Tag, TagKind, TagType, TypeUse, ValType,
 };
 
 /// `(table 1 funcref)`
@@ -153,7 +155,7 @@ fn global_of_minus_one<'a>(alloc: Global, maker: &mut Maker) -> ModuleField<'a> 
     let value = maker.one_instruction(Instruction::i64_const(-1));
     let ty = GlobalType::new(ValType::I64, true);
     let id = Some(id("g", 27));
-    ModuleField::Global(wast_tree::Global::new(alloc, at(20), id, ty, value))
+    ModuleField::Global(wast_nodes::Global::new(alloc, at(20), id, ty, value))
 }
 
 /// `(data (i32.const 8) "yz")`

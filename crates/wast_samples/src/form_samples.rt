@@ -2,9 +2,9 @@
 
 ghost use Rattle.std.specs.Prelude.{◌≡◌, [], None, IfOk, IfErr};
 ghost use Rattle.wast_base.specs.Faults.{out_of_memory};
-ghost use Rattle.wast_tree.specs.Makers.{Makes};
+ghost use Rattle.wast_makers.specs.Makers.{Makes};
 ghost use Rattle.wast_base.specs.declared.faults.Form.TheVariants as form;
-ghost use Rattle.wast_tree.specs.declared.fields.ModuleField.TheVariants as field;
+ghost use Rattle.wast_nodes.specs.declared.fields.ModuleField.TheVariants as field;
 ghost use Rattle.wast_samples.specs.SampledForms.{HoldsAlone};
 
 use crate::block_samples::func_of;
@@ -13,10 +13,12 @@ use crate::field_samples::import;
 use crate::instr_samples::{one_instruction, wide_sum};
 use crate::samples::{at, empty_type, id, one, two};
 use std::alloc::Global;
-use wast_tree::{
-    ArrayType, ContType, Error, Form, FunctionType, GlobalType, Id, ImportItems, Imports, Index,
-    InnerTypeKind, Instruction, ItemKind, ItemSig, Maker, MemArg, MemArgTarget, MemOp, ModuleField,
-    Ordered, Ordering, Seq, StorageType, Type, TypeDef, TypeUse, ValType,
+use wast_base::{Error, Form, Id, Index, MemOp, Seq};
+use wast_makers::Maker;
+use wast_nodes::{
+    ArrayType, ContType, FunctionType, GlobalType, ImportItems, Imports, InnerTypeKind,
+    Instruction, ItemKind, ItemSig, MemArg, MemArgTarget, ModuleField, Ordered, Ordering,
+    StorageType, Type, TypeDef, TypeUse, ValType,
 };
 
 /// `(type ..)` of a composite type, at a place.
@@ -83,7 +85,7 @@ fn atomic_global<'a>(alloc: Global, maker: &mut Maker) -> Seq<ModuleField<'a>>
 {
     let value = maker.one_instruction(Instruction::i32_const(0));
     let ty = GlobalType::new(ValType::I32, true);
-    let global = wast_tree::Global::new(alloc, at(9), Some(id("g", 16)), ty, value);
+    let global = wast_nodes::Global::new(alloc, at(9), Some(id("g", 16)), ty, value);
     let access = Ordered {
         ordering: Ordering::SeqCst,
         inner: Index::Id(id("g", 76)),

@@ -5,9 +5,11 @@ use crate::field_samples::imported_function;
 use crate::samples::{at, local_of, one, two};
 use crate::type_samples::taking;
 use std::alloc::Global;
-use wast_tree::{
-    BlockKind, BranchHint, Expression, Func, FuncKind, FunctionType, Index, InlineExport,
-    Instruction, Local, Maker, ModuleField, Seq, TypeUse, ValType,
+use wast_base::{Index, Seq};
+use wast_makers::{BlockKind, Maker};
+use wast_nodes::{
+    BranchHint, Expression, Func, FuncKind, FunctionType, InlineExport, Instruction, Local,
+    ModuleField, TypeUse, ValType,
 };
 
 /// `(func ..)` of these locals and instructions at a place, with these hints.

@@ -6,9 +6,11 @@ use crate::hint_samples::hinted;
 use crate::inline_samples::memory_with;
 use crate::samples::{at, export, one};
 use std::alloc::Global;
-use wast_tree::{
-    BareOp, BlockKind, BranchHint, DataVal, ElemKind, ElemPayload, Gensym, Index, InlineExport,
-    Instruction, Maker, MemArg, MemArgTarget, MemOp, ModuleField, RefType, Seq, TypeUse,
+use wast_base::{BareOp, Gensym, Index, MemOp, Seq};
+use wast_makers::{BlockKind, Maker};
+use wast_nodes::{
+    BranchHint, DataVal, ElemKind, ElemPayload, InlineExport, Instruction, MemArg, MemArgTarget,
+    ModuleField, RefType, TypeUse,
 };
 
 /// `(module (func i32.load drop))`, where the alignment of the load is 3.

@@ -2,10 +2,11 @@
 
 use crate::samples::{at, func, id, one, two};
 use std::alloc::Global;
-use wast_tree::{
-    DataVal, ElemPayload, Expression, Func, FuncKind, Index, InlineExport, InlineImport, Limits,
-    Maker, Memory, MemoryKind, MemoryType, ModuleField, NameAnnotation, RefType, Seq, Table,
-    TableKind, TypeUse,
+use wast_base::{Index, NameAnnotation, Seq};
+use wast_makers::Maker;
+use wast_nodes::{
+    DataVal, ElemPayload, Expression, Func, FuncKind, InlineExport, InlineImport, Limits, Memory,
+    MemoryKind, MemoryType, ModuleField, RefType, Table, TableKind, TypeUse,
 };
 
 /// Where `(import "a" "b")` in place is from.

@@ -1,7 +1,7 @@
 //! The fields of the worked rows about instructions alone.
 
 ghost use Rattle.std.specs.Prelude.{◌≡◌, [], ◌∷◌};
-ghost use Rattle.wast_tree.specs.Makers.{Makes};
+ghost use Rattle.wast_makers.specs.Makers.{Makes};
 ghost use Rattle.wast_base.specs.declared.faults.Form.TheVariants as form;
 ghost use Rattle.wast_samples.specs.SampledForms.{HoldsAlone, plain_func};
 
@@ -9,9 +9,10 @@ use crate::block_samples::func_of;
 use crate::field_samples::{data, memory};
 use crate::samples::{at, one, three};
 use std::alloc::Global;
-use wast_tree::{
-    BareOp, DataKind, I8x16Op, Index, Instruction, Limits, Maker, MemArg, MemArgTarget, MemOp,
-    MemoryInit, MemoryType, ModuleField, Plain, Seq,
+use wast_base::{BareOp, I8x16Op, Index, MemOp, Plain, Seq};
+use wast_makers::Maker;
+use wast_nodes::{
+    DataKind, Instruction, Limits, MemArg, MemArgTarget, MemoryInit, MemoryType, ModuleField,
 };
 
 /// `(module (func ..))` of one instruction.

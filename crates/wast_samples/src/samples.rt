@@ -2,8 +2,8 @@
 
 ghost use Rattle.std.specs.Prelude.{◌≡◌, [], ◌∷◌, None, is_some, IfSome, IfErr};
 ghost use Rattle.wast_base.specs.Faults.{out_of_memory};
-ghost use Rattle.wast_tree.specs.Makers.{Makes};
-ghost use Rattle.wast_tree.specs.WorkedModules.{plain_def};
+ghost use Rattle.wast_makers.specs.Makers.{Makes};
+ghost use Rattle.wast_nodes.specs.WorkedModules.{plain_def};
 ghost use Rattle.wast_samples.specs.RowNumbers.{well_formed_rows, ill_formed_rows, is_among, is_row};
 
 use crate::{
@@ -11,9 +11,11 @@ use crate::{
     instr_samples, struct_samples, type_samples,
 };
 use std::alloc::Global;
-use wast_tree::{
-    Error, Export, ExportKind, Func, FunctionType, Id, Index, InnerTypeKind, Instruction, Local,
-    Maker, ModuleField, Rec, Seq, Span, Type, TypeDef, TypeUse, ValType,
+use wast_base::{Error, Id, Index, Seq, Span};
+use wast_makers::Maker;
+use wast_nodes::{
+    Export, ExportKind, Func, FunctionType, InnerTypeKind, Instruction, Local, ModuleField, Rec,
+    Type, TypeDef, TypeUse, ValType,
 };
 
 pub(crate) fn at(offset: usize) -> Span

@@ -4,9 +4,10 @@ use crate::block_samples::{func_of, plain};
 use crate::samples::{at, id, two};
 use crate::type_samples::struct_type;
 use std::alloc::Global;
-use wast_tree::{
-    BareOp, HeapType, Id, Index, Instruction, Maker, ModuleField, Seq, StorageType, StructAccess,
-    StructField, ValType,
+use wast_base::{BareOp, Id, Index, Seq};
+use wast_makers::Maker;
+use wast_nodes::{
+    HeapType, Instruction, ModuleField, StorageType, StructAccess, StructField, ValType,
 };
 
 /// `(field $y i32)`

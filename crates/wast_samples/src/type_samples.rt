@@ -2,10 +2,11 @@
 
 use crate::samples::{at, empty_type, func, id, one, three, two};
 use std::alloc::Global;
-use wast_tree::{
-    BareOp, Func, FunctionType, HeapType, Id, Index, InnerTypeKind, Instruction, Local, Maker,
-    ModuleField, Plain, RefType, Seq, StorageType, StructField, StructType, Type, TypeDef, TypeUse,
-    ValType,
+use wast_base::{BareOp, Id, Index, Plain, Seq};
+use wast_makers::Maker;
+use wast_nodes::{
+    Func, FunctionType, HeapType, InnerTypeKind, Instruction, Local, ModuleField, RefType,
+    StorageType, StructField, StructType, Type, TypeDef, TypeUse, ValType,
 };
 
 /// `(func (param ..))`

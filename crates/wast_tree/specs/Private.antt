@@ -1,4 +1,2 @@
 -- What only contracts of private functions cite: a caller needs none of it.
-pub mod Bearers
 pub mod Examples
-pub mod FieldItems

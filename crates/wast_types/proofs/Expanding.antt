@@ -11,7 +11,7 @@ use Rattle.wast_types.specs.Tree.{Id, Index, InnerTypeKind, ModuleField}
 use Rattle.wast_types.specs.Tree.inner
 use Rattle.wast_types.specs.Tree.field
 use Rattle.wast_types.specs.Signatures.{Signature, same_signature}
-use Rattle.wast_tree.specs.Sites.{in_field, in_module}
+use Rattle.wast_nodes.specs.Sites.{in_field, in_module}
 use Rattle.wast_types.specs.NeedingUses.{needed_in, needed}
 use Rattle.wast_types.specs.ImpliedTypes.{written_kind, written_in, written_signatures, is_among, first_new, implied}
 use Rattle.wast_base.specs.Filling.{one_if, given_if, filled, wanted}

@@ -4,7 +4,7 @@ use mathlib.Core.Path.{fun_ext}
 use Rattle.std.proofs.Math.Bool.{or_assoc}
 use Rattle.std.specs.List.{list_all, list_any}
 use Rattle.std.proofs.lemmas.List.Concat.{flat_map-append}
-use Rattle.wast_tree.specs.Sites.{in_field, in_module}
+use Rattle.wast_nodes.specs.Sites.{in_field, in_module}
 use Rattle.wast_types.specs.Tree.{ModuleField}
 use Rattle.wast_types.specs.Signatures.{Signature, same_signature}
 use Rattle.wast_types.specs.SignatureLaws.{signatures_equiv}

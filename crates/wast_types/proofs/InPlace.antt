@@ -1,7 +1,7 @@
 -- Expansion puts nothing in place.
 use Rattle.std.proofs.Common.{◌≡◌, ℕ, ◌+◌, Bool, true, false, ◌&&◌, List, [], ◌∷◌, refl, ap, ◌∙◌}
 use Rattle.std.proofs.lemmas.List.Folds.{list_all-append}
-use Rattle.wast_tree.specs.WrittenOut.{is_written_field, is_written_out}
+use Rattle.wast_nodes.specs.WrittenOut.{is_written_field, is_written_out}
 use Rattle.wast_types.specs.Tree.{ModuleField}
 use Rattle.wast_types.specs.Tree.field
 use Rattle.wast_types.specs.Signatures.{Signature}

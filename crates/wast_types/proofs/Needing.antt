@@ -6,8 +6,8 @@ use Rattle.std.proofs.lemmas.Grind.{common_steps, flat_map-append}
 use Rattle.wast_base.specs.Ids.{Name, Mark, marked, generated}
 use Rattle.wast_base.specs.Spaces.{name_if}
 use Rattle.wast_base.specs.Blocks.{Blocks, is_balanced}
-use Rattle.wast_tree.specs.Instrs.{turns}
-use Rattle.wast_tree.specs.Sites.{Ask, Clause, OfItem, OfBlock, Site, Asked, Begins, Here, start, asking, at_index, at_label, in_index, in_caught, in_catch, in_handle, in_handlers, in_cast, in_ref, uncovered, in_block, in_try_table, in_br_table, in_heap, in_pair, in_mem_arg, in_select, in_type, in_rec, in_instr, behind, in_instrs, in_expression, in_constant, in_local, param_marks, local_marks, declaring, body_here, in_func_kind, in_use, in_func, in_payload, in_sig, in_subsection, in_field}
+use Rattle.wast_nodes.specs.Instrs.{turns}
+use Rattle.wast_nodes.specs.Sites.{Ask, Clause, OfItem, OfBlock, Site, Asked, Begins, Here, start, asking, at_index, at_label, in_index, in_caught, in_catch, in_handle, in_handlers, in_cast, in_ref, uncovered, in_block, in_try_table, in_br_table, in_heap, in_pair, in_mem_arg, in_select, in_type, in_rec, in_instr, behind, in_instrs, in_expression, in_constant, in_local, param_marks, local_marks, declaring, body_here, in_func_kind, in_use, in_func, in_payload, in_sig, in_subsection, in_field}
 use Rattle.wast_types.specs.Tree.{Index, RefType, Handle, ResumeTable, BlockType, BrTableIndices, TryTable, TryTableCatch, FunctionType, TypeUse, SelectTypes, Instruction, Expression, Local, FuncKind, Func, Table, Global, ElemPayload, Elem, Data, Custom, Rec, ItemSig}
 use Rattle.wast_types.specs.Tree.form
 use Rattle.wast_types.specs.Tree.custom

@@ -4,8 +4,8 @@ use Rattle.std.proofs.Common.{◌≡◌, List, [], ◌∷◌, ◌++◌, map, ref
 use Rattle.std.specs.List.{list_all}
 use Rattle.std.specs.Cmp.{first_so, second_so}
 use Rattle.std.proofs.lemmas.List.Folds.{list_all-append}
-use Rattle.wast_tree.specs.Sites.{Where, OfItem, OfCall, OfBlock, Ask, Wants, Within, Unasked, Clause, Covered, Site, Asked, Used, Declared, LocalAt, FieldAt, LabelAt, Repeated, Begins, Ends, asking, in_type, in_rec, in_field, in_module}
-use Rattle.wast_tree.specs.Types.{is_short}
+use Rattle.wast_nodes.specs.Sites.{Where, OfItem, OfCall, OfBlock, Ask, Wants, Within, Unasked, Clause, Covered, Site, Asked, Used, Declared, LocalAt, FieldAt, LabelAt, Repeated, Begins, Ends, asking, in_type, in_rec, in_field, in_module}
+use Rattle.wast_nodes.specs.Types.{is_short}
 use Rattle.wast_types.specs.Tree.{Index, FunctionType, Rec, ModuleField}
 use Rattle.wast_types.specs.Tree.ty
 use Rattle.wast_types.specs.Tree.field

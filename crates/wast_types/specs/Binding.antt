@@ -2,7 +2,7 @@
 use Rattle.std.specs.Prelude.{◌≡◌, ℕ, ◌+◌, is_some, Bool, false, List, ◌++◌, length, Option, Some, None}
 use Rattle.wast_types.specs.Tree.{Index, FunctionType, TypeUse, ModuleField}
 use Rattle.wast_types.specs.Signatures.{Signature}
-use Rattle.wast_tree.specs.Sites.{OfBlock}
+use Rattle.wast_nodes.specs.Sites.{OfBlock}
 use Rattle.wast_types.specs.NeedingUses.{needs_type}
 use Rattle.wast_types.specs.ImpliedTypes.{first_new}
 use Rattle.wast_types.specs.Expanders.{BoundSignatures, index_of, Extends}

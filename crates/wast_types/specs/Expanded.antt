@@ -6,8 +6,8 @@ use Rattle.wast_types.specs.Tree.inner
 use Rattle.wast_types.specs.Tree.ty
 use Rattle.wast_types.specs.Tree.field
 use Rattle.wast_base.specs.Ids.{generated}
-use Rattle.wast_tree.specs.Sites.{Where, OfItem, OfCall, OfBlock, if_there}
-use Rattle.wast_tree.specs.Types.{lone_type}
+use Rattle.wast_nodes.specs.Sites.{Where, OfItem, OfCall, OfBlock, if_there}
+use Rattle.wast_nodes.specs.Types.{lone_type}
 use Rattle.wast_map.specs.Mapped.{Change, mapped}
 use Rattle.wast_types.specs.Signatures.{Signature, signature_of}
 use Rattle.wast_types.specs.NeedingUses.{inline_signature, needs_type}

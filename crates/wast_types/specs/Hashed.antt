@@ -6,7 +6,7 @@ use Rattle.std.specs.Map.{keys_of, values_of, lookup}
 use Rattle.std.specs.BTreeMap.{is_at}
 use Rattle.std.specs.Ordering.{nat_cmp}
 use Rattle.std.specs.Hash.FoldHasher as folding
-use Rattle.wast_tree.specs.contracts.types.ValTypeHash.TheImpl as hashed
+use Rattle.wast_nodes.specs.contracts.types.ValTypeHash.TheImpl as hashed
 use Rattle.wast_types.specs.Tree.{Index}
 use Rattle.wast_types.specs.Signatures.{Signature}
 use Rattle.wast_types.specs.SignatureLaws.{signature_fed}

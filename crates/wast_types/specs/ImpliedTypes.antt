@@ -4,8 +4,8 @@ use Rattle.std.specs.List.{list_any}
 use Rattle.wast_types.specs.Tree.{InnerTypeKind, ModuleField}
 use Rattle.wast_types.specs.Tree.inner
 use Rattle.wast_types.specs.Tree.ty
-use Rattle.wast_tree.specs.Sites.{if_there}
-use Rattle.wast_tree.specs.Types.{lone_type}
+use Rattle.wast_nodes.specs.Sites.{if_there}
+use Rattle.wast_nodes.specs.Types.{lone_type}
 use Rattle.wast_types.specs.Signatures.{Signature, signature_of, same_signature}
 use Rattle.wast_types.specs.NeedingUses.{needed}
 

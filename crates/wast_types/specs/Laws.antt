@@ -1,7 +1,7 @@
 -- What holds of each list that is expanded (text format, type uses: abbreviations).
 use Rattle.std.specs.Prelude.{◌≡◌, ℕ, false, List, [], flat_map, IsTrue}
 use Rattle.std.specs.List.{list_any}
-use Rattle.wast_tree.specs.WrittenOut.{is_written_out}
+use Rattle.wast_nodes.specs.WrittenOut.{is_written_out}
 use Rattle.wast_types.specs.Tree.{ModuleField}
 use Rattle.wast_types.specs.Signatures.{Signature}
 use Rattle.wast_types.specs.NeedingUses.{needed}

@@ -1,8 +1,8 @@
 -- The type uses that have no index, and the signatures that they need (text format, type uses: abbreviations).
 use Rattle.std.specs.Prelude.{Bool, true, false, not, List, [], ◌∷◌, flat_map, Option, Some, None}
 use Rattle.wast_types.specs.Tree.{Index, FunctionType, TypeUse, ModuleField}
-use Rattle.wast_tree.specs.Sites.{Where, OfItem, OfCall, OfBlock, Site, Asked, Used, Declared, LocalAt, FieldAt, LabelAt, Repeated, Begins, Ends, in_module}
-use Rattle.wast_tree.specs.Types.{is_short}
+use Rattle.wast_nodes.specs.Sites.{Where, OfItem, OfCall, OfBlock, Site, Asked, Used, Declared, LocalAt, FieldAt, LabelAt, Repeated, Begins, Ends, in_module}
+use Rattle.wast_nodes.specs.Types.{is_short}
 use Rattle.wast_types.specs.Signatures.{Signature, signature_of, empty_signature}
 
 -- No inline type is one without parameters and results.

@@ -14,13 +14,13 @@ use Rattle.wast_base.specs.declared.ids.Name as code
 use Rattle.wast_base.specs.declared.ids.Name.TheVariants as name
 use Rattle.wast_base.specs.contracts.ids.NamePartialEq.TheImpl as names
 use Rattle.wast_base.specs.contracts.ids.IndexPartialEq.TheImpl as indices
-use Rattle.wast_tree.specs.contracts.types.AbstractHeapType as abstract_heaps
-use Rattle.wast_tree.specs.contracts.types.HeapTypePartialEq.TheImpl as heaps
-use Rattle.wast_tree.specs.contracts.types.RefTypePartialEq.TheImpl as refs
-use Rattle.wast_tree.specs.contracts.types.ValTypePartialEq.TheImpl as values
-use Rattle.wast_tree.specs.contracts.types.ValTypeEq.TheImpl.Laws as equal
-use Rattle.wast_tree.specs.contracts.types.ValTypeHash.TheImpl as hashed
-use Rattle.wast_tree.specs.contracts.types.ValTypeHash.TheImpl.Laws as alike
+use Rattle.wast_nodes.specs.contracts.types.AbstractHeapType as abstract_heaps
+use Rattle.wast_nodes.specs.contracts.types.HeapTypePartialEq.TheImpl as heaps
+use Rattle.wast_nodes.specs.contracts.types.RefTypePartialEq.TheImpl as refs
+use Rattle.wast_nodes.specs.contracts.types.ValTypePartialEq.TheImpl as values
+use Rattle.wast_nodes.specs.contracts.types.ValTypeEq.TheImpl.Laws as equal
+use Rattle.wast_nodes.specs.contracts.types.ValTypeHash.TheImpl as hashed
+use Rattle.wast_nodes.specs.contracts.types.ValTypeHash.TheImpl.Laws as alike
 use Rattle.wast_types.specs.Tree.{Index, AbstractHeapType, HeapType, RefType, ValType}
 use Rattle.wast_types.specs.Tree.index
 use Rattle.wast_types.specs.Tree.abstract

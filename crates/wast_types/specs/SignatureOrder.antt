@@ -6,8 +6,8 @@ use Rattle.std.specs.Cmp.{IsTotalOrder, IsPartialOrder, on_total, then_total, na
 use Rattle.std.specs.Cmp.Lexicographic.{slice_cmp, lists_total, lists_ties, as_long}
 use mathlib.Core.Bool.{true≢false}
 use Rattle.std.proofs.Common.{refl, sym, ◌∙◌}
-use Rattle.wast_tree.specs.contracts.types.ValTypeOrd.TheImpl as ordered
-use Rattle.wast_tree.specs.contracts.types.ValTypeOrd.TheImpl.Laws as laws
+use Rattle.wast_nodes.specs.contracts.types.ValTypeOrd.TheImpl as ordered
+use Rattle.wast_nodes.specs.contracts.types.ValTypeOrd.TheImpl.Laws as laws
 use Rattle.wast_types.specs.Tree.{ValType}
 use Rattle.wast_types.specs.Signatures.{Signature, same_value, same_values, same_signature}
 use Rattle.wast_types.specs.SignatureLaws.{same_values_are}

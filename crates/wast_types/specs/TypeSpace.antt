@@ -5,7 +5,7 @@ use Rattle.wast_types.specs.Tree.index
 use Rattle.wast_types.specs.Tree.inner
 use Rattle.wast_types.specs.Tree.ty
 use Rattle.wast_types.specs.Tree.field
-use Rattle.wast_tree.specs.Types.{types_of}
+use Rattle.wast_nodes.specs.Types.{types_of}
 use Rattle.wast_types.specs.Signatures.{Signature, signature_of, same_signature}
 use Rattle.wast_types.specs.ImpliedTypes.{implied}
 

@@ -16,7 +16,7 @@ use Rattle.wast_types.specs.Tree.kind
 use Rattle.wast_types.specs.Tree.import_items
 use Rattle.wast_types.specs.Tree.field
 use Rattle.wast_base.specs.Ids.{generated}
-use Rattle.wast_tree.specs.WorkedModules.{Address, text, place, id_at, by_id, by_number, plain_def, plain_type}
+use Rattle.wast_nodes.specs.WorkedModules.{Address, text, place, id_at, by_id, by_number, plain_def, plain_type}
 use Rattle.wast_types.specs.Signatures.{Signature, empty_signature, same_value, same_signature}
 use Rattle.wast_types.specs.SignatureOrder.{signature_cmp}
 use Rattle.wast_types.specs.NeedingUses.{needed}

@@ -5,8 +5,8 @@ ghost use Rattle.wast_base.specs.Ids.{generated};
 ghost use Rattle.wast_base.specs.Faults.{out_of_memory};
 ghost use Rattle.wast_types.specs.Tree.index;
 ghost use Rattle.wast_types.specs.Signatures.{Signature};
-ghost use Rattle.wast_tree.specs.Sites.{OfItem, OfBlock, start, in_block, in_try_table, in_instr, in_indirect, in_constant, in_func_kind, in_use, in_func, in_tag_type, in_item_kind, in_sig, in_import, in_field};
-ghost use Rattle.wast_tree.specs.Types.{is_short};
+ghost use Rattle.wast_nodes.specs.Sites.{OfItem, OfBlock, start, in_block, in_try_table, in_instr, in_indirect, in_constant, in_func_kind, in_use, in_func, in_tag_type, in_item_kind, in_sig, in_import, in_field};
+ghost use Rattle.wast_nodes.specs.Types.{is_short};
 ghost use Rattle.wast_map.specs.Mapped.{mapped_block, mapped_try_table, mapped_indirect, mapped_instr, mapped_constant, mapped_func_kind, mapped_func, mapped_tag_type, mapped_item_kind, mapped_sig, mapped_import_items, mapped_import, mapped_tag};
 ghost use Rattle.wast_types.specs.NeedingUses.{needed_in, inline_signature};
 ghost use Rattle.wast_base.specs.Filling.{RunsOut};
@@ -17,10 +17,10 @@ ghost use Rattle.wast_types.specs.Binding.{no_use, wants_type, state, next_after
 use crate::expanders::Expander;
 use crate::keys::{FuncKey, TypeKey, TypeReference};
 use std::alloc::Global;
-use wast_tree::{
-    BlockType, CallIndirect, Error, Expression, Func, FuncKind, FunctionType, Gensym, ImportItems,
-    Imports, Index, Instruction, ItemKind, ItemSig, ModuleField, Seq, Span, Tag, TagType, TryTable,
-    Type, TypeUse, push_field,
+use wast_base::{Error, Gensym, Index, Seq, Span};
+use wast_nodes::{
+    BlockType, CallIndirect, Expression, Func, FuncKind, FunctionType, ImportItems, Imports,
+    Instruction, ItemKind, ItemSig, ModuleField, Tag, TagType, TryTable, Type, TypeUse, push_field,
 };
 
 /// A part of the tree in which type uses may stand. They are the same wherever it stands, so a part of a body is seen as if

@@ -1,7 +1,7 @@
 //! Type uses are bound in the constant expressions of tables, globals and segments.
 
 ghost use Rattle.std.specs.Prelude.{option_map};
-ghost use Rattle.wast_tree.specs.Sites.{if_there, in_constant, in_table_kind, in_global, in_global_kind, in_elem, in_elem_kind, in_payload, in_data_kind};
+ghost use Rattle.wast_nodes.specs.Sites.{if_there, in_constant, in_table_kind, in_global, in_global_kind, in_elem, in_elem_kind, in_payload, in_data_kind};
 ghost use Rattle.wast_map.specs.Mapped.{mapped_constant, mapped_table, mapped_table_kind, mapped_global, mapped_global_kind, mapped_elem, mapped_elem_kind, mapped_payload, mapped_data, mapped_data_kind};
 ghost use Rattle.wast_types.specs.NeedingUses.{needed_in};
 ghost use Rattle.wast_types.specs.Expanded.{binding};
@@ -9,9 +9,10 @@ ghost use Rattle.wast_types.specs.Expanded.{binding};
 use crate::binding::{Bind, bind_each};
 use crate::expanders::Expander;
 use std::alloc;
-use wast_tree::{
-    Data, DataKind, Elem, ElemKind, ElemPayload, Error, Expression, Gensym, Global, GlobalKind,
-    ModuleField, Seq, Table, TableKind,
+use wast_base::{Error, Gensym, Seq};
+use wast_nodes::{
+    Data, DataKind, Elem, ElemKind, ElemPayload, Expression, Global, GlobalKind, ModuleField,
+    Table, TableKind,
 };
 
 impl<'a> Bind<'a> for Table<'a> {

@@ -10,7 +10,7 @@ use std::alloc::Global;
 use std::collections::BTreeMap;
 use std::hash::{FoldHasher, Hash, Hasher};
 use std::marker::Model;
-use wast_tree::{Error, Index};
+use wast_base::{Error, Index};
 
 /// The types that signatures are bound to. Contracts see signatures with indices, no two signatures equal, in any order.
 #[derive(Drop)]

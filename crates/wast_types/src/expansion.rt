@@ -10,10 +10,8 @@ use crate::binding::bind_each;
 use crate::expanders::Expander;
 use crate::keys::TypeReference;
 use std::alloc::Global;
-use wast_tree::{
-    Error, Gensym, Id, Index, InnerTypeKind, ModuleField, Seq, discard_fields, push_field,
-    take_field,
-};
+use wast_base::{Error, Gensym, Id, Index, Seq};
+use wast_nodes::{InnerTypeKind, ModuleField, discard_fields, push_field, take_field};
 
 /// Binds each type use that has no index to the first type that has its signature as it is written (text format, type
 /// uses: abbreviations).
@@ -21,7 +19,7 @@ use wast_tree::{
 /// It gives the fields in their order, and after them a type for each signature that no written type has, in the order of
 /// first use. A use is bound by the id of its type, so each type without an id is given a generated one, at its place. No
 /// use takes a member of a group, and no member is given an id. Ids and indices that are there stay, and so do inline
-/// types. It takes any fields; the ids that it makes are new where the counter stands above [`wast_tree::gensym_bound`].
+/// types. It takes any fields; the ids that it makes are new where the counter stands above `gensym_bound` of `wast_tree`.
 ///
 /// It takes memory for the keys of types and for the new fields. The error is E12 where memory was refused, and E10 only
 /// where the counter would pass the greatest `u64`. On an error the fields are dropped, and the counter stands where it

@@ -15,9 +15,8 @@ use std::alloc::Global;
 use std::cmp::Ordering;
 use std::hash::{Hash, Hasher};
 use std::marker::Model;
-use wast_tree::{
-    Error, FunctionType, Id, Index, InnerTypeKind, NameAnnotation, Seq, Span, TypeDef, ValType,
-};
+use wast_base::{Error, Id, Index, NameAnnotation, Seq, Span};
+use wast_nodes::{FunctionType, InnerTypeKind, TypeDef, ValType};
 
 /// The key of a function type: the types of its parameters, and of its results. Contracts see its signature.
 ///

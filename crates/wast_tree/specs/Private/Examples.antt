@@ -25,15 +25,15 @@ use Rattle.wast_tree.specs.Tree.payload
 use Rattle.wast_tree.specs.Tree.bytes
 use Rattle.wast_tree.specs.Tree.field
 use Rattle.wast_base.specs.Ids.{Name, Written, Generated, Mark, mark_of, generated, same_id, same_index}
-use Rattle.wast_tree.specs.Items.{items}
-use Rattle.wast_tree.specs.Sites.{Wants, Unasked, Clause, Covered, Site, OfItem, OfBlock, Asked, Used, Declared, LocalAt, FieldAt, LabelAt, Repeated, Begins, Ends, in_module, asked}
-use Rattle.wast_tree.specs.Known.{known}
-use Rattle.wast_tree.specs.Uncovered.{uncovered_forms}
-use Rattle.wast_tree.specs.WellFormed.{is_well_formed, ill_formed}
-use Rattle.wast_tree.specs.IllFormed.{first_ill_formed}
-use Rattle.wast_tree.specs.WrittenOut.{is_written_out}
-use Rattle.wast_tree.specs.Generations.{generation_or_zero, generation_in, greatest_generation}
-use Rattle.wast_tree.specs.WorkedModules.{Address, text, place, id_at, by_id, by_number, plain_def, plain_type, plain_func, export_field, row27_with, row27, row31, row32, plain_global_type, plain_memory_type, plain_memory, filled_memory}
+use Rattle.wast_nodes.specs.Items.{items}
+use Rattle.wast_nodes.specs.Sites.{Wants, Unasked, Clause, Covered, Site, OfItem, OfBlock, Asked, Used, Declared, LocalAt, FieldAt, LabelAt, Repeated, Begins, Ends, in_module, asked}
+use Rattle.wast_nodes.specs.Known.{known}
+use Rattle.wast_nodes.specs.Uncovered.{uncovered_forms}
+use Rattle.wast_nodes.specs.WellFormed.{is_well_formed, ill_formed}
+use Rattle.wast_visits.specs.IllFormed.{first_ill_formed}
+use Rattle.wast_nodes.specs.WrittenOut.{is_written_out}
+use Rattle.wast_nodes.specs.Generations.{generation_or_zero, generation_in, greatest_generation}
+use Rattle.wast_nodes.specs.WorkedModules.{Address, text, place, id_at, by_id, by_number, plain_def, plain_type, plain_func, export_field, row27_with, row27, row31, row32, plain_global_type, plain_memory_type, plain_memory, filled_memory}
 
 -- a generated id
 abbrev pub made : ℕ → Id

@@ -2,7 +2,7 @@ use Rattle.std.proofs.Common.{◌≡◌, ◌∙◌, ap, subst}
 use Rattle.std.specs.List.{All, flat_map, list_all}
 use Rattle.std.proofs.lemmas.Result.{err_from_is_err_and}
 use Rattle.wast_base.specs.Blocks.{is_balanced}
-use Rattle.wast_tree.specs.Instrs.{turns}
+use Rattle.wast_nodes.specs.Instrs.{turns}
 use Rattle.wasm_ops.specs.Table.{instr, InRangeInstr}
 use Rattle.wasm_out.specs.Built.{IsRefused}
 use Rattle.wast_conv.specs.Encodable.{is_encodable_instr}

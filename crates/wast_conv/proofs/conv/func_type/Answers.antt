@@ -1,7 +1,7 @@
 use Rattle.std.proofs.Common.{◌∙◌, ap}
 use Rattle.std.specs.List.{list_all}
-use Rattle.wast_tree.specs.Sites.{in_param, in_val}
-use Rattle.wast_tree.specs.Resolved.{is_numbered, are_numbered}
+use Rattle.wast_nodes.specs.Sites.{in_param, in_val}
+use Rattle.wast_nodes.specs.Resolved.{is_numbered, are_numbered}
 use Rattle.wast_conv.proofs.TypesReady.{signature_parts}
 use Rattle.wast_conv.proofs.conv.func_type.Goals as goal
 

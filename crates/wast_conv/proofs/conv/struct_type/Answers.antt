@@ -1,7 +1,7 @@
 use Rattle.std.proofs.Common.{◌∙◌, ap, sym}
 use Rattle.std.specs.List.{list_all}
-use Rattle.wast_tree.specs.Sites.{in_struct_field}
-use Rattle.wast_tree.specs.Resolved.{is_numbered, are_numbered}
+use Rattle.wast_nodes.specs.Sites.{in_struct_field}
+use Rattle.wast_nodes.specs.Resolved.{is_numbered, are_numbered}
 use Rattle.wast_conv.proofs.EachPasses.{each_passes}
 use Rattle.wast_conv.proofs.conv.struct_type.Goals as goal
 

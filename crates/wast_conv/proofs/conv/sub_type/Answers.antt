@@ -1,7 +1,7 @@
 use Rattle.std.proofs.Common.{◌∙◌, ap, sym}
 use Rattle.std.specs.List.{list_all}
 use Rattle.wast_base.specs.Ids.{is_number}
-use Rattle.wast_tree.specs.Resolved.{is_numbered}
+use Rattle.wast_nodes.specs.Resolved.{is_numbered}
 use Rattle.wast_conv.specs.Tree.space
 use Rattle.wast_conv.proofs.Standing.{numbers_in}
 use Rattle.wast_conv.proofs.TypesReady.{def_parts, number_of}

@@ -1,7 +1,7 @@
 use Rattle.std.proofs.Common.{◌≡◌, true, ◌∙◌, ap, subst}
 use Rattle.std.specs.List.{list_all}
-use Rattle.wast_tree.specs.Sites.{if_there, in_signature, in_val}
-use Rattle.wast_tree.specs.Resolved.{is_numbered, are_numbered}
+use Rattle.wast_nodes.specs.Sites.{if_there, in_signature, in_val}
+use Rattle.wast_nodes.specs.Resolved.{is_numbered, are_numbered}
 use Rattle.wast_conv.proofs.TypesReady.{signature_parts}
 use Rattle.wast_conv.proofs.conv_immediates.short_type.Goals as goal
 

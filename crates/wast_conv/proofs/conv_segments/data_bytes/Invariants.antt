@@ -1,5 +1,5 @@
 use Rattle.std.proofs.Common.{◌≡◌, take}
-use Rattle.wast_tree.specs.DataBytes.{all_bytes}
+use Rattle.wast_nodes.specs.DataBytes.{all_bytes}
 use Rattle.wast_conv.proofs.conv_segments.data_bytes.Given as goal
 
 abbrev pub invariant-loop-value : goal.invariant-loop-value

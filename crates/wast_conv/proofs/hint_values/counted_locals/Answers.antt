@@ -1,7 +1,7 @@
 use Rattle.std.proofs.Common.{◌&&◌, ◌∙◌, inl, inr, refl, arith}
 use Rattle.std.proofs.lemmas.Result.{err_from_is_err_and}
 use Rattle.wasm_ops.specs.Covered.{is_covered_val_type}
-use Rattle.wast_tree.specs.Sites.{in_local}
+use Rattle.wast_nodes.specs.Sites.{in_local}
 use Rattle.wast_conv.specs.Encodable.{are_encodable}
 use Rattle.wast_conv.specs.Meaning as meaning
 use Rattle.wast_conv.proofs.EachPasses.{both_true, each_then}

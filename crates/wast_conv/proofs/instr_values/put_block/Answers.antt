@@ -1,6 +1,6 @@
 use Rattle.std.proofs.Common.{◌∙◌, ap}
 use Rattle.wasm_ops.specs.Control.{is_covered_block_type}
-use Rattle.wast_tree.specs.Sites.{OfBlock, in_use}
+use Rattle.wast_nodes.specs.Sites.{OfBlock, in_use}
 use Rattle.wast_conv.specs.Encodable.{are_resolved}
 use Rattle.wast_conv.specs.Meaning as meaning
 use Rattle.wast_conv.proofs.Ready.{sites_resolved}

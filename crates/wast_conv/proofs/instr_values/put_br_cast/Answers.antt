@@ -1,6 +1,6 @@
 use Rattle.std.proofs.Common.{◌∙◌, ap}
 use Rattle.wasm_ops.specs.Covered.{is_covered_ref_type}
-use Rattle.wast_tree.specs.Sites.{in_ref}
+use Rattle.wast_nodes.specs.Sites.{in_ref}
 use Rattle.wast_conv.proofs.EachPasses.{both_true}
 use Rattle.wast_conv.proofs.Ready.{asks_numbered}
 use Rattle.wast_conv.proofs.Standing.{cast_parts}

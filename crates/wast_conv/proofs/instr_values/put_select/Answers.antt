@@ -1,7 +1,7 @@
 use Rattle.std.proofs.Common.{◌≡◌, true, sym, ◌∙◌, subst}
 use Rattle.std.specs.Prelude.{map}
 use Rattle.std.specs.List.{flat_map}
-use Rattle.wast_tree.specs.Sites.{if_there, in_val}
+use Rattle.wast_nodes.specs.Sites.{if_there, in_val}
 use Rattle.wasm_ops.specs.Spelling.{val_type, InRangeValType}
 use Rattle.wast_conv.specs.Encodable.{is_encodable_ask, are_encodable}
 use Rattle.wast_conv.specs.Meaning as meaning

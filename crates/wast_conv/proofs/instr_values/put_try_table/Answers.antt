@@ -1,7 +1,7 @@
 use Rattle.std.proofs.Common.{◌∙◌, ap}
 use Rattle.std.specs.List.{list_all}
 use Rattle.wasm_ops.specs.Control.{is_covered_block_type}
-use Rattle.wast_tree.specs.Sites.{OfBlock, in_use}
+use Rattle.wast_nodes.specs.Sites.{OfBlock, in_use}
 use Rattle.wast_conv.specs.Encodable.{is_encodable_catch, are_resolved}
 use Rattle.wast_conv.specs.Meaning as meaning
 use Rattle.wast_conv.proofs.EachPasses.{both_true}

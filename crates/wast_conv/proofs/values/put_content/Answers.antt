@@ -1,6 +1,6 @@
 use Rattle.std.proofs.Common.{◌&&◌}
 use Rattle.wasm_ops.specs.Covered.{is_covered_val_type}
-use Rattle.wast_tree.specs.Sites.{in_local}
+use Rattle.wast_nodes.specs.Sites.{in_local}
 use Rattle.wast_conv.specs.Encodable.{are_encodable}
 use Rattle.wast_conv.specs.Meaning as meaning
 use Rattle.wast_conv.proofs.EachPasses.{both_true, each_then}

@@ -1,5 +1,5 @@
 use Rattle.wast_conv.specs.Encodable.{is_encodable_field}
-use Rattle.wast_tree.specs.Customs.{customs_in}
+use Rattle.wast_nodes.specs.Customs.{customs_in}
 use Rattle.wast_core.proofs.Putting.{no_custom_elsewhere}
 use Rattle.wast_reach.specs.Kinds.{is_of}
 use Rattle.wast_reach.specs.declared.kinds.FieldKind.TheVariants as kind

@@ -3,7 +3,7 @@ use Rattle.std.specs.Prelude.{All}
 use Rattle.std.specs.List.{flat_map}
 use Rattle.std.proofs.lemmas.Result.{err_from_is_err_and}
 use Rattle.wasm_ops.proofs.Everywhere.{flat_in_flat, all_of_flat}
-use Rattle.wast_tree.specs.Customs.{customs_in}
+use Rattle.wast_nodes.specs.Customs.{customs_in}
 use Rattle.wast_conv.specs.Customs.{InRangeCustom}
 use Rattle.wast_conv.specs.Encodable.{is_encodable_field}
 use Rattle.wast_core.specs.Tree.{ModuleField}

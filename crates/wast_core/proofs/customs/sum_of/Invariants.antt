@@ -1,6 +1,6 @@
 use Rattle.std.proofs.Common.{◌≡◌, length, take}
 use Rattle.std.specs.List.{flat_map}
-use Rattle.wast_tree.specs.Customs.{customs_in}
+use Rattle.wast_nodes.specs.Customs.{customs_in}
 use Rattle.wast_core.specs.Meaning.{custom_section}
 use Rattle.wast_names.specs.FoundNames.{counted}
 use Rattle.wast_core.proofs.customs.sum_of.Given as goal

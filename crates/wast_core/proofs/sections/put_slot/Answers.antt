@@ -1,4 +1,4 @@
-use Rattle.wast_tree.specs.Customs.{customs_at}
+use Rattle.wast_nodes.specs.Customs.{customs_at}
 use Rattle.wast_names.specs.FoundNames.{text_seen}
 use Rattle.wast_core.proofs.Counting.{counts_written}
 use Rattle.wast_core.proofs.CustomParts.{parts_written}

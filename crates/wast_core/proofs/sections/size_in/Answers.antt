@@ -1,4 +1,4 @@
-use Rattle.wast_tree.specs.Customs.{customs_at}
+use Rattle.wast_nodes.specs.Customs.{customs_at}
 use Rattle.wast_names.specs.FoundNames.{text_seen}
 use Rattle.wast_core.specs.Meaning.{subsections_of}
 use Rattle.wast_core.specs.Hints.{hinted}

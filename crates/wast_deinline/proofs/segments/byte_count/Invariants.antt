@@ -1,5 +1,5 @@
 use Rattle.std.proofs.Common.{◌≡◌, ◌<◌, ◌^◌, take, length}
-use Rattle.wast_tree.specs.DataBytes.{all_bytes}
+use Rattle.wast_nodes.specs.DataBytes.{all_bytes}
 use Rattle.wast_deinline.proofs.segments.byte_count.Given as goal
 
 abbrev pub invariant-loop-piece : goal.invariant-loop-piece

@@ -1,4 +1,4 @@
-use Rattle.wast_tree.specs.Sites.{in_index}
+use Rattle.wast_nodes.specs.Sites.{in_index}
 use Rattle.wast_demands.specs.Resolved.{numbered_at}
 use Rattle.wast_passes.specs.Resolvers.{known_of, scope_of}
 use Rattle.wast_passes.proofs.Parts.{walks_asking}

@@ -3,7 +3,7 @@ use Rattle.std.proofs.Math.ListN.{get_or-map}
 use Rattle.wast_base.specs.Ids.{marked}
 use Rattle.wast_base.specs.Faults.{told}
 use Rattle.wast_base.specs.Spaces.{name_if}
-use Rattle.wast_tree.specs.Items.{field_ids}
+use Rattle.wast_nodes.specs.Items.{field_ids}
 use Rattle.wast_namespace.specs.Filling.{HasFirstClash}
 use Rattle.wast_passes.specs.Clashes.{FindsAmong}
 use Rattle.wast_passes.proofs.FieldClashes.{finds_none, finds_clash}

@@ -1,6 +1,6 @@
 use Rattle.std.specs.Prelude.{⊤, flat_map, map}
 use Rattle.std.proofs.Common.{ap, sym}
-use Rattle.wast_tree.specs.Sites.{in_index, at_index}
+use Rattle.wast_nodes.specs.Sites.{in_index, at_index}
 use Rattle.wast_demands.specs.Demands.{first_unmet, ask_demands, site_demands, open_counts, HasMany}
 use Rattle.wast_demands.specs.Resolved.{numbered_at}
 use Rattle.wast_passes.specs.Resolvers.{known_of, scope_of}

@@ -1,8 +1,8 @@
 use Rattle.std.proofs.Common.{[], Ok, ◌<◌, subst, sym}
 use Rattle.std.proofs.lemmas.List.Elements.{All-get_or}
 use Rattle.wast_base.specs.Spaces.{rank_of}
-use Rattle.wast_tree.specs.Items.{items}
-use Rattle.wast_tree.specs.Known.{names_in}
+use Rattle.wast_nodes.specs.Items.{items}
+use Rattle.wast_nodes.specs.Known.{names_in}
 use Rattle.wast_passes.specs.Gathers.{Gathers, gathered_of}
 use Rattle.wast_passes.proofs.Collecting.{gathers_both, gathered_told}
 use Rattle.wast_passes.proofs.Trying.{below_8}

@@ -1,7 +1,7 @@
 use Rattle.std.specs.Prelude.{⊤, []}
 use Rattle.std.proofs.Common.{ap, sym, append-nil}
 use Rattle.wast_demands.specs.Demands.{HasMany, first_unmet, access_demand, site_demands}
-use Rattle.wast_tree.specs.Sites.{in_access}
+use Rattle.wast_nodes.specs.Sites.{in_access}
 use Rattle.wast_map.specs.Mapped.{mapped_access}
 use Rattle.wast_demands.specs.Resolved.{numbering}
 use Rattle.wast_passes.specs.Resolvers.{scope_of}

@@ -6,7 +6,7 @@ use Rattle.wast_base.specs.Ids.{marked}
 use Rattle.wast_base.specs.Spaces.{name_if}
 use Rattle.wast_labels.specs.Gathered.{knows}
 use Rattle.wast_labels.specs.OpenBlocks.{with_open}
-use Rattle.wast_tree.specs.Sites.{OfBlock, Begins, in_block, in_use}
+use Rattle.wast_nodes.specs.Sites.{OfBlock, Begins, in_block, in_use}
 use Rattle.wast_passes.specs.Tree.{BlockType, Id}
 use Rattle.wast_demands.specs.Demands.{HasMany, open_counts, first_unmet, site_demand, site_demands, Answers}
 use Rattle.wast_passes.specs.Openable.{with_blocks, here}

@@ -2,7 +2,7 @@ use Rattle.std.proofs.Common.{◌≡◌, None, ap, subst, ◌∙◌}
 use Rattle.std.proofs.lemmas.Result.{err_from_is_err_and}
 use Rattle.wast_base.specs.Faults.{told}
 use Rattle.wast_map.specs.Mapped.{mapped_block}
-use Rattle.wast_tree.specs.Sites.{OfBlock, in_use}
+use Rattle.wast_nodes.specs.Sites.{OfBlock, in_use}
 use Rattle.wast_passes.specs.Tree.{BlockType}
 use Rattle.wast_demands.specs.Demands.{first_unmet, site_demands, Answers}
 use Rattle.wast_demands.specs.Resolved.{numbering}

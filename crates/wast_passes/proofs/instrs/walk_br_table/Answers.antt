@@ -2,7 +2,7 @@ use Rattle.std.specs.Prelude.{⊤}
 use Rattle.std.proofs.lemmas.Result.{err_from_is_err_and}
 use Rattle.std.specs.List.{flat_map}
 use Rattle.wast_base.specs.Faults.{told}
-use Rattle.wast_tree.specs.Sites.{at_label, in_br_table}
+use Rattle.wast_nodes.specs.Sites.{at_label, in_br_table}
 use Rattle.wast_demands.specs.Demands.{HasMany, open_counts, site_demand}
 use Rattle.wast_passes.specs.Resolvers.{scope_of}
 use Rattle.wast_passes.proofs.Parts.{both_met, fails_first, fails_behind}

@@ -1,6 +1,6 @@
 use Rattle.std.specs.Prelude.{⊤, []}
 use Rattle.wast_labels.specs.OpenBlocks.{denotes}
-use Rattle.wast_tree.specs.Sites.{at_label}
+use Rattle.wast_nodes.specs.Sites.{at_label}
 use Rattle.wast_demands.specs.Demands.{HasMany, site_demands}
 use Rattle.wast_demands.specs.Resolved.{numbered}
 use Rattle.wast_passes.specs.Resolvers.{scope_of}

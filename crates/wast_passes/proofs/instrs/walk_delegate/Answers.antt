@@ -4,7 +4,7 @@ use Rattle.std.proofs.lemmas.Result.{err_from_is_err_and}
 use Rattle.wast_base.specs.Blocks.{Blocks}
 use Rattle.wast_base.specs.Faults.{told}
 use Rattle.wast_labels.specs.OpenBlocks.{OpenBlocks, denotes}
-use Rattle.wast_tree.specs.Sites.{at_label}
+use Rattle.wast_nodes.specs.Sites.{at_label}
 use Rattle.wast_demands.specs.Demands.{HasMany, first_unmet, site_demands, Answers}
 use Rattle.wast_demands.specs.Resolved.{numbered}
 use Rattle.wast_passes.specs.Resolvers.{scope_of}

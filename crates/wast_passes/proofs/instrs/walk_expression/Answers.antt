@@ -4,7 +4,7 @@ use Rattle.std.proofs.lemmas.Result.{err_from_is_err_and}
 use Rattle.wast_base.specs.Blocks.{Blocks}
 use Rattle.wast_base.specs.Faults.{told}
 use Rattle.wast_map.specs.Mapped.{mapped_instrs}
-use Rattle.wast_tree.specs.Sites.{in_instrs}
+use Rattle.wast_nodes.specs.Sites.{in_instrs}
 use Rattle.wast_passes.specs.Tree.{Instruction}
 use Rattle.wast_demands.specs.Demands.{first_unmet, site_demands, open_counts, HasMany, Answers}
 use Rattle.wast_passes.specs.Openable.{begin}

@@ -1,4 +1,4 @@
-use Rattle.wast_tree.specs.Sites.{at_label}
+use Rattle.wast_nodes.specs.Sites.{at_label}
 use Rattle.wast_demands.specs.Demands.{site_demands}
 use Rattle.wast_demands.specs.Resolved.{numbering}
 use Rattle.wast_passes.specs.Resolvers.{scope_of}

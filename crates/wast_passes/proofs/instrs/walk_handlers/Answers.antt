@@ -2,7 +2,7 @@ use Rattle.std.proofs.Common.{false, ap, sym, subst, ◌∙◌, refl}
 use Rattle.std.specs.List.{flat_map}
 use Rattle.std.proofs.lemmas.Result.{err_from_is_err_and}
 use Rattle.wast_base.specs.Faults.{told}
-use Rattle.wast_tree.specs.Sites.{Covered, in_handle}
+use Rattle.wast_nodes.specs.Sites.{Covered, in_handle}
 use Rattle.wast_passes.specs.Tree.form
 use Rattle.wast_demands.specs.Demands.{first_unmet, Answers}
 use Rattle.wast_passes.specs.Resolvers.{scope_of}

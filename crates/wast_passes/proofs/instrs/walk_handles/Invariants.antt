@@ -1,4 +1,4 @@
-use Rattle.wast_tree.specs.Sites.{in_handle}
+use Rattle.wast_nodes.specs.Sites.{in_handle}
 use Rattle.wast_map.specs.Mapped.{mapped_handle}
 use Rattle.wast_demands.specs.Demands.{site_demand}
 use Rattle.wast_demands.specs.Resolved.{numbering}

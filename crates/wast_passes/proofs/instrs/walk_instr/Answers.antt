@@ -2,7 +2,7 @@ use Rattle.std.specs.Prelude.{⊤, [], ◌∷◌, ◌++◌, refl, false}
 use Rattle.wast_base.specs.Blocks.{closed}
 use Rattle.wast_base.specs.Ids.{marked}
 use Rattle.wast_map.specs.Mapped.{mapped_br_table, mapped_ref}
-use Rattle.wast_tree.specs.Sites.{Ends, LocalAt, Repeated, Covered, asking, uncovered, at_index, at_label, in_br_table, in_cast, in_handlers, in_pair, in_ref, in_select}
+use Rattle.wast_nodes.specs.Sites.{Ends, LocalAt, Repeated, Covered, asking, uncovered, at_index, at_label, in_br_table, in_cast, in_handlers, in_pair, in_ref, in_select}
 use Rattle.wast_passes.specs.Tree.{Index, RefType}
 use Rattle.wast_passes.specs.Tree.form
 use Rattle.wast_passes.specs.Tree.space

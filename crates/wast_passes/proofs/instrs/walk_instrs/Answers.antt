@@ -3,7 +3,7 @@ use Rattle.std.proofs.Common.{arith, ◌≤◌, ◌<◌, length, get_or, take, s
 use Rattle.std.proofs.lemmas.Result.{err_from_is_err_and}
 use Rattle.wast_base.specs.Faults.{told}
 use Rattle.wast_map.specs.Mapped.{mapped_instr}
-use Rattle.wast_tree.specs.Sites.{Here, Locals, in_instr, in_instrs}
+use Rattle.wast_nodes.specs.Sites.{Here, Locals, in_instr, in_instrs}
 use Rattle.wast_demands.specs.Demands.{first_unmet, site_demands, open_counts, HasMany, Answers}
 use Rattle.wast_passes.specs.Locals.{Numbers}
 use Rattle.wast_passes.specs.Openable.{here, IsPassed}

@@ -1,4 +1,4 @@
-use Rattle.wast_tree.specs.Sites.{Locals}
+use Rattle.wast_nodes.specs.Sites.{Locals}
 use Rattle.wast_passes.specs.Locals.{Numbers}
 use Rattle.wast_passes.specs.Openable.{here}
 use Rattle.wast_demands.specs.Resolved.{numbering}

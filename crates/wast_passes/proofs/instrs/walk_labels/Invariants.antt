@@ -1,5 +1,5 @@
 use Rattle.wast_labels.specs.OpenBlocks.{denotes}
-use Rattle.wast_tree.specs.Sites.{at_label}
+use Rattle.wast_nodes.specs.Sites.{at_label}
 use Rattle.wast_demands.specs.Demands.{site_demand}
 use Rattle.wast_demands.specs.Resolved.{numbered}
 use Rattle.wast_passes.specs.Resolvers.{Resolution, scope_of}

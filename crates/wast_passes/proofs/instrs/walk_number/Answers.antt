@@ -1,5 +1,5 @@
 use Rattle.std.specs.Prelude.{⊤, []}
-use Rattle.wast_tree.specs.Sites.{at_index}
+use Rattle.wast_nodes.specs.Sites.{at_index}
 use Rattle.wast_demands.specs.Demands.{HasMany, site_demands}
 use Rattle.wast_demands.specs.Resolved.{numbered_at}
 use Rattle.wast_passes.specs.Resolvers.{known_of, scope_of}

@@ -1,5 +1,5 @@
 use Rattle.std.specs.Prelude.{⊤}
-use Rattle.wast_tree.specs.Sites.{asking}
+use Rattle.wast_nodes.specs.Sites.{asking}
 use Rattle.wast_demands.specs.Demands.{HasMany, open_counts, site_demands}
 use Rattle.wast_demands.specs.Resolved.{numbering}
 use Rattle.wast_passes.specs.Resolvers.{scope_of}

@@ -1,7 +1,7 @@
 use Rattle.std.specs.Prelude.{⊤, ◌++◌}
 use Rattle.std.proofs.lemmas.Result.{err_from_is_err_and}
 use Rattle.wast_base.specs.Faults.{told}
-use Rattle.wast_tree.specs.Sites.{at_index, in_handlers}
+use Rattle.wast_nodes.specs.Sites.{at_index, in_handlers}
 use Rattle.wast_passes.specs.Tree.space
 use Rattle.wast_demands.specs.Demands.{HasMany, open_counts, site_demand}
 use Rattle.wast_passes.specs.Resolvers.{scope_of}

@@ -3,7 +3,7 @@ use Rattle.std.proofs.lemmas.List.{length-map}
 use Rattle.std.proofs.lemmas.Result.{err_from_is_err_and}
 use Rattle.wast_base.specs.Faults.{told}
 use Rattle.wast_base.specs.Spaces.{name_if, position_of}
-use Rattle.wast_tree.specs.Items.{field_ids}
+use Rattle.wast_nodes.specs.Items.{field_ids}
 use Rattle.wast_namespace.specs.Filling.{FillsSpace, IsFilled, IsFirstClash}
 use Rattle.wast_passes.proofs.FieldClashes.{no_clash}
 use Rattle.wast_passes.proofs.Shaping.{stops_refused}

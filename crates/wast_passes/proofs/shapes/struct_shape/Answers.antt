@@ -2,7 +2,7 @@ use Rattle.std.proofs.Common.{map, ap, ◌∙◌, sym}
 use Rattle.std.specs.Prelude.{cond}
 use mathlib.Core.Path.{fun_ext}
 use Rattle.wast_base.specs.Spaces.{name_if, position_of}
-use Rattle.wast_tree.specs.Items.{field_ids}
+use Rattle.wast_nodes.specs.Items.{field_ids}
 use Rattle.wast_demands.specs.Scopes.{Struct, Other}
 use Rattle.wast_passes.proofs.NoNames.{some_ids}
 use Rattle.wast_passes.proofs.shapes.struct_shape.Goals as goal

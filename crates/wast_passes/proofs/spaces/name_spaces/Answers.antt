@@ -6,7 +6,7 @@ use Rattle.std.proofs.lemmas.Iterator.Consumers.{YieldsList-end}
 use Rattle.std.proofs.lemmas.Result.{err_from_is_err_and}
 use Rattle.wast_base.specs.Faults.{told}
 use Rattle.wast_base.specs.Spaces.{spaces}
-use Rattle.wast_tree.specs.Items.{items}
+use Rattle.wast_nodes.specs.Items.{items}
 use Rattle.wast_passes.specs.Resolvers.{known_of}
 use Rattle.wast_passes.specs.Tree.space
 use Rattle.wast_demands.specs.Demands.{first_unmet, item_demands}

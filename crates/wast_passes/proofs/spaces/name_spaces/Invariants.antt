@@ -1,6 +1,6 @@
 use Rattle.std.proofs.Common.{◌≡◌, ◌++◌, length}
 use Rattle.std.specs.Vec.Iter.{into_iter_items}
-use Rattle.wast_tree.specs.Items.{items}
+use Rattle.wast_nodes.specs.Items.{items}
 use Rattle.wast_passes.proofs.Trying.{by_space, AreTried}
 use Rattle.wast_passes.proofs.spaces.name_spaces.Given as goal
 

@@ -1,8 +1,8 @@
 use Rattle.std.specs.Prelude.{⊤, refl}
 use Rattle.std.proofs.Common.{ap, sym, subst}
 use Rattle.wast_map.specs.Mapped.{mapped_expression}
-use Rattle.wast_tree.specs.Clauses.{hints_stand}
-use Rattle.wast_tree.specs.Sites.{Clause, in_instrs, in_expression}
+use Rattle.wast_nodes.specs.Clauses.{hints_stand}
+use Rattle.wast_nodes.specs.Sites.{Clause, in_instrs, in_expression}
 use Rattle.wast_passes.specs.Tree.{FuncKind}
 use Rattle.wast_passes.specs.Tree.func
 use Rattle.wast_demands.specs.Demands.{HasMany, first_unmet, open_counts, site_demands}

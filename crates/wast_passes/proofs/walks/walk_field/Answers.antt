@@ -1,6 +1,6 @@
 use Rattle.std.proofs.Common.{refl, ap}
 use Rattle.std.specs.Prelude.{⊤}
-use Rattle.wast_tree.specs.Sites.{asking, at_index, exported_space, in_func, in_type, in_rec, in_import, in_table_kind, in_memory_kind, in_global, in_elem, in_data_kind, in_tag_type}
+use Rattle.wast_nodes.specs.Sites.{asking, at_index, exported_space, in_func, in_type, in_rec, in_import, in_table_kind, in_memory_kind, in_global, in_elem, in_data_kind, in_tag_type}
 use Rattle.wast_passes.specs.Tree.field
 use Rattle.wast_passes.specs.Tree.space
 use Rattle.wast_demands.specs.Demands.{HasMany, body_counts_in, site_demands, first_unmet}

@@ -1,7 +1,7 @@
 use Rattle.std.specs.Prelude.{⊤}
 use Rattle.std.proofs.lemmas.Result.{err_from_is_err_and}
 use Rattle.wast_base.specs.Faults.{told}
-use Rattle.wast_tree.specs.Sites.{OfItem, in_use, in_func_kind}
+use Rattle.wast_nodes.specs.Sites.{OfItem, in_use, in_func_kind}
 use Rattle.wast_passes.specs.Tree.field
 use Rattle.wast_demands.specs.Demands.{site_demand, body_counts_in, HasMany}
 use Rattle.wast_passes.specs.Resolvers.{scope_of}

@@ -2,7 +2,7 @@ use Rattle.std.specs.Prelude.{⊤, ◌+◌, ◌≤◌, ◌^◌, Some}
 use Rattle.std.proofs.Common.{◌≡◌, ◌∙◌, ◌++◌, ap, sym, subst, length, None}
 use Rattle.std.proofs.lemmas.Result.{err_from_is_err_and}
 use Rattle.wast_base.specs.Faults.{told}
-use Rattle.wast_tree.specs.Sites.{param_marks}
+use Rattle.wast_nodes.specs.Sites.{param_marks}
 use Rattle.wast_passes.specs.Tree.{FuncKind}
 use Rattle.wast_demands.specs.Demands.{first_unmet, Answers, ask_demands, site_demands, declared, kind_marks, open_counts, HasMany}
 use Rattle.wast_passes.specs.Locals.{opening, names, locals_in, NumbersIn, kind_counts}

@@ -1,7 +1,7 @@
 use Rattle.std.proofs.Common.{◌∙◌, ◌++◌, [], ap, sym, subst, append-nil}
 use Rattle.std.proofs.lemmas.Result.{err_from_is_err_and}
 use Rattle.wast_base.specs.Faults.{told}
-use Rattle.wast_tree.specs.Sites.{in_type_use}
+use Rattle.wast_nodes.specs.Sites.{in_type_use}
 use Rattle.wast_passes.specs.Tree.{FunctionType, TypeUse}
 use Rattle.wast_demands.specs.Demands.{first_unmet, Answers, ask_demands, match_if, use_demand}
 use Rattle.wast_passes.specs.Resolvers.{scope_of}

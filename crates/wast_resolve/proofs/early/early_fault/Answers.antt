@@ -1,7 +1,7 @@
 use Rattle.std.proofs.Common.{◌∙◌}
 use Rattle.std.proofs.lemmas.Result.{err_from_is_err_and}
 use Rattle.wast_base.specs.Faults.{told}
-use Rattle.wast_tree.specs.Items.{items}
+use Rattle.wast_nodes.specs.Items.{items}
 use Rattle.wast_demands.specs.Demands.{order_demands, item_demands}
 use Rattle.wast_demands.proofs.Unmet.{first_unmet-append, answers_first, answers_after}
 use Rattle.wast_resolve.proofs.early.early_fault.Goals as goal

@@ -1,8 +1,8 @@
 use Rattle.std.proofs.Common.{◌∙◌, ◌+◌, ap, sym, subst, List}
 use Rattle.std.proofs.lemmas.Result.{err_from_is_err_and}
 use Rattle.wast_base.specs.Filling.{RunsOut}
-use Rattle.wast_tree.specs.Items.{items}
-use Rattle.wast_tree.specs.Known.{known}
+use Rattle.wast_nodes.specs.Items.{items}
+use Rattle.wast_nodes.specs.Known.{known}
 use Rattle.wast_types.specs.Expanded.{ids_wanted}
 use Rattle.wast_namespace.specs.FirstUnmet.{first_unmet, Answers}
 use Rattle.wast_base.specs.Faults.{told}

@@ -2,7 +2,7 @@ use Rattle.std.proofs.Common.{◌≡◌, ℕ, List, ◌++◌, true, ap, ◌∙�
 use Rattle.wasm_ops.specs.Sinks.{Writes}
 use Rattle.wasm_ops.specs.Spelling.{name, InRangeName, InRangeVec, vec}
 use Rattle.wasm_out.specs.Producers.{producer_field, InRangeProducerField}
-use Rattle.wast_tree.specs.Customs.{custom_name}
+use Rattle.wast_nodes.specs.Customs.{custom_name}
 use Rattle.wast_conv.specs.Customs.{as_producer_field, is_encodable_custom}
 use Rattle.wast_conv.proofs.CustomsSpelled.{all_ready, listed_behind, subsections_ready}
 use Rattle.wast_conv.proofs.custom_values.CustomPayloadEncode.encode.Goals as goal

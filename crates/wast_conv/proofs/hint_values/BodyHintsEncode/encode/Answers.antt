@@ -1,7 +1,7 @@
 use Rattle.std.proofs.Common.{◌≡◌, true, ◌∙◌, ap, length, subst}
 use Rattle.std.specs.List.{list_all}
-use Rattle.wast_tree.specs.Clauses.{stand_from}
-use Rattle.wast_tree.specs.Sites.{in_local}
+use Rattle.wast_nodes.specs.Clauses.{stand_from}
+use Rattle.wast_nodes.specs.Sites.{in_local}
 use Rattle.wast_conv.specs.Encodable.{are_encodable, is_encodable_instr}
 use Rattle.wast_conv.specs.Hints.{are_encodable_hints}
 use Rattle.wast_conv.proofs.Hinting.{hinted_parts}

@@ -5,7 +5,7 @@ use Rattle.std.proofs.lemmas.List.Folds.{length-flat_map-take}
 use Rattle.std.proofs.lemmas.Result.{err_from_is_err_and}
 use Rattle.wasm_ops.proofs.Sinking.{cut_back, one_item_more}
 use Rattle.wasm_out.specs.Hints.{branch_hint}
-use Rattle.wast_tree.specs.Sites.{in_local}
+use Rattle.wast_nodes.specs.Sites.{in_local}
 use Rattle.wast_conv.specs.Tree.{BranchHint}
 use Rattle.wast_conv.specs.Encodable.{are_encodable, is_encodable_instr}
 use Rattle.wast_conv.specs.Hints.{as_branch_hint, InRangeHintOf, InRangeHintsOf}

@@ -2,7 +2,7 @@ use Rattle.std.proofs.Common.{◌≡◌, true, length, take, drop}
 use Rattle.std.specs.List.{All, flat_map}
 use Rattle.wasm_ops.specs.Table.{InRangeInstr}
 use Rattle.wasm_out.specs.Hints.{branch_hint}
-use Rattle.wast_tree.specs.Clauses.{stand_from}
+use Rattle.wast_nodes.specs.Clauses.{stand_from}
 use Rattle.wast_conv.specs.Hints.{bytes_before, as_branch_hint, InRangeHintOf}
 use Rattle.wast_conv.specs.Meaning as meaning
 use Rattle.wast_conv.proofs.hint_values.HintsEncode.encode.Given as goal

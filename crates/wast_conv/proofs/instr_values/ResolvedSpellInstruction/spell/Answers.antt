@@ -1,7 +1,7 @@
 use mir.Val.{SFits}
 use Rattle.std.specs.Int.{w32, w64}
 use Rattle.std.proofs.lemmas.Int.{to_z-of_z}
-use Rattle.wast_tree.specs.Sites.{is_sequential, in_heap, in_ref, in_mem_arg, in_select}
+use Rattle.wast_nodes.specs.Sites.{is_sequential, in_heap, in_ref, in_mem_arg, in_select}
 use Rattle.wasm_ops.specs.ConstantInstrs.{i32_const_instr, i64_const_instr}
 use Rattle.wasm_ops.specs.Sinks.{Writes}
 use Rattle.wasm_ops.specs.Table.{instr, InRangeInstr}

@@ -1,5 +1,5 @@
 use Rattle.std.proofs.Common.{◌≡◌, true, sym, ◌∙◌, subst}
-use Rattle.wast_tree.specs.Sites.{in_type}
+use Rattle.wast_nodes.specs.Sites.{in_type}
 use Rattle.wasm_ops.specs.Spelling.{sub_type, InRangeSubType}
 use Rattle.wast_conv.specs.Encodable.{is_encodable_ask}
 use Rattle.wast_conv.specs.Entries.{is_encodable_entry}

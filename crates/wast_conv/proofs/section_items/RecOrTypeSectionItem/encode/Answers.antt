@@ -1,7 +1,7 @@
 use Rattle.std.proofs.Common.{◌≡◌, ◌∙◌, true, map, ap, sym, subst}
 use Rattle.std.specs.List.{list_all}
-use Rattle.wast_tree.specs.Sites.{in_type, in_rec}
-use Rattle.wast_tree.specs.Resolved.{is_numbered, are_numbered}
+use Rattle.wast_nodes.specs.Sites.{in_type, in_rec}
+use Rattle.wast_nodes.specs.Resolved.{is_numbered, are_numbered}
 use Rattle.wasm_ops.specs.Covered.{is_covered_sub_type}
 use Rattle.wast_conv.specs.Entries.{is_encodable_entry}
 use Rattle.wast_conv.specs.Meaning as meaning

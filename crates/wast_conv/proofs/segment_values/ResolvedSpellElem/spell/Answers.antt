@@ -5,7 +5,7 @@ use Rattle.wasm_ops.specs.Covered.{is_covered_ref_type}
 use Rattle.wasm_ops.specs.Leb128.{unsigned}
 use Rattle.wasm_ops.specs.Spelling.{InRangeU32, vec, InRangeVec}
 use Rattle.wasm_out.specs.declared.elements.ElementKind.TheVariants as kinds
-use Rattle.wast_tree.specs.Clauses.{suits}
+use Rattle.wast_nodes.specs.Clauses.{suits}
 use Rattle.wast_base.specs.Ids.{is_number}
 use Rattle.wast_conv.specs.Tree.payload
 use Rattle.wast_conv.specs.Encodable.{is_encodable_expression, is_encodable_payload}

@@ -1,6 +1,6 @@
 use Rattle.std.proofs.Common.{◌≡◌, true, ◌∙◌, ap, subst}
 use Rattle.std.specs.List.{list_all}
-use Rattle.wast_tree.specs.Sites.{in_local}
+use Rattle.wast_nodes.specs.Sites.{in_local}
 use Rattle.wast_conv.specs.Encodable.{are_encodable, is_encodable_instr, is_encodable_kind}
 use Rattle.wast_conv.proofs.Standing.{body_parts}
 use Rattle.wast_conv.proofs.values.ResolvedSpellFuncKind.spell.Goals as goal

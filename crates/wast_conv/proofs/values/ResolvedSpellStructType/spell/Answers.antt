@@ -1,5 +1,5 @@
 use Rattle.std.proofs.Common.{sym, ◌∙◌}
-use Rattle.wast_tree.specs.Sites.{in_struct_field}
+use Rattle.wast_nodes.specs.Sites.{in_struct_field}
 use Rattle.wasm_ops.specs.Spelling.{field_type, InRangeFieldType}
 use Rattle.wast_conv.specs.Encodable.{is_encodable_ask}
 use Rattle.wast_conv.specs.Meaning as meaning

@@ -1,7 +1,7 @@
 use Rattle.std.proofs.Common.{◌≡◌, true, List, ap, sym, ◌∙◌, ◌==◌, ◌&&◌, length, map}
 use Rattle.std.specs.List.{list_all}
 use Rattle.wast_base.specs.Ids.{is_number}
-use Rattle.wast_tree.specs.Sites.{in_inner, in_def}
+use Rattle.wast_nodes.specs.Sites.{in_inner, in_def}
 use Rattle.wasm_ops.specs.Spelling.{composite_inner_type, sub_bytes}
 use Rattle.wast_conv.specs.Meaning as meaning
 use Rattle.wast_conv.specs.Encodable.{is_encodable_ask, are_encodable}

@@ -1,5 +1,5 @@
 use Rattle.std.proofs.Common.{◌∙◌, sym, ap, length}
-use Rattle.wast_tree.specs.Imports.{item_sigs}
+use Rattle.wast_nodes.specs.Imports.{item_sigs}
 use Rattle.wast_names.specs.FoundNames.{counted}
 use Rattle.wast_names.specs.ModuleNames.{type_name, sig_name, item_names_in}
 use Rattle.wast_names.specs.GivenNames.{named_from}

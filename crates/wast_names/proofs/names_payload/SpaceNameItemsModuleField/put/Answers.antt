@@ -1,7 +1,7 @@
 use Rattle.std.proofs.Common.{◌≡◌, ◌+◌, length, sym, subst}
 use Rattle.std.specs.Prelude.{IfOk}
 use Rattle.wasm_out.specs.NameSectionBytes.{name_entry, InRangeNameEntry}
-use Rattle.wast_tree.specs.Imports.{item_sigs}
+use Rattle.wast_nodes.specs.Imports.{item_sigs}
 use Rattle.wast_names.specs.FoundNames.{counted, WritesItems}
 use Rattle.wast_names.specs.ModuleNames.{type_name, sig_name, item_names_in}
 use Rattle.wast_names.proofs.NameMaps.{names_of_each}

@@ -1,6 +1,6 @@
 use Rattle.std.proofs.Common.{false, List, ap, sym, refl}
 use Rattle.std.specs.List.{flat_map}
-use Rattle.wast_tree.specs.Sites.{Covered, in_sig}
+use Rattle.wast_nodes.specs.Sites.{Covered, in_sig}
 use Rattle.wast_map.specs.Mapped.{mapped_sig}
 use Rattle.wast_passes.specs.Tree.{ItemSig}
 use Rattle.wast_passes.specs.Tree.form

@@ -1,7 +1,7 @@
 use Rattle.std.specs.Prelude.{refl}
 use Rattle.std.proofs.lemmas.Result.{err_from_is_err_and}
 use Rattle.wast_base.specs.Faults.{told}
-use Rattle.wast_tree.specs.Sites.{in_payload}
+use Rattle.wast_nodes.specs.Sites.{in_payload}
 use Rattle.wast_passes.specs.Resolvers.{scope_of}
 use Rattle.wast_passes.proofs.TwoSteps.{first_stops, second_stops, both_met, segment_parts}
 use Rattle.wast_passes.proofs.constants.ElemWalkConstants.walk_constants.Goals as goal

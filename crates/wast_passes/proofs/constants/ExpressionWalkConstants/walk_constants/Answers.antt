@@ -3,8 +3,8 @@ use Rattle.std.proofs.Common.{◌∙◌, ap, sym, subst}
 use Rattle.std.proofs.lemmas.Result.{err_from_is_err_and}
 use Rattle.wast_base.specs.Blocks.{is_balanced}
 use Rattle.wast_base.specs.Faults.{told}
-use Rattle.wast_tree.specs.Instrs.{turns}
-use Rattle.wast_tree.specs.Sites.{Clause, start, in_constant, in_instrs}
+use Rattle.wast_nodes.specs.Instrs.{turns}
+use Rattle.wast_nodes.specs.Sites.{Clause, start, in_constant, in_instrs}
 use Rattle.wast_demands.specs.Demands.{first_unmet, site_demands, open_counts, HasMany, Answers}
 use Rattle.wast_passes.specs.Resolvers.{scope_of}
 use Rattle.wast_passes.proofs.Parts.{all_but_last, all_counts_but_last}

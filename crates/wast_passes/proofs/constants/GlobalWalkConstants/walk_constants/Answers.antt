@@ -1,7 +1,7 @@
 use Rattle.std.specs.Prelude.{refl}
 use Rattle.std.proofs.lemmas.Result.{err_from_is_err_and}
 use Rattle.wast_base.specs.Faults.{told}
-use Rattle.wast_tree.specs.Sites.{in_global_kind}
+use Rattle.wast_nodes.specs.Sites.{in_global_kind}
 use Rattle.wast_passes.specs.Resolvers.{scope_of}
 use Rattle.wast_passes.proofs.TwoSteps.{first_fails, second_stops, both_met, global_parts}
 use Rattle.wast_passes.proofs.constants.GlobalWalkConstants.walk_constants.Goals as goal

@@ -1,5 +1,5 @@
 use Rattle.std.proofs.Common.{rules, flat_map}
-use Rattle.wast_tree.specs.Sites.{in_param, in_val}
+use Rattle.wast_nodes.specs.Sites.{in_param, in_val}
 use Rattle.wast_passes.proofs.Calling.{needs_first, needs_second, needs_kept}
 use Rattle.wast_passes.proofs.core_types.FunctionTypeCoreType.resolve_with.Goals as goal
 

@@ -1,6 +1,6 @@
 use Rattle.std.proofs.Common.{rules, ◌++◌, flat_map}
 use Rattle.std.proofs.lemmas.Result.{err_from_is_err_and}
-use Rattle.wast_tree.specs.Sites.{if_there, in_index, in_inner}
+use Rattle.wast_nodes.specs.Sites.{if_there, in_index, in_inner}
 use Rattle.wast_passes.specs.Tree.space
 use Rattle.wast_passes.proofs.Calling.{calls_on_both, first_refused, calls_in_def, needs_in_def, needs_first, needs_second, needs_kept}
 use Rattle.wast_passes.proofs.core_types.TypeDefCoreType.resolve_with.Goals as goal

@@ -1,7 +1,7 @@
 use Rattle.std.proofs.Common.{◌≡◌, ◌++◌, Some, None, ap, sym, ◌∙◌, subst, append-nil}
 use Rattle.std.proofs.lemmas.Result.{err_from_is_err_and}
 use Rattle.wast_base.specs.Faults.{told}
-use Rattle.wast_tree.specs.Sites.{Wants}
+use Rattle.wast_nodes.specs.Sites.{Wants}
 use Rattle.wast_passes.specs.Tree.space
 use Rattle.wast_demands.specs.Demands.{first_unmet, ask_demand, field_at, Answers}
 use Rattle.wast_passes.specs.Resolvers.{known_of, scope_of}

@@ -1,6 +1,6 @@
 use Rattle.std.proofs.Common.{List, ap, sym, ◌∙◌, subst}
 use Rattle.std.proofs.lemmas.Result.{err_from_is_err_and}
-use Rattle.wast_tree.specs.Sites.{start}
+use Rattle.wast_nodes.specs.Sites.{start}
 use Rattle.wast_base.specs.Filling.{RunsOut}
 use Rattle.wast_types.specs.Tree.{Instruction}
 use Rattle.wast_types.specs.Expanders.{index_of, with_more}

@@ -4,7 +4,7 @@ use Rattle.wast_base.specs.Filling.{RunsOut}
 use Rattle.wast_types.specs.Tree.form
 use Rattle.wast_types.specs.Tree.import_items
 use Rattle.wast_types.specs.Tree.{ItemSig}
-use Rattle.wast_tree.specs.Sites.{in_sig, in_import, uncovered}
+use Rattle.wast_nodes.specs.Sites.{in_sig, in_import, uncovered}
 use Rattle.wast_map.specs.Mapped.{mapped_import_items}
 use Rattle.wast_types.specs.Binding.{state, next_after}
 use Rattle.wast_types.specs.Expanders.{index_of, with_more}

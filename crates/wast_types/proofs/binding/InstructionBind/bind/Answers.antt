@@ -1,5 +1,5 @@
 use Rattle.std.proofs.Common.{◌≡◌, [], ◌++◌, ap, sym, ◌∙◌, subst}
-use Rattle.wast_tree.specs.Sites.{start, uncovered, in_index, in_ref, in_pair, in_cast, in_select, in_instr}
+use Rattle.wast_nodes.specs.Sites.{start, uncovered, in_index, in_ref, in_pair, in_cast, in_select, in_instr}
 use Rattle.wast_map.specs.Mapped.{mapped_block, mapped_instr}
 use Rattle.wast_types.specs.Tree.{ResumeTable}
 use Rattle.wast_types.specs.Tree.form

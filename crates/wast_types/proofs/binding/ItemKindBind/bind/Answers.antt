@@ -3,7 +3,7 @@ use Rattle.std.proofs.lemmas.Result.{err_from_is_err_and}
 use Rattle.wast_base.specs.Filling.{RunsOut}
 use Rattle.wast_types.specs.Tree.form
 use Rattle.wast_types.specs.Tree.kind
-use Rattle.wast_tree.specs.Sites.{OfItem, in_use, in_item_kind, uncovered}
+use Rattle.wast_nodes.specs.Sites.{OfItem, in_use, in_item_kind, uncovered}
 use Rattle.wast_map.specs.Mapped.{mapped_item_kind}
 use Rattle.wast_types.specs.Binding.{state, next_after}
 use Rattle.wast_types.specs.Expanders.{index_of, with_more}

@@ -1,7 +1,7 @@
 use Rattle.std.proofs.Common.{ap, sym, ◌∙◌}
 use Rattle.wast_types.specs.Tree.field
 use Rattle.wast_types.specs.Expanders.{index_of, with_more}
-use Rattle.wast_tree.specs.Sites.{in_type, in_rec, in_field}
+use Rattle.wast_nodes.specs.Sites.{in_type, in_rec, in_field}
 use Rattle.wast_types.specs.NeedingUses.{needed_in}
 use Rattle.wast_types.specs.Expanded.{bound_field}
 use Rattle.wast_types.specs.Binding.{state}

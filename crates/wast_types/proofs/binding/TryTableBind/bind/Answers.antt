@@ -1,5 +1,5 @@
 use Rattle.std.proofs.Common.{[], ap, sym, ◌∙◌}
-use Rattle.wast_tree.specs.Sites.{in_block}
+use Rattle.wast_nodes.specs.Sites.{in_block}
 use Rattle.wast_map.specs.Mapped.{mapped_block}
 use Rattle.wast_types.specs.NeedingUses.{needed_in}
 use Rattle.wast_types.specs.Expanders.{index_of, with_more}

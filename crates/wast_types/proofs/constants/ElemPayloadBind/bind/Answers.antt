@@ -1,6 +1,6 @@
 use Rattle.std.proofs.Common.{List, Option, ap, sym, ◌∙◌, subst}
 use Rattle.std.proofs.lemmas.Result.{err_from_is_err_and}
-use Rattle.wast_tree.specs.Sites.{in_payload}
+use Rattle.wast_nodes.specs.Sites.{in_payload}
 use Rattle.wast_map.specs.Mapped.{mapped_payload}
 use Rattle.wast_base.specs.Filling.{RunsOut}
 use Rattle.wast_types.specs.Tree.{Expression}

@@ -1,0 +1,3 @@
+pub mod Asking
+pub mod Bearing
+pub mod Behind

@@ -1,0 +1,7 @@
+pub mod Balancing
+pub mod Failing
+pub mod Looking
+pub mod Places
+pub mod Shared
+pub mod Telling
+pub mod Visiting

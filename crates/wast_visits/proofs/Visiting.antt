@@ -1,0 +1,153 @@
+-- What a visitor was told of parts that stand one after the other.
+use Rattle.std.proofs.Common.{◌≡◌, ℕ, ◌+◌, ◌<◌, List, [], ◌∷◌, ◌++◌, refl, sym, ap, ◌∙◌, subst, append-nil, length, get_or, take}
+use Rattle.std.specs.Prelude.{flat_map}
+use Rattle.std.proofs.lemmas.Grind.{flat_map-append}
+use Rattle.std.proofs.lemmas.List.{take_more}
+use Rattle.std.specs.Prelude.{Option, Some, None, map}
+use Rattle.wast_base.specs.Blocks.{Blocks}
+use Rattle.wast_base.specs.Ids.{Name, Mark, marked}
+use Rattle.wast_base.specs.Spaces.{name_if}
+use Rattle.wast_visits.specs.Tree.{Id, Index, BrTableIndices, TryTable, TryTableCatch, Handle, ResumeTable, Space, RefType, FunctionType, TypeUse, Instruction, Expression, Local}
+use Rattle.wast_visits.specs.Tree.form
+use Rattle.wast_visits.specs.Tree.handle
+use Rattle.wast_visits.specs.Tree.func
+use Rattle.wast_nodes.specs.Sites.{Ask, Wants, Within, Where, Site, Begins, Here, after_all, asking, at_index, if_there, in_id, in_index, in_use, in_ref, in_type_use, at_label, in_caught, in_catch, in_try_table, in_br_table, in_handle, in_handlers, uncovered, mark_asked, param_marks, in_constant, in_local, in_instr, in_instrs, in_expression, local_marks, declaring, body_here, in_func_kind, asked_in, asked}
+use Rattle.wast_visits.specs.Visits.{Tells, Visits}
+use Rattle.wast_nodes.proofs.Asking.{each_of_each, asked_asking, asked_both}
+use Rattle.wast_nodes.proofs.Behind.{instrs-append}
+
+tells_both : {V A : Type 0} (told : V → A → V → Type 0) (a b c : V) (xs ys : List A) → Tells told a xs b → Tells told b ys c → Tells told a (xs ++ ys) c
+tells_both told a b c [] ys h k = subst (λ v. Tells told v ys c) h k
+tells_both told a b c (x ∷ xs) ys h k = (h.0, (h.1.0, tells_both told h.0 b c xs ys h.1.1 k))
+
+module _ {V A : Type 0} {told : V → A → V → Type 0} where
+  pub visits_none : {a : V} → Visits told a [] a
+  visits_none {a} = record { tells = refl }
+
+  pub visits_one : {a b : V} {x : A} → told a x b → Visits told a (x ∷ []) b
+  visits_one {a} {b} h = record { tells = (b, (h, refl)) }
+
+  pub visits_both : {a b c : V} {xs ys : List A} → Visits told a xs b → Visits told b ys c → Visits told a (xs ++ ys) c
+  visits_both {a} {b} {c} {xs} {ys} h k = record { tells = tells_both told a b c xs ys h.tells k.tells }
+
+  -- one part of a list more
+  pub visits_more : {T : Type 0} {a b c : V} (f : T → List A) (xs : List T) (i : ℕ) (x d : T) → i < length xs → x ≡ get_or xs i d
+      → Visits told a (flat_map f (take i xs)) b → Visits told b (f x) c → Visits told a (flat_map f (take (i + 1) xs)) c
+  visits_more {a = a} {c = c} f xs i x d lt is h k =
+      let more : flat_map f (take (i + 1) xs) ≡ flat_map f (take i xs) ++ f x =
+      ap (flat_map f) (take_more xs i d lt ∙ ap (λ y. take i xs ++ y ∷ []) (sym is)) ∙ (flat_map-append f (take i xs) (x ∷ []) ∙ ap (λ ys. flat_map f (take i xs) ++ ys) (append-nil (f x))) in
+      subst (λ ys. Visits told a ys c) (sym more) (visits_both h k)
+
+pub each_alone : {A B : Type 0} (f : A → B) (xs : List A) → map f xs ≡ flat_map (λ x. f x ∷ []) xs
+each_alone f [] = refl
+each_alone f (x ∷ xs) = ap (λ ys. f x ∷ ys) (each_alone f xs)
+
+pub asked_use : (w : Where) (u : TypeUse FunctionType) → asked (in_use w u) ≡ in_type_use u
+asked_use w u = append-nil (in_type_use u)
+
+-- of parts that may be there, and of lists of parts
+pub asked_if : {A : Type 0} (f : A → List Site) (o : Option A) → asked (if_there f o) ≡ if_there (λ x. asked (f x)) o
+asked_if f None = refl
+asked_if f (Some x) = refl
+
+pub asked_index_if : (s : Space) (o : Option Index) → asked (if_there (at_index s) o) ≡ if_there (in_index s) o
+asked_index_if s None = refl
+asked_index_if s (Some i) = refl
+
+pub asked_each : {A : Type 0} (f : A → List Site) (xs : List A) → asked (flat_map f xs) ≡ flat_map (λ x. asked (f x)) xs
+asked_each f xs = each_of_each f asked_in xs
+
+pub asked_indices : (s : Space) (is : List Index) → asked (flat_map (at_index s) is) ≡ flat_map (in_index s) is
+asked_indices s [] = refl
+asked_indices s (i ∷ is) = ap (λ zs. Wants s i ∷ zs) (asked_indices s is)
+
+pub asked_exprs : (ty : RefType) (es : List Expression) → asked (flat_map in_constant es ++ asking (in_ref ty)) ≡ flat_map (λ e. asked (in_constant e)) es ++ in_ref ty
+asked_exprs ty es =
+    asked_both (flat_map in_constant es) (asking (in_ref ty))
+    ∙ (ap (λ asks. asks ++ asked (asking (in_ref ty))) (asked_each in_constant es) ∙ ap (λ asks. flat_map (λ e. asked (in_constant e)) es ++ asks) (asked_asking (in_ref ty)))
+
+-- Nothing is asked where a parameter or a local is declared.
+pub asked_declaring : (before : List (Option Name)) (marks : List (Option Mark)) → asked (declaring before marks) ≡ []
+asked_declaring before [] = refl
+asked_declaring before (m ∷ ms) = asked_declaring (before ++ name_if m ∷ []) ms
+
+-- A function asks the types and ids of its locals, and then its body.
+pub asked_inline : (u : TypeUse FunctionType) (locals : List Local) (e : Expression)
+    → asked (in_func_kind u (func.Inline locals e)) ≡ flat_map in_local locals ++ asked (in_expression (body_here u (param_marks u.inline ++ local_marks locals)) e)
+asked_inline u locals e =
+    let marks = param_marks u.inline ++ local_marks locals in
+    let body = in_expression (body_here u marks) e in
+    asked_both (asking (flat_map in_local locals)) (declaring [] marks ++ body)
+    ∙ (ap (λ asks. asks ++ asked (declaring [] marks ++ body)) (asked_asking (flat_map in_local locals))
+    ∙ ap (λ asks. flat_map in_local locals ++ asks) (asked_both (declaring [] marks) body ∙ ap (λ asks. asks ++ asked body) (asked_declaring [] marks)))
+
+-- Which blocks are open changes nothing of what is asked.
+pub asked_label : (id : Option Id) → if_there in_id id ≡ mark_asked (marked id)
+asked_label None = refl
+asked_label (Some id) = refl
+
+asked_catch : (blocks : Blocks) (c : TryTableCatch) → asked (in_catch blocks c) ≡ asked (in_catch [] c)
+asked_catch blocks c = asked_both (asking (in_caught c.kind)) (at_label blocks c.label) ∙ sym (asked_both (asking (in_caught c.kind)) (at_label [] c.label))
+
+asked_catches : (blocks : Blocks) (cs : List TryTableCatch) → asked (flat_map (in_catch blocks) cs) ≡ flat_map (λ c. asked (in_catch [] c)) cs
+asked_catches blocks [] = refl
+asked_catches blocks (c ∷ cs) =
+    asked_both (in_catch blocks c) (flat_map (in_catch blocks) cs)
+    ∙ (ap (λ asks. asks ++ asked (flat_map (in_catch blocks) cs)) (asked_catch blocks c) ∙ ap (λ asks. asked (in_catch [] c) ++ asks) (asked_catches blocks cs))
+
+pub asked_try_table : (blocks : Blocks) (t : TryTable)
+    → asked (in_try_table blocks t) ≡ in_type_use t.block.ty ++ (flat_map (λ c. asked (in_catch [] c)) t.catches ++ if_there in_id t.block.label)
+asked_try_table blocks t =
+    ap (λ asks. in_type_use t.block.ty ++ asks)
+    (asked_both (flat_map (in_catch blocks) t.catches) (Begins blocks (marked t.block.label) ∷ [])
+    ∙ (ap (λ asks. asks ++ (mark_asked (marked t.block.label) ++ [])) (asked_catches blocks t.catches)
+    ∙ ap (λ asks. flat_map (λ c. asked (in_catch [] c)) t.catches ++ asks) (append-nil (mark_asked (marked t.block.label)) ∙ sym (asked_label t.block.label))))
+
+asked_labels : (blocks : Blocks) (ls : List Index) → asked (flat_map (at_label blocks) ls) ≡ map Within ls
+asked_labels blocks [] = refl
+asked_labels blocks (l ∷ ls) = ap (λ asks. Within l ∷ asks) (asked_labels blocks ls)
+
+pub asked_br_table : (blocks : Blocks) (t : BrTableIndices) → asked (in_br_table blocks t) ≡ map Within t.labels ++ Within t.default ∷ []
+asked_br_table blocks t = asked_both (flat_map (at_label blocks) t.labels) (at_label blocks t.default) ∙ ap (λ asks. asks ++ Within t.default ∷ []) (asked_labels blocks t.labels)
+
+pub asked_anywhere_try_table : (blocks : Blocks) (t : TryTable) → asked (in_try_table blocks t) ≡ asked (in_try_table [] t)
+asked_anywhere_try_table blocks t = asked_try_table blocks t ∙ sym (asked_try_table [] t)
+
+pub asked_anywhere_br_table : (blocks : Blocks) (t : BrTableIndices) → asked (in_br_table blocks t) ≡ asked (in_br_table [] t)
+asked_anywhere_br_table blocks t = asked_br_table blocks t ∙ sym (asked_br_table [] t)
+
+-- one instruction more
+pub visits_next : {V : Type 0} {told : V → Ask → V → Type 0} {a b c : V} (h : Here) (is : List Instruction) (n : ℕ) (i d : Instruction) → n < length is → i ≡ get_or is n d
+    → Visits told a (asked (in_instrs h (take n is))) b → Visits told b (asked (in_instr (after_all h (in_instrs h (take n is))) i)) c → Visits told a (asked (in_instrs h (take (n + 1) is))) c
+visits_next {told = told} {a} {c = c} h is n i d lt at before next =
+    let there = after_all h (in_instrs h (take n is)) in
+    let more : in_instrs h (take (n + 1) is) ≡ in_instrs h (take n is) ++ in_instr there i =
+    ap (in_instrs h) (take_more is n d lt ∙ ap (λ y. take n is ++ y ∷ []) (sym at))
+    ∙ (instrs-append h (take n is) (i ∷ []) ∙ ap (λ ss. in_instrs h (take n is) ++ ss) (append-nil (in_instr there i))) in
+    subst (λ asks. Visits told a asks c) (sym (ap asked more ∙ asked_both (in_instrs h (take n is)) (in_instr there i))) (visits_both before next)
+
+-- handlers of a resumption
+asked_handle : (blocks : Blocks) (h : Handle) → asked (in_handle blocks h) ≡ asked (in_handle [] h)
+asked_handle blocks (handle.OnLabel e l) = refl
+asked_handle blocks (handle.OnSwitch e) = refl
+
+asked_each_handle : (blocks : Blocks) (hs : List Handle) → asked (flat_map (in_handle blocks) hs) ≡ flat_map (λ h. asked (in_handle [] h)) hs
+asked_each_handle blocks [] = refl
+asked_each_handle blocks (h ∷ hs) =
+    asked_both (in_handle blocks h) (flat_map (in_handle blocks) hs)
+    ∙ (ap (λ asks. asks ++ asked (flat_map (in_handle blocks) hs)) (asked_handle blocks h) ∙ ap (λ asks. asked (in_handle [] h) ++ asks) (asked_each_handle blocks hs))
+
+pub asked_handlers : (blocks : Blocks) (t : ResumeTable) → asked (in_handlers blocks t) ≡ flat_map (λ h. asked (in_handle [] h)) t.handlers ++ uncovered form.StackSwitching
+asked_handlers blocks t =
+    asked_both (flat_map (in_handle blocks) t.handlers) (asking (uncovered form.StackSwitching)) ∙ ap (λ asks. asks ++ uncovered form.StackSwitching) (asked_each_handle blocks t.handlers)
+
+pub asked_anywhere_handlers : (blocks : Blocks) (t : ResumeTable) (front : List Site) → asked (front ++ in_handlers blocks t) ≡ asked (front ++ in_handlers [] t)
+asked_anywhere_handlers blocks t front =
+    asked_both front (in_handlers blocks t) ∙ (ap (λ asks. asked front ++ asks) (asked_handlers blocks t ∙ sym (asked_handlers [] t)) ∙ sym (asked_both front (in_handlers [] t)))
+
+-- parts, and behind them what else is asked
+pub asked_behind : (sites : List Site) (asks : List Ask) → asked (sites ++ asking asks) ≡ asked sites ++ asks
+asked_behind sites asks = asked_both sites (asking asks) ∙ ap (λ more. asked sites ++ more) (asked_asking asks)
+
+pub asked_list : {A : Type 0} (f : A → List Site) (xs : List A) (asks : List Ask) → asked (flat_map f xs ++ asking asks) ≡ flat_map (λ x. asked (f x)) xs ++ asks
+asked_list f xs asks = asked_behind (flat_map f xs) asks ∙ ap (λ more. more ++ asks) (asked_each f xs)

@@ -1,0 +1,59 @@
+-- Where a list of fields is not well formed: the first clause that fails, and the nearest place.
+use Rattle.std.specs.Prelude.{ℕ, List, [], ◌∷◌, ◌++◌, map, flat_map, Option}
+use Rattle.wast_base.specs.Ids.{Mark, span_of_index}
+use Rattle.wast_visits.specs.Tree.{Span, Custom, ModuleField}
+use Rattle.wast_visits.specs.Tree.custom
+use Rattle.wast_visits.specs.Tree.field
+use Rattle.wast_visits.specs.declared.first_failing.IllFormed.{IllFormed}
+use Rattle.wast_nodes.specs.Items.{items}
+use Rattle.wast_nodes.specs.Sites.{Ask, Wants, Within, Unasked, Clause, Covered, asked, in_field}
+use Rattle.wast_nodes.specs.Known.{Known, known}
+use Rattle.wast_nodes.specs.Uncovered.{first}
+use Rattle.wast_nodes.specs.WellFormed.{failing}
+
+-- the place of what is asked; where it has none, that of what was asked before it
+abbrev pub nearest : Span → Ask → Span
+nearest before (Wants s i) = span_of_index i
+nearest before (Within i) = span_of_index i
+nearest before (Unasked m) = m.1
+nearest before (Clause n holds) = before
+nearest before (Covered f holds) = before
+
+-- the clause that fails at a place, if one does
+abbrev pub failing_at : Known → Span → Ask → List IllFormed
+failing_at k place a = map (λ n. record { clause = n; span = place }) (failing k a)
+
+-- the clauses that fail behind a place, each with the place that is nearest
+abbrev pub failing_from : Known → Span → List Ask → List IllFormed
+failing_from k before [] = []
+failing_from k before (a ∷ asks) = let here = nearest before a in failing_at k here a ++ failing_from k here asks
+
+-- the place of a custom section; nothing that stands in one fails
+abbrev pub custom_place : Custom → Span
+custom_place (custom.Raw section) = section.span
+custom_place (custom.Producers producers) = record { offset = 0 }
+custom_place (custom.Dylink0 info) = record { offset = 0 }
+
+-- the place of a field
+abbrev pub field_place : ModuleField → Span
+field_place (field.Ty t) = t.span
+field_place (field.Rec r) = r.span
+field_place (field.Import i) = i.span
+field_place (field.Func f) = f.span
+field_place (field.Table t) = t.span
+field_place (field.Memory m) = m.span
+field_place (field.Global g) = g.span
+field_place (field.Export e) = e.span
+field_place (field.Start i) = span_of_index i
+field_place (field.Elem e) = e.span
+field_place (field.Data d) = d.span
+field_place (field.Tag t) = t.span
+field_place (field.Custom c) = custom_place c
+
+-- the clauses that fail in a field, by what the items of the module make known
+abbrev pub failing_in : Known → ModuleField → List IllFormed
+failing_in k f = failing_from k (field_place f) (asked (in_field f))
+
+-- the first clause that fails in the fields
+abbrev pub first_ill_formed : List ModuleField → Option IllFormed
+first_ill_formed fields = first (flat_map (failing_in (known (items fields))) fields)

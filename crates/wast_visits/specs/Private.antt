@@ -1,0 +1,3 @@
+-- What only contracts of private functions cite: a caller needs none of it.
+pub mod Bearers
+pub mod FieldItems

@@ -1,0 +1,163 @@
+//! Where fields are not well formed.
+
+ghost use Rattle.std.specs.Prelude.{◌≡◌, ◌++◌, List, None, is_none, map, flat_map};
+ghost use Rattle.wast_visits.specs.IllFormed.{nearest, failing_at, failing_from, custom_place, field_place, first_ill_formed};
+ghost use Rattle.wast_nodes.specs.Known.{Known, known};
+ghost use Rattle.wast_nodes.specs.Sites.{Ask, in_field, asked};
+ghost use Rattle.wast_visits.specs.Tree.{Span};
+ghost use Rattle.wast_nodes.specs.Uncovered.{first, first_of};
+ghost use Rattle.wast_nodes.specs.WellFormed.{is_well_formed, unless_holds};
+
+use crate::bearers::HasItems;
+use crate::settling::{Bearers, Settler, is_written};
+use crate::visits::{Visit, Visitor};
+use wast_base::{Form, Id, Index, Space, Span};
+use wast_nodes::{Custom, ModuleField};
+
+/// A clause of "well formed" that fails, and where.
+#[derive(Clone, Copy, Debug, PartialEq, Eq)]
+pub struct IllFormed {
+    /// The number of the clause, as [`ill_formed`](crate::ill_formed) lists them.
+    pub clause: u8,
+    /// The nearest place: of clause 6 that of the index; else that of the last index or id before it in its field, or of the
+    /// field, where none stands before it.
+    pub span: Span,
+}
+
+/// The place of a custom section.
+fn custom_place(custom: &Custom<'_>) -> Span
+    ensures { result ≡ custom_place custom.now }
+{
+    match custom {
+        Custom::Raw(section) => section.span,
+        Custom::Producers(_) => Span { offset: 0 },
+        Custom::Dylink0(_) => Span { offset: 0 },
+    }
+}
+
+/// The place of a field.
+fn field_place(field: &ModuleField<'_>) -> Span
+    ensures { result ≡ field_place field.now }
+{
+    match field {
+        ModuleField::Ty(ty) => ty.span,
+        ModuleField::Rec(rec) => rec.span,
+        ModuleField::Import(import) => import.span,
+        ModuleField::Func(func) => func.span,
+        ModuleField::Table(table) => table.span,
+        ModuleField::Memory(memory) => memory.span,
+        ModuleField::Global(global) => global.span,
+        ModuleField::Export(export) => export.span,
+        ModuleField::Start(func) => func.span(),
+        ModuleField::Elem(elem) => elem.span,
+        ModuleField::Data(data) => data.span,
+        ModuleField::Tag(tag) => tag.span,
+        ModuleField::Custom(custom) => custom_place(custom),
+    }
+}
+
+/// The first clause that fails, of all that it was told, and the last place.
+#[derive(Drop)]
+struct First<S> {
+    settler: S,
+    span: Span,
+    found: Option<IllFormed>,
+}
+
+impl<S> First<S> {
+    /// Notes a clause, unless it holds, or one was noted before.
+    fn note(&mut self, clause: u8, holds: bool)
+        ensures { self.new ≡ record self.old { found = first_of self.old.found (map (λ n. record { clause = n; span = self.old.span }) (unless_holds clause holds)) } }
+    {
+        if self.found.is_none() && !holds {
+            self.found = Some(IllFormed {
+                clause,
+                span: self.span,
+            });
+        }
+    }
+}
+
+impl<S: Settler> Visitor for First<S> {
+    ghost told = { λ old a new. (S.known new.settler ≡ S.known old.settler) × (new.span ≡ nearest old.span a) × (new.found ≡ first_of old.found (failing_at (S.known old.settler) (nearest old.span a) a)) };
+
+    fn index(&mut self, space: Space, index: &Index<'_>) {
+        self.span = index.span();
+        let settled = self.found.is_some() || self.settler.settles(space, index);
+        self.note(6, settled);
+    }
+
+    fn within(&mut self, index: &Index<'_>) {
+        self.span = index.span();
+        self.note(6, is_written(index));
+    }
+
+    fn id(&mut self, id: &Id<'_>) {
+        self.span = id.span();
+    }
+
+    fn clause(&mut self, number: u8, holds: bool) {
+        self.note(number, holds);
+    }
+
+    fn covered(&mut self, _form: Form, _holds: bool) {}
+}
+
+/// A field that is looked through. What does so is generic in it: a proof would else compare the type of the whole tree with
+/// itself at each list of fields that is held or cut.
+trait Looked {
+    /// Its place.
+    ghost place: { Self → Span };
+
+    /// What stands in it.
+    ghost asks: { Self → List Ask };
+
+    /// Looks for the first clause that fails in it.
+    fn look<S: Settler>(&self, first: &mut First<S>)
+        ensures known { S.known first.new.settler ≡ S.known first.old.settler }
+        ensures found { first.new.found ≡ first_of first.old.found (failing_from (S.known first.old.settler) (place self.now) (asks self.now)) };
+}
+
+impl Looked for ModuleField<'_> {
+    ghost place = { field_place };
+
+    ghost asks = { λ f. asked (in_field f) };
+
+    fn look<S: Settler>(&self, first: &mut First<S>) {
+        first.span = field_place(self);
+        self.visit(first);
+    }
+}
+
+/// The first clause that fails in parts of the tree, by who settles indices.
+fn first_failing<T: Looked, S: Settler + Drop>(parts: &[T], settler: S) -> Option<IllFormed>
+    ensures { result ≡ first (flat_map (λ x. failing_from (S.known settler) (T.place x) (T.asks x)) parts.now) }
+{
+    let mut first = First {
+        settler,
+        span: Span { offset: 0 },
+        found: None,
+    };
+    for part in parts {
+        part.look(&mut first);
+    }
+    first.found
+}
+
+/// The same, where the indices are settled by the items of the parts.
+fn first_failing_own<T: HasItems + Looked>(parts: &[T]) -> Option<IllFormed>
+    ensures { result ≡ first (flat_map (λ x. failing_from (known (flat_map T.items parts.now)) (T.place x) (T.asks x)) parts.now) }
+{
+    first_failing(parts, Bearers::new(parts))
+}
+
+/// The first clause of "well formed" that fails in the fields, in the order of the text, with the nearest place, for messages;
+/// `None` where they are well formed (text format: indices, modules). It takes no memory.
+///
+/// [`ill_formed`](crate::ill_formed) lists the clauses, tells the least one, and says how long both take.
+pub fn first_ill_formed(fields: &[ModuleField<'_>]) -> Option<IllFormed>
+    ensures first { result ≡ first_ill_formed fields.now }
+    ensures none { is_none result ≡ is_well_formed fields.now }
+{
+    first_failing_own(fields)
+}
