@@ -29,6 +29,7 @@ class Item:
         self.signature, self.members, self.clauses, self.traits = "", [], [], []
 
 
+@functools.lru_cache(maxsize=None)
 def crates():
     """The crates of the repository."""
     return sorted(p.name for p in (ROOT / "crates").iterdir() if (p / "src").is_dir())
@@ -44,7 +45,7 @@ def joined(lines):
     text = " ".join(line.strip() for line in lines)
     text = re.sub(r"\s+", " ", text).strip()
     text = re.sub(r"([(\[<]) ", r"\1", text)
-    return re.sub(r",? ([)\]])", r"\1", text)
+    return re.sub(r",? ([)\]])", r"\1", text).replace(", }", " }")
 
 
 def signature(lines, start, indent):
@@ -169,18 +170,28 @@ def declared(path):
             continue
         name = match.group("type").split("::")[-1].lstrip("&")
         here = [item for item in items if item.name == name]
+        if not here:
+            here = [Item("impl", name, path, start + 1, [], [], True)]
+            items.extend(here)
         if match.group("trait"):
-            for item in here:
-                item.traits.append(re.sub(r"^.*::", "", match.group("trait").split("<")[0]))
-            continue
-        calls = calls_in(path, lines, start + 1, end, False)
-        if here:
-            here[0].members.extend(calls)
+            here[0].traits.append(re.sub(r"^.*::", "", match.group("trait").split("<")[0]))
         else:
-            item = Item("impl", name, path, start + 1, [], [], True)
-            item.members = calls
-            items.append(item)
+            here[0].members.extend(calls_in(path, lines, start + 1, end, False))
     return items
+
+
+@functools.lru_cache(maxsize=None)
+def gathered(crate):
+    """The files of a crate; what stands in one for a type of another is given to that type."""
+    files = sorted((ROOT / "crates" / crate / "src").rglob("*.rt"))
+    items = [item for path in files for item in declared(path)]
+    homes = {item.name: item for item in items if item.kind in ("struct", "enum", "trait", "type")}
+    for item in items:
+        if item.kind == "impl" and item.name in homes:
+            homes[item.name].members.extend(item.members)
+            homes[item.name].traits.extend(item.traits)
+            item.members, item.traits = [], []
+    return files
 
 
 def calls_in(path, lines, start, end, in_trait):
@@ -273,6 +284,8 @@ def find(crate, path):
             lines, path, module = lines_of(file), path[1:], module + path[:1]
             continue
         break
+    if not path:
+        return [("module", crate, [], lines)]
     if len(path) != 1:
         return []
     file = module_file(crate, module)
@@ -296,6 +309,8 @@ def names_in(file, lines, name):
 
 def surface(crate):
     """What a caller of a crate meets: pairs of the modules that stand before a name, and an item."""
+    for name in crates():
+        gathered(name)
     file = module_file(crate, [])
     yield from surface_of(crate, [], lines_of(file), file)
 
@@ -354,6 +369,6 @@ def all_items():
     """Each item that a source file of a crate declares, with its crate."""
     found = []
     for crate in crates():
-        for path in sorted((ROOT / "crates" / crate / "src").rglob("*.rt")):
+        for path in gathered(crate):
             found.extend((crate, item) for item in declared(path))
     return found
