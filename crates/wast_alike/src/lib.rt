@@ -1,5 +1,5 @@
 //! Laws of the resolved list of a WebAssembly module: ids that are filled in change nothing, and what is resolved stays so. It
-//! has no code, and knows nothing of the passes: they say what is read of a list by what stands in it, site by site.
+//! has no code, and knows nothing of the passes: its proofs go by what stands in a list of fields, site by site.
 #![tactic(auto)]
 
 mod laws;
