@@ -1,18 +1,21 @@
 //! A list that contracts see as the list of its elements.
 
-ghost use Rattle.std.specs.Prelude.{◌≡◌, [], ◌∷◌, ◌++◌, ◌<◌, ◌==◌, length, slice_index_or, OnOk, OnErr};
+ghost use Rattle.std.specs.Prelude.{◌≡◌, [], ◌∷◌, ◌++◌, ◌<◌, ◌^◌, ◌==◌, length, Some, slice_get, slice_index_or, OnOk, OnErr};
 ghost use Rattle.std.specs.Borrow.{sem};
 ghost use Rattle.std.specs.Iterator.{YieldsFirst, item_count};
+ghost use Rattle.std.specs.Iterator.Adapters.{IterYieldsInOrder, IterYieldsInReverse};
+ghost use Rattle.std.specs.Slice.Iter.{iter_rest};
 
 use std::alloc::{AllocError, Global};
 use std::fmt::{self, Debug};
 use std::marker::Model;
-use std::vec;
+use std::{ops, slice, vec};
 
 /// A `Vec` that contracts see as the list of its elements.
 ///
 /// The lists of the tree are of this type, so that a tree is plain data where contracts speak of it. Only [`Seq::push`]
-/// takes memory. It is printed as a `Vec` is, as the list of its elements.
+/// takes memory. It is printed as a `Vec` is, as the list of its elements. `for item in &list` goes over its elements, and
+/// `list[index]` is one of them, where the index is below the length.
 #[derive(Drop)]
 pub struct Seq<T> {
     items: Vec<T>,
@@ -63,6 +66,17 @@ impl<T> Seq<T> {
         self.items.as_slice()
     }
 
+    /// The elements in order, one by one, to read. This is what `for item in &list` goes over. It takes no memory.
+    pub fn iter(&self) -> slice::Iter<'_, T>
+        ensures rest { iter_rest result ≡ self.now }
+        ensures len { length (iter_rest result) ≡ length self.now }
+        ensures bound { length (iter_rest result) < 2 ^ 64 }
+        ensures runs { IterYieldsInOrder T }
+        ensures runs_back { IterYieldsInReverse T }
+    {
+        self.items.as_slice().iter()
+    }
+
     /// How many elements there are.
     pub fn len(&self) -> usize
         ensures { result ≡ length self.now }
@@ -108,6 +122,31 @@ impl<T> Seq<T> {
         IntoIter {
             rest: items.into_iter(),
         }
+    }
+}
+
+impl<'a, T> IntoIterator for &'a Seq<T> {
+    type Item = &'a T;
+
+    type IntoIter = slice::Iter<'a, T>;
+
+    ghost into_iter_gives = { λ s r. (iter_rest r ≡ s.now) × (length (iter_rest r) < 2 ^ 64) × IterYieldsInOrder T };
+
+    fn into_iter(self) -> slice::Iter<'a, T> {
+        self.iter()
+    }
+}
+
+/// The element at an index, to read. It needs an index below the length.
+impl<T> ops::Index<usize> for Seq<T> {
+    type Output = T;
+
+    ghost can_index = { λ s index. index < length s };
+
+    ghost index_gives = { λ s index item. slice_get s index ≡ Some item };
+
+    fn index(&self, index: usize) -> &T {
+        &self.items[index]
     }
 }
 

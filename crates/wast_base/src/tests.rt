@@ -219,6 +219,13 @@ fn lists_and_boxes_hold_their_values(rt: HostRuntime) {
     assert!(rt; !list.is_empty() && list.len() == 2 && list.as_slice() == [1, 5].as_slice());
     let mut list = Seq::from_vec(list.into_vec());
     list.push(9).expect(&rt, "memory");
+    let mut last = 0;
+    for item in &list {
+        assert!(rt; *item > last);
+        last = *item;
+    }
+    assert!(rt; last == 9 && list[0] == 1 && list[2] == 9);
+    assert!(rt; list.iter().rev().copied().next() == Some(9) && list.iter().count() == 3);
     let mut rest = list.into_iter();
     for want in [Some(1), Some(5), Some(9), None] {
         assert!(rt; rest.next() == want);
