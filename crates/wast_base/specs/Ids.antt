@@ -1,5 +1,6 @@
 -- Ids and indices, without where their texts lie in memory (text format: identifiers, indices).
-use Rattle.std.specs.Prelude.{ℕ, ◌==◌, Bool, true, false, List, codes, Option, option_map}
+use Rattle.std.specs.Prelude.{ℕ, ◌==◌, Bool, true, false, List, ◌++◌, codes, Option, option_map}
+use Rattle.std.specs.Fmt.{decimal}
 use lib.Pointwise.{pointwise}
 use Rattle.std.specs.Borrow.{Bor}
 use Rattle.wast_base.specs.declared.ids.Span.{Span}
@@ -8,6 +9,10 @@ use Rattle.wast_base.specs.declared.ids.Name.TheVariants as name
 use Rattle.wast_base.specs.declared.ids.Id.{Id}
 use Rattle.wast_base.specs.declared.ids.Index.{Index}
 use Rattle.wast_base.specs.declared.ids.Index.TheVariants as index
+
+-- the start of the text
+abbrev pub start : Span
+start = record { offset = 0 }
 
 -- the bytes of a written name, or the generation of a generated one; a counter gives generations from 1 on
 pub data Name : Type 0 where
@@ -93,3 +98,21 @@ span_of_index (index.Id id) = place_of id
 abbrev pub is_number : Index → Bool
 is_number (index.Num n span) = true
 is_number (index.Id id) = false
+
+-- an index that is a number, at the start of the text
+abbrev pub numbered : ℕ → Index
+numbered n = index.Num n start
+
+-- an index that is an id
+abbrev pub by_id : Id → Index
+by_id id = index.Id id
+
+-- what is printed of an id: `$` and its text, or the generation of a generated one
+abbrev pub id_text : Name → List ℕ
+id_text (Written text) = codes "$" ++ text
+id_text (Generated n) = codes "gensym " ++ decimal n
+
+-- what is printed of an index
+abbrev pub index_text : Index → List ℕ
+index_text (index.Num n span) = decimal n
+index_text (index.Id id) = id_text (name_of id)

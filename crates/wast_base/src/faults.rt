@@ -33,6 +33,8 @@ pub enum Form {
 
 /// What is wrong with a module, or why a call gave up. E1 to E9 are faults of the text (text format: identifiers, indices,
 /// type uses, control instructions, modules), which have a place; E10 to E13 are refusals, which have none.
+///
+/// It is printed as an [`Error`] is, which prints no place.
 #[derive(Clone, Copy, Debug, PartialEq, Eq)]
 pub enum Fault<'a> {
     /// E1: an import stands after a definition of this kind.
@@ -175,11 +177,11 @@ impl fmt::Display for Unnamed {
     }
 }
 
-impl fmt::Display for Error<'_> {
-    ghost output = { λ e. Some (fault_text (fault_of e)) };
+impl fmt::Display for Fault<'_> {
+    ghost output = { λ fault. Some (fault_text fault) };
 
     fn fmt<W: fmt::Write>(&self, f: &mut fmt::Formatter<W>) -> fmt::Result {
-        match self.fault {
+        match *self {
             Fault::ImportAfter(kind) => write!(f, "import after {kind}"),
             Fault::Duplicate(kind) => write!(f, "duplicate {kind} identifier"),
             Fault::DuplicateField(kind, name) => {
@@ -198,6 +200,15 @@ impl fmt::Display for Error<'_> {
             Fault::Memory => write!(f, "out of memory"),
             Fault::Component => write!(f, "components are not encoded"),
         }
+    }
+}
+
+impl fmt::Display for Error<'_> {
+    ghost output = { λ e. Some (fault_text (fault_of e)) };
+
+    fn fmt<W: fmt::Write>(&self, f: &mut fmt::Formatter<W>) -> fmt::Result {
+        let fault = self.fault;
+        write!(f, "{fault}")
     }
 }
 

@@ -1,9 +1,12 @@
 //! Places, ids and indices.
 
-ghost use Rattle.std.specs.Prelude.{◌≡◌};
-ghost use Rattle.wast_base.specs.Ids.{written, text_of, name_of, place_of, generation_of, is_generated, span_of_index, is_number, same_id, same_index};
+ghost use Rattle.std.specs.Prelude.{◌≡◌, Some};
+ghost use Rattle.wast_base.specs.Ids.{written, text_of, name_of, place_of, generation_of, is_generated, span_of_index, is_number, same_id, same_index, start, numbered, by_id, id_text, index_text};
 
-/// A place in the text: the offset of a character, in bytes. Places are equal where their offsets are.
+use std::fmt;
+
+/// A place in the text: the offset of a character, in bytes. Places are equal where their offsets are. The start of the
+/// text is the default.
 #[derive(Clone, Copy, Debug, PartialEq, Eq, Hash)]
 pub struct Span {
     /// Bytes before the place.
@@ -27,6 +30,9 @@ pub(crate) enum Name<'a> {
 ///
 /// Ids have an order, for maps; the format gives it no meaning. Written ids, by the bytes of their names, come before
 /// generated ones, by their generations; places do not count.
+///
+/// A written id is printed as it is written, `$name`, and a generated one as `gensym 3`, by its generation: no written one is
+/// printed so.
 #[derive(Clone, Copy, Debug)]
 #[derive_where(PartialEq, Eq, PartialOrd, Ord, Hash)]
 pub struct Id<'a> {
@@ -42,6 +48,8 @@ pub struct Id<'a> {
 ///
 /// Indices have an order, for maps; the format gives it no meaning. Numbers, the lesser first, come before ids, in the
 /// order of ids; places do not count.
+///
+/// A number is printed in decimal digits, and an id as ids are.
 #[derive(Clone, Copy, Debug)]
 #[derive_where(PartialEq, Eq, PartialOrd, Ord, Hash)]
 pub enum Index<'a> {
@@ -134,5 +142,53 @@ impl<'a> Index<'a> {
         ensures { result ≡ same_index self.now other.now }
     {
         *self == *other
+    }
+}
+
+impl Default for Span {
+    ghost is_default = { λ place. place ≡ start };
+
+    fn default() -> Self {
+        Span { offset: 0 }
+    }
+}
+
+/// A number, at the start of the text, for an index that no text has.
+impl From<u32> for Index<'_> {
+    ghost from_gives = { λ number index. index ≡ numbered number };
+
+    fn from(number: u32) -> Self {
+        Index::Num(number, Span::default())
+    }
+}
+
+/// The id, at its place.
+impl<'a> From<Id<'a>> for Index<'a> {
+    ghost from_gives = { λ id index. index ≡ by_id id };
+
+    fn from(id: Id<'a>) -> Self {
+        Index::Id(id)
+    }
+}
+
+impl fmt::Display for Id<'_> {
+    ghost output = { λ id. Some (id_text (name_of id)) };
+
+    fn fmt<W: fmt::Write>(&self, f: &mut fmt::Formatter<W>) -> fmt::Result {
+        match self.name {
+            Name::Written(name) => write!(f, "${name}"),
+            Name::Generated(generation) => write!(f, "gensym {generation}"),
+        }
+    }
+}
+
+impl fmt::Display for Index<'_> {
+    ghost output = { λ index. Some (index_text index) };
+
+    fn fmt<W: fmt::Write>(&self, f: &mut fmt::Formatter<W>) -> fmt::Result {
+        match self {
+            Index::Num(number, _) => write!(f, "{number}"),
+            Index::Id(id) => write!(f, "{id}"),
+        }
     }
 }

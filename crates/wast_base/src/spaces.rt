@@ -1,9 +1,11 @@
 //! Index spaces.
 
-ghost use Rattle.std.specs.Prelude.{◌≡◌};
+ghost use Rattle.std.specs.Prelude.{◌≡◌, Some};
 ghost use Rattle.wast_base.specs.Spaces.{word_of, rank_of, same_space};
 
-/// A space of items that an index can stand for (text format, indices).
+use std::fmt;
+
+/// A space of items that an index can stand for (text format, indices). It is printed as its word.
 #[derive(Clone, Copy, Debug, PartialEq, Eq, Hash)]
 pub enum Space {
     /// Functions.
@@ -74,5 +76,14 @@ impl Space {
         ensures { result ≡ same_space self other }
     {
         self.rank() == other.rank()
+    }
+}
+
+impl fmt::Display for Space {
+    ghost output = { λ space. Some (word_of space) };
+
+    fn fmt<W: fmt::Write>(&self, f: &mut fmt::Formatter<W>) -> fmt::Result {
+        let word = self.word();
+        write!(f, "{word}")
     }
 }

@@ -66,6 +66,28 @@ fn faults_have_their_texts(rt: HostRuntime) {
 }
 
 #[test]
+fn faults_are_printed_without_places(rt: HostRuntime) {
+    let faults = [
+        (
+            Fault::Unknown("func", "g"),
+            "unknown func: failed to find name `$g`",
+        ),
+        (
+            Fault::NoNamedFields("x", 7),
+            "accessing a named field `x` in a struct without named fields, type index 7",
+        ),
+        (
+            Fault::Uncovered(Form::Ordering),
+            "uncovered form: memory ordering",
+        ),
+    ];
+    for (fault, want) in &faults {
+        let text = format!(in rt.alloc(); "{fault}").expect(&rt, "memory");
+        assert!(rt; text.as_str() == *want, "{text}");
+    }
+}
+
+#[test]
 fn refusals_have_their_texts(rt: HostRuntime) {
     let refused = [
         (10, Error::refusal(Fault::TooLarge), "too large"),
@@ -183,6 +205,36 @@ fn numbers_ignore_places(rt: HostRuntime) {
 }
 
 #[test]
+fn ids_and_indices_are_printed(rt: HostRuntime) {
+    let alloc = rt.alloc();
+    let made = Gensym::new(3).generate(at(5)).expect(&rt, "counter");
+    let indices = [
+        (Index::Id(Id::new("f", at(1))), "$f"),
+        (Index::Id(Id::new("gensym", at(1))), "$gensym"),
+        (Index::Id(made), "gensym 3"),
+        (Index::Num(0, at(7)), "0"),
+        (Index::Num(4294967295, at(7)), "4294967295"),
+    ];
+    for (index, want) in &indices {
+        let text = format!(in alloc; "{index}").expect(&rt, "memory");
+        assert!(rt; text.as_str() == *want, "{text}");
+        if let Index::Id(id) = *index {
+            let text = format!(in alloc; "{id}").expect(&rt, "memory");
+            assert!(rt; text.as_str() == *want, "{text}");
+        }
+    }
+}
+
+#[test]
+fn numbers_and_ids_become_indices(rt: HostRuntime) {
+    assert!(rt; Span::default() == at(0));
+    let number = Index::from(7);
+    assert!(rt; number == Index::Num(7, at(3)) && number.span() == at(0));
+    let id: Index<'static> = Id::new("f", at(4)).into();
+    assert!(rt; id == Index::Id(Id::new("f", at(9))) && id.span() == at(4));
+}
+
+#[test]
 fn generated_ids_are_counted(rt: HostRuntime) {
     let too_large = Error::refusal(Fault::TooLarge);
     let mut gensym = Gensym::new(3);
@@ -285,5 +337,7 @@ fn spaces_have_words_and_ranks(rt: HostRuntime) {
     for rank in 0..8 {
         let space = Space::ALL[rank];
         assert!(rt; space.rank() == rank && space.word() == words[rank]);
+        let text = format!(in rt.alloc(); "{space}").expect(&rt, "memory");
+        assert!(rt; text.as_str() == words[rank], "{text}");
     }
 }
