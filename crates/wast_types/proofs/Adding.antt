@@ -13,7 +13,8 @@ use Rattle.wast_types.specs.ImpliedTypes.{is_among, first_new}
 use Rattle.wast_base.specs.Filling.{RunsOut}
 use Rattle.wast_types.specs.Expanders.{BoundSignatures, LookUp, index_of, with_more}
 use Rattle.wast_types.specs.Expanded.{nameless, implied_type, implied_types, bindings_in, bindings}
-use Rattle.wast_types.specs.Binding.{State, new_signatures, new_types, next_after, AddsTypes}
+use Rattle.wast_types.specs.Binding.{new_signatures, new_types, next_after, AddsTypes}
+use Rattle.wast_types.specs.declared.binder.Binder.{Binder}
 
 pub less_runs_out : (m n : ℕ) (e : Error) → m ≤ n → RunsOut m e → RunsOut n e
 less_runs_out m n e le (inl x) = inl x
@@ -85,62 +86,62 @@ implied_types-append n [] ts = ap (λ m. implied_types m ts) (add_zero n)
 implied_types-append n (s ∷ ss) ts = ap (λ ws. implied_type n s ∷ ws) (implied_types-append (n + 1) ss ts ∙ ap (λ m. implied_types (n + 1) ss ++ implied_types m ts) (one_more n (length ss)))
 
 -- uses that need nothing
-pub adds_none : (a : State) → AddsTypes a a []
-adds_none a = record { types = λ s. or_none (index_of a.bound s); fields = sym (append-nil a.implied); counter = add_zero a.next }
+pub adds_none : (a : Binder) → AddsTypes a a []
+adds_none a = record { types = λ s. or_none (index_of a.cx s); fields = sym (append-nil a.implied); counter = add_zero a.gensym }
   where
     or_none : (o : Option Index) → o ≡ option_or o None
     or_none None = refl
     or_none (Some i) = refl
 
 -- the same uses, said in another way
-pub adds_as : {a b : State} {ss ts : List Signature} → ss ≡ ts → AddsTypes a b ss → AddsTypes a b ts
+pub adds_as : {a b : Binder} {ss ts : List Signature} → ss ≡ ts → AddsTypes a b ss → AddsTypes a b ts
 adds_as {a} {b} e h = subst (λ us. AddsTypes a b us) e h
 
-pub adds_nothing : (a : State) {ss : List Signature} → ss ≡ [] → AddsTypes a a ss
+pub adds_nothing : (a : Binder) {ss : List Signature} → ss ≡ [] → AddsTypes a a ss
 adds_nothing a e = adds_as (sym e) (adds_none a)
 
-module _ {a b : State} {ss : List Signature} (h : AddsTypes a b ss) where
+module _ {a b : Binder} {ss : List Signature} (h : AddsTypes a b ss) where
   -- what is bound once the first are
-  bound_then : index_of b.bound ≡ with_more (index_of a.bound) (bindings (new_types a ss))
+  bound_then : index_of b.cx ≡ with_more (index_of a.cx) (bindings (new_types a ss))
   bound_then = fun_ext h.types
 
-  new_then : (ts : List Signature) → new_signatures a.bound (ss ++ ts) ≡ new_signatures a.bound ss ++ new_signatures b.bound ts
+  new_then : (ts : List Signature) → new_signatures a.cx (ss ++ ts) ≡ new_signatures a.cx ss ++ new_signatures b.cx ts
   new_then ts =
-      let known : Signature → Bool = λ t. is_some (index_of a.bound t) in
-      first_new-append known ss ts ∙ ap (λ (k : Signature → Bool). new_signatures a.bound ss ++ first_new k ts)
-      (fun_ext (λ (t : Signature). sym (known_after (index_of a.bound) a.next (new_signatures a.bound ss) t) ∙ ap (λ (find : LookUp). is_some (find t)) (sym bound_then)))
+      let known : Signature → Bool = λ t. is_some (index_of a.cx t) in
+      first_new-append known ss ts ∙ ap (λ (k : Signature → Bool). new_signatures a.cx ss ++ first_new k ts)
+      (fun_ext (λ (t : Signature). sym (known_after (index_of a.cx) a.gensym (new_signatures a.cx ss) t) ∙ ap (λ (find : LookUp). is_some (find t)) (sym bound_then)))
 
   types_then : (ts : List Signature) → new_types a (ss ++ ts) ≡ new_types a ss ++ new_types b ts
   types_then ts =
-      ap (implied_types a.next) (new_then ts) ∙ (implied_types-append a.next (new_signatures a.bound ss) (new_signatures b.bound ts)
-      ∙ ap (λ m. new_types a ss ++ implied_types m (new_signatures b.bound ts)) (sym h.counter))
+      ap (implied_types a.gensym) (new_then ts) ∙ (implied_types-append a.gensym (new_signatures a.cx ss) (new_signatures b.cx ts)
+      ∙ ap (λ m. new_types a ss ++ implied_types m (new_signatures b.cx ts)) (sym h.counter))
 
   pub count_then : (ts : List Signature) → next_after a (ss ++ ts) ≡ next_after b ts
   count_then ts =
-      let l : length (new_signatures a.bound (ss ++ ts)) ≡ length (new_signatures a.bound ss) + length (new_signatures b.bound ts) = ap length (new_then ts) ∙ length-append (new_signatures a.bound ss) (new_signatures b.bound ts) in
+      let l : length (new_signatures a.cx (ss ++ ts)) ≡ length (new_signatures a.cx ss) + length (new_signatures b.cx ts) = ap length (new_then ts) ∙ length-append (new_signatures a.cx ss) (new_signatures b.cx ts) in
       omega (arith, h.counter)
 
   -- uses after uses
-  pub adds_both : {c : State} {ts : List Signature} → AddsTypes b c ts → AddsTypes a c (ss ++ ts)
+  pub adds_both : {c : Binder} {ts : List Signature} → AddsTypes b c ts → AddsTypes a c (ss ++ ts)
   adds_both {c} {ts} k = record {
     types = λ s. k.types s ∙ (ap (λ (find : LookUp). with_more find (bindings (new_types b ts)) s) bound_then
-        ∙ (with_more_twice (index_of a.bound) (bindings (new_types a ss)) (bindings (new_types b ts)) s
-        ∙ ap (λ more. with_more (index_of a.bound) more s) (sym (ap bindings (types_then ts) ∙ flat_map-append bindings_in (new_types a ss) (new_types b ts)))));
+        ∙ (with_more_twice (index_of a.cx) (bindings (new_types a ss)) (bindings (new_types b ts)) s
+        ∙ ap (λ more. with_more (index_of a.cx) more s) (sym (ap bindings (types_then ts) ∙ flat_map-append bindings_in (new_types a ss) (new_types b ts)))));
     fields = k.fields ∙ (ap (λ xs. xs ++ new_types b ts) h.fields ∙ (append_assoc a.implied (new_types a ss) (new_types b ts) ∙ ap (λ xs. a.implied ++ xs) (sym (types_then ts))));
     counter = k.counter ∙ sym (count_then ts);
   }
 
   -- What was bound by more stays bound by more after it.
-  pub more_then : (more : BoundSignatures) → with_more (index_of b.bound) more ≡ with_more (index_of a.bound) (bindings (new_types a ss) ++ more)
-  more_then more = ap (λ (find : LookUp). with_more find more) bound_then ∙ fun_ext (λ (s : Signature). with_more_twice (index_of a.bound) (bindings (new_types a ss)) more s)
+  pub more_then : (more : BoundSignatures) → with_more (index_of b.cx) more ≡ with_more (index_of a.cx) (bindings (new_types a ss) ++ more)
+  more_then more = ap (λ (find : LookUp). with_more find more) bound_then ∙ fun_ext (λ (s : Signature). with_more_twice (index_of a.cx) (bindings (new_types a ss)) more s)
 
 -- fewer uses do not run out first
-pub first_after : (a : State) (ss ts : List Signature) → next_after a ss ≤ next_after a (ss ++ ts)
+pub first_after : (a : Binder) (ss ts : List Signature) → next_after a ss ≤ next_after a (ss ++ ts)
 first_after a ss ts =
-    let known : Signature → Bool = λ t. is_some (index_of a.bound t) in
+    let known : Signature → Bool = λ t. is_some (index_of a.cx t) in
     let rest : List Signature = first_new (λ t. known t || is_among (first_new known ss) t) ts in
-    let l : length (new_signatures a.bound (ss ++ ts)) ≡ length (new_signatures a.bound ss) + length rest = ap length (first_new-append known ss ts) ∙ length-append (new_signatures a.bound ss) rest in
+    let l : length (new_signatures a.cx (ss ++ ts)) ≡ length (new_signatures a.cx ss) + length rest = ap length (first_new-append known ss ts) ∙ length-append (new_signatures a.cx ss) rest in
     omega arith
 
-pub first_runs_out : (a : State) (ss ts : List Signature) (e : Error) → RunsOut (next_after a ss) e → RunsOut (next_after a (ss ++ ts)) e
+pub first_runs_out : (a : Binder) (ss ts : List Signature) (e : Error) → RunsOut (next_after a ss) e → RunsOut (next_after a (ss ++ ts)) e
 first_runs_out a ss ts e h = less_runs_out (next_after a ss) (next_after a (ss ++ ts)) e (first_after a ss ts) h

@@ -17,7 +17,8 @@ use Rattle.wast_types.specs.ImpliedTypes.{written_kind, written_in, written_sign
 use Rattle.wast_base.specs.Filling.{one_if, given_if, filled, wanted}
 use Rattle.wast_types.specs.Expanders.{BoundSignatures, LookUp, index_of, with_more, Extends}
 use Rattle.wast_types.specs.Expanded.{lacks_id, with_type_id, implied_types, typed, binding_of, bindings_in, bindings, bound_field, expanded, ids_wanted}
-use Rattle.wast_types.specs.Binding.{State, state, new_signatures, new_types, next_after, AddsTypes}
+use Rattle.wast_types.specs.Binding.{new_signatures, new_types, next_after, AddsTypes}
+use Rattle.wast_types.specs.declared.binder.Binder.{Binder}
 use Rattle.wast_types.proofs.Adding.{lookup-append, with_more_twice, adds_as, more_then}
 use Rattle.wast_types.proofs.Needing.{needed_both, needed_each, ty_none, made_type}
 use Rattle.wast_types.proofs.Staying.{ty_stays}
@@ -77,43 +78,43 @@ bound_implied : (find : LookUp) (n : ℕ) (ss : List Signature) → map (bound_f
 bound_implied find n [] = refl
 bound_implied find n (s ∷ ss) = λ i. ty_stays find (made_type n s) i ∷ bound_implied find (n + 1) ss i
 
--- The types of fs get their ids, and are then bound; seen is what is read of the list, old and none are empty.
-module _ (n m : ℕ) (fs named seen : List ModuleField) (old cx : BoundSignatures) (none : List ModuleField) (named_is : named ≡ filled lacks_id with_type_id n fs) (m_is : m ≡ n + wanted lacks_id fs)
-    (seen_is : seen ≡ named) (old_is : old ≡ []) (none_is : none ≡ []) (types : Extends old cx (bindings seen)) where
-  cx_is : Extends [] cx (bindings named)
-  cx_is = subst (λ bs. Extends bs cx (bindings named)) old_is (subst (λ xs. Extends old cx (bindings xs)) seen_is types)
+-- The types of fs get their ids, and are then bound; seen is what is read of the list, old is empty, and so far no type is implied.
+module _ (n : ℕ) (fs named seen : List ModuleField) (old : BoundSignatures) (a : Binder) (named_is : named ≡ filled lacks_id with_type_id n fs) (next_is : a.gensym ≡ n + wanted lacks_id fs)
+    (seen_is : seen ≡ named) (old_is : old ≡ []) (none_is : a.implied ≡ []) (types : Extends old a.cx (bindings seen)) where
+  cx_is : Extends [] a.cx (bindings named)
+  cx_is = subst (λ bs. Extends bs a.cx (bindings named)) old_is (subst (λ xs. Extends old a.cx (bindings xs)) seen_is types)
 
-  finds : index_of cx ≡ index_of (bindings named)
+  finds : index_of a.cx ≡ index_of (bindings named)
   finds = fun_ext cx_is
 
   -- what the uses need and no written type has
-  new_is_implied : new_signatures cx (needed named) ≡ implied fs
+  new_is_implied : new_signatures a.cx (needed named) ≡ implied fs
   new_is_implied =
-      let known : (s : Signature) → is_some (index_of cx s) ≡ is_among (written_signatures fs) s = λ s. ap is_some (cx_is s) ∙ (ap (λ xs. is_some (index_of (bindings xs) s)) named_is ∙ written_known n fs s) in
+      let known : (s : Signature) → is_some (index_of a.cx s) ≡ is_among (written_signatures fs) s = λ s. ap is_some (cx_is s) ∙ (ap (λ xs. is_some (index_of (bindings xs) s)) named_is ∙ written_known n fs s) in
       ap (λ (k : Signature → Bool). first_new k (needed named)) (fun_ext known) ∙ ap (first_new (is_among (written_signatures fs))) (ap needed named_is ∙ needed_filled n fs)
 
   -- the uses of each field after those of the one before it
   in_each : needed named ≡ flat_map (λ x. needed_in (in_field x)) named
   in_each = needed_each in_field named
 
-  pub counts : next_after (state cx none m) (flat_map (λ x. needed_in (in_field x)) named) ≡ n + ids_wanted fs
+  pub counts : next_after a (flat_map (λ x. needed_in (in_field x)) named) ≡ n + ids_wanted fs
   counts =
-      let e : next_after (state cx none m) (flat_map (λ x. needed_in (in_field x)) named) ≡ next_after (state cx none m) (needed named) = ap (next_after (state cx none m)) (sym in_each) in
-      e ∙ (let l : length (new_signatures cx (needed named)) ≡ length (implied fs) = ap length new_is_implied in omega (arith, m_is))
+      let e : next_after a (flat_map (λ x. needed_in (in_field x)) named) ≡ next_after a (needed named) = ap (next_after a) (sym in_each) in
+      e ∙ (let l : length (new_signatures a.cx (needed named)) ≡ length (implied fs) = ap length new_is_implied in omega (arith, next_is))
 
-  types_are : new_types (state cx none m) (needed named) ≡ implied_types (n + wanted lacks_id fs) (implied fs)
-  types_are = ap (implied_types m) new_is_implied ∙ ap (λ k. implied_types k (implied fs)) m_is
+  types_are : new_types a (needed named) ≡ implied_types (n + wanted lacks_id fs) (implied fs)
+  types_are = ap (implied_types a.gensym) new_is_implied ∙ ap (λ k. implied_types k (implied fs)) next_is
 
-  pub lists : {b : State} {uses out : List ModuleField} → AddsTypes (state cx none m) b (flat_map (λ x. needed_in (in_field x)) named) → ((more : BoundSignatures) → uses ≡ map (bound_field (with_more (index_of b.bound) more)) named) → out ≡ uses ++ b.implied → out ≡ expanded n fs
+  pub lists : {b : Binder} {uses out : List ModuleField} → AddsTypes a b (flat_map (λ x. needed_in (in_field x)) named) → ((more : BoundSignatures) → uses ≡ map (bound_field (with_more (index_of b.cx) more)) named) → out ≡ uses ++ b.implied → out ≡ expanded n fs
   lists {b} {uses} {out} each bound out_is =
-      let adds : AddsTypes (state cx none m) b (needed named) = adds_as (sym in_each) each in
+      let adds : AddsTypes a b (needed named) = adds_as (sym in_each) each in
       let new : List ModuleField = implied_types (n + wanted lacks_id fs) (implied fs) in
-      let found : with_more (index_of b.bound) [] ≡ index_of (bindings (typed n fs)) =
-      more_then adds [] ∙ (ap (λ bs. with_more (index_of cx) bs) (append-nil (bindings (new_types (state cx none m) (needed named))))
-      ∙ (ap (λ (find : LookUp). with_more find (bindings (new_types (state cx none m) (needed named)))) finds
+      let found : with_more (index_of b.cx) [] ≡ index_of (bindings (typed n fs)) =
+      more_then adds [] ∙ (ap (λ bs. with_more (index_of a.cx) bs) (append-nil (bindings (new_types a (needed named))))
+      ∙ (ap (λ (find : LookUp). with_more find (bindings (new_types a (needed named)))) finds
       ∙ (ap (λ xs. with_more (index_of (bindings named)) (bindings xs)) types_are
       ∙ (fun_ext (λ (s : Signature). sym (lookup-append (same_signature s) (bindings named) (bindings new)))
       ∙ (ap index_of (sym (flat_map-append bindings_in named new)) ∙ ap (λ xs. index_of (bindings (xs ++ new))) named_is))))) in
       out_is ∙ (ap (λ us. us ++ b.implied) (bound [] ∙ (ap (λ (find : LookUp). map (bound_field find) named) found ∙ ap (map (bound_field (index_of (bindings (typed n fs))))) named_is))
-      ∙ (ap (λ is. map (bound_field (index_of (bindings (typed n fs)))) (filled lacks_id with_type_id n fs) ++ is) (adds.fields ∙ (ap (λ xs. xs ++ new_types (state cx none m) (needed named)) none_is ∙ (types_are ∙ sym (bound_implied (index_of (bindings (typed n fs))) (n + wanted lacks_id fs) (implied fs)))))
+      ∙ (ap (λ is. map (bound_field (index_of (bindings (typed n fs)))) (filled lacks_id with_type_id n fs) ++ is) (adds.fields ∙ (ap (λ xs. xs ++ new_types a (needed named)) none_is ∙ (types_are ∙ sym (bound_implied (index_of (bindings (typed n fs))) (n + wanted lacks_id fs) (implied fs)))))
       ∙ sym (map-append (bound_field (index_of (bindings (typed n fs)))) (filled lacks_id with_type_id n fs) new)))

@@ -10,17 +10,18 @@ use Rattle.wast_types.specs.Signatures.{Signature}
 use Rattle.wast_base.specs.Filling.{RunsOut}
 use Rattle.wast_types.specs.Expanders.{BoundSignatures, LookUp, index_of, with_more}
 use Rattle.wast_types.specs.Expanded.{bindings}
-use Rattle.wast_types.specs.Binding.{State, new_types, next_after, AddsTypes}
+use Rattle.wast_types.specs.Binding.{new_types, next_after, AddsTypes}
+use Rattle.wast_types.specs.declared.binder.Binder.{Binder}
 use Rattle.wast_types.proofs.Adding.{less_runs_out, adds_none, adds_both, count_then, more_then, first_after}
 
 -- the uses in the first i items of olds are bound, and nows is what there is then
-pub record IsHalfway {X : Type 0} (needed : X → List Signature) (bound : LookUp → X → X) (olds nows : List X) (i : ℕ) (a b : State) : Type 0 where
+pub record IsHalfway {X : Type 0} (needed : X → List Signature) (bound : LookUp → X → X) (olds nows : List X) (i : ℕ) (a b : Binder) : Type 0 where
   pub len : length nows ≡ length olds
   pub left : drop i nows ≡ drop i olds
   pub adds : AddsTypes a b (flat_map needed (take i olds))
-  pub become : (more : BoundSignatures) → take i nows ≡ map (bound (with_more (index_of b.bound) more)) (take i olds)
+  pub become : (more : BoundSignatures) → take i nows ≡ map (bound (with_more (index_of b.cx) more)) (take i olds)
 
-module _ {X : Type 0} {needed : X → List Signature} {bound : LookUp → X → X} {olds nows : List X} {i : ℕ} {a b : State} (h : IsHalfway needed bound olds nows i a b) where
+module _ {X : Type 0} {needed : X → List Signature} {bound : LookUp → X → X} {olds nows : List X} {i : ℕ} {a b : Binder} (h : IsHalfway needed bound olds nows i a b) where
   same_item : (d : X) → i < length nows → drop i olds ≡ get_or nows i d ∷ drop (suc i) olds
   same_item d lt =
       let now : drop i nows ≡ get_or nows i d ∷ drop (suc i) nows = drop-cons nows i d lt in
@@ -47,7 +48,7 @@ module _ {X : Type 0} {needed : X → List Signature} {bound : LookUp → X → 
         ∙ (ap (λ zs. flat_map needed (take i olds) ++ flat_map needed zs) rest ∙ sym (append_assoc (flat_map needed (take i olds)) (needed x) (flat_map needed (drop (suc i) olds)))))
 
     -- one part more
-    pub goes_on : {y : X} {c : State} → AddsTypes b c (needed x) → ((more : BoundSignatures) → y ≡ bound (with_more (index_of c.bound) more) x) → IsHalfway needed bound olds (set nows i y) (i + 1) a c
+    pub goes_on : {y : X} {c : Binder} → AddsTypes b c (needed x) → ((more : BoundSignatures) → y ≡ bound (with_more (index_of c.cx) more) x) → IsHalfway needed bound olds (set nows i y) (i + 1) a c
     goes_on {y} {c} k new =
         let lt2 : i < length nows = omega (arith, h.len) in
         record {
@@ -55,7 +56,7 @@ module _ {X : Type 0} {needed : X → List Signature} {bound : LookUp → X → 
           left = drop-set-lt (i + 1) nows i y (omega arith) ∙ rw (← drop-drop 1 i nows, ← drop-drop 1 i olds) (ap (drop 1) h.left);
           adds = subst (λ ss. AddsTypes a c ss) (sym needed_more) (adds_both h.adds k);
           become = λ more.
-              let find : LookUp = with_more (index_of c.bound) more in
+              let find : LookUp = with_more (index_of c.cx) more in
               let before : take i nows ≡ map (bound find) (take i olds) = h.become (bindings (new_types b (needed x)) ++ more) ∙ ap (λ (f : LookUp). map (bound f) (take i olds)) (sym (more_then k more)) in
               take_more_set nows i y lt2 ∙ (ap (λ zs. zs ++ y ∷ []) before ∙ (ap (λ z. map (bound find) (take i olds) ++ z ∷ []) (new more) ∙ (sym (map-append (bound find) (take i olds) (x ∷ [])) ∙ ap (map (bound find)) (sym more_taken))));
         }
@@ -71,9 +72,9 @@ module _ {X : Type 0} {needed : X → List Signature} {bound : LookUp → X → 
   pub adds_all : length olds ≤ i → AddsTypes a b (flat_map needed olds)
   adds_all le = subst (λ xs. AddsTypes a b (flat_map needed xs)) (take_all i olds le) h.adds
 
-  pub become_all : length olds ≤ i → (more : BoundSignatures) → nows ≡ map (bound (with_more (index_of b.bound) more)) olds
-  become_all le more = sym (take_all i nows (omega (arith, h.len))) ∙ (h.become more ∙ ap (map (bound (with_more (index_of b.bound) more))) (take_all i olds le))
+  pub become_all : length olds ≤ i → (more : BoundSignatures) → nows ≡ map (bound (with_more (index_of b.cx) more)) olds
+  become_all le more = sym (take_all i nows (omega (arith, h.len))) ∙ (h.become more ∙ ap (map (bound (with_more (index_of b.cx) more))) (take_all i olds le))
 
 -- none yet
-pub starts : {X : Type 0} (needed : X → List Signature) (bound : LookUp → X → X) (olds : List X) (a : State) → IsHalfway needed bound olds olds 0 a a
+pub starts : {X : Type 0} (needed : X → List Signature) (bound : LookUp → X → X) (olds : List X) (a : Binder) → IsHalfway needed bound olds olds 0 a a
 starts needed bound olds a = record { len = refl; left = refl; adds = adds_none a; become = λ more. refl }

@@ -2,7 +2,7 @@
 use Rattle.std.specs.Prelude.{option_map}
 use Rattle.std.proofs.Common.{◌≡◌, Bool, List, [], ◌∷◌, ◌++◌, map, append-nil, Option, Some, None, refl, ap, ◌∙◌}
 use Rattle.std.specs.List.{flat_map}
-use Rattle.wast_nodes.specs.Sites.{Ask, Site, Asked, asking, at_index, if_there, in_ref, in_table_type, in_global_type, in_constant, in_payload, in_table_kind, in_global_kind, in_global, in_elem_kind, in_elem, in_data_kind}
+use Rattle.wast_nodes.specs.Sites.{Ask, Site, Asked, asking, at_index, if_there, in_ref, in_table_type, in_global_type, in_constant, in_payload, in_table_kind, in_global_kind, in_global, in_elem_kind, in_elem}
 use Rattle.wast_types.specs.Tree.{Index, RefType, TableType, GlobalType, InlineImport, Expression, Global, ElemPayload, Elem}
 use Rattle.wast_types.specs.Tree.space
 use Rattle.wast_types.specs.Tree.table

@@ -1,14 +1,14 @@
 -- What is needed at sites; and the type uses of a body are the same wherever it stands.
 use Rattle.std.specs.Prelude.{true, false}
-use Rattle.std.proofs.Common.{◌≡◌, ℕ, List, map, [], ◌∷◌, ◌++◌, append-nil, Option, Some, None, refl, sym, ap, ◌∙◌, arith}
+use Rattle.std.proofs.Common.{◌≡◌, ℕ, List, map, [], ◌∷◌, ◌++◌, append-nil, Option, Some, None, refl, sym, ap, ◌∙◌}
 use Rattle.std.specs.List.{flat_map}
-use Rattle.std.proofs.lemmas.Grind.{common_steps, flat_map-append}
+use Rattle.std.proofs.lemmas.Grind.{flat_map-append}
 use Rattle.wast_base.specs.Ids.{Name, Mark, marked, generated}
 use Rattle.wast_base.specs.Spaces.{name_if}
 use Rattle.wast_base.specs.Blocks.{Blocks, is_balanced}
 use Rattle.wast_nodes.specs.Instrs.{turns}
-use Rattle.wast_nodes.specs.Sites.{Ask, Clause, OfItem, OfBlock, Site, Asked, Begins, Here, start, asking, at_index, at_label, in_index, in_caught, in_catch, in_handle, in_handlers, in_cast, in_ref, uncovered, in_block, in_try_table, in_br_table, in_heap, in_pair, in_mem_arg, in_select, in_type, in_rec, in_instr, behind, in_instrs, in_expression, in_constant, in_local, param_marks, local_marks, declaring, body_here, in_func_kind, in_use, in_func, in_payload, in_sig, in_subsection, in_field}
-use Rattle.wast_types.specs.Tree.{Index, RefType, Handle, ResumeTable, BlockType, BrTableIndices, TryTable, TryTableCatch, FunctionType, TypeUse, SelectTypes, Instruction, Expression, Local, FuncKind, Func, Table, Global, ElemPayload, Elem, Data, Custom, Rec, ItemSig}
+use Rattle.wast_nodes.specs.Sites.{Ask, Clause, OfItem, OfBlock, Site, Asked, Begins, Here, start, asking, at_label, in_index, in_caught, in_catch, in_handle, in_handlers, in_cast, in_ref, uncovered, in_block, in_try_table, in_br_table, in_pair, in_type, in_rec, in_instr, behind, in_instrs, in_expression, in_constant, in_local, param_marks, local_marks, declaring, body_here, in_func_kind, in_use, in_func, in_sig, in_subsection, in_field}
+use Rattle.wast_types.specs.Tree.{Index, RefType, Handle, ResumeTable, BlockType, BrTableIndices, TryTable, TryTableCatch, FunctionType, TypeUse, SelectTypes, Instruction, Expression, Local, FuncKind, Func, Custom, Rec, ItemSig}
 use Rattle.wast_types.specs.Tree.form
 use Rattle.wast_types.specs.Tree.custom
 use Rattle.wast_types.specs.Tree.handle
@@ -17,7 +17,7 @@ use Rattle.wast_types.specs.Tree.ty
 use Rattle.wast_types.specs.Tree.instr
 use Rattle.wast_types.specs.Tree.func
 use Rattle.wast_types.specs.Tree.field
-use Rattle.wast_map.specs.Mapped.{mapped_select, mapped_block, mapped_catch, mapped_try_table, mapped_br_table, mapped_instr, mapped_instrs, mapped_expression, mapped_constant, mapped_local, mapped_func_kind, mapped_handle, mapped_handlers}
+use Rattle.wast_map.specs.Mapped.{mapped_select, mapped_catch, mapped_br_table, mapped_instr, mapped_instrs, mapped_expression, mapped_constant, mapped_local, mapped_func_kind, mapped_handle, mapped_handlers}
 use Rattle.wast_map.proofs.Types.{val_at}
 use Rattle.wast_map.proofs.Fields.{select_at, caught_at}
 use Rattle.wast_types.specs.Signatures.{Signature, signature_of}

@@ -1,6 +1,7 @@
 -- How the uses of a list are bound one after the other. Private functions alone use this.
 use Rattle.std.specs.Prelude.{◌≡◌, ℕ, ◌+◌, is_some, Bool, false, List, ◌++◌, length, Option, Some, None}
 use Rattle.wast_types.specs.Tree.{Index, FunctionType, TypeUse, ModuleField}
+use Rattle.wast_types.specs.declared.binder.Binder.{Binder}
 use Rattle.wast_types.specs.Signatures.{Signature}
 use Rattle.wast_nodes.specs.Sites.{OfBlock}
 use Rattle.wast_types.specs.NeedingUses.{needs_type}
@@ -17,30 +18,20 @@ abbrev pub wants_type : Option Index → Option FunctionType → Bool
 wants_type (Some i) inline = false
 wants_type None inline = needs_type OfBlock inline
 
--- what signatures are bound to, the types that are implied so far, and the generation of the next id
-pub record State : Type 0 where
-  pub bound : BoundSignatures
-  pub implied : List ModuleField
-  pub next : ℕ
-
--- these three together
-abbrev pub state : BoundSignatures → List ModuleField → ℕ → State
-state bound implied next = record { bound = bound; implied = implied; next = next }
-
 -- those that are not bound, each once
 abbrev pub new_signatures : BoundSignatures → List Signature → List Signature
 new_signatures bound ss = first_new (λ s. is_some (index_of bound s)) ss
 
 -- the types for those that are not bound
-abbrev pub new_types : State → List Signature → List ModuleField
-new_types a ss = implied_types a.next (new_signatures a.bound ss)
+abbrev pub new_types : Binder → List Signature → List ModuleField
+new_types a ss = implied_types a.gensym (new_signatures a.cx ss)
 
 -- the generation of the next id when each of these has its type
-abbrev pub next_after : State → List Signature → ℕ
-next_after a ss = a.next + length (new_signatures a.bound ss)
+abbrev pub next_after : Binder → List Signature → ℕ
+next_after a ss = a.gensym + length (new_signatures a.cx ss)
 
 -- What stands before and after these have their types: no other type is new.
-pub record AddsTypes (a b : State) (ss : List Signature) : Type 0 where
-  pub types : Extends a.bound b.bound (bindings (new_types a ss))
+pub record AddsTypes (a b : Binder) (ss : List Signature) : Type 0 where
+  pub types : Extends a.cx b.cx (bindings (new_types a ss))
   pub fields : b.implied ≡ a.implied ++ new_types a ss
-  pub counter : b.next ≡ next_after a ss
+  pub counter : b.gensym ≡ next_after a ss

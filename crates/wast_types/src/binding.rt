@@ -1,7 +1,6 @@
-//! Type uses are bound in their place, and types are made for the signatures that none has.
+//! Type uses are bound in their place.
 
-ghost use Rattle.std.specs.Prelude.{◌≡◌, ◌≤◌, ◌+◌, ◌++◌, ◌∷◌, [], Some, List, map, flat_map, IfOk, IfErr, OnOk};
-ghost use Rattle.wast_base.specs.Ids.{generated};
+ghost use Rattle.std.specs.Prelude.{◌≡◌, ◌≤◌, [], Some, List, map, flat_map, IfOk, IfErr, OnOk};
 ghost use Rattle.wast_base.specs.Faults.{out_of_memory};
 ghost use Rattle.wast_types.specs.Tree.index;
 ghost use Rattle.wast_types.specs.Signatures.{Signature};
@@ -10,17 +9,17 @@ ghost use Rattle.wast_nodes.specs.Types.{is_short};
 ghost use Rattle.wast_map.specs.Mapped.{mapped_block, mapped_try_table, mapped_indirect, mapped_instr, mapped_constant, mapped_func_kind, mapped_func, mapped_tag_type, mapped_item_kind, mapped_sig, mapped_import_items, mapped_import, mapped_tag};
 ghost use Rattle.wast_types.specs.NeedingUses.{needed_in, inline_signature};
 ghost use Rattle.wast_base.specs.Filling.{RunsOut};
-ghost use Rattle.wast_types.specs.Expanders.{BoundSignatures, LookUp, index_of, with_more, Extends};
-ghost use Rattle.wast_types.specs.Expanded.{start_of_text, implied_type, bound_inline, bound_use, binding, bound_field};
-ghost use Rattle.wast_types.specs.Binding.{no_use, wants_type, state, next_after, AddsTypes};
+ghost use Rattle.wast_types.specs.Expanders.{BoundSignatures, LookUp, index_of, with_more};
+ghost use Rattle.wast_types.specs.Expanded.{bound_inline, bound_use, binding, bound_field};
+ghost use Rattle.wast_types.specs.Binding.{no_use, wants_type, next_after, AddsTypes};
 
-use crate::expanders::Expander;
-use crate::keys::{FuncKey, TypeKey, TypeReference};
+use crate::binder::Binder;
+use crate::keys::{FuncKey, TypeReference};
 use std::alloc::Global;
-use wast_base::{Error, Gensym, Index, Seq, Span};
+use wast_base::{Error, Seq};
 use wast_nodes::{
     BlockType, CallIndirect, Expression, Func, FuncKind, FunctionType, ImportItems, Imports,
-    Instruction, ItemKind, ItemSig, ModuleField, Tag, TagType, TryTable, Type, TypeUse, push_field,
+    Instruction, ItemKind, ItemSig, ModuleField, Tag, TagType, TryTable, TypeUse,
 };
 
 /// A part of the tree in which type uses may stand. They are the same wherever it stands, so a part of a body is seen as if
@@ -33,38 +32,27 @@ pub(crate) trait Bind<'a> {
     ghost bound: { LookUp → Self → Self };
 
     /// Binds each use in it that has no index.
-    fn bind(
-        &mut self,
-        alloc: Global,
-        cx: &mut Expander<'a>,
-        implied: &mut Seq<ModuleField<'a>>,
-        gensym: &mut Gensym,
-    ) -> Result<(), Error<'a>>
+    fn bind(&mut self, binder: &mut Binder<'a>) -> Result<(), Error<'a>>
         ensures bound { OnOk result ((more : BoundSignatures) →
-            self.new ≡ bound (with_more (index_of cx.new) more) self.old) }
-        ensures adds { OnOk result (AddsTypes (state cx.old implied.old gensym.old)
-            (state cx.new implied.new gensym.new) (needed self.old)) }
-        ensures refusal { IfErr result (RunsOut (next_after (state cx.old implied.old gensym.old) (needed self.old))) }
-        ensures rising { gensym.old ≤ gensym.new };
+            self.new ≡ bound (with_more (index_of binder.new.cx) more) self.old) }
+        ensures adds { OnOk result (AddsTypes binder.old binder.new (needed self.old)) }
+        ensures refusal { IfErr result (RunsOut (next_after binder.old (needed self.old))) }
+        ensures rising { binder.old.gensym ≤ binder.new.gensym };
 }
 
 /// Binds in each part of a list, in order.
 pub(crate) fn bind_each<'a, T: Bind<'a>>(
     parts: &mut Seq<T>,
-    alloc: Global,
-    cx: &mut Expander<'a>,
-    implied: &mut Seq<ModuleField<'a>>,
-    gensym: &mut Gensym,
+    binder: &mut Binder<'a>,
 ) -> Result<(), Error<'a>>
     ensures bound { OnOk result ((more : BoundSignatures) →
-        parts.new ≡ map (T.bound (with_more (index_of cx.new) more)) parts.old) }
-    ensures adds { OnOk result (AddsTypes (state cx.old implied.old gensym.old)
-        (state cx.new implied.new gensym.new) (flat_map T.needed parts.old)) }
-    ensures refusal { IfErr result (RunsOut (next_after (state cx.old implied.old gensym.old) (flat_map T.needed parts.old))) }
-    ensures rising { gensym.old ≤ gensym.new }
+        parts.new ≡ map (T.bound (with_more (index_of binder.new.cx) more)) parts.old) }
+    ensures adds { OnOk result (AddsTypes binder.old binder.new (flat_map T.needed parts.old)) }
+    ensures refusal { IfErr result (RunsOut (next_after binder.old (flat_map T.needed parts.old))) }
+    ensures rising { binder.old.gensym ≤ binder.new.gensym }
 {
     for i in 0..parts.len() {
-        parts.at_mut(i).bind(alloc, cx, implied, gensym)?;
+        parts.at_mut(i).bind(binder)?;
     }
     Ok(())
 }
@@ -74,45 +62,39 @@ impl<'a> Bind<'a> for ModuleField<'a> {
 
     ghost bound = { bound_field };
 
-    fn bind(
-        &mut self,
-        alloc: Global,
-        cx: &mut Expander<'a>,
-        implied: &mut Seq<ModuleField<'a>>,
-        gensym: &mut Gensym,
-    ) -> Result<(), Error<'a>> {
+    fn bind(&mut self, binder: &mut Binder<'a>) -> Result<(), Error<'a>> {
         match self {
             ModuleField::Ty(_) => Ok(()),
             ModuleField::Rec(_) => Ok(()),
             ModuleField::Import(imports) => {
-                imports.bind(alloc, cx, implied, gensym)?;
+                imports.bind(binder)?;
                 Ok(())
             }
             ModuleField::Func(func) => {
-                func.bind(alloc, cx, implied, gensym)?;
+                func.bind(binder)?;
                 Ok(())
             }
             ModuleField::Table(table) => {
-                table.bind(alloc, cx, implied, gensym)?;
+                table.bind(binder)?;
                 Ok(())
             }
             ModuleField::Memory(_) => Ok(()),
             ModuleField::Global(global) => {
-                global.bind(alloc, cx, implied, gensym)?;
+                global.bind(binder)?;
                 Ok(())
             }
             ModuleField::Export(_) => Ok(()),
             ModuleField::Start(_) => Ok(()),
             ModuleField::Elem(elem) => {
-                elem.bind(alloc, cx, implied, gensym)?;
+                elem.bind(binder)?;
                 Ok(())
             }
             ModuleField::Data(data) => {
-                data.bind(alloc, cx, implied, gensym)?;
+                data.bind(binder)?;
                 Ok(())
             }
             ModuleField::Tag(tag) => {
-                tag.bind(alloc, cx, implied, gensym)?;
+                tag.bind(binder)?;
                 Ok(())
             }
             ModuleField::Custom(_) => Ok(()),
@@ -125,14 +107,8 @@ impl<'a> Bind<'a> for Imports<'a> {
 
     ghost bound = { λ find. mapped_import (binding find) };
 
-    fn bind(
-        &mut self,
-        alloc: Global,
-        cx: &mut Expander<'a>,
-        implied: &mut Seq<ModuleField<'a>>,
-        gensym: &mut Gensym,
-    ) -> Result<(), Error<'a>> {
-        self.items.bind(alloc, cx, implied, gensym)?;
+    fn bind(&mut self, binder: &mut Binder<'a>) -> Result<(), Error<'a>> {
+        self.items.bind(binder)?;
         Ok(())
     }
 }
@@ -142,24 +118,18 @@ impl<'a> Bind<'a> for ImportItems<'a> {
 
     ghost bound = { λ find. mapped_import_items (binding find) };
 
-    fn bind(
-        &mut self,
-        alloc: Global,
-        cx: &mut Expander<'a>,
-        implied: &mut Seq<ModuleField<'a>>,
-        gensym: &mut Gensym,
-    ) -> Result<(), Error<'a>> {
+    fn bind(&mut self, binder: &mut Binder<'a>) -> Result<(), Error<'a>> {
         match self {
             ImportItems::Single { sig, .. } => {
-                sig.bind(alloc, cx, implied, gensym)?;
+                sig.bind(binder)?;
                 Ok(())
             }
             ImportItems::Group1 { items, .. } => {
-                bind_each(items, alloc, cx, implied, gensym)?;
+                bind_each(items, binder)?;
                 Ok(())
             }
             ImportItems::Group2 { sig, .. } => {
-                sig.bind(alloc, cx, implied, gensym)?;
+                sig.bind(binder)?;
                 Ok(())
             }
         }
@@ -172,14 +142,8 @@ impl<'a> Bind<'a> for (&'a str, ItemSig<'a>) {
 
     ghost bound = { λ find p. (p.0, mapped_sig (binding find) p.1) };
 
-    fn bind(
-        &mut self,
-        alloc: Global,
-        cx: &mut Expander<'a>,
-        implied: &mut Seq<ModuleField<'a>>,
-        gensym: &mut Gensym,
-    ) -> Result<(), Error<'a>> {
-        self.1.bind(alloc, cx, implied, gensym)?;
+    fn bind(&mut self, binder: &mut Binder<'a>) -> Result<(), Error<'a>> {
+        self.1.bind(binder)?;
         Ok(())
     }
 }
@@ -189,14 +153,8 @@ impl<'a> Bind<'a> for ItemSig<'a> {
 
     ghost bound = { λ find. mapped_sig (binding find) };
 
-    fn bind(
-        &mut self,
-        alloc: Global,
-        cx: &mut Expander<'a>,
-        implied: &mut Seq<ModuleField<'a>>,
-        gensym: &mut Gensym,
-    ) -> Result<(), Error<'a>> {
-        self.kind.bind(alloc, cx, implied, gensym)?;
+    fn bind(&mut self, binder: &mut Binder<'a>) -> Result<(), Error<'a>> {
+        self.kind.bind(binder)?;
         Ok(())
     }
 }
@@ -206,27 +164,21 @@ impl<'a> Bind<'a> for ItemKind<'a> {
 
     ghost bound = { λ find. mapped_item_kind (binding find) };
 
-    fn bind(
-        &mut self,
-        alloc: Global,
-        cx: &mut Expander<'a>,
-        implied: &mut Seq<ModuleField<'a>>,
-        gensym: &mut Gensym,
-    ) -> Result<(), Error<'a>> {
+    fn bind(&mut self, binder: &mut Binder<'a>) -> Result<(), Error<'a>> {
         match self {
             ItemKind::Func(ty) => {
-                ty.bind(alloc, cx, implied, gensym)?;
+                ty.bind(binder)?;
                 Ok(())
             }
             ItemKind::FuncExact(ty) => {
-                ty.bind(alloc, cx, implied, gensym)?;
+                ty.bind(binder)?;
                 Ok(())
             }
             ItemKind::Table(_) => Ok(()),
             ItemKind::Memory(_) => Ok(()),
             ItemKind::Global(_) => Ok(()),
             ItemKind::Tag(ty) => {
-                ty.bind(alloc, cx, implied, gensym)?;
+                ty.bind(binder)?;
                 Ok(())
             }
         }
@@ -238,14 +190,8 @@ impl<'a> Bind<'a> for Tag<'a> {
 
     ghost bound = { λ find. mapped_tag (binding find) };
 
-    fn bind(
-        &mut self,
-        alloc: Global,
-        cx: &mut Expander<'a>,
-        implied: &mut Seq<ModuleField<'a>>,
-        gensym: &mut Gensym,
-    ) -> Result<(), Error<'a>> {
-        self.ty.bind(alloc, cx, implied, gensym)?;
+    fn bind(&mut self, binder: &mut Binder<'a>) -> Result<(), Error<'a>> {
+        self.ty.bind(binder)?;
         Ok(())
     }
 }
@@ -255,16 +201,10 @@ impl<'a> Bind<'a> for TagType<'a> {
 
     ghost bound = { λ find. mapped_tag_type (binding find) };
 
-    fn bind(
-        &mut self,
-        alloc: Global,
-        cx: &mut Expander<'a>,
-        implied: &mut Seq<ModuleField<'a>>,
-        gensym: &mut Gensym,
-    ) -> Result<(), Error<'a>> {
+    fn bind(&mut self, binder: &mut Binder<'a>) -> Result<(), Error<'a>> {
         match self {
             TagType::Exception(ty) => {
-                ty.bind(alloc, cx, implied, gensym)?;
+                ty.bind(binder)?;
                 Ok(())
             }
         }
@@ -276,15 +216,9 @@ impl<'a> Bind<'a> for Func<'a> {
 
     ghost bound = { λ find. mapped_func (binding find) };
 
-    fn bind(
-        &mut self,
-        alloc: Global,
-        cx: &mut Expander<'a>,
-        implied: &mut Seq<ModuleField<'a>>,
-        gensym: &mut Gensym,
-    ) -> Result<(), Error<'a>> {
-        self.ty.bind(alloc, cx, implied, gensym)?;
-        self.kind.bind(alloc, cx, implied, gensym)?;
+    fn bind(&mut self, binder: &mut Binder<'a>) -> Result<(), Error<'a>> {
+        self.ty.bind(binder)?;
+        self.kind.bind(binder)?;
         Ok(())
     }
 }
@@ -294,17 +228,11 @@ impl<'a> Bind<'a> for FuncKind<'a> {
 
     ghost bound = { λ find. mapped_func_kind (binding find) no_use };
 
-    fn bind(
-        &mut self,
-        alloc: Global,
-        cx: &mut Expander<'a>,
-        implied: &mut Seq<ModuleField<'a>>,
-        gensym: &mut Gensym,
-    ) -> Result<(), Error<'a>> {
+    fn bind(&mut self, binder: &mut Binder<'a>) -> Result<(), Error<'a>> {
         match self {
             FuncKind::Import(..) => Ok(()),
             FuncKind::Inline { expression, .. } => {
-                expression.bind(alloc, cx, implied, gensym)?;
+                expression.bind(binder)?;
                 Ok(())
             }
         }
@@ -317,14 +245,8 @@ impl<'a> Bind<'a> for Expression<'a> {
 
     ghost bound = { λ find. mapped_constant (binding find) };
 
-    fn bind(
-        &mut self,
-        alloc: Global,
-        cx: &mut Expander<'a>,
-        implied: &mut Seq<ModuleField<'a>>,
-        gensym: &mut Gensym,
-    ) -> Result<(), Error<'a>> {
-        bind_each(&mut self.instrs, alloc, cx, implied, gensym)?;
+    fn bind(&mut self, binder: &mut Binder<'a>) -> Result<(), Error<'a>> {
+        bind_each(&mut self.instrs, binder)?;
         Ok(())
     }
 }
@@ -334,37 +256,31 @@ impl<'a> Bind<'a> for Instruction<'a> {
 
     ghost bound = { λ find. mapped_instr (binding find) start };
 
-    fn bind(
-        &mut self,
-        alloc: Global,
-        cx: &mut Expander<'a>,
-        implied: &mut Seq<ModuleField<'a>>,
-        gensym: &mut Gensym,
-    ) -> Result<(), Error<'a>> {
+    fn bind(&mut self, binder: &mut Binder<'a>) -> Result<(), Error<'a>> {
         match self {
             Instruction::Plain(_) => Ok(()),
             Instruction::Mem(..) => Ok(()),
             Instruction::Lane(..) => Ok(()),
             Instruction::MemLane(..) => Ok(()),
             Instruction::block(block) => {
-                block.get_mut().bind(alloc, cx, implied, gensym)?;
+                block.get_mut().bind(binder)?;
                 Ok(())
             }
             Instruction::loop_(block) => {
-                block.get_mut().bind(alloc, cx, implied, gensym)?;
+                block.get_mut().bind(binder)?;
                 Ok(())
             }
             Instruction::if_(block) => {
-                block.get_mut().bind(alloc, cx, implied, gensym)?;
+                block.get_mut().bind(binder)?;
                 Ok(())
             }
             Instruction::else_(_) => Ok(()),
             Instruction::try_(block) => {
-                block.get_mut().bind(alloc, cx, implied, gensym)?;
+                block.get_mut().bind(binder)?;
                 Ok(())
             }
             Instruction::try_table(table) => {
-                table.bind(alloc, cx, implied, gensym)?;
+                table.bind(binder)?;
                 Ok(())
             }
             Instruction::end_(_) => Ok(()),
@@ -383,11 +299,11 @@ impl<'a> Bind<'a> for Instruction<'a> {
             Instruction::call(_) => Ok(()),
             Instruction::return_call(_) => Ok(()),
             Instruction::call_indirect(call) => {
-                call.bind(alloc, cx, implied, gensym)?;
+                call.bind(binder)?;
                 Ok(())
             }
             Instruction::return_call_indirect(call) => {
-                call.bind(alloc, cx, implied, gensym)?;
+                call.bind(binder)?;
                 Ok(())
             }
             Instruction::call_ref(_) => Ok(()),
@@ -471,18 +387,12 @@ impl<'a> Bind<'a> for BlockType<'a> {
 
     ghost bound = { λ find. mapped_block (binding find) };
 
-    fn bind(
-        &mut self,
-        alloc: Global,
-        cx: &mut Expander<'a>,
-        implied: &mut Seq<ModuleField<'a>>,
-        gensym: &mut Gensym,
-    ) -> Result<(), Error<'a>> {
+    fn bind(&mut self, binder: &mut Binder<'a>) -> Result<(), Error<'a>> {
         if !wants_type(&self.ty) {
-            say_inline(alloc, &mut self.ty);
+            say_inline(binder.alloc, &mut self.ty);
             return Ok(());
         }
-        self.ty.bind(alloc, cx, implied, gensym)?;
+        self.ty.bind(binder)?;
         Ok(())
     }
 }
@@ -492,14 +402,8 @@ impl<'a> Bind<'a> for TryTable<'a> {
 
     ghost bound = { λ find t. mapped_try_table (binding find) [] t };
 
-    fn bind(
-        &mut self,
-        alloc: Global,
-        cx: &mut Expander<'a>,
-        implied: &mut Seq<ModuleField<'a>>,
-        gensym: &mut Gensym,
-    ) -> Result<(), Error<'a>> {
-        self.block.get_mut().bind(alloc, cx, implied, gensym)?;
+    fn bind(&mut self, binder: &mut Binder<'a>) -> Result<(), Error<'a>> {
+        self.block.get_mut().bind(binder)?;
         Ok(())
     }
 }
@@ -536,14 +440,8 @@ impl<'a> Bind<'a> for CallIndirect<'a> {
 
     ghost bound = { λ find. mapped_indirect (binding find) };
 
-    fn bind(
-        &mut self,
-        alloc: Global,
-        cx: &mut Expander<'a>,
-        implied: &mut Seq<ModuleField<'a>>,
-        gensym: &mut Gensym,
-    ) -> Result<(), Error<'a>> {
-        self.ty.bind(alloc, cx, implied, gensym)?;
+    fn bind(&mut self, binder: &mut Binder<'a>) -> Result<(), Error<'a>> {
+        self.ty.bind(binder)?;
         Ok(())
     }
 }
@@ -554,18 +452,12 @@ impl<'a> Bind<'a> for TypeUse<'a, FunctionType<'a>> {
 
     ghost bound = { λ find. bound_use find OfItem };
 
-    fn bind(
-        &mut self,
-        alloc: Global,
-        cx: &mut Expander<'a>,
-        implied: &mut Seq<ModuleField<'a>>,
-        gensym: &mut Gensym,
-    ) -> Result<(), Error<'a>> {
+    fn bind(&mut self, binder: &mut Binder<'a>) -> Result<(), Error<'a>> {
         match self.index {
             Some(_) => Ok(()),
             None => {
-                let key = inline_key(alloc, &self.inline)?;
-                let index = key_to_idx(alloc, key, cx, implied, gensym)?;
+                let key = inline_key(binder.alloc, &self.inline)?;
+                let index = binder.key_to_idx(key)?;
                 self.index = Some(index);
                 Ok(())
             }
@@ -585,50 +477,4 @@ fn inline_key<'a>(
         Some(ty) => ty.key(alloc),
         None => Ok(FuncKey(Seq::new(alloc), Seq::new(alloc))),
     }
-}
-
-/// The index of the first type with the key: a new one where no type has it.
-fn key_to_idx<'a>(
-    alloc: Global,
-    key: FuncKey<'a>,
-    cx: &mut Expander<'a>,
-    implied: &mut Seq<ModuleField<'a>>,
-    gensym: &mut Gensym,
-) -> Result<Index<'a>, Error<'a>>
-    ensures index { IfOk result (λ i. index_of cx.new key.entry ≡ Some i) }
-    ensures adds { OnOk result (AddsTypes (state cx.old implied.old gensym.old)
-        (state cx.new implied.new gensym.new) (key.entry ∷ [])) }
-    ensures refusal { IfErr result (RunsOut (next_after (state cx.old implied.old gensym.old) (key.entry ∷ []))) }
-    ensures rising { gensym.old ≤ gensym.new }
-{
-    match cx.get(&key) {
-        Some(index) => Ok(index),
-        None => {
-            let index = add_type(alloc, key, cx, implied, gensym)?;
-            Ok(index)
-        }
-    }
-}
-
-/// A type of its own for a key.
-fn add_type<'a>(
-    alloc: Global,
-    key: FuncKey<'a>,
-    cx: &mut Expander<'a>,
-    implied: &mut Seq<ModuleField<'a>>,
-    gensym: &mut Gensym,
-) -> Result<Index<'a>, Error<'a>>
-    ensures index { IfOk result (λ i. i ≡ index.Id (generated gensym.old start_of_text)) }
-    ensures types { OnOk result (Extends cx.old cx.new ((key.entry, index.Id (generated gensym.old start_of_text)) ∷ [])) }
-    ensures implied { OnOk result (implied.new ≡ implied.old ++ implied_type gensym.old key.entry ∷ []) }
-    ensures counted { OnOk result (gensym.new ≡ gensym.old + 1) }
-    ensures refusal { IfErr result (RunsOut (gensym.old + 1)) }
-    ensures rising { gensym.old ≤ gensym.new }
-{
-    let span = Span { offset: 0 };
-    let id = gensym.generate(span)?;
-    let def = key.to_def(alloc, span, false)?;
-    push_field(implied, ModuleField::Ty(Type::new(span, Some(id), def)))?;
-    cx.put(key, Index::Id(id))?;
-    Ok(Index::Id(id))
 }

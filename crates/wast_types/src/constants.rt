@@ -6,13 +6,11 @@ ghost use Rattle.wast_map.specs.Mapped.{mapped_constant, mapped_table, mapped_ta
 ghost use Rattle.wast_types.specs.NeedingUses.{needed_in};
 ghost use Rattle.wast_types.specs.Expanded.{binding};
 
+use crate::binder::Binder;
 use crate::binding::{Bind, bind_each};
-use crate::expanders::Expander;
-use std::alloc;
-use wast_base::{Error, Gensym, Seq};
+use wast_base::Error;
 use wast_nodes::{
-    Data, DataKind, Elem, ElemKind, ElemPayload, Expression, Global, GlobalKind, ModuleField,
-    Table, TableKind,
+    Data, DataKind, Elem, ElemKind, ElemPayload, Expression, Global, GlobalKind, Table, TableKind,
 };
 
 impl<'a> Bind<'a> for Table<'a> {
@@ -20,14 +18,8 @@ impl<'a> Bind<'a> for Table<'a> {
 
     ghost bound = { λ find. mapped_table (binding find) };
 
-    fn bind(
-        &mut self,
-        alloc: alloc::Global,
-        cx: &mut Expander<'a>,
-        implied: &mut Seq<ModuleField<'a>>,
-        gensym: &mut Gensym,
-    ) -> Result<(), Error<'a>> {
-        self.kind.bind(alloc, cx, implied, gensym)?;
+    fn bind(&mut self, binder: &mut Binder<'a>) -> Result<(), Error<'a>> {
+        self.kind.bind(binder)?;
         Ok(())
     }
 }
@@ -37,21 +29,15 @@ impl<'a> Bind<'a> for TableKind<'a> {
 
     ghost bound = { λ find. mapped_table_kind (binding find) };
 
-    fn bind(
-        &mut self,
-        alloc: alloc::Global,
-        cx: &mut Expander<'a>,
-        implied: &mut Seq<ModuleField<'a>>,
-        gensym: &mut Gensym,
-    ) -> Result<(), Error<'a>> {
+    fn bind(&mut self, binder: &mut Binder<'a>) -> Result<(), Error<'a>> {
         match self {
             TableKind::Import { .. } => Ok(()),
             TableKind::Normal { init_expr, .. } => {
-                init_expr.bind(alloc, cx, implied, gensym)?;
+                init_expr.bind(binder)?;
                 Ok(())
             }
             TableKind::Inline { payload, .. } => {
-                payload.bind(alloc, cx, implied, gensym)?;
+                payload.bind(binder)?;
                 Ok(())
             }
         }
@@ -63,14 +49,8 @@ impl<'a> Bind<'a> for Global<'a> {
 
     ghost bound = { λ find. mapped_global (binding find) };
 
-    fn bind(
-        &mut self,
-        alloc: alloc::Global,
-        cx: &mut Expander<'a>,
-        implied: &mut Seq<ModuleField<'a>>,
-        gensym: &mut Gensym,
-    ) -> Result<(), Error<'a>> {
-        self.kind.bind(alloc, cx, implied, gensym)?;
+    fn bind(&mut self, binder: &mut Binder<'a>) -> Result<(), Error<'a>> {
+        self.kind.bind(binder)?;
         Ok(())
     }
 }
@@ -80,17 +60,11 @@ impl<'a> Bind<'a> for GlobalKind<'a> {
 
     ghost bound = { λ find. mapped_global_kind (binding find) };
 
-    fn bind(
-        &mut self,
-        alloc: alloc::Global,
-        cx: &mut Expander<'a>,
-        implied: &mut Seq<ModuleField<'a>>,
-        gensym: &mut Gensym,
-    ) -> Result<(), Error<'a>> {
+    fn bind(&mut self, binder: &mut Binder<'a>) -> Result<(), Error<'a>> {
         match self {
             GlobalKind::Import(_) => Ok(()),
             GlobalKind::Inline(value) => {
-                value.bind(alloc, cx, implied, gensym)?;
+                value.bind(binder)?;
                 Ok(())
             }
         }
@@ -102,15 +76,9 @@ impl<'a> Bind<'a> for Elem<'a> {
 
     ghost bound = { λ find. mapped_elem (binding find) };
 
-    fn bind(
-        &mut self,
-        alloc: alloc::Global,
-        cx: &mut Expander<'a>,
-        implied: &mut Seq<ModuleField<'a>>,
-        gensym: &mut Gensym,
-    ) -> Result<(), Error<'a>> {
-        self.kind.bind(alloc, cx, implied, gensym)?;
-        self.payload.bind(alloc, cx, implied, gensym)?;
+    fn bind(&mut self, binder: &mut Binder<'a>) -> Result<(), Error<'a>> {
+        self.kind.bind(binder)?;
+        self.payload.bind(binder)?;
         Ok(())
     }
 }
@@ -120,18 +88,12 @@ impl<'a> Bind<'a> for ElemKind<'a> {
 
     ghost bound = { λ find. mapped_elem_kind (binding find) };
 
-    fn bind(
-        &mut self,
-        alloc: alloc::Global,
-        cx: &mut Expander<'a>,
-        implied: &mut Seq<ModuleField<'a>>,
-        gensym: &mut Gensym,
-    ) -> Result<(), Error<'a>> {
+    fn bind(&mut self, binder: &mut Binder<'a>) -> Result<(), Error<'a>> {
         match self {
             ElemKind::Passive => Ok(()),
             ElemKind::Declared => Ok(()),
             ElemKind::Active { offset, .. } => {
-                offset.bind(alloc, cx, implied, gensym)?;
+                offset.bind(binder)?;
                 Ok(())
             }
         }
@@ -143,17 +105,11 @@ impl<'a> Bind<'a> for ElemPayload<'a> {
 
     ghost bound = { λ find. mapped_payload (binding find) };
 
-    fn bind(
-        &mut self,
-        alloc: alloc::Global,
-        cx: &mut Expander<'a>,
-        implied: &mut Seq<ModuleField<'a>>,
-        gensym: &mut Gensym,
-    ) -> Result<(), Error<'a>> {
+    fn bind(&mut self, binder: &mut Binder<'a>) -> Result<(), Error<'a>> {
         match self {
             ElemPayload::Indices(_) => Ok(()),
             ElemPayload::Exprs { exprs, .. } => {
-                bind_each(exprs, alloc, cx, implied, gensym)?;
+                bind_each(exprs, binder)?;
                 Ok(())
             }
         }
@@ -165,14 +121,8 @@ impl<'a> Bind<'a> for Data<'a> {
 
     ghost bound = { λ find. mapped_data (binding find) };
 
-    fn bind(
-        &mut self,
-        alloc: alloc::Global,
-        cx: &mut Expander<'a>,
-        implied: &mut Seq<ModuleField<'a>>,
-        gensym: &mut Gensym,
-    ) -> Result<(), Error<'a>> {
-        self.kind.bind(alloc, cx, implied, gensym)?;
+    fn bind(&mut self, binder: &mut Binder<'a>) -> Result<(), Error<'a>> {
+        self.kind.bind(binder)?;
         Ok(())
     }
 }
@@ -182,17 +132,11 @@ impl<'a> Bind<'a> for DataKind<'a> {
 
     ghost bound = { λ find. mapped_data_kind (binding find) };
 
-    fn bind(
-        &mut self,
-        alloc: alloc::Global,
-        cx: &mut Expander<'a>,
-        implied: &mut Seq<ModuleField<'a>>,
-        gensym: &mut Gensym,
-    ) -> Result<(), Error<'a>> {
+    fn bind(&mut self, binder: &mut Binder<'a>) -> Result<(), Error<'a>> {
         match self {
             DataKind::Passive => Ok(()),
             DataKind::Active { offset, .. } => {
-                offset.bind(alloc, cx, implied, gensym)?;
+                offset.bind(binder)?;
                 Ok(())
             }
         }
@@ -204,17 +148,11 @@ impl<'a> Bind<'a> for Option<Expression<'a>> {
 
     ghost bound = { λ find o. option_map (mapped_constant (binding find)) o };
 
-    fn bind(
-        &mut self,
-        alloc: alloc::Global,
-        cx: &mut Expander<'a>,
-        implied: &mut Seq<ModuleField<'a>>,
-        gensym: &mut Gensym,
-    ) -> Result<(), Error<'a>> {
+    fn bind(&mut self, binder: &mut Binder<'a>) -> Result<(), Error<'a>> {
         match self {
             None => Ok(()),
             Some(expression) => {
-                expression.bind(alloc, cx, implied, gensym)?;
+                expression.bind(binder)?;
                 Ok(())
             }
         }

@@ -1,15 +1,17 @@
 //! The pass that gives each type an id and each type use an index.
 
-ghost use Rattle.std.specs.Prelude.{◌≡◌, ◌≤◌, ◌+◌, ◌++◌, [], IfOk, IfErr, OnOk};
+ghost use Rattle.std.specs.Prelude.{◌≡◌, ◌≤◌, ◌+◌, ◌++◌, IfOk, IfErr, OnOk};
 ghost use Rattle.wast_base.specs.Faults.{out_of_memory};
 ghost use Rattle.wast_base.specs.Filling.{one_if, given_if, filled, wanted, RunsOut};
 ghost use Rattle.wast_types.specs.Expanders.{Extends};
 ghost use Rattle.wast_types.specs.Expanded.{lacks_id, with_type_id, binding_of, bindings_in, bindings, expanded, ids_wanted};
 
+use crate::binder::Binder;
 use crate::binding::bind_each;
 use crate::expanders::Expander;
 use crate::keys::TypeReference;
 use std::alloc::Global;
+use std::mem;
 use wast_base::{Error, Gensym, Id, Index, Seq};
 use wast_nodes::{InnerTypeKind, ModuleField, discard_fields, push_field, take_field};
 
@@ -58,8 +60,21 @@ fn expand_fields<'a>(
     name_types(fields, gensym)?;
     let mut cx = Expander::new(alloc);
     bind_types(alloc, fields.as_slice(), &mut cx)?;
-    let mut implied = Seq::new(alloc);
-    match bind_each(fields, alloc, &mut cx, &mut implied, gensym) {
+    let mut binder = Binder {
+        alloc,
+        cx,
+        implied: Seq::new(alloc),
+        gensym: mem::replace(gensym, Gensym::new(1)),
+    };
+    let bound = bind_each(fields, &mut binder);
+    let Binder {
+        alloc: _,
+        cx: _cx,
+        implied,
+        gensym: next,
+    } = binder;
+    *gensym = next;
+    match bound {
         Ok(()) => {
             append(fields, implied)?;
             Ok(())

@@ -4,6 +4,7 @@
 //! A call takes memory only where its text says so. A call that can fail says when, and with what.
 #![tactic(auto)]
 
+mod binder;
 mod binding;
 mod constants;
 mod examples;

@@ -1,11 +1,11 @@
-use Rattle.std.proofs.Common.{[], ◌++◌, ap, sym, ◌∙◌, subst}
+use Rattle.std.proofs.Common.{◌++◌, ap, sym, ◌∙◌, subst}
 use Rattle.std.proofs.lemmas.Result.{err_from_is_err_and}
 use Rattle.wast_nodes.specs.Sites.{OfItem, in_func_kind}
 use Rattle.wast_base.specs.Filling.{RunsOut}
 use Rattle.wast_types.specs.NeedingUses.{needed_in}
 use Rattle.wast_types.specs.Expanders.{LookUp, index_of, with_more}
 use Rattle.wast_types.specs.Expanded.{bindings, bound_use}
-use Rattle.wast_types.specs.Binding.{no_use, state, new_types, next_after}
+use Rattle.wast_types.specs.Binding.{no_use, new_types, next_after}
 use Rattle.wast_types.proofs.Adding.{adds_as, adds_both, count_then, more_then}
 use Rattle.wast_types.proofs.Needing.{needed_func, bound_kind_anywhere}
 use Rattle.wast_types.proofs.binding.FuncBind.bind.Goals as goal
@@ -14,13 +14,13 @@ pub returns-in_err-bind-2-clause-refusal : goal.returns-in_err-bind-2-clause-ref
 returns-in_err-bind-2-clause-refusal c =
     let p = err_from_is_err_and c.from_residual-in_err-bind-2.result c.from_residual-in_err-bind-2.ensures.1 in
     rw (p.1, p.2) (subst (λ n. RunsOut n c.in_err-bind-2.field-0.0)
-    (sym (ap (next_after (state c.args.cx.now c.args.implied.now c.args.gensym.now)) (needed_func c.args.self.now) ∙ count_then c.in_ok-bind.ensures.adds (needed_in (in_func_kind no_use c.args.self.now.kind))))
+    (sym (ap (next_after c.args.binder.now) (needed_func c.args.self.now) ∙ count_then c.in_ok-bind.ensures.adds (needed_in (in_func_kind no_use c.args.self.now.kind))))
     c.in_err-bind-2.ensures.refusal)
 
 pub returns-clause-bound : goal.returns-clause-bound
 returns-clause-bound c = λ more i. record c.args.self.now {
-  kind = (c.in_ok-bind-2.ensures.bound more ∙ sym (bound_kind_anywhere (with_more (index_of c.bind-2.new.cx) more) c.args.self.now.ty c.args.self.now.kind)) i;
-  ty = (c.in_ok-bind.ensures.bound (bindings (new_types (state c.bind.new.cx c.bind.new.implied c.bind.new.gensym) (needed_in (in_func_kind no_use c.args.self.now.kind))) ++ more)
+  kind = (c.in_ok-bind-2.ensures.bound more ∙ sym (bound_kind_anywhere (with_more (index_of c.bind-2.new.binder.cx) more) c.args.self.now.ty c.args.self.now.kind)) i;
+  ty = (c.in_ok-bind.ensures.bound (bindings (new_types c.bind.new.binder (needed_in (in_func_kind no_use c.args.self.now.kind))) ++ more)
       ∙ ap (λ (find : LookUp). bound_use find OfItem c.args.self.now.ty) (sym (more_then c.in_ok-bind-2.ensures.adds more))) i;
 }
 

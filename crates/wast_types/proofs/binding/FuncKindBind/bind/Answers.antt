@@ -1,4 +1,4 @@
-use Rattle.std.proofs.Common.{[], ap, sym, ◌∙◌, subst}
+use Rattle.std.proofs.Common.{ap, sym, ◌∙◌, subst}
 use Rattle.std.proofs.lemmas.Result.{err_from_is_err_and}
 use Rattle.wast_nodes.specs.Sites.{in_func_kind}
 use Rattle.wast_base.specs.Filling.{RunsOut}
@@ -8,7 +8,7 @@ use Rattle.wast_types.specs.Tree.func
 use Rattle.wast_types.specs.NeedingUses.{needed_in}
 use Rattle.wast_types.specs.Expanders.{index_of, with_more}
 use Rattle.wast_types.specs.Expanded.{binding}
-use Rattle.wast_types.specs.Binding.{no_use, state, next_after}
+use Rattle.wast_types.specs.Binding.{no_use, next_after}
 use Rattle.wast_types.proofs.Adding.{adds_as}
 use Rattle.wast_types.proofs.Needing.{needed_inline, inline_bound}
 use Rattle.wast_types.proofs.binding.FuncKindBind.bind.Goals as goal
@@ -16,13 +16,13 @@ use Rattle.wast_types.proofs.binding.FuncKindBind.bind.Goals as goal
 pub returns-in_err-bind-in-Inline-clause-refusal : goal.returns-in_err-bind-in-Inline-clause-refusal
 returns-in_err-bind-in-Inline-clause-refusal c =
     let p = err_from_is_err_and c.from_residual.result c.from_residual.ensures.1 in
-    rw (p.1, p.2) (subst (λ ss. RunsOut (next_after (state c.args.cx.now c.args.implied.now c.args.gensym.now) ss) c.in_err-bind-in-Inline.field-0.0)
+    rw (p.1, p.2) (subst (λ ss. RunsOut (next_after c.args.binder.now ss) c.in_err-bind-in-Inline.field-0.0)
     (sym (ap (λ k. needed_in (in_func_kind no_use k)) c.in-Inline.is ∙ needed_inline no_use c.in-Inline.locals c.in-Inline.expression)) c.in_err-bind-in-Inline.ensures.refusal)
 
 pub returns-in_ok-bind-in-Inline-clause-bound : goal.returns-in_ok-bind-in-Inline-clause-bound
 returns-in_ok-bind-in-Inline-clause-bound c = λ more.
     ap (λ (e : Expression). func.Inline c.in-Inline.locals e) (c.in_ok-bind-in-Inline.ensures.bound more)
-    ∙ (sym (inline_bound (with_more (index_of c.bind.new.cx) more) no_use c.in-Inline.locals c.in-Inline.expression) ∙ sym (ap (mapped_func_kind (binding (with_more (index_of c.bind.new.cx) more)) no_use) c.in-Inline.is))
+    ∙ (sym (inline_bound (with_more (index_of c.bind.new.binder.cx) more) no_use c.in-Inline.locals c.in-Inline.expression) ∙ sym (ap (mapped_func_kind (binding (with_more (index_of c.bind.new.binder.cx) more)) no_use) c.in-Inline.is))
 
 pub returns-in_ok-bind-in-Inline-clause-adds : goal.returns-in_ok-bind-in-Inline-clause-adds
 returns-in_ok-bind-in-Inline-clause-adds c =

@@ -1,4 +1,4 @@
-use Rattle.std.proofs.Common.{List, ap, sym, ◌∙◌, subst}
+use Rattle.std.proofs.Common.{ap, sym, ◌∙◌, subst}
 use Rattle.std.proofs.lemmas.Result.{err_from_is_err_and}
 use Rattle.wast_base.specs.Filling.{RunsOut}
 use Rattle.wast_types.specs.Tree.form
@@ -6,7 +6,7 @@ use Rattle.wast_types.specs.Tree.import_items
 use Rattle.wast_types.specs.Tree.{ItemSig}
 use Rattle.wast_nodes.specs.Sites.{in_sig, in_import, uncovered}
 use Rattle.wast_map.specs.Mapped.{mapped_import_items}
-use Rattle.wast_types.specs.Binding.{state, next_after}
+use Rattle.wast_types.specs.Binding.{next_after}
 use Rattle.wast_types.specs.Expanders.{index_of, with_more}
 use Rattle.wast_types.specs.Expanded.{binding}
 use Rattle.wast_types.specs.NeedingUses.{needed_in}
@@ -16,11 +16,11 @@ use Rattle.wast_types.proofs.binding.ImportItemsBind.bind.Goals as goal
 
 pub returns-in_ok-bind-in-Single-clause-bound : goal.returns-in_ok-bind-in-Single-clause-bound
 returns-in_ok-bind-in-Single-clause-bound c = λ more.
-    ap (λ (s : ItemSig). import_items.Single c.in-Single.«module» c.in-Single.name s) (c.in_ok-bind-in-Single.ensures.bound more) ∙ sym (ap (mapped_import_items (binding (with_more (index_of c.bind.new.cx) more))) c.in-Single.is)
+    ap (λ (s : ItemSig). import_items.Single c.in-Single.«module» c.in-Single.name s) (c.in_ok-bind-in-Single.ensures.bound more) ∙ sym (ap (mapped_import_items (binding (with_more (index_of c.bind.new.binder.cx) more))) c.in-Single.is)
 
 pub returns-in_ok-bind_each-in-Group1-clause-bound : goal.returns-in_ok-bind_each-in-Group1-clause-bound
 returns-in_ok-bind_each-in-Group1-clause-bound c = λ more.
-    ap (λ items. import_items.Group1 c.in-Group1.«module» items) (c.in_ok-bind_each-in-Group1.ensures.bound more) ∙ sym (ap (mapped_import_items (binding (with_more (index_of c.bind_each.new.cx) more))) c.in-Group1.is)
+    ap (λ items. import_items.Group1 c.in-Group1.«module» items) (c.in_ok-bind_each-in-Group1.ensures.bound more) ∙ sym (ap (mapped_import_items (binding (with_more (index_of c.bind_each.new.binder.cx) more))) c.in-Group1.is)
 
 pub returns-in_ok-bind_each-in-Group1-clause-adds : goal.returns-in_ok-bind_each-in-Group1-clause-adds
 returns-in_ok-bind_each-in-Group1-clause-adds c =
@@ -29,12 +29,12 @@ returns-in_ok-bind_each-in-Group1-clause-adds c =
 pub returns-in_err-bind_each-in-Group1-clause-refusal : goal.returns-in_err-bind_each-in-Group1-clause-refusal
 returns-in_err-bind_each-in-Group1-clause-refusal c =
     let p = err_from_is_err_and c.from_residual-in_err-bind_each-in-Group1.result c.from_residual-in_err-bind_each-in-Group1.ensures.1 in
-    rw (p.1, p.2) (subst (λ ss. RunsOut (next_after (state c.args.cx.now c.args.implied.now c.args.gensym.now) ss) c.in_err-bind_each-in-Group1.field-0.0)
+    rw (p.1, p.2) (subst (λ ss. RunsOut (next_after c.args.binder.now ss) c.in_err-bind_each-in-Group1.field-0.0)
     (sym (ap (λ i. needed_in (in_import i)) c.in-Group1.is ∙ needed_group c.in-Group1.items)) c.in_err-bind_each-in-Group1.ensures.refusal)
 
 pub returns-in_ok-bind-in-Group2-clause-bound : goal.returns-in_ok-bind-in-Group2-clause-bound
 returns-in_ok-bind-in-Group2-clause-bound c = λ more.
-    ap (λ (s : ItemSig). import_items.Group2 c.in-Group2.«module» s c.in-Group2.items) (c.in_ok-bind-in-Group2.ensures.bound more) ∙ sym (ap (mapped_import_items (binding (with_more (index_of c.bind-in-Group2.new.cx) more))) c.in-Group2.is)
+    ap (λ (s : ItemSig). import_items.Group2 c.in-Group2.«module» s c.in-Group2.items) (c.in_ok-bind-in-Group2.ensures.bound more) ∙ sym (ap (mapped_import_items (binding (with_more (index_of c.bind-in-Group2.new.binder.cx) more))) c.in-Group2.is)
 
 pub returns-in_ok-bind-in-Group2-clause-adds : goal.returns-in_ok-bind-in-Group2-clause-adds
 returns-in_ok-bind-in-Group2-clause-adds c =
@@ -43,5 +43,5 @@ returns-in_ok-bind-in-Group2-clause-adds c =
 pub returns-in_err-bind-in-Group2-clause-refusal : goal.returns-in_err-bind-in-Group2-clause-refusal
 returns-in_err-bind-in-Group2-clause-refusal c =
     let p = err_from_is_err_and c.from_residual-in_err-bind-in-Group2.result c.from_residual-in_err-bind-in-Group2.ensures.1 in
-    rw (p.1, p.2) (subst (λ ss. RunsOut (next_after (state c.args.cx.now c.args.implied.now c.args.gensym.now) ss) c.in_err-bind-in-Group2.field-0.0)
+    rw (p.1, p.2) (subst (λ ss. RunsOut (next_after c.args.binder.now ss) c.in_err-bind-in-Group2.field-0.0)
     (sym (ap (λ i. needed_in (in_import i)) c.in-Group2.is ∙ needed_besides (in_sig c.in-Group2.sig) (uncovered form.CompactImports))) c.in_err-bind-in-Group2.ensures.refusal)

@@ -10,8 +10,8 @@ use Rattle.wast_types.proofs.binding.TryTableBind.bind.Goals as goal
 
 pub returns-clause-bound : goal.returns-clause-bound
 returns-clause-bound c = λ more t. record {
-  block = (c.in_ok-bind.ensures.bound more ∙ ap (mapped_block (binding (with_more (index_of c.bind.new.cx) more))) c.get_mut.ensures.value) t;
-  catches = sym (catches_stay (with_more (index_of c.bind.new.cx) more) [] c.args.self.now.catches) t;
+  block = (c.in_ok-bind.ensures.bound more ∙ ap (mapped_block (binding (with_more (index_of c.bind.new.binder.cx) more))) c.get_mut.ensures.value) t;
+  catches = sym (catches_stay (with_more (index_of c.bind.new.binder.cx) more) [] c.args.self.now.catches) t;
 }
 
 pub returns-clause-adds : goal.returns-clause-adds

@@ -6,4 +6,4 @@ use Rattle.wast_types.specs.Expanded.{binding}
 use Rattle.wast_types.proofs.constants.GlobalKindBind.bind.Goals as goal
 
 pub returns-in_ok-bind-in-Inline-clause-bound : goal.returns-in_ok-bind-in-Inline-clause-bound
-returns-in_ok-bind-in-Inline-clause-bound c = λ more. ap global.Inline (c.in_ok-bind-in-Inline.ensures.bound more) ∙ sym (ap (mapped_global_kind (binding (with_more (index_of c.bind.new.cx) more))) c.in-Inline.is)
+returns-in_ok-bind-in-Inline-clause-bound c = λ more. ap global.Inline (c.in_ok-bind-in-Inline.ensures.bound more) ∙ sym (ap (mapped_global_kind (binding (with_more (index_of c.bind.new.binder.cx) more))) c.in-Inline.is)

@@ -8,4 +8,4 @@ use Rattle.wast_types.proofs.constants.OptionExpressionBind.bind.Goals as goal
 
 pub returns-in_ok-bind-in-Some-clause-bound : goal.returns-in_ok-bind-in-Some-clause-bound
 returns-in_ok-bind-in-Some-clause-bound c = λ more.
-    ap Some (c.in_ok-bind-in-Some.ensures.bound more) ∙ sym (ap (λ (o : Option Expression). option_map (mapped_constant (binding (with_more (index_of c.bind.new.cx) more))) o) c.in-Some.is)
+    ap Some (c.in_ok-bind-in-Some.ensures.bound more) ∙ sym (ap (λ (o : Option Expression). option_map (mapped_constant (binding (with_more (index_of c.bind.new.binder.cx) more))) o) c.in-Some.is)
