@@ -6,13 +6,13 @@ use Rattle.std.specs.List.{flat_map, list_all}
 use Rattle.wast_base.specs.Ids.{is_number}
 use Rattle.wast_nodes.specs.Clauses.{hints_stand, suits}
 use Rattle.wast_nodes.specs.Types.{says_enough}
-use Rattle.wast_nodes.specs.Sites.{Ask, Wants, Within, Unasked, Clause, Covered, OfItem, OfCall, Site, Asked, Used, Declared, LocalAt, FieldAt, LabelAt, start, asking, if_there, at_index, in_type, in_rec, in_ref, in_type_use, in_use, in_indirect, in_local, in_func, in_func_kind, in_expression, in_table_type, in_global_type, in_tag_type, in_import, in_constant, in_payload, in_table_kind, in_memory_kind, in_global_kind, in_global, in_elem_kind, in_elem, in_data_kind, in_field, in_module, asked_in, asked}
+use Rattle.wast_nodes.specs.Sites.{Ask, Wants, Within, Unasked, Clause, Covered, OfItem, OfCall, Site, Asked, Used, Declared, LocalAt, FieldAt, LabelAt, start, asking, if_there, at_index, in_type, in_rec, in_ref, in_type_use, in_use, in_indirect, in_local, in_func, in_func_kind, in_expression, in_table_type, in_global_type, in_tag_type, in_import, in_constant, in_payload, in_table_kind, in_global_kind, in_global, in_elem_kind, in_elem, in_data_kind, in_field, in_module, asked_in, asked}
 use Rattle.wast_nodes.specs.Known.{Known}
 use Rattle.wast_nodes.specs.WellFormed.{is_kept, are_kept}
 use Rattle.wast_nodes.specs.Uncovered.{is_covered_ask, uncovered_in, uncovered_forms, first}
 use Rattle.wast_nodes.specs.Resolved.{is_numbered, are_numbered, is_resolved_site, is_resolved}
-use Rattle.wast_nodes.specs.WrittenOut.{exports_nothing, is_written_func, is_written_table, is_written_memory, is_written_global, is_written_field, is_written_out}
-use Rattle.wast_conv.specs.Tree.{Index, Space, CallIndirect, TypeUse, FunctionType, Expression, Rec, Imports, FuncKind, Func, TableKind, Table, Memory, GlobalKind, Global, Export, ElemKind, ElemPayload, Elem, DataKind, Data, Tag, ModuleField}
+use Rattle.wast_nodes.specs.WrittenOut.{exports_nothing, is_written_func, is_written_table, is_written_global, is_written_field, is_written_out}
+use Rattle.wast_conv.specs.Tree.{Index, Space, CallIndirect, TypeUse, FunctionType, Expression, Rec, Imports, FuncKind, Func, TableKind, Table, Memory, GlobalKind, Global, ElemKind, ElemPayload, Elem, DataKind, Data, Tag, ModuleField}
 use Rattle.wast_conv.specs.Tree.space
 use Rattle.wast_conv.specs.Tree.ty
 use Rattle.wast_conv.specs.Tree.func
@@ -22,7 +22,7 @@ use Rattle.wast_conv.specs.Tree.elem
 use Rattle.wast_conv.specs.Tree.payload
 use Rattle.wast_conv.specs.Tree.data_kind
 use Rattle.wast_conv.specs.Tree.field
-use Rattle.wast_conv.specs.Encodable.{is_encodable_ask, are_encodable, is_encodable_site, encodable, is_entered_site, are_entered, is_number_if, is_encodable_code, is_encodable_expression, is_encodable_type, is_encodable_type_use, is_encodable_kind, is_encodable_import, is_encodable_init, is_encodable_table_kind, is_encodable_table, is_encodable_memory, is_encodable_global_kind, is_encodable_global, is_encodable_tag, is_encodable_elem_kind, is_encodable_payload, is_encodable_elem, is_encodable_data_kind, is_encodable_data, is_encodable_field, is_encodable, is_met, is_at_rest, are_resolved}
+use Rattle.wast_conv.specs.Encodable.{is_encodable_ask, are_encodable, is_encodable_site, encodable, is_entered_site, are_entered, is_number_if, is_encodable_code, is_encodable_expression, is_encodable_type, is_encodable_type_use, is_encodable_kind, is_encodable_import, is_encodable_init, is_encodable_table_kind, is_encodable_table, is_encodable_global_kind, is_encodable_global, is_encodable_tag, is_encodable_elem_kind, is_encodable_payload, is_encodable_elem, is_encodable_data_kind, is_encodable_data, is_encodable_field, is_encodable, is_met, is_at_rest, are_resolved}
 use Rattle.wast_conv.specs.Hints.{are_encodable_hints}
 use Rattle.wast_conv.proofs.EachPasses.{both_pass, both_true, both_lists, each_passes, each_by, each_then}
 use Rattle.wast_conv.proofs.Standing.{asking_passes, asked_then, encodable_at, code_ready, code_hinted, constant_ready, body_tells}
@@ -199,9 +199,6 @@ table_ready t e =
     let both = first_and_last (encodable (in_table_kind t.kind)) (exports_nothing t.exports) (is_written_table t.kind) e in
     table_kind_ready t.kind both.0 both.1
 
-pub memory_ready : (m : Memory) → is_encodable_field (field.Memory m) ≡ true → is_encodable_memory m ≡ true
-memory_ready m e = (first_and_last (encodable (in_memory_kind m.kind)) (exports_nothing m.exports) (is_written_memory m.kind) e).1
-
 global_kind_ready : (k : GlobalKind) → encodable (in_global_kind k) ≡ true → is_written_global k ≡ true → is_encodable_global_kind k ≡ true
 global_kind_ready (global.Import import) e written = written
 global_kind_ready (global.Inline x) e written = constant_ready x e
@@ -211,12 +208,6 @@ global_ready g e =
     let both = first_and_last (encodable (in_global g)) (exports_nothing g.exports) (is_written_global g.kind) e in
     let parts = asked_then (in_global_type g.ty) (in_global_kind g.kind) both.0 in
     both_true (are_encodable (in_global_type g.ty)) (is_encodable_global_kind g.kind) parts.0 (global_kind_ready g.kind parts.1 both.1)
-
-pub export_ready : (x : Export) → is_encodable_field (field.Export x) ≡ true → is_number x.item ≡ true
-export_ready x e = (both_pass (is_number x.item) true (both_pass (encodable (in_field (field.Export x))) true e).0).0
-
-pub start_ready : (i : Index) → is_encodable_field (field.Start i) ≡ true → is_number i ≡ true
-start_ready i e = (both_pass (is_number i) true (both_pass (encodable (in_field (field.Start i))) true e).0).0
 
 -- what a segment fills, and from where on
 number_ready : (s : Space) (o : Option Index) → encodable (if_there (at_index s) o) ≡ true → is_number_if o ≡ true

@@ -95,14 +95,6 @@ module _ {S : Type 0} {act : Change → S → S} {joint : Change → Change → 
       still = a.still;
     }
 
-    -- and before it
-    pub behind_at : (x : T) (sites : List S) → ((f : Change) → map (act f) sites ≡ sites) → Lawful act joint s m x → Lawful act joint (λ y. sites ++ s y) m x
-    behind_at x sites stays a = record {
-      stands = λ f k. ap (λ z. sites ++ z) (a.stands f k) ∙ (ap (λ z. z ++ map (act f) (s x)) (sym (stays f)) ∙ sym (map-append (act f) sites (s x)));
-      joins = λ h g f j e. a.joins h g f j (each_rest (joint h g f) sites (s x) e);
-      still = a.still;
-    }
-
     -- an optional part, and each of a list
     pub option_at : ((x : T) → Lawful act joint s m x) → (o : Option T) → Lawful act joint (if_there s) (λ f o. option_map (m f) o) o
     option_at one None = record { stands = λ f k. refl; joins = λ h g f j e. refl; still = refl }

@@ -68,10 +68,6 @@ pub one_named : (es : List (ℕ × List ℕ)) → nat_lt 0 (length es) ≡ true 
 one_named [] some = absurd cc
 one_named (e ∷ es) some = refl
 
-pub not_named : (es : List (ℕ × List ℕ)) → nat_lt 0 (length es) ≡ false → 0 ≡ counted (length (named_from 0 (where_named es ∷ [])))
-not_named [] none = refl
-not_named (e ∷ es) none = absurd (omega (arith, ltb-false 0 (length (e ∷ es)) none))
-
 pub either_named : (xs ys : List (Option (List ℕ))) (first : ℕ) → (nat_lt 0 (length (named_from 0 xs)) || nat_lt 0 (length (named_from 0 ys))) ≡ nat_lt 0 (length (named_from 0 xs ++ named_from first ys))
 either_named xs ys first =
     let a = length (named_from 0 xs) in

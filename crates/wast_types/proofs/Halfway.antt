@@ -1,9 +1,9 @@
 -- Uses are bound in each part of a list, in its place.
-use Rattle.std.proofs.Common.{◌≡◌, ℕ, suc, ◌+◌, ◌<◌, ◌≤◌, List, [], ◌∷◌, ◌++◌, sym, ◌∙◌, ap, length, map, get_or, drop, take, arith, add-one, subst, append_assoc, refl}
+use Rattle.std.proofs.Common.{◌≡◌, ℕ, suc, ◌+◌, ◌<◌, List, [], ◌∷◌, ◌++◌, sym, ◌∙◌, ap, length, map, get_or, drop, take, arith, add-one, subst, append_assoc, refl}
 use Rattle.std.proofs.Math.ListN.{set, length-set}
 use Rattle.std.proofs.Math.Seq.{drop-cons, take-suc}
 use Rattle.std.specs.Prelude.{flat_map}
-use Rattle.std.proofs.lemmas.List.{append-nil, drop-drop, drop-set-lt, take_more_set, take-append-drop, take_all, map-append}
+use Rattle.std.proofs.lemmas.List.{append-nil, drop-drop, drop-set-lt, take_more_set, take-append-drop, map-append}
 use Rattle.std.proofs.lemmas.Grind.{flat_map-append}
 use Rattle.wast_base.specs.declared.faults.Error.{Error}
 use Rattle.wast_types.specs.Signatures.{Signature}
@@ -67,13 +67,6 @@ module _ {X : Type 0} {needed : X → List Signature} {bound : LookUp → X → 
         let here : next_after a (flat_map needed (take i olds) ++ needed x) ≡ next_after b (needed x) = count_then h.adds (needed x) in
         let all : next_after a (flat_map needed olds) ≡ next_after a ((flat_map needed (take i olds) ++ needed x) ++ flat_map needed (drop (suc i) olds)) = ap (next_after a) needed_all in
         less_runs_out _ _ e (omega (arith, here, all, first_after a (flat_map needed (take i olds) ++ needed x) (flat_map needed (drop (suc i) olds)))) out
-
-  -- all parts
-  pub adds_all : length olds ≤ i → AddsTypes a b (flat_map needed olds)
-  adds_all le = subst (λ xs. AddsTypes a b (flat_map needed xs)) (take_all i olds le) h.adds
-
-  pub become_all : length olds ≤ i → (more : BoundSignatures) → nows ≡ map (bound (with_more (index_of b.cx) more)) olds
-  become_all le more = sym (take_all i nows (omega (arith, h.len))) ∙ (h.become more ∙ ap (map (bound (with_more (index_of b.cx) more))) (take_all i olds le))
 
 -- none yet
 pub starts : {X : Type 0} (needed : X → List Signature) (bound : LookUp → X → X) (olds : List X) (a : Binder) → IsHalfway needed bound olds olds 0 a a

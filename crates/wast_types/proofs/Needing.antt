@@ -17,13 +17,13 @@ use Rattle.wast_types.specs.Tree.ty
 use Rattle.wast_types.specs.Tree.instr
 use Rattle.wast_types.specs.Tree.func
 use Rattle.wast_types.specs.Tree.field
-use Rattle.wast_map.specs.Mapped.{mapped_select, mapped_catch, mapped_br_table, mapped_instr, mapped_instrs, mapped_expression, mapped_constant, mapped_local, mapped_func_kind, mapped_handle, mapped_handlers}
+use Rattle.wast_map.specs.Mapped.{mapped_select, mapped_catch, mapped_instr, mapped_instrs, mapped_expression, mapped_constant, mapped_local, mapped_func_kind, mapped_handle, mapped_handlers}
 use Rattle.wast_map.proofs.Types.{val_at}
 use Rattle.wast_map.proofs.Fields.{select_at, caught_at}
 use Rattle.wast_types.specs.Signatures.{Signature, signature_of}
-use Rattle.wast_types.specs.NeedingUses.{inline_signature, needed_if, needed_without, needed_at, needed_in}
+use Rattle.wast_types.specs.NeedingUses.{needed_at, needed_in}
 use Rattle.wast_types.specs.Expanders.{LookUp}
-use Rattle.wast_types.specs.Expanded.{def_of, start_of_text, bound_if, bound_inline, bound_use, binding}
+use Rattle.wast_types.specs.Expanded.{def_of, start_of_text, bound_if, bound_use, binding}
 use Rattle.wast_types.specs.Binding.{no_use, wants_type}
 
 -- What is needed in parts that stand one after the other, and in each of a list.
@@ -153,10 +153,6 @@ module _ (find : LookUp) where
   labels_stay [] = refl
   labels_stay (l ∷ ls) = λ t. l ∷ labels_stay ls t
 
-  -- and of a choice of labels nothing
-  pub br_table_stays : (t : BrTableIndices) → mapped_br_table (binding find) [] t ≡ t
-  br_table_stays t = λ r. record { labels = labels_stay t.labels r; default = t.default }
-
   bound_anywhere : (h : Here) (i : Instruction) → mapped_instr (binding find) h i ≡ mapped_instr (binding find) start i
   bound_anywhere h (instr.call f) = refl
   bound_anywhere h i = refl
@@ -186,20 +182,6 @@ module _ (find : LookUp) where
   block_wants (Some j) inline h = absurd cc
   block_wants None None h = absurd cc
   block_wants None (Some t) h = ap (λ b. record { index = bound_if b (find (signature_of t)); inline = Some t }) h
-
-  pub block_rests : (i : Option Index) (inline : Option FunctionType) → wants_type i inline ≡ false
-      → bound_use find OfBlock (record { index = i; inline = inline }) ≡ record { index = i; inline = bound_inline OfBlock i inline }
-  block_rests (Some j) inline h = refl
-  block_rests None None h = refl
-  block_rests None (Some t) h = ap (λ b. record { index = bound_if b (find (signature_of t)); inline = Some t }) h
-
-pub wanted_is : (i : Option Index) (inline : Option FunctionType) → wants_type i inline ≡ true → needed_without OfBlock i inline ≡ needed_without OfItem i inline
-wanted_is (Some j) inline h = refl
-wanted_is None inline h = ap (λ b. needed_if b (inline_signature inline)) h
-
-pub unwanted_is : (i : Option Index) (inline : Option FunctionType) → wants_type i inline ≡ false → needed_without OfBlock i inline ≡ []
-unwanted_is (Some j) inline h = refl
-unwanted_is None inline h = ap (λ b. needed_if b (inline_signature inline)) h
 
 -- No type needs another.
 pub ty_none : (t : ty.«Type») → needed_in (in_field (field.Ty t)) ≡ []
