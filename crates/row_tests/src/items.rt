@@ -1,7 +1,6 @@
 //! Items of sections: the payload of a section that holds one item, and the item in a sink.
 
 ghost use Rattle.std.specs.Prelude.{IsTrue};
-ghost use Rattle.std.specs.List.{list_all};
 ghost use Rattle.wast_conv.specs.Encodable.{is_encodable_type, is_encodable_type_use, is_encodable_import, is_encodable_table, is_encodable_memory, is_encodable_global, is_encodable_tag, is_encodable_elem, is_encodable_data};
 
 use crate::made::at;

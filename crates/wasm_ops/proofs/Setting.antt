@@ -1,5 +1,5 @@
 -- A number's bytes in the place of one byte, digit by digit.
-use Rattle.std.proofs.Common.{◌≡◌, ◌≤◌, ◌<◌, ◌+◌, ◌/◌, ◌%◌, ℕ, suc, List, [], ◌∷◌, ◌++◌, take, drop, get_or, set, length, refl, sym, ap, ◌∙◌, append_assoc, add-one, arith, drop-cons}
+use Rattle.std.proofs.Common.{◌≡◌, ◌≤◌, ◌<◌, ◌+◌, ◌/◌, ◌%◌, ℕ, List, [], ◌∷◌, ◌++◌, take, drop, get_or, set, length, sym, ap, ◌∙◌, append_assoc, add-one, arith, drop-cons}
 use Rattle.std.specs.List.{insert}
 use Rattle.std.proofs.lemmas.List.{length-take-le, set_split}
 use Rattle.std.proofs.Math.Seq.{take-append-add, drop-append-add}

@@ -1,8 +1,8 @@
 //! Tests and casts of references, branches on casts, and fences.
 
-ghost use Rattle.std.specs.Prelude.{◌≡◌, ◌&&◌, true};
+ghost use Rattle.std.specs.Prelude.{◌≡◌, ◌&&◌};
 ghost use Rattle.wasm_ops.specs.CastInstrs.{cast_key, cast_instr, br_cast_key, br_cast_instr, fence_instr, nullables};
-ghost use Rattle.wasm_ops.specs.Covered.{is_covered_heap_type, is_covered_ref_type};
+ghost use Rattle.wasm_ops.specs.Covered.{is_covered_ref_type};
 ghost use Rattle.wasm_ops.specs.Memargs.{is_covered_ordering};
 ghost use Rattle.wasm_ops.specs.Opcodes.{opcode_of};
 ghost use Rattle.wasm_ops.specs.Table.{instr, InRangeInstr};

@@ -11,6 +11,7 @@ mod instr_sink;
 mod instrs;
 mod laws;
 mod leb128;
+mod lengths;
 mod memargs;
 mod opcodes;
 mod ref_types;
@@ -34,6 +35,7 @@ pub use instrs::{
 };
 pub use laws::{instruction_law, signed_law, type_spelling_law, unsigned_law};
 pub use leb128::{width, write_s32, write_s33, write_s64, write_u32, write_u64};
+pub use lengths::whole_size;
 pub use memargs::{MemArg, MemArgOrdering, MemArgTarget, Ordering};
 pub use opcodes::Opcode;
 pub use ref_types::{AbstractHeapType, HeapType, RefType};

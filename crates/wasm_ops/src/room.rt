@@ -1,6 +1,6 @@
 //! Room for bytes, reserved beforehand.
 
-ghost use Rattle.std.specs.Prelude.{◌≡◌, ◌≤◌, ◌+◌, ℕ, [], ◌++◌, length, vec_len, vec_capacity, IfOk, IfErr};
+ghost use Rattle.std.specs.Prelude.{◌≡◌, ◌≤◌, ◌+◌, [], ◌++◌, length, vec_len, vec_capacity, IfOk, IfErr};
 ghost use Rattle.wast_base.specs.Faults.{out_of_memory};
 ghost use Rattle.wasm_ops.specs.Leb128.{unsigned};
 ghost use Rattle.wasm_ops.specs.Rooms as rooms;

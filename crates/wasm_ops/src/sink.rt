@@ -1,6 +1,6 @@
 //! What takes bytes: a vector of them, a count, or room that was reserved.
 
-ghost use Rattle.std.specs.Prelude.{◌≡◌, ◌≤◌, ◌<◌, ◌+◌, ◌^◌, ℕ, List, ◌++◌, take, length};
+ghost use Rattle.std.specs.Prelude.{◌≡◌, ◌≤◌, ◌<◌, ◌+◌, ◌^◌, ℕ, ◌++◌, take, length};
 ghost use Rattle.wasm_ops.specs.Leb128.{unsigned};
 ghost use Rattle.wasm_ops.specs.SinkLaws as laws;
 ghost use Rattle.wasm_ops.specs.Sinks.{SinkRules, Writes, Puts, Skips, Sets, AppendLaws, refused_as};

@@ -1,6 +1,6 @@
 //! Segments of data, and the section that holds them.
 
-ghost use Rattle.std.specs.Prelude.{◌≡◌, ◌&&◌, ◌+◌, length, IsTrue};
+ghost use Rattle.std.specs.Prelude.{◌&&◌, ◌+◌, length, IsTrue};
 ghost use Rattle.wasm_ops.specs.Sinks.{Writes};
 ghost use Rattle.wasm_ops.specs.Spelling.{InRangeU32, InRangeSized};
 ghost use Rattle.wasm_out.specs.Built.{Adds};

@@ -1,6 +1,6 @@
 //! Segments of elements, and the section that holds them.
 
-ghost use Rattle.std.specs.Prelude.{◌≡◌, ◌&&◌, ◌+◌, IsTrue};
+ghost use Rattle.std.specs.Prelude.{◌&&◌, ◌+◌, IsTrue};
 ghost use Rattle.wasm_ops.specs.Covered.{is_covered_ref_type};
 ghost use Rattle.wasm_ops.specs.Sinks.{Writes};
 ghost use Rattle.wasm_ops.specs.Spelling.{InRangeU32, InRangeRefType};

@@ -1,10 +1,10 @@
 //! The sections of imports, tables, memories, tags and globals.
 
-ghost use Rattle.std.specs.Prelude.{◌≡◌, ◌+◌, ◌∷◌, ◌++◌, [], IsTrue};
+ghost use Rattle.std.specs.Prelude.{◌+◌, ◌∷◌, ◌++◌, [], IsTrue};
 ghost use Rattle.wasm_ops.specs.Entities.{table_type, InRangeTableType, is_covered_table_type, memory_type, InRangeMemoryType, is_covered_memory_type, global_type, InRangeGlobalType, is_covered_global_type, tag_type, InRangeTagType, is_covered_tag_type, is_covered_entity_type};
 ghost use Rattle.wasm_ops.specs.Spelling.{InRangeU32};
 ghost use Rattle.wasm_out.specs.Built.{Adds};
-ghost use Rattle.wasm_out.specs.Parts.{section_id, import_entry, InRangeImport};
+ghost use Rattle.wasm_out.specs.Parts.{import_entry, InRangeImport};
 ghost use Rattle.wasm_out.specs.Parts as parts;
 
 use crate::builders::{ListKind, ListSection};

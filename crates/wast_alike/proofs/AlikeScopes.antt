@@ -14,7 +14,7 @@ use Rattle.wast_nodes.specs.Known.{known}
 use Rattle.wast_nodes.specs.Types.{types_of}
 use Rattle.wast_nodes.specs.Sites.{Ask, Wants, Within, Covered, Site, Asked, Used, LocalAt, FieldAt, if_there, in_index, in_signature, in_inner, in_descriptor, in_type, in_rec, in_type_use, in_func_kind, asked_in, in_field, in_module, asked}
 use Rattle.wast_nodes.proofs.Asking.{asked_both, asked_asking}
-use Rattle.wast_types.specs.Signatures.{Signature, signature_of}
+use Rattle.wast_types.specs.Signatures.{signature_of}
 use Rattle.wast_alike.specs.Tree.{Index, Space, FunctionType, InnerTypeKind, ModuleField}
 use Rattle.wast_alike.specs.Tree.index
 use Rattle.wast_alike.specs.Tree.space

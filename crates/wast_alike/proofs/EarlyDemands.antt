@@ -11,7 +11,7 @@ use Rattle.wast_nodes.specs.Items.{Item, item, items_in, items}
 use Rattle.wast_nodes.specs.Known.{names_in}
 use Rattle.wast_nodes.specs.Sites.{in_module}
 use Rattle.wast_nodes.proofs.Bearing.{borne_by_both}
-use Rattle.wast_deinline.specs.WriteOut.{Reference, export_of, exports_of, elem_in, data_in, func_alone, table_alone, memory_alone, global_alone, tag_alone, write_out}
+use Rattle.wast_deinline.specs.WriteOut.{Reference, export_of, elem_in, data_in, func_alone, table_alone, memory_alone, global_alone, tag_alone, write_out}
 use Rattle.wast_deinline.specs.Referring.{by_position}
 use Rattle.wast_deinline.specs.Written.{written_after, written_out}
 use Rattle.wast_deinline.proofs.WrittenItems.{same_after}

@@ -1,8 +1,7 @@
 -- The blocks that are open where an instruction stands are those that counting openers and closers gives.
-use Rattle.std.proofs.Common.{◌≡◌, List, [], ◌∷◌, ◌++◌, refl, sym, ap, ◌∙◌}
+use Rattle.std.proofs.Common.{◌≡◌, List, [], ◌∷◌, ◌++◌, refl, ap, ◌∙◌}
 use Rattle.std.specs.List.{flat_map}
 use Rattle.wast_base.specs.Ids.{marked}
-use Rattle.wast_base.specs.Blocks.{Blocks}
 use Rattle.wast_labels.specs.Laws.{WalksAsCounted}
 use Rattle.wast_labels.specs.Turns.{after, walked}
 use Rattle.wast_nodes.specs.Instrs.{turn_of, turns}

@@ -1,5 +1,5 @@
 -- The parts of custom sections are spelled as their values are.
-use Rattle.std.proofs.Common.{◌≡◌, ℕ, Bool, true, map, List, [], ◌∷◌, ◌++◌, Result, refl, ap, ◌∙◌, sym, subst}
+use Rattle.std.proofs.Common.{◌≡◌, ℕ, true, map, List, ◌++◌, Result, refl, ap, ◌∙◌, sym, subst}
 use Rattle.std.specs.List.{flat_map, list_all}
 use Rattle.wast_nodes.specs.Sites.{asking, in_subsection}
 use Rattle.wast_conv.specs.Encodable.{is_encodable_ask, encodable}

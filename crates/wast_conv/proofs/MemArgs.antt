@@ -1,5 +1,5 @@
 -- Memory arguments that the encoder takes: the index of their memory is a number, the logarithm of their alignment is below 64, and they become covered values.
-use Rattle.std.proofs.Common.{◌≡◌, ℕ, ◌<◌, ◌^◌, Bool, true, ◌&&◌, ◌∷◌, [], ◌++◌, refl, arith}
+use Rattle.std.proofs.Common.{◌≡◌, ℕ, ◌<◌, ◌^◌, true, refl, arith}
 use Rattle.std.specs.Prelude.{count_ones, is_none, Option, Some, None, option_map}
 use Rattle.std.specs.Int.{w64, is_power_of_two, trailing_zeros}
 use Rattle.std.proofs.lemmas.Bool.{eqb-true}

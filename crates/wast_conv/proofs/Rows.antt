@@ -1,9 +1,9 @@
 -- Each instruction that the encoder takes is a row of the table.
-use Rattle.std.proofs.Common.{◌≡◌, ℕ, Bool, true, false, ◌&&◌, List, [], ◌∷◌, ◌++◌, map, refl, sym, ◌∙◌}
+use Rattle.std.proofs.Common.{◌≡◌, true, List, [], ◌++◌, map, refl, sym, ◌∙◌}
 use Rattle.std.specs.Prelude.{All, option_map}
 use Rattle.std.specs.List.{list_all}
 use Rattle.std.proofs.lemmas.List.Elements.{All-map}
-use Rattle.wast_nodes.specs.Sites.{Ask, Site, start, asking, uncovered, in_index, at_index, in_pair, in_ref, in_access, in_cast, in_handle, in_handlers}
+use Rattle.wast_nodes.specs.Sites.{Ask, Site, start, asking, uncovered, in_index, at_index, in_pair, in_ref, in_access, in_cast, in_handlers}
 use Rattle.wasm_ops.specs.Table.{HasRow, kinds_of, table}
 use Rattle.wasm_ops.proofs.Instructing.{plain_row, mem_row, lane_row, mem_lane_row, cast_row, select_row}
 use Rattle.wasm_ops.specs.declared.casts.CastOp.TheVariants as cast
@@ -11,7 +11,7 @@ use Rattle.wast_conv.specs.Tree.{Form, ResumeTable, Instruction, Expression}
 use Rattle.wast_conv.specs.Tree.form
 use Rattle.wast_conv.specs.Tree.space
 use Rattle.wast_conv.specs.Tree.instr as instruction
-use Rattle.wast_conv.specs.Encodable.{is_encodable_ask, are_encodable, is_encodable_site, encodable, is_encodable_instr, is_encodable_expression}
+use Rattle.wast_conv.specs.Encodable.{is_encodable_ask, is_encodable_site, encodable, is_encodable_instr, is_encodable_expression}
 use Rattle.wast_conv.specs.Values.{no_row}
 use Rattle.wast_conv.specs.Meaning as meaning
 use Rattle.wast_conv.proofs.EachPasses.{both_lists, each_has}

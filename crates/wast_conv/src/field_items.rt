@@ -1,6 +1,6 @@
 //! Imports, tables, memories, globals and tags as items of sections.
 
-ghost use Rattle.std.specs.Prelude.{◌+◌, true, option_map, IsTrue};
+ghost use Rattle.std.specs.Prelude.{◌+◌, option_map, IsTrue};
 ghost use Rattle.wasm_ops.specs.Entities as entities;
 ghost use Rattle.wasm_ops.specs.Entities.{InRangeMemoryType, InRangeTagType};
 ghost use Rattle.wasm_ops.specs.Spelling.{InRangeU32};

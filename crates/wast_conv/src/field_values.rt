@@ -1,6 +1,6 @@
 //! Fields of a resolved tree as entries of sections, as they are spelled.
 
-ghost use Rattle.std.specs.Prelude.{◌≡◌, true, option_map, IsTrue};
+ghost use Rattle.std.specs.Prelude.{option_map, IsTrue};
 ghost use Rattle.wasm_ops.specs.ConstExprs.{expression, InRangeExpression};
 ghost use Rattle.wasm_ops.specs.Entities as entities;
 ghost use Rattle.wasm_ops.specs.Entities.{InRangeMemoryType, InRangeTagType};

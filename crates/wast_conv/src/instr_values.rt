@@ -1,6 +1,6 @@
 //! Instructions of a resolved tree, as they are spelled.
 
-ghost use Rattle.std.specs.Prelude.{◌≡◌, true, map, option_map, IsTrue};
+ghost use Rattle.std.specs.Prelude.{map, option_map, IsTrue};
 ghost use Rattle.wast_base.specs.Ids.{is_number};
 ghost use Rattle.wast_nodes.specs.Sites.{OfBlock, start, is_sequential, in_heap, in_ref, in_access, in_cast, in_mem_arg, in_select, in_indirect, in_use, in_br_table, in_try_table};
 ghost use Rattle.wasm_ops.specs.CastInstrs.{cast_instr, br_cast_instr, fence_instr};

@@ -1,10 +1,9 @@
 //! Parts of a resolved tree, as they are spelled.
 
-ghost use Rattle.std.specs.Prelude.{◌≡◌, IsTrue};
+ghost use Rattle.std.specs.Prelude.{IsTrue};
 ghost use Rattle.std.specs.List.{list_all};
 ghost use Rattle.wast_base.specs.Ids.{is_number};
 ghost use Rattle.wast_nodes.specs.Sites.{in_val, in_param, in_signature, in_struct_field, in_struct, in_array, in_inner, in_def, in_local};
-ghost use Rattle.wasm_ops.specs.declared.types.CompositeInnerType.TheVariants as composite;
 ghost use Rattle.wasm_ops.specs.Leb128.{unsigned};
 ghost use Rattle.wasm_ops.specs.Sinks.{Writes};
 ghost use Rattle.wasm_ops.specs.Spelling as spelling;

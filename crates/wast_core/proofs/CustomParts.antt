@@ -1,13 +1,12 @@
 -- Custom sections of a place, told section by section, and as parts beside what stands in them.
-use Rattle.std.proofs.Common.{◌≡◌, ℕ, ◌+◌, ◌<◌, Bool, true, false, List, [], ◌∷◌, ◌++◌, map, length, Result, Ok, Err, refl, sym, ap, ◌∙◌, subst, arith, length-append}
+use Rattle.std.proofs.Common.{◌≡◌, ℕ, List, map, length, Result, Ok, Err, refl, sym, subst}
 use Rattle.std.specs.Prelude.{All, IfOk, IfErr}
 use Rattle.std.specs.List.{flat_map}
-use Rattle.std.proofs.lemmas.List.Elements.{All-nil}
 use Rattle.wasm_ops.specs.Sinks.{SinkRules, Writes}
 use Rattle.wasm_ops.specs.declared.sink.Refusal.{Refusal}
 use Rattle.wasm_ops.specs.declared.sink.Refusal.TheVariants as refusal
-use Rattle.wasm_ops.proofs.Everywhere.{all_map, all_unmap, all_both, all_one}
-use Rattle.wasm_ops.proofs.Sinking.{written_as, one_written}
+use Rattle.wasm_ops.proofs.Everywhere.{all_map, all_unmap, all_both}
+use Rattle.wasm_ops.proofs.Sinking.{written_as}
 use Rattle.wasm_out.specs.Parts.{part, InRangePart}
 use Rattle.wast_conv.specs.Customs.{custom_part, InRangeCustomBytes, InRangeCustom}
 use Rattle.wast_core.specs.Meaning.{custom_section}

@@ -1,5 +1,5 @@
 -- The section of branch hints, as it is measured and written.
-use Rattle.std.proofs.Common.{◌≡◌, ◌<◌, ◌≤◌, ◌+◌, ℕ, Bool, true, false, ◌||◌, List, [], ◌∷◌, ◌++◌, map, length, take, drop, get_or, Option, Some, None, Result, Ok, Err, refl, sym, ap, ◌∙◌, subst, arith, length-append}
+use Rattle.std.proofs.Common.{◌≡◌, ◌<◌, ◌≤◌, ◌+◌, ℕ, Bool, true, false, ◌||◌, List, [], ◌∷◌, ◌++◌, map, length, take, drop, get_or, Some, None, Result, Ok, refl, sym, ap, ◌∙◌, subst, arith, length-append}
 use Rattle.std.specs.Prelude.{All, if◌then◌else◌}
 use Rattle.std.specs.List.{flat_map}
 use Rattle.std.proofs.lemmas.List.{append_assoc, length-map}
@@ -11,8 +11,7 @@ use Rattle.wasm_ops.specs.Leb128.{unsigned}
 use Rattle.wasm_ops.specs.Sinks.{SinkRules, Writes, AppendLaws}
 use Rattle.wasm_ops.specs.Spelling.{InRangeU32, InRangeName, vec, name}
 use Rattle.wasm_ops.proofs.Everywhere.{all_one, flat_one}
-use Rattle.wasm_ops.proofs.Numbers.{unsigned-nonempty}
-use Rattle.wasm_ops.proofs.Sinking.{written_as, one_written}
+use Rattle.wasm_ops.proofs.Sinking.{written_as}
 use Rattle.wasm_out.specs.Hints.{function_hints, hints, hints_name, hints_payload}
 use Rattle.wasm_out.specs.Parts.{Custom, Part, part, InRangePart}
 use Rattle.wast_conv.specs.Hints.{HintedBody, as_hinted}

@@ -1,5 +1,5 @@
 -- Branch hints point at their instructions: the bytes of a module, taken apart at an instruction.
-use Rattle.std.proofs.Common.{◌≡◌, ℕ, zero, suc, ◌+◌, ◌<◌, ◌==◌, true, not, List, [], ◌∷◌, ◌++◌, length, take, drop, Option, Some, refl, sym, ap, ◌∙◌, subst, arith, append_assoc}
+use Rattle.std.proofs.Common.{◌≡◌, ℕ, zero, suc, ◌+◌, not, List, [], ◌∷◌, ◌++◌, length, take, drop, Option, Some, refl, sym, ap, ◌∙◌, subst, arith, append_assoc}
 use Rattle.std.specs.Prelude.{slice_get, Contains}
 use Rattle.std.specs.List.{flat_map}
 use Rattle.std.proofs.lemmas.Bool.{ne_eqb}
@@ -9,11 +9,10 @@ use Rattle.std.proofs.lemmas.Option.{none-some, same_Some}
 use Rattle.wasm_ops.specs.Leb128.{unsigned}
 use Rattle.wasm_ops.specs.Spelling.{vec}
 use Rattle.wasm_ops.specs.Table.{Instr, instr}
-use Rattle.wasm_ops.proofs.Everywhere.{flat_one}
 use Rattle.wasm_out.specs.Bodies.{Body, locals, content}
 use Rattle.wasm_out.specs.Parts.{Code, Listed, section_id, body, Part, part}
 use Rattle.wasm_out.specs.Reads.{header, Reads}
-use Rattle.wast_conv.specs.Hints.{HintedBody, hints_of, as_hinted, bytes_before, as_branch_hint}
+use Rattle.wast_conv.specs.Hints.{HintedBody, hints_of, as_hinted, bytes_before}
 use Rattle.wast_names.specs.GivenNames.{named_from}
 use Rattle.wast_names.proofs.NameEntries.{named_append}
 use Rattle.wast_core.specs.Tree.{BranchHint, Func, FuncKind, ModuleField}

@@ -10,9 +10,9 @@ use Rattle.wasm_ops.specs.Sinks.{SinkRules, Writes}
 use Rattle.wasm_ops.specs.declared.sink.Refusal.{Refusal}
 use Rattle.wasm_ops.proofs.Everywhere.{flat_one, flat_in_flat, all_in_flat, all_of_flat}
 use Rattle.wasm_ops.proofs.Sinking.{written_as}
-use Rattle.wasm_ops.proofs.Numbers.{unsigned_fits, unsigned-nonempty}
+use Rattle.wasm_ops.proofs.Numbers.{unsigned_fits, narrow, unsigned-nonempty}
 use Rattle.wasm_out.specs.NameSectionBytes.{NameSubsection, name_subsection, name_payload}
-use Rattle.wasm_out.specs.Parts.{SectionKind, Data, Entry, entry, Custom, Listed, Part, part, InRangePart, section_id, section}
+use Rattle.wasm_out.specs.Parts.{SectionKind, Data, Entry, entry, Custom, Listed, Part, part, section_id, section}
 use Rattle.wasm_out.specs.Reads.{header}
 use Rattle.wast_core.specs.Tree.{ModuleField}
 use Rattle.wast_core.specs.Bounded.{bytes_of}
@@ -27,10 +27,6 @@ use Rattle.wast_core.specs.Meaning.{entries, listed, data_counts, in_slot, parts
 use Rattle.wast_names.specs.NamesPart.{names_part, names_payload_of}
 use Rattle.wast_core.specs.Slots.{order}
 use Rattle.wast_core.proofs.Counting.{counts_are}
-
--- a length in range has at most five bytes
-pub narrow : (n : ℕ) → n < 4294967296 → length (unsigned n) ≤ 5
-narrow n lt = unsigned_fits 4 n (omega arith)
 
 -- a section that has a payload
 size_of_some : (id : ℕ) (bytes : List ℕ) (size : ℕ) → size ≡ length bytes → 0 < length bytes → length (section id bytes) ≡ section_size size

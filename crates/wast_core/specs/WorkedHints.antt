@@ -1,5 +1,5 @@
 -- Small modules with branch hints, and what they mean, computed. A text may lie anywhere in memory.
-use Rattle.std.specs.Prelude.{ℕ, pos, List, [], ◌∷◌, ◌++◌, Some, None, codes}
+use Rattle.std.specs.Prelude.{ℕ, pos, List, [], ◌∷◌, ◌++◌, None, codes}
 use Rattle.wast_nodes.specs.WorkedModules.{Address, text, place, by_number}
 use Rattle.wast_demands.specs.WorkedBodies.{not_said, in_place, labelled}
 use Rattle.wast_core.specs.Tree.{FunctionType, TypeUse, Instruction, BranchHint, Local, ModuleField}

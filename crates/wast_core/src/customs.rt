@@ -1,8 +1,7 @@
 //! Custom sections at their places, and the one that stands for the names.
 
-ghost use Rattle.std.specs.Prelude.{◌≡◌, ◌+◌, ◌≤◌, All, IsTrue, IfOk, IfErr, length, codes};
+ghost use Rattle.std.specs.Prelude.{◌≡◌, All, IsTrue, IfOk, IfErr, length, codes};
 ghost use Rattle.std.specs.List.{flat_map};
-ghost use Rattle.wasm_ops.specs.Leb128.{unsigned};
 ghost use Rattle.wasm_ops.specs.Sinks.{Writes};
 ghost use Rattle.wasm_ops.specs.declared.sink.Refusal.TheVariants as refusal;
 ghost use Rattle.wast_conv.specs.Customs.{InRangeCustom, is_encodable_custom};
@@ -13,7 +12,7 @@ ghost use Rattle.wast_reach.specs.Reaches.{are_reaches};
 ghost use Rattle.wast_nodes.specs.Customs.{customs_in, customs_at, is_custom_called};
 
 use crate::items::put_items;
-use wasm_ops::{Refusal, Sink, Spell, length_of, width};
+use wasm_ops::{Refusal, Sink, Spell, length_of, whole_size};
 use wast_conv::{CustomPayload, Resolved};
 use wast_nodes::{Custom, CustomPlace, ModuleField};
 use wast_reach::{FieldKind, Reaches};
@@ -69,15 +68,6 @@ pub(crate) fn put_customs<S: Sink>(
         out.old out.new (flat_map custom_section (customs_at place fields.now)) result }
 {
     put_items(custom_fields(place, fields, reaches), CustomOf(place), out)
-}
-
-/// How many bytes a section has, of how many stand behind its length.
-pub(crate) fn whole_size(payload: u32) -> u64
-    ensures size { result ≡ 1 + (length (unsigned payload) + payload) }
-    ensures within { result ≤ 4294967306 }
-{
-    let bytes = u64::from(payload);
-    1 + (width(bytes) + bytes)
 }
 
 /// How many bytes a custom section has. It refuses as too large, where a count or length in it is out of range.

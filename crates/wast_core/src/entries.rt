@@ -1,6 +1,6 @@
 //! What fields put into the sections that are lists.
 
-ghost use Rattle.std.specs.Prelude.{◌≡◌, length, map, List, All, IfSome, IsNone, IsTrue, IfOk, IfErr};
+ghost use Rattle.std.specs.Prelude.{◌≡◌, length, List, All, IfSome, IsNone, IsTrue, IfOk, IfErr};
 ghost use Rattle.std.specs.List.{flat_map};
 ghost use Rattle.wasm_ops.specs.Sinks.{Writes};
 ghost use Rattle.wasm_ops.specs.declared.sink.Refusal.TheVariants as refusal;

@@ -4,7 +4,7 @@ ghost use Rattle.std.specs.Prelude.{◌≡◌, ◌≤◌, ℕ, All, IsTrue, IfOk
 ghost use Rattle.std.specs.List.{flat_map};
 ghost use Rattle.wasm_ops.specs.Sinks.{Writes};
 ghost use Rattle.wasm_ops.specs.declared.sink.Refusal.TheVariants as refusal;
-ghost use Rattle.wasm_out.specs.Parts.{part, InRangePart};
+ghost use Rattle.wasm_out.specs.Parts.{part};
 ghost use Rattle.wast_core.specs.Bounded.{bytes_of, InRangeSlot, InRangeModule};
 ghost use Rattle.wast_conv.specs.Encodable.{is_encodable};
 ghost use Rattle.wast_core.specs.Extents.{IsExtent, section_size, is_names_extent};
@@ -17,11 +17,11 @@ ghost use Rattle.wast_core.specs.Slots.{section_kind};
 ghost use Rattle.wast_core.specs.declared.slots.Slot.TheVariants as slot;
 
 use crate::counts::{count_size, is_counted, put_count};
-use crate::customs::{customs_size, has_own_names, put_customs, whole_size};
+use crate::customs::{customs_size, has_own_names, put_customs};
 use crate::entries::{Extent, extent_of, put_section, put_starts, start_fields, starts_size};
 use crate::hints::{hints_extent, put_hints};
 use crate::slots::{ORDER, SectionKind, Slot};
-use wasm_ops::{Encode, Raw, Refusal, Sink};
+use wasm_ops::{Encode, Raw, Refusal, Sink, whole_size};
 use wasm_out::HEADER;
 use wast_names::{NamesExtent, names_extent, put_names};
 use wast_nodes::ModuleField;

@@ -1,7 +1,6 @@
 //! Items that are referred to, and their ids.
 
-ghost use Rattle.std.specs.Prelude.{◌≡◌, ◌≤◌, ◌+◌, not, ◌||◌, IfErr, OnOk};
-ghost use Rattle.wast_base.specs.Gensym.{Fills};
+ghost use Rattle.std.specs.Prelude.{◌≡◌, ◌≤◌, ◌+◌, ◌||◌, IfErr, OnOk};
 ghost use Rattle.wast_base.specs.Filling.{one_if, given_if, RunsOut};
 ghost use Rattle.wast_deinline.specs.Tree.space;
 ghost use Rattle.wast_deinline.specs.Segments.{has_bytes, has_elements};

@@ -1,6 +1,6 @@
 //! Fields are written out: the exports, the segment and the rest of each.
 
-ghost use Rattle.std.specs.Prelude.{◌≡◌, ◌≤◌, ◌+◌, ◌++◌, ◌∷◌, [], flat_map, false, IsTrue, IsOk, IfOk, IfErr, OnOk, ◌-◌, ◌^◌, min, length};
+ghost use Rattle.std.specs.Prelude.{◌≡◌, ◌≤◌, ◌+◌, ◌++◌, ◌∷◌, [], flat_map, IsTrue, IsOk, IfOk, IfErr, OnOk, ◌-◌, ◌^◌, min, length};
 ghost use Rattle.std.specs.List.{list_any};
 ghost use Rattle.wast_base.specs.Faults.{out_of_memory};
 ghost use Rattle.wast_nodes.specs.WrittenOut.{is_written_out};

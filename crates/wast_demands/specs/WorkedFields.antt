@@ -1,13 +1,12 @@
 -- What worked modules answer whose instructions name the fields of structs, computed. A text may lie anywhere in memory.
-use Rattle.std.specs.Prelude.{◌≡◌, ◌++◌, ℕ, List, [], ◌∷◌, Option, Some, None, codes}
-use Rattle.wast_base.specs.Ids.{generated}
+use Rattle.std.specs.Prelude.{◌≡◌, ◌++◌, List, [], ◌∷◌, Some, None, codes}
 use Rattle.wast_base.specs.Faults.{Unknown, NoNamedFields}
 use Rattle.wast_nodes.specs.WorkedModules.{Address, place, id_at, by_id, by_number}
 use Rattle.wast_types.specs.Signatures.{empty_signature}
 use Rattle.wast_types.specs.Expanded.{implied_types}
 use Rattle.wast_types.specs.Completed.{completed}
 use Rattle.wast_types.specs.WorkedExpansions.{function_type, type_at}
-use Rattle.wast_demands.specs.Tree.{Id, Index, FunctionType, TypeUse, ModuleField}
+use Rattle.wast_demands.specs.Tree.{Index, FunctionType, TypeUse, ModuleField}
 use Rattle.wast_demands.specs.Tree.heap
 use Rattle.wast_demands.specs.Tree.bare
 use Rattle.wast_demands.specs.Tree.plain

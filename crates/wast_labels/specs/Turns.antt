@@ -1,5 +1,5 @@
 -- Which blocks are open at a place in an expression, by counting openers and closers (text format, control instructions).
-use Rattle.std.specs.Prelude.{◌≡◌, ℕ, zero, suc, ◌+◌, ◌<◌, nat_le, ◌&&◌, Bool, true, if◌then◌else◌, List, [], ◌∷◌, ◌++◌, length, take, drop, slice_get, Option, Some}
+use Rattle.std.specs.Prelude.{◌≡◌, ℕ, suc, ◌+◌, ◌<◌, true, if◌then◌else◌, List, [], ◌∷◌, ◌++◌, drop, slice_get, Option, Some}
 use Rattle.wast_base.specs.Blocks.{Blocks, Turn, Opens, Closes, Stays, stays_open, closed}
 use Rattle.wast_base.specs.Ids.{Name}
 use Rattle.wast_labels.specs.Gathered.{with_opener}

@@ -1,8 +1,8 @@
 //! The open blocks of an expression, by their labels.
 
-ghost use Rattle.std.specs.Prelude.{◌≡◌, ◌+◌, ◌<◌, ◌≤◌, ◌^◌, ◌↔◌, [], length, Some, reverse, slice_get, IsTrue, IfOk, OnOk, OnErr};
+ghost use Rattle.std.specs.Prelude.{◌≡◌, ◌+◌, ◌<◌, ◌≤◌, ◌^◌, ◌↔◌, [], length, Some, reverse, IsTrue, IfOk, OnOk, OnErr};
 ghost use Rattle.wast_base.specs.Ids.{name_of, marked};
-ghost use Rattle.wast_base.specs.Spaces.{name_if, is_called};
+ghost use Rattle.wast_base.specs.Spaces.{name_if};
 ghost use Rattle.wast_labels.specs.Asked.{numbered, denoted, Outcome, unknown_label, wrong_label};
 ghost use Rattle.wast_labels.specs.Gathered.{knows};
 ghost use Rattle.wast_labels.specs.OpenBlocks.{OpenBlocks, denotes, is_innermost, expects, with_open, with_closed};

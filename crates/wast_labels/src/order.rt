@@ -3,7 +3,7 @@
 ghost use Rattle.std.specs.Prelude.{◌≡◌};
 ghost use Rattle.std.specs.List.Sorted.{IsPermutation};
 ghost use Rattle.wast_base.specs.Ids.{name_of};
-ghost use Rattle.wast_labels.specs.Rows.{key_cmp, key_of, name_lt, names_of, AreSorted, row_of};
+ghost use Rattle.wast_labels.specs.Rows.{key_cmp, key_of, names_of, AreSorted, row_of};
 
 use std::cmp::Ordering;
 use wast_base::Id;

@@ -1,12 +1,12 @@
 -- The laws of the map at each instruction and each field.
 use Rattle.std.specs.Borrow.{Bor}
 use Rattle.std.specs.Int.{is_power_of_two}
-use Rattle.std.specs.Prelude.{is_none, ◌&&◌, not, Option, Some, None, option_map, length}
+use Rattle.std.specs.Prelude.{is_none, ◌&&◌, not, Option, Some, None, length}
 use Rattle.std.proofs.Common.{◌≡◌, ℕ, false, List, [], ◌∷◌, ◌++◌, refl, sym, ap, ◌∙◌, map, arith}
 use Rattle.std.specs.List.{flat_map}
 use Rattle.std.proofs.lemmas.Grind.{common_steps}
 use Rattle.std.proofs.lemmas.List.{map-append}
-use Rattle.wast_base.specs.Blocks.{Blocks, closed, is_balanced}
+use Rattle.wast_base.specs.Blocks.{Blocks, is_balanced}
 use Rattle.wast_base.specs.Ids.{Name, Mark, marked}
 use Rattle.wast_base.specs.Spaces.{name_if}
 use Rattle.wast_map.specs.Tree.{Id, Index, RefType, HeapType, TableType, GlobalType, TypeUse, FunctionType, BlockType, BrTableIndices, TryTable, TryTableCatch, TryTableCatchKind, MemArg, MemArgTarget, CallIndirect, SelectTypes, Handle, ResumeTable, Instruction, Expression, Local, FuncKind, Func, ItemSig, ItemKind, ImportItems, TableKind, MemoryKind, GlobalKind, ElemKind, ElemPayload, Elem, DataKind, TagType, ModuleField, ValType}
@@ -32,9 +32,9 @@ use Rattle.wast_map.specs.Tree.custom
 use Rattle.wast_map.specs.Tree.dylink
 use Rattle.wast_nodes.specs.Clauses.{is_func_heap, hints_stand, stand_from, suits}
 use Rattle.wast_nodes.specs.Instrs.{turn_of, turns}
-use Rattle.wast_nodes.specs.Sites.{Locals, Here, start, OfItem, OfCall, OfBlock, Site, Asked, Used, Declared, LocalAt, FieldAt, LabelAt, Repeated, Begins, Ends, Clause, Covered, uncovered, after, after_all, asking, at_index, if_there, in_heap, at_label, in_block, in_caught, in_catch, in_try_table, in_br_table, in_ref, in_pair, in_cast, in_handle, in_handlers, in_target, in_mem_arg, in_select, in_indirect, in_instr, behind, in_instrs, in_expression, in_constant, in_local, local_marks, param_marks, declaring, body_here, in_func_kind, in_use, in_func, in_item_kind, in_sig, in_import, exported_space, in_payload, in_table_kind, in_memory_kind, in_global_kind, in_elem_kind, in_elem, in_data_kind, in_subsection, in_custom, in_field}
-use Rattle.wast_map.specs.Mapped.{Change, same, mapped_locals, mapped_here, mapped_site, KeepsMarks, Joins, AreJoint, Each, mapped_heap, mapped_ref, mapped_handle, mapped_handlers, mapped_block, mapped_caught, mapped_catch, mapped_try_table, mapped_br_table, mapped_target, mapped_mem_arg, mapped_select, mapped_indirect, mapped_instr, mapped_instrs, mapped_expression, mapped_constant, mapped_local, mapped_func_kind, mapped_func, mapped_item_kind, mapped_sig, mapped_import_items, mapped_payload, mapped_table_kind, mapped_global_kind, mapped_elem_kind, mapped_elem, mapped_data_kind, mapped}
-use Rattle.wast_map.proofs.Ways.{In, At, each_first, each_rest, index_in, index_at, mark_in, label_at, asked_at, item_id_at, use_at, fixed_at, both_at, made_at, tested_at, behind_at, option_at, list_at}
+use Rattle.wast_nodes.specs.Sites.{Here, start, OfItem, OfCall, OfBlock, Site, Asked, Used, Declared, LocalAt, FieldAt, LabelAt, Repeated, Begins, Ends, Clause, Covered, uncovered, after, after_all, asking, at_index, in_heap, in_block, in_caught, in_catch, in_try_table, in_br_table, in_ref, in_pair, in_cast, in_handle, in_handlers, in_target, in_mem_arg, in_select, in_indirect, in_instr, behind, in_instrs, in_expression, in_constant, in_local, local_marks, param_marks, declaring, body_here, in_func_kind, in_use, in_func, in_item_kind, in_sig, in_import, exported_space, in_payload, in_table_kind, in_memory_kind, in_global_kind, in_elem_kind, in_elem, in_data_kind, in_subsection, in_custom, in_field}
+use Rattle.wast_map.specs.Mapped.{Change, same, mapped_here, mapped_site, KeepsMarks, Joins, AreJoint, Each, mapped_heap, mapped_ref, mapped_handle, mapped_handlers, mapped_block, mapped_caught, mapped_catch, mapped_try_table, mapped_br_table, mapped_target, mapped_mem_arg, mapped_select, mapped_indirect, mapped_instr, mapped_instrs, mapped_expression, mapped_constant, mapped_local, mapped_func_kind, mapped_func, mapped_item_kind, mapped_sig, mapped_import_items, mapped_payload, mapped_table_kind, mapped_global_kind, mapped_elem_kind, mapped_elem, mapped_data_kind, mapped}
+use Rattle.wast_map.proofs.Ways.{In, At, each_first, each_rest, index_in, index_at, mark_in, label_at, asked_at, item_id_at, use_at, fixed_at, both_at, made_at, tested_at, option_at, list_at}
 use Rattle.wast_map.proofs.Types.{heap_at, ref_at, val_at, type_at, rec_at, table_type_at, global_type_at, tag_type_at}
 
 -- what a memory argument reads or writes, and the argument

@@ -1,9 +1,8 @@
 -- The laws of the map over a list of fields.
-use Rattle.std.specs.Prelude.{⊤, Option}
+use Rattle.std.specs.Prelude.{Option}
 use Rattle.std.proofs.Common.{◌≡◌, List, [], ◌∷◌, refl, sym, ap, ◌∙◌, map}
-use Rattle.std.specs.List.{flat_map}
 use Rattle.wast_map.specs.Tree.{Id, ModuleField}
-use Rattle.wast_nodes.specs.Sites.{Site, Asked, Wants, Within, Unasked, Clause, Covered, Used, Declared, LocalAt, FieldAt, LabelAt, Repeated, Begins, Ends, in_field, in_module}
+use Rattle.wast_nodes.specs.Sites.{Site, Asked, Wants, Within, Unasked, Clause, Covered, Used, Declared, LocalAt, FieldAt, LabelAt, Repeated, Begins, Ends, in_module}
 use Rattle.wast_map.specs.Mapped.{Change, same, then, mapped, mapped_site, KeepsMarks, Joins, AreJoint, Each}
 use Rattle.wast_map.proofs.Ways.{At, list_at}
 use Rattle.wast_map.proofs.Fields.{field_at}

@@ -11,7 +11,7 @@ use Rattle.wast_map.specs.Tree.inner
 use Rattle.wast_map.specs.Tree.ty
 use Rattle.wast_map.specs.Tree.tag
 use Rattle.wast_nodes.specs.Sites.{OfItem, Covered, uncovered, in_heap, in_ref, in_val, in_storage, in_param, in_signature, in_struct_field, in_struct, in_array, in_inner, in_descriptor, in_def, in_type, in_rec, in_table_type, in_global_type, in_tag_type}
-use Rattle.wast_map.specs.Mapped.{Change, mapped_heap, mapped_ref, mapped_val, mapped_storage, mapped_param, mapped_signature, mapped_struct_field, mapped_struct, mapped_array, mapped_inner, mapped_def, mapped_type, mapped_rec, mapped_table_type, mapped_global_type, mapped_tag_type}
+use Rattle.wast_map.specs.Mapped.{mapped_heap, mapped_ref, mapped_val, mapped_storage, mapped_param, mapped_signature, mapped_struct_field, mapped_struct, mapped_array, mapped_inner, mapped_def, mapped_type, mapped_rec, mapped_table_type, mapped_global_type, mapped_tag_type}
 use Rattle.wast_map.proofs.Ways.{In, At, index_in, mark_in, item_id_at, use_at, fixed_at, both_at, made_at, tested_at, option_at, list_at}
 
 pub heap_at : (t : HeapType) → In in_heap (λ f. mapped_heap f.index) t

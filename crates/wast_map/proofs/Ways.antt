@@ -1,11 +1,11 @@
 -- The laws of the map at one part, and how they are put together.
-use Rattle.std.specs.Prelude.{⊤, Option, Some, None, option_map}
+use Rattle.std.specs.Prelude.{Option, Some, None, option_map}
 use Rattle.std.proofs.Common.{◌≡◌, List, [], ◌∷◌, ◌++◌, refl, sym, ap, ◌∙◌, subst, map}
 use Rattle.std.specs.List.{flat_map}
 use Rattle.std.proofs.lemmas.List.{map-append}
 use Rattle.wast_base.specs.Blocks.{Blocks}
 use Rattle.wast_map.specs.Tree.{Id, Index, Space, TypeUse, FunctionType}
-use Rattle.wast_nodes.specs.Sites.{Ask, Wants, Where, Site, Asked, Used, asking, in_index, at_index, at_label, if_there, in_id, in_use}
+use Rattle.wast_nodes.specs.Sites.{Ask, Where, Site, Asked, asking, in_index, at_index, at_label, if_there, in_id, in_use}
 use Rattle.wast_map.specs.Mapped.{Change, same, mapped_ask, mapped_site, KeepsMarks, JoinsAsk, Joins, AreJoint, Each}
 
 pub each_first : {S : Type 0} (p : S → Type 0) (xs ys : List S) → Each p (xs ++ ys) → Each p xs

@@ -2,7 +2,6 @@
 -- uses, identifiers).
 use Rattle.std.specs.Prelude.{⊤, ◌≡◌, List, [], ◌∷◌, ◌++◌, map, Option, option_map}
 use Rattle.wast_base.specs.Blocks.{Blocks, closed}
-use Rattle.wast_base.specs.Ids.{Mark}
 use Rattle.wast_map.specs.Tree.{Id, Index, NameAnnotation, Space, RefType, HeapType, ValType, StorageType, StructField, StructType, ArrayType, FunctionType, TypeUse, InnerTypeKind, TypeDef, Rec, BlockType, BrTableIndices, TryTable, TryTableCatch, TryTableCatchKind, TableArg, MemoryArg, MemoryInit, MemoryCopy, TableInit, TableCopy, CallIndirect, SelectTypes, MemArg, MemArgTarget, StructAccess, Handle, ResumeTable, Instruction, Expression, TableType, GlobalType, TagType, Imports, ImportItems, ItemSig, ItemKind, Local, FuncKind, Func, Table, TableKind, Memory, Global, GlobalKind, Tag, Elem, ElemKind, ElemPayload, Data, DataKind, Export, ModuleField}
 use Rattle.wast_map.specs.Tree.space
 use Rattle.wast_map.specs.Tree.heap

@@ -1,9 +1,9 @@
 -- What is told of how many types stand before some places of a list of fields.
-use Rattle.std.proofs.Common.{◌≡◌, ◌<◌, ◌≤◌, ◌+◌, ◌-◌, ◌*◌, ◌^◌, ℕ, List, [], ◌∷◌, ◌++◌, length, min, Option, refl, sym, ap, ◌∙◌, subst, arith, length-append, length-drop, take, drop, get_or, set, replicate, take-append-drop, append-nil, Some, Bool, true, false, ltb, inl, inr}
+use Rattle.std.proofs.Common.{◌≡◌, ◌<◌, ◌≤◌, ◌+◌, ◌-◌, ◌*◌, ℕ, List, [], ◌∷◌, ◌++◌, length, min, refl, sym, ap, ◌∙◌, arith, length-append, length-drop, take, drop, get_or, set, replicate, take-append-drop, Some, Bool, true, false, ltb, inl, inr}
 use Rattle.std.specs.Prelude.{slice_get}
 use Rattle.std.specs.List.{flat_map}
 use Rattle.std.proofs.lemmas.Grind.{flat_map-append}
-use Rattle.std.proofs.lemmas.List.{take_more, get_or-replicate, get_or-set_same, get_or-set_other, get_or-append-add, length-replicate, take_all}
+use Rattle.std.proofs.lemmas.List.{get_or-replicate, get_or-set_same, get_or-set_other, get_or-append-add, length-replicate, take_all}
 use Rattle.std.proofs.lemmas.Option.{slice_get-get_or, slice_get_past}
 use Rattle.std.proofs.lemmas.Bool.{cases_eq, ltb-true, ltb-false}
 use Rattle.wast_names.specs.Checkpoints.{Tells}

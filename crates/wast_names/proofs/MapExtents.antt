@@ -1,8 +1,8 @@
 -- The extents of the maps of names, as they are measured and used.
-use Rattle.std.proofs.Common.{◌≡◌, ◌<◌, ◌≤◌, ◌+◌, ◌==◌, ◌&&◌, ℕ, zero, suc, Bool, true, false, List, [], ◌∷◌, ◌++◌, length, Result, Ok, Err, refl, sym, ap, ◌∙◌, subst, arith, length-append, take, get_or, set, cond, inl, inr}
+use Rattle.std.proofs.Common.{◌≡◌, ◌<◌, ◌+◌, ◌==◌, ℕ, zero, suc, true, List, [], ◌∷◌, ◌++◌, length, Result, Ok, Err, refl, sym, ap, ◌∙◌, subst, arith, length-append, take, get_or, set, cond, inl, inr}
 use Rattle.std.specs.Prelude.{All, IfOk, IfErr}
 use Rattle.std.specs.List.{flat_map}
-use Rattle.std.proofs.lemmas.Bool.{eqb-true, eqb-false, eq-eqb, ne_eqb, and_parts, and_from, cases_eq}
+use Rattle.std.proofs.lemmas.Bool.{eqb-true, eq-eqb, ne_eqb, and_parts, and_from, cases_eq}
 use Rattle.std.proofs.lemmas.List.{take_more, get_or_default, get_or-set_same, get_or-set_other}
 use Rattle.std.proofs.lemmas.List.Elements.{All-nil, All-head, All-append}
 use Rattle.wasm_ops.specs.declared.sink.Refusal.{Refusal}
@@ -11,9 +11,8 @@ use Rattle.wasm_ops.specs.Leb128.{unsigned}
 use Rattle.wasm_ops.specs.Sinks.{SinkRules, Writes, AppendLaws}
 use Rattle.wasm_ops.specs.Spelling.{InRangeU32}
 use Rattle.wasm_ops.proofs.Everywhere.{all_one, flat_one}
-use Rattle.wasm_ops.proofs.Numbers.{unsigned_fits}
 use Rattle.wasm_ops.proofs.Sinking.{written_as}
-use Rattle.wasm_out.specs.NameSectionBytes.{Named, Direct, Indirect, NameSubsection, subsection_id, name_entry, map_entry, name_subsection, InRangeNameEntry, InRangeMapEntry, InRangeNameSubsection}
+use Rattle.wasm_out.specs.NameSectionBytes.{Named, Direct, Indirect, NameSubsection, name_entry, map_entry, name_subsection, InRangeNameEntry, InRangeMapEntry, InRangeNameSubsection}
 use Rattle.wast_names.proofs.Each.{each_more}
 use Rattle.wast_names.specs.declared.extents.MapExtent.{MapExtent}
 use Rattle.wast_names.specs.declared.names_payload.NameMap.{NameMap}
@@ -117,27 +116,23 @@ map_put rules entry InRange a b (x ∷ es) id e r h some p =
     (ap (λ n. id ∷ (unsigned n ++ (unsigned e.count ++ flat_map entry (x ∷ es)))) long ∙ ap (λ n. id ∷ (unsigned (length bytes) ++ (unsigned n ++ flat_map entry (x ∷ es)))) parts.0)
     p
 
--- how long a number of 32 bits is
-pub narrow : (n : ℕ) → n < 4294967296 → length (unsigned n) ≤ 5
-narrow n small = unsigned_fits 4 n (omega arith)
-
 -- how long a subsection is
 direct_sized : (of : Named) (es : List (ℕ × List ℕ)) (e : MapExtent) → is_extent name_entry es e ≡ true → subsection_size e ≡ length (flat_map name_subsection (direct of es))
-direct_sized of [] e h = ap (λ b. cond b 0 (1 + length (unsigned e.size) + e.size)) (eq-eqb e.count 0 (extent_parts name_entry [] e h).0)
+direct_sized of [] e h = ap (λ b. cond b 0 (1 + (length (unsigned e.size) + e.size))) (eq-eqb e.count 0 (extent_parts name_entry [] e h).0)
 direct_sized of (x ∷ es) e h =
     let parts = extent_parts name_entry (x ∷ es) e h in
     let s : NameSubsection = record { of = of; content = Direct (x ∷ es) } in
     let content = map_content name_entry (x ∷ es) in
-    ap (λ b. cond b 0 (1 + length (unsigned e.size) + e.size)) (ne_eqb e.count 0 (λ z. omega arith))
+    ap (λ b. cond b 0 (1 + (length (unsigned e.size) + e.size))) (ne_eqb e.count 0 (λ z. omega arith))
     ∙ omega (arith, ap length (flat_one name_subsection s), length-append (unsigned (length content)) content, ap (λ n. length (unsigned n)) parts.1, parts.1)
 
 indirect_sized : (of : Named) (es : List (ℕ × List (ℕ × List ℕ))) (e : MapExtent) → is_extent map_entry es e ≡ true → subsection_size e ≡ length (flat_map name_subsection (indirect of es))
-indirect_sized of [] e h = ap (λ b. cond b 0 (1 + length (unsigned e.size) + e.size)) (eq-eqb e.count 0 (extent_parts map_entry [] e h).0)
+indirect_sized of [] e h = ap (λ b. cond b 0 (1 + (length (unsigned e.size) + e.size))) (eq-eqb e.count 0 (extent_parts map_entry [] e h).0)
 indirect_sized of (x ∷ es) e h =
     let parts = extent_parts map_entry (x ∷ es) e h in
     let s : NameSubsection = record { of = of; content = Indirect (x ∷ es) } in
     let content = map_content map_entry (x ∷ es) in
-    ap (λ b. cond b 0 (1 + length (unsigned e.size) + e.size)) (ne_eqb e.count 0 (λ z. omega arith))
+    ap (λ b. cond b 0 (1 + (length (unsigned e.size) + e.size))) (ne_eqb e.count 0 (λ z. omega arith))
     ∙ omega (arith, ap length (flat_one name_subsection s), length-append (unsigned (length content)) content, ap (λ n. length (unsigned n)) parts.1, parts.1)
 
 pub map_sized : (fields : List ModuleField) (m : NameMap) (e : MapExtent) → is_map_extent fields m e ≡ true → subsection_size e ≡ length (flat_map name_subsection (map_names fields m))

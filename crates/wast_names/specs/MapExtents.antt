@@ -35,4 +35,4 @@ are_map_extents fields es = each_extent fields name_maps es
 
 -- how long the subsection of a map is: nothing where it has no entries
 abbrev pub subsection_size : MapExtent → ℕ
-subsection_size e = if e.count == 0 then 0 else 1 + length (unsigned e.size) + e.size
+subsection_size e = if e.count == 0 then 0 else 1 + (length (unsigned e.size) + e.size)

@@ -2,7 +2,6 @@
 
 ghost use Rattle.std.specs.Prelude.{◌≡◌, ◌≤◌, ◌+◌, ◌*◌, length, All, IfOk, IfErr, IsTrue, List};
 ghost use Rattle.std.specs.List.{flat_map};
-ghost use Rattle.wasm_ops.specs.Leb128.{unsigned};
 ghost use Rattle.wasm_ops.specs.declared.sink.Refusal.TheVariants as refusal;
 ghost use Rattle.wasm_out.specs.NameSectionBytes.{map_entry, name_subsection, InRangeMapEntry, InRangeNameSubsection};
 ghost use Rattle.wast_reach.specs.Reaches.{are_reaches};
@@ -19,7 +18,7 @@ use crate::name_maps::{extent_of, measured};
 use crate::named_fields::{with_items, with_lists};
 use crate::names_payload::{NAME_MAPS, NameMap};
 use crate::within::{PutLists, Within, WithinItems, count_lists};
-use wasm_ops::{Refusal, width};
+use wasm_ops::{Refusal, whole_size};
 use wast_nodes::ModuleField;
 use wast_reach::Reaches;
 
@@ -118,15 +117,6 @@ pub(crate) fn map_extents(
         extents[i] = map_extent(fields, &maps[i], reaches, checkpoints)?;
     }
     Ok(extents)
-}
-
-/// How many bytes a subsection has, of how many stand behind its length.
-fn whole_size(content: u32) -> u64
-    ensures size { result ≡ 1 + length (unsigned content) + content }
-    ensures within { result ≤ 4294967306 }
-{
-    let bytes = u64::from(content);
-    1 + (width(bytes) + bytes)
 }
 
 /// How many bytes the subsection of a map has, of the extent of the map.

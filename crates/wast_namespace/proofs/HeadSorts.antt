@@ -1,5 +1,5 @@
 -- Pairs that are sorted by the heads of their names first are sorted by their names.
-use Rattle.std.proofs.Common.{◌≡◌, ℕ, ◌+◌, ◌<◌, List, [], ◌∷◌, length, map, get_or, true, false, true≢false, refl, sym, ap, ◌∙◌, subst, subst₂, arith, inl, inr, IsPermutation}
+use Rattle.std.proofs.Common.{◌≡◌, ℕ, ◌+◌, ◌<◌, List, [], ◌∷◌, length, map, get_or, false, true≢false, refl, sym, ap, ◌∙◌, subst, subst₂, arith, inl, inr, IsPermutation}
 use Rattle.std.specs.declared.cmp.Ordering.TheVariants.{Less}
 use Rattle.std.specs.Ordering.{nat_cmp, ordering_then, is_lt}
 use Rattle.std.specs.Option.{option_cmp}
@@ -8,7 +8,7 @@ use Rattle.std.specs.List.{All}
 use Rattle.std.specs.List.Sorted.{IsSortedBy}
 use Rattle.std.proofs.lemmas.Cmp.{on_total, then_total}
 use Rattle.std.proofs.lemmas.List.{get_or-map, length-map}
-use Rattle.std.proofs.lemmas.List.Sorted.{All-permutation, IsPermutation-map, length_permutation}
+use Rattle.std.proofs.lemmas.List.Sorted.{All-permutation, IsPermutation-map}
 use Rattle.wast_base.specs.declared.ids.Id.{Id}
 use Rattle.wast_namespace.specs.declared.heads.Headed.{Headed}
 use Rattle.wast_namespace.specs.Namespaces.{Key, key_cmp}

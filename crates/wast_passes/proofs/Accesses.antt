@@ -1,19 +1,19 @@
 -- An access to a field of a struct: its type denotes a number where it is known, and what stands at that number is read of types.
-use Rattle.std.proofs.Common.{◌≡◌, ℕ, zero, suc, List, [], ◌∷◌, map, Option, Some, None, option_map, is_some, refl, sym, ap, ◌∙◌}
+use Rattle.std.proofs.Common.{◌≡◌, ℕ, List, map, Option, Some, None, option_map, is_some, refl, ap}
 use Rattle.std.specs.List.{slice_get}
 use Rattle.std.specs.Option.{option_copied}
 use Rattle.std.specs.Borrow.{Bor}
 use Rattle.wast_types.specs.Signatures.{Signature}
 use Rattle.wast_namespace.specs.Namespaces.{NameSpace, number_in}
 use Rattle.std.proofs.lemmas.Option.{slice_get-map}
-use Rattle.wast_base.specs.Ids.{name_of, mark_of}
+use Rattle.wast_base.specs.Ids.{mark_of}
 use Rattle.wast_base.specs.Spaces.{word_of}
 use Rattle.wast_nodes.specs.Sites.{Wants}
 use Rattle.wast_passes.specs.Tree.{Index}
 use Rattle.wast_passes.specs.Tree.index
 use Rattle.wast_passes.specs.Tree.space
 use Rattle.wast_passes.specs.declared.resolver.TypeShape.{TypeShape}
-use Rattle.wast_demands.specs.Scopes.{Shape, Scope, denoted, type_at}
+use Rattle.wast_demands.specs.Scopes.{Scope, denoted, type_at}
 use Rattle.wast_passes.specs.Resolvers.{shape_by, read_shape, IsFieldsOf}
 use Rattle.wast_demands.specs.Demands.{first_unmet, unknown, ask_demand}
 

@@ -1,6 +1,6 @@
 -- The walk over the uses, after the items had what they demand.
 use Rattle.std.specs.Prelude.{⊤, flat_map}
-use Rattle.std.proofs.Common.{◌≡◌, List, None, Option, inl, inr, sym, ◌∙◌, ap, subst, map}
+use Rattle.std.proofs.Common.{◌≡◌, List, None, inl, inr, sym, ◌∙◌, ap, subst, map}
 use Rattle.wast_base.specs.declared.faults.Error.{Error}
 use Rattle.wast_base.specs.Faults.{Told, told}
 use Rattle.wast_nodes.specs.Items.{items}

@@ -1,10 +1,10 @@
 -- What a function demands, part by part, as it is walked.
-use Rattle.std.specs.Prelude.{⊤, Option, Some, None, option_map}
-use Rattle.std.proofs.Common.{◌≡◌, ℕ, ◌+◌, ◌≤◌, ◌^◌, List, [], ◌∷◌, ◌++◌, length, refl, sym, ap, ◌∙◌, subst, map}
+use Rattle.std.specs.Prelude.{Option, Some, None, option_map}
+use Rattle.std.proofs.Common.{◌≡◌, ℕ, ◌+◌, ◌≤◌, ◌^◌, List, [], ◌∷◌, ◌++◌, length, refl, sym, ap, ◌∙◌, subst}
 use Rattle.std.proofs.lemmas.Grind.{flat_map-append}
 use Rattle.std.specs.List.{flat_map}
 use Rattle.wast_base.specs.Ids.{Name, Mark, name_of}
-use Rattle.wast_base.specs.Spaces.{name_if, position_of}
+use Rattle.wast_base.specs.Spaces.{position_of}
 use Rattle.wast_nodes.specs.Sites.{Here, Locals, in_local, local_marks, param_marks, declaring, body_here, in_expression, in_func_kind, asking}
 use Rattle.wast_map.specs.Mapped.{Change, mapped_signature, mapped_func_kind}
 use Rattle.wast_map.proofs.Fields.{marks_still}
@@ -12,7 +12,7 @@ use Rattle.wast_passes.specs.Tree.{Id, Index, FunctionType, TypeUse, FuncKind}
 use Rattle.wast_passes.specs.Tree.index
 use Rattle.wast_passes.specs.Tree.space
 use Rattle.wast_passes.specs.Tree.func
-use Rattle.wast_demands.specs.Scopes.{Scope, denoted, type_at, params_of, unsaid_params, nameless, local_number}
+use Rattle.wast_demands.specs.Scopes.{Scope, denoted, type_at, params_of, unsaid_params, nameless}
 use Rattle.wast_demands.specs.Demands.{ask_demands, site_demand, site_demands, declared, kind_marks, open_counts_at, open_counts, HasMany}
 use Rattle.wast_passes.specs.Locals.{LocalSpace, opening, names, locals_in, NumbersIn, SaysAsMuch, kind_counts}
 use Rattle.wast_passes.specs.Openable.{begin}

@@ -1,5 +1,5 @@
 -- The open blocks along a body: which sites move them, and which labels the openers have.
-use Rattle.std.proofs.Common.{◌≡◌, ◌+◌, List, [], ◌∷◌, ◌++◌, Option, Some, None, Result, Ok, Err, OnOk, Bool, true, false, refl, sym, ap, ◌∙◌}
+use Rattle.std.proofs.Common.{◌≡◌, List, [], ◌∷◌, ◌++◌, Option, Some, None, Result, Ok, Err, OnOk, Bool, true, false, refl, sym, ap, ◌∙◌}
 use Rattle.std.proofs.lemmas.List.{map-append}
 use Rattle.std.specs.List.{flat_map}
 use Rattle.wast_base.specs.Blocks.{Turn, Opens, Closes, Stays}
@@ -13,6 +13,7 @@ use Rattle.wast_labels.specs.Turns.{gathered}
 use Rattle.wast_nodes.specs.Instrs.{block_of, is_closer, turn_by, turn_of, turns}
 use Rattle.wast_nodes.specs.Sites.{Ask, Site, Asked, Used, Declared, LocalAt, FieldAt, LabelAt, Repeated, Begins, Ends, Here, Locals, after, after_all, asking, at_label, in_br_table}
 use Rattle.wast_nodes.proofs.Behind.{after-append}
+use Rattle.wast_demands.proofs.Unmoved.{asking_stays, labels_stay}
 use Rattle.wast_passes.specs.Tree.{BlockType, BrTableIndices, Instruction}
 use Rattle.wast_passes.specs.Openable.{is_openable_if, AreOpenable, here, with_blocks}
 

@@ -1,5 +1,5 @@
 -- Where no item has a name, the name space of the items is empty.
-use Rattle.std.proofs.Common.{◌≡◌, ℕ, zero, suc, ◌+◌, List, [], ◌∷◌, ◌++◌, length, map, get_or, Option, Some, None, option_map, Bool, false, true≢false, refl, sym, ap, ◌∙◌, arith}
+use Rattle.std.proofs.Common.{◌≡◌, ℕ, zero, suc, ◌+◌, List, [], ◌∷◌, length, map, get_or, Option, Some, None, option_map, false, true≢false, refl, sym, ap, ◌∙◌, arith}
 use Rattle.std.specs.Prelude.{◌||◌, is_some}
 use Rattle.std.specs.FinMap.{get-empty}
 use Rattle.std.specs.List.{list_any}
@@ -10,7 +10,7 @@ use Rattle.wast_base.specs.Ids.{Name, Mark, marked}
 use Rattle.wast_base.specs.Spaces.{name_if, is_called, position_of}
 use Rattle.wast_nodes.specs.Items.{field_ids}
 use Rattle.wast_namespace.specs.Namespaces.{NameSpace, key_cmp, key_of, empty_from, number_in}
-use Rattle.wast_namespace.specs.Filling.{IsClash, IsFilled}
+use Rattle.wast_namespace.specs.Filling.{IsFilled}
 use Rattle.wast_namespace.proofs.Called.{position_head}
 use Rattle.wast_passes.specs.Tree.{StructField}
 use Rattle.wast_passes.specs.Clashes.{FindsAmong}

@@ -10,7 +10,7 @@ use Rattle.wast_base.specs.Ids.{marked}
 use Rattle.wast_base.specs.Spaces.{name_if}
 use Rattle.std.proofs.lemmas.Grind.{flat_map-append}
 use Rattle.std.proofs.lemmas.List.{map-append}
-use Rattle.std.proofs.lemmas.List.Elements.{Contains-append_left, Contains-append_right, Contains-append_cases}
+use Rattle.std.proofs.lemmas.List.Elements.{Contains-append_cases}
 use Rattle.wast_nodes.specs.Items.{Item, field_ids, items_of_type, items_in, items}
 use Rattle.wast_passes.specs.Tree.{Id, StructField, ModuleField}
 use Rattle.wast_passes.specs.Gathers.{Stops}

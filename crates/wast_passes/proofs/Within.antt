@@ -1,12 +1,12 @@
 -- Indices of what stands within a function: locals by the names of the function, and labels by the open blocks.
-use Rattle.std.proofs.Common.{◌≡◌, ℕ, List, [], ◌∷◌, ◌++◌, Option, Some, None, is_some, Bool, true, false, cond, codes, Result, Ok, Err, refl, sym, ap, ◌∙◌, subst, append-nil}
+use Rattle.std.proofs.Common.{◌≡◌, ℕ, List, [], ◌∷◌, ◌++◌, Option, Some, None, is_some, codes, Result, Ok, Err, refl, sym, ap, ◌∙◌, subst, append-nil}
 use Rattle.std.specs.FinMap.{get-empty}
 use Rattle.std.specs.Prelude.{⊤, ◌+◌, option_map}
 use Rattle.wast_base.specs.Blocks.{Blocks}
 use Rattle.wast_base.specs.declared.faults.Error.{Error}
-use Rattle.wast_base.specs.Faults.{Cause, Labels, Told, At, Nowhere, told}
+use Rattle.wast_base.specs.Faults.{Cause, Told, At, Nowhere, told}
 use Rattle.wast_base.specs.Ids.{Name, Mark, name_of, mark_of, marked}
-use Rattle.wast_labels.specs.OpenBlocks.{denotes, expects}
+use Rattle.wast_labels.specs.OpenBlocks.{denotes}
 use Rattle.wast_labels.specs.Asked as labels
 use Rattle.wast_labels.specs.Asked.{Tells, unknown_label, unless_denoted, wrong_label}
 use Rattle.wast_namespace.specs.FirstUnmet.{unknown}

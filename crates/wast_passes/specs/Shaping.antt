@@ -9,7 +9,7 @@ use Rattle.wast_nodes.specs.Types.{types_of}
 use Rattle.wast_namespace.specs.Namespaces.{NameSpace, number_in}
 use Rattle.wast_passes.specs.Tree.{ModuleField}
 use Rattle.wast_passes.specs.Tree.ty
-use Rattle.wast_demands.specs.Demands.{Demand, field_demands, HasMany, Answers}
+use Rattle.wast_demands.specs.Demands.{Demand, field_demands, Answers}
 
 -- names denote the positions of the fields
 abbrev pub NamesFields : List (Option Mark) → NameSpace → Type 0

@@ -1,25 +1,21 @@
 //! Walks over bodies: each instruction by the names of the module and of the function, and by the open blocks.
 #![tactic(auto, using(crate::proofs::Parts::both_met, crate::proofs::Parts::first_fails, crate::proofs::Parts::second_fails))]
 
-ghost use Rattle.std.specs.Prelude.{◌≡◌, ◌≤◌, ◌^◌, ◌+◌, ◌++◌, ◌∷◌, [], List, length, map, flat_map, IsTrue, IfOk, OnOk};
+ghost use Rattle.std.specs.Prelude.{◌≡◌, ◌++◌, ◌∷◌, [], map, flat_map, IsTrue, IfOk, OnOk};
 ghost use Rattle.wast_base.specs.Blocks.{closed};
 ghost use Rattle.wast_base.specs.Ids.{marked};
 ghost use Rattle.wast_base.specs.Spaces.{name_if};
 ghost use Rattle.wast_labels.specs.Gathered.{knows};
-ghost use Rattle.wast_labels.specs.OpenBlocks.{OpenBlocks};
 ghost use Rattle.wast_labels.specs.Turns.{gathered};
 ghost use Rattle.wast_map.specs.Mapped.{mapped_access, mapped_block, mapped_br_table, mapped_catch, mapped_caught, mapped_expression, mapped_handle, mapped_handlers, mapped_indirect, mapped_instr, mapped_instrs, mapped_try_table};
-ghost use Rattle.wast_namespace.specs.Outcomes.{Outcome};
-ghost use Rattle.wast_demands.specs.Demands.{first_unmet, site_demands, open_counts_at, HasMany};
 ghost use Rattle.wast_passes.specs.Locals.{Numbers};
 ghost use Rattle.wast_passes.specs.Openable.{is_openable, AreOpenable, here, begin, Moves, IsPassed};
 ghost use Rattle.wast_passes.specs.Resolvers.{Resolution, scope_of};
-ghost use Rattle.wast_demands.specs.Scopes.{Scope};
 ghost use Rattle.wast_passes.specs.Tree.space;
 ghost use Rattle.wast_passes.specs.TwoSteps.{in_handler_tag, in_handler_label, with_handler_tag, with_handler_label};
 ghost use Rattle.wast_passes.specs.Walking.{WalksAsks, WalksSites, WalksBodies, WalksCast};
 ghost use Rattle.wast_nodes.specs.Instrs.{turn_of, turns};
-ghost use Rattle.wast_nodes.specs.Sites.{Begins, Ends, Repeated, LocalAt, Locals, OfBlock, OfCall, asking, at_index, at_label, in_access, in_block, in_br_table, in_catch, in_caught, in_handle, in_handlers, in_indirect, in_instr, in_instrs, in_pair, in_try_table, in_use};
+ghost use Rattle.wast_nodes.specs.Sites.{Begins, Ends, Repeated, LocalAt, Locals, OfBlock, asking, at_index, at_label, in_access, in_block, in_br_table, in_catch, in_caught, in_handle, in_handlers, in_indirect, in_instr, in_instrs, in_pair, in_try_table, in_use};
 
 use crate::apart::{walk_outside, walk_outside_index};
 use crate::local_names::LocalNames;
@@ -29,9 +25,9 @@ use std::alloc::{AllocError, Global};
 use wast_base::{Boxed, Error, Fault, Id, Index, Seq, Space};
 use wast_labels::{LabelNames, Labels, gathering_law};
 use wast_nodes::{
-    ArrayInit, BlockType, BrTableIndices, CallIndirect, Expression, FunctionType, Handle,
-    Instruction, MemArgTarget, RefType, Resume, ResumeTable, ResumeThrow, ResumeThrowRef,
-    StructAccess, TryTable, TryTableCatch, TryTableCatchKind, TypeUse,
+    ArrayInit, BlockType, BrTableIndices, CallIndirect, Expression, Handle, Instruction,
+    MemArgTarget, RefType, Resume, ResumeTable, ResumeThrow, ResumeThrowRef, StructAccess,
+    TryTable, TryTableCatch, TryTableCatchKind,
 };
 
 /// Walks over an index of a space. No block is opened.

@@ -1,6 +1,6 @@
 //! What the names of parameters and locals denote.
 
-ghost use Rattle.std.specs.Prelude.{◌≡◌, codes, IfOk};
+ghost use Rattle.std.specs.Prelude.{◌≡◌, codes};
 ghost use Rattle.wast_base.specs.Ids.{name_of};
 ghost use Rattle.wast_namespace.specs.FirstUnmet.{first_unmet, known_index};
 ghost use Rattle.wast_namespace.specs.Namespaces.{empty_from};

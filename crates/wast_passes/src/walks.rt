@@ -27,12 +27,11 @@ use crate::local_names::LocalNames;
 use crate::locals::name_locals;
 use crate::resolver::Resolver;
 use std::alloc::Global;
-use wast_base::{Error, Id, Index, NameAnnotation, Seq, Space};
+use wast_base::{Error, Index, Seq, Space};
 use wast_nodes::{
-    ArrayCopy, ArrayNewData, ArrayNewElem, ArrayType, ContBind, Export, Func, FuncKind,
-    FunctionType, GlobalType, HeapType, InnerTypeKind, LoadOrStoreLane, Local, MemArg,
-    MemArgTarget, MemoryCopy, MemoryInit, ModuleField, Rec, RefType, SelectTypes, StorageType,
-    StructField, StructType, Switch, TableCopy, TableInit, TableType, Type, TypeDef, TypeUse,
+    ArrayCopy, ArrayNewData, ArrayNewElem, ContBind, Export, Func, FuncKind, FunctionType,
+    GlobalType, HeapType, LoadOrStoreLane, Local, MemArg, MemArgTarget, MemoryCopy, MemoryInit,
+    ModuleField, Rec, RefType, SelectTypes, Switch, TableCopy, TableInit, TableType, Type, TypeUse,
     ValType, discard_said_inline,
 };
 

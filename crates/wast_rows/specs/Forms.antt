@@ -1,7 +1,5 @@
 -- Modules in which a form stands alone.
-use Rattle.std.specs.Prelude.{List}
 use Rattle.wast_base.specs.declared.faults.Form.{Form}
-use Rattle.wast_nodes.specs.declared.fields.ModuleField.{ModuleField}
 use Rattle.wast_core.specs.declared.module.ModuleKind.{ModuleKind}
 use Rattle.wast_core.specs.declared.module.ModuleKind.TheVariants as kind
 use Rattle.wast_samples.specs.SampledForms.{HoldsAlone}

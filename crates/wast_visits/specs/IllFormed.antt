@@ -1,6 +1,6 @@
 -- Where a list of fields is not well formed: the first clause that fails, and the nearest place.
-use Rattle.std.specs.Prelude.{ℕ, List, [], ◌∷◌, ◌++◌, map, flat_map, Option}
-use Rattle.wast_base.specs.Ids.{Mark, span_of_index}
+use Rattle.std.specs.Prelude.{List, [], ◌∷◌, ◌++◌, map, flat_map, Option}
+use Rattle.wast_base.specs.Ids.{span_of_index}
 use Rattle.wast_visits.specs.Tree.{Span, Custom, ModuleField}
 use Rattle.wast_visits.specs.Tree.custom
 use Rattle.wast_visits.specs.Tree.field

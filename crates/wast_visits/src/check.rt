@@ -1,7 +1,7 @@
 //! Which fields are well formed, and which clause fails.
 
 ghost use Rattle.std.specs.Prelude.{◌≡◌, Bool, true, None, Some, is_none, flat_map};
-ghost use Rattle.wast_nodes.specs.Known.{Known, known};
+ghost use Rattle.wast_nodes.specs.Known.{known};
 ghost use Rattle.wast_nodes.specs.Sites.{Wants};
 ghost use Rattle.wast_nodes.specs.WellFormed.{is_well_formed, unless_holds, failing, lesser, least_of, ill_formed};
 

@@ -1,8 +1,8 @@
 //! Where fields are not well formed.
 
-ghost use Rattle.std.specs.Prelude.{◌≡◌, ◌++◌, List, None, is_none, map, flat_map};
+ghost use Rattle.std.specs.Prelude.{◌≡◌, List, None, is_none, map, flat_map};
 ghost use Rattle.wast_visits.specs.IllFormed.{nearest, failing_at, failing_from, custom_place, field_place, first_ill_formed};
-ghost use Rattle.wast_nodes.specs.Known.{Known, known};
+ghost use Rattle.wast_nodes.specs.Known.{known};
 ghost use Rattle.wast_nodes.specs.Sites.{Ask, in_field, asked};
 ghost use Rattle.wast_visits.specs.Tree.{Span};
 ghost use Rattle.wast_nodes.specs.Uncovered.{first, first_of};

@@ -1,7 +1,7 @@
 //! Walks over the tree to read it: a visitor is told of each item, or of each id and index beside them, in order.
 #![tactic(auto, using(crate::proofs::Visiting::visits_both, crate::proofs::Visiting::visits_one, crate::proofs::Visiting::visits_none, wast_nodes::proofs::Asking::asked_asking, wast_nodes::proofs::Asking::asked_both, crate::proofs::Visiting::asked_use))]
 
-ghost use Rattle.std.specs.Prelude.{◌≡◌, ◌∷◌, ◌++◌, Bool, List, [], map, Option};
+ghost use Rattle.std.specs.Prelude.{◌≡◌, ◌∷◌, ◌++◌, List, [], map, Option};
 ghost use Rattle.std.specs.Prelude.{flat_map};
 ghost use Rattle.wast_base.specs.Ids.{mark_of};
 ghost use Rattle.wast_base.specs.Blocks.{Blocks};
@@ -9,7 +9,7 @@ ghost use Rattle.wast_visits.specs.Tree.{TypeUse, FunctionType};
 ghost use Rattle.wast_visits.specs.Tree.form;
 ghost use Rattle.wast_visits.specs.Tree.space;
 ghost use Rattle.wast_nodes.specs.Items.{Item, item, item_of_sig, fields_of, items_of_type, items_in, items};
-ghost use Rattle.wast_nodes.specs.Sites.{Ask, Wants, Within, Unasked, Clause, Covered, Here, if_there, in_index, in_id, in_heap, in_ref, in_val, in_storage, in_param, in_signature, in_struct_field, in_struct, in_array, in_inner, in_descriptor, in_def, in_type, in_rec, in_type_use, in_block, in_caught, in_catch, in_try_table, in_br_table, in_target, in_mem_arg, in_pair, in_access, in_cast, uncovered, asking, in_select, in_indirect, mark_asked, in_instr, in_instrs, in_expression, in_constant, in_local, in_func_kind, in_func, in_field, in_module, asked};
+ghost use Rattle.wast_nodes.specs.Sites.{Ask, Wants, Within, Unasked, Clause, Covered, Here, if_there, in_index, in_id, in_heap, in_ref, in_val, in_storage, in_param, in_signature, in_struct_field, in_struct, in_array, in_inner, in_descriptor, in_def, in_type, in_rec, in_type_use, in_block, in_caught, in_catch, in_try_table, in_br_table, in_target, in_mem_arg, in_pair, in_access, in_cast, uncovered, asking, in_select, in_indirect, in_instr, in_instrs, in_expression, in_constant, in_local, in_func_kind, in_func, in_field, in_module, asked};
 ghost use Rattle.wast_visits.specs.Visits.{Visits};
 
 use crate::clauses::{hints_stand, is_balanced, is_continuation, is_sequential};

@@ -1,4 +1,4 @@
-use Rattle.std.proofs.Common.{◌≤◌, arith}
+use Rattle.std.proofs.Common.{arith}
 use Rattle.wasm_ops.proofs.Numbers.{unsigned-nonempty}
 use Rattle.wasm_ops.proofs.leb128.further_width.Goals as goal
 

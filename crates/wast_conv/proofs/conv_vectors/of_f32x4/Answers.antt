@@ -1,4 +1,4 @@
-use Rattle.std.proofs.Common.{◌≡◌, length, refl, ap, ◌∙◌, arith}
+use Rattle.std.proofs.Common.{◌≡◌, length, ap, ◌∙◌, arith}
 use Rattle.wast_conv.specs.Values.{f32_bytes}
 use Rattle.wast_conv.proofs.Arrays.{by_places}
 use Rattle.wast_conv.proofs.conv_vectors.of_f32x4.Goals as goal

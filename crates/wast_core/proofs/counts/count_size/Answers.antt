@@ -1,7 +1,8 @@
 use Rattle.std.proofs.Common.{◌∙◌, ap, length, refl, arith}
 use Rattle.wasm_ops.specs.Leb128.{unsigned}
 use Rattle.wasm_out.specs.Parts.{DataCount}
-use Rattle.wast_core.proofs.Sizes.{narrow, number_size}
+use Rattle.wasm_ops.proofs.Numbers.{narrow}
+use Rattle.wast_core.proofs.Sizes.{number_size}
 use Rattle.wast_core.proofs.counts.count_size.Goals as goal
 
 pub overflow_add-result : goal.overflow_add-result

@@ -1,10 +1,7 @@
-use Rattle.std.proofs.Common.{◌≡◌, ◌+◌, ◌<◌, length, take, drop, refl, ap, sym, ◌∙◌, arith, length-append}
-use Rattle.std.specs.List.{flat_map}
+use Rattle.std.proofs.Common.{◌≡◌, ◌+◌, ◌<◌, length, take, ap, ◌∙◌, arith}
 use Rattle.std.proofs.lemmas.List.{take_all}
 use Rattle.wast_core.specs.Hints.{functions_in, hinted}
 use Rattle.wast_names.specs.GivenNames.{named_from}
-use Rattle.wast_names.proofs.Each.{each_more, each_around}
-use Rattle.wast_names.proofs.NameEntries.{named_append, as_many}
 use Rattle.wast_core.proofs.Hinting.{hinted_more, hinted_at_most}
 use Rattle.wast_core.proofs.hints.count.Goals as goal
 

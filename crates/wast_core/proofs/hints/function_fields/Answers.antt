@@ -1,7 +1,5 @@
-use Rattle.std.proofs.Common.{◌≡◌, ◌||◌, false}
 use Rattle.wast_conv.specs.Encodable.{is_encodable_field}
 use Rattle.wast_core.specs.Hints.{functions_in}
-use Rattle.wast_core.specs.Tree.{ModuleField}
 use Rattle.wast_core.proofs.Hinting.{is_function_or_import, no_function_elsewhere}
 use Rattle.wast_reach.specs.Kinds.{is_of}
 use Rattle.wast_reach.specs.declared.kinds.FieldKind.TheVariants as kind

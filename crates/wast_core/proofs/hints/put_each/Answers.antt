@@ -1,4 +1,4 @@
-use Rattle.std.proofs.Common.{◌≡◌, true, ◌+◌, length, take, drop, sym, ap, subst, refl, arith, length-append, Ok, Err, ℕ}
+use Rattle.std.proofs.Common.{◌≡◌, true, ◌+◌, length, take, drop, sym, ap, subst, refl, arith, length-append, Ok, ℕ}
 use Rattle.std.specs.List.{flat_map}
 use Rattle.std.proofs.lemmas.List.{take_all}
 use Rattle.wast_conv.specs.Encodable.{is_encodable_field}

@@ -1,10 +1,7 @@
-use Rattle.std.proofs.Common.{◌≡◌, true, subst, sym, ap}
-use Rattle.std.proofs.lemmas.List.Elements.{All-nil}
+use Rattle.std.proofs.Common.{◌≡◌, true, subst}
 use Rattle.wast_conv.specs.Encodable.{is_encodable_field}
 use Rattle.wast_conv.proofs.Ready.{hints_ready, import_ready}
-use Rattle.wast_nodes.specs.Imports.{item_sigs}
-use Rattle.wast_core.specs.Hints.{InRangeHinted}
-use Rattle.wast_core.proofs.Hinting.{nothing_written, imported_unhinted}
+use Rattle.wast_core.proofs.Hinting.{nothing_written}
 use Rattle.wast_core.proofs.hints.put_field.Goals as goal
 
 pub put_function-requires : goal.put_function-requires

@@ -1,4 +1,4 @@
-use Rattle.std.proofs.Common.{length, sym, ap, ◌∙◌}
+use Rattle.std.proofs.Common.{sym}
 use Rattle.wast_core.specs.Hints.{hinted}
 use Rattle.wast_core.proofs.Hinting.{alike, section_absent, section_written}
 use Rattle.wast_core.proofs.hints.put_hints.Goals as goal

@@ -1,8 +1,8 @@
-use Rattle.std.proofs.Common.{◌≡◌, true, subst, sym, ◌∙◌, ap, length, IfOk, IfErr, Ok, Err, Result, ℕ}
+use Rattle.std.proofs.Common.{◌≡◌, true, subst, IfOk, IfErr}
 use Rattle.wasm_ops.specs.declared.sink.Refusal.TheVariants as refusal
 use Rattle.wasm_out.specs.NameSectionBytes.{name_entry, map_entry, InRangeNameEntry, InRangeMapEntry}
 use Rattle.wast_names.specs.GivenNames.{named_from}
-use Rattle.wast_names.specs.FoundNames.{counted, InRangeMap}
+use Rattle.wast_names.specs.FoundNames.{InRangeMap}
 use Rattle.wast_names.specs.MapExtents.{is_extent}
 use Rattle.wast_names.specs.ModuleNames.{named_of, named_items, named_within, named_lists}
 use Rattle.wast_names.specs.WithinItems.{types_of}

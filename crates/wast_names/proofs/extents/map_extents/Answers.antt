@@ -1,10 +1,10 @@
-use Rattle.std.proofs.Common.{◌≡◌, ◌<◌, ◌≤◌, ◌+◌, ℕ, true, length, take, get_or, sym, ◌∙◌, subst, arith, refl}
+use Rattle.std.proofs.Common.{◌≤◌, length, ◌∙◌, subst, arith}
 use Rattle.std.specs.Prelude.{All}
 use Rattle.std.proofs.lemmas.List.{length-set, take_all}
 use Rattle.std.proofs.lemmas.Result.{err_from_is_err_and}
 use Rattle.wasm_out.specs.NameSectionBytes.{InRangeNameSubsection}
 use Rattle.wast_names.specs.ModuleNames.{map_names, name_maps}
-use Rattle.wast_names.proofs.MapExtents.{first_map, no_extent, extents_found, extent_more, range_more}
+use Rattle.wast_names.proofs.MapExtents.{first_map, extents_found, extent_more, range_more}
 use Rattle.wast_names.proofs.extents.map_extents.Goals as goal
 
 pub returns-in_err-extents-clause-err : goal.returns-in_err-extents-clause-err

@@ -1,4 +1,4 @@
-use Rattle.std.proofs.Common.{◌≡◌, ◌∙◌, ◌∷◌, [], ◌||◌, Bool, ap}
+use Rattle.std.proofs.Common.{◌∷◌, []}
 use Rattle.std.specs.List.{flat_map}
 use Rattle.wast_names.specs.WithinItems.{param_name, local_name}
 use Rattle.wast_names.proofs.ListedNames.{either_named}

@@ -1,6 +1,4 @@
 use Rattle.std.proofs.Common.{refl}
-use Rattle.std.proofs.lemmas.Bool.{eq-eqb}
-use Rattle.wasm_ops.proofs.Everywhere.{all_one}
 use Rattle.wasm_out.specs.NameSectionBytes.{name_entry, map_entry, InRangeNameEntry, InRangeMapEntry}
 use Rattle.wasm_ops.specs.Spelling.{vec, InRangeVec}
 use Rattle.wast_names.specs.declared.name_lists.CountedNames.{CountedNames}

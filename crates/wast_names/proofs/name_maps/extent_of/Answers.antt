@@ -1,4 +1,4 @@
-use Rattle.std.proofs.Common.{refl, arith, inl, inr, ◌∙◌}
+use Rattle.std.proofs.Common.{refl, arith, ◌∙◌}
 use Rattle.std.specs.List.{flat_map}
 use Rattle.std.proofs.lemmas.Result.{err_from_is_err_and}
 use Rattle.wast_names.specs.GivenNames.{named_from}

@@ -1,4 +1,4 @@
-use Rattle.std.proofs.Common.{◌≡◌, ℕ, List, ◌+◌, ◌++◌, refl, sym, ◌∙◌, arith, ap, length, length-append}
+use Rattle.std.proofs.Common.{◌≡◌, ℕ, List, ◌+◌, ◌++◌, refl, ◌∙◌, arith, ap, length, length-append}
 use Rattle.std.specs.List.{flat_map}
 use Rattle.std.proofs.lemmas.Result.{err_from_is_err_and}
 use Rattle.wasm_out.specs.NameSectionBytes.{NameSubsection, name_subsection, InRangeNameSubsection}

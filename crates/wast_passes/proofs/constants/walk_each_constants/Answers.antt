@@ -1,4 +1,4 @@
-use Rattle.std.specs.Prelude.{⊤, flat_map}
+use Rattle.std.specs.Prelude.{flat_map}
 use Rattle.std.proofs.Common.{arith, suc, ◌<◌, length, take, drop}
 use Rattle.std.proofs.lemmas.Result.{err_from_is_err_and}
 use Rattle.wast_base.specs.Faults.{told}

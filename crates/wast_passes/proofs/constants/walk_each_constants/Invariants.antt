@@ -1,6 +1,6 @@
 use Rattle.wast_demands.specs.Demands.{site_demand}
 use Rattle.wast_demands.specs.Resolved.{numbering}
-use Rattle.wast_passes.specs.Resolvers.{known_of, scope_of}
+use Rattle.wast_passes.specs.Resolvers.{scope_of}
 use Rattle.wast_passes.proofs.Each.{IsHalfway}
 use Rattle.wast_passes.proofs.constants.walk_each_constants.Given as goal
 

@@ -1,5 +1,5 @@
 use Rattle.std.specs.Prelude.{⊤, ◌∷◌, [], ◌+◌, length}
-use Rattle.std.proofs.Common.{None, sym, subst, arith}
+use Rattle.std.proofs.Common.{None, sym, subst}
 use Rattle.wast_base.specs.declared.faults.Error.{Error}
 use Rattle.wast_base.specs.Faults.{told}
 use Rattle.wast_demands.specs.Demands.{HasMany, Answers}

@@ -1,8 +1,6 @@
-use Rattle.std.proofs.Common.{List, [], Ok, subst}
+use Rattle.std.proofs.Common.{List, subst}
 use Rattle.wast_base.specs.Ids.{Name}
 use Rattle.wast_labels.specs.Gathered.{IsTable}
-use Rattle.wast_labels.specs.Turns.{gathered}
-use Rattle.wast_nodes.specs.Instrs.{turns}
 use Rattle.wast_passes.proofs.Moving.{all_openable}
 use Rattle.wast_passes.proofs.instrs.table_of_labels.Goals as goal
 

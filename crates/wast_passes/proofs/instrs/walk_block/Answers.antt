@@ -1,5 +1,5 @@
 use Rattle.std.specs.Prelude.{⊤, [], ◌∷◌}
-use Rattle.std.proofs.Common.{◌≡◌, ap, sym, subst, ◌∙◌, None, true}
+use Rattle.std.proofs.Common.{◌≡◌, ap, sym, subst, ◌∙◌, true}
 use Rattle.std.proofs.lemmas.Result.{err_from_is_err_and}
 use Rattle.wast_base.specs.Faults.{told}
 use Rattle.wast_base.specs.Ids.{marked}
@@ -7,9 +7,8 @@ use Rattle.wast_base.specs.Spaces.{name_if}
 use Rattle.wast_labels.specs.Gathered.{knows}
 use Rattle.wast_labels.specs.OpenBlocks.{with_open}
 use Rattle.wast_nodes.specs.Sites.{OfBlock, Begins, in_block, in_use}
-use Rattle.wast_passes.specs.Tree.{BlockType, Id}
-use Rattle.wast_demands.specs.Demands.{HasMany, open_counts, first_unmet, site_demand, site_demands, Answers}
-use Rattle.wast_passes.specs.Openable.{with_blocks, here}
+use Rattle.wast_passes.specs.Tree.{BlockType}
+use Rattle.wast_demands.specs.Demands.{HasMany, open_counts, site_demand}
 use Rattle.wast_passes.specs.Resolvers.{scope_of}
 use Rattle.wast_passes.proofs.Parts.{both_met, fails_first, fails_second}
 use Rattle.wast_passes.proofs.instrs.walk_block.Goals as goal

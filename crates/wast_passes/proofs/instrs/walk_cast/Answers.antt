@@ -1,8 +1,8 @@
 use Rattle.std.specs.Prelude.{◌++◌}
-use Rattle.std.proofs.Common.{List, ◌≡◌, ap, sym, subst, ◌∙◌, None}
+use Rattle.std.proofs.Common.{List, ◌≡◌, sym, subst, None}
 use Rattle.std.proofs.lemmas.Result.{err_from_is_err_and}
 use Rattle.wast_base.specs.Faults.{told}
-use Rattle.wast_nodes.specs.Sites.{Site, asking, at_label, in_ref, in_cast}
+use Rattle.wast_nodes.specs.Sites.{Site, asking, at_label, in_ref}
 use Rattle.wast_demands.specs.Demands.{first_unmet, site_demand, site_demands, Answers}
 use Rattle.wast_passes.specs.Resolvers.{scope_of}
 use Rattle.wast_passes.proofs.Parts.{both_met, fails_first, fails_behind, cast_sites}

@@ -1,8 +1,8 @@
-use Rattle.std.proofs.Common.{◌≡◌, ap, sym, subst, ◌∙◌}
+use Rattle.std.proofs.Common.{ap, sym, subst, ◌∙◌}
 use Rattle.std.proofs.lemmas.Result.{err_from_is_err_and}
 use Rattle.wast_base.specs.Faults.{told}
 use Rattle.wast_nodes.specs.Sites.{asking, at_label, in_caught}
-use Rattle.wast_demands.specs.Demands.{first_unmet, site_demand, site_demands, Answers}
+use Rattle.wast_demands.specs.Demands.{first_unmet, site_demand, Answers}
 use Rattle.wast_passes.specs.Resolvers.{scope_of}
 use Rattle.wast_passes.proofs.Parts.{asking_demands, both_met, fails_first, fails_behind}
 use Rattle.wast_passes.proofs.instrs.walk_catch.Goals as goal

@@ -1,11 +1,9 @@
-use Rattle.std.specs.Prelude.{⊤, []}
-use Rattle.std.proofs.Common.{◌≡◌, ap, subst, None}
+use Rattle.std.proofs.Common.{◌≡◌, subst, None}
 use Rattle.std.proofs.lemmas.Result.{err_from_is_err_and}
-use Rattle.wast_base.specs.Blocks.{Blocks}
 use Rattle.wast_base.specs.Faults.{told}
 use Rattle.wast_labels.specs.OpenBlocks.{OpenBlocks, denotes}
 use Rattle.wast_nodes.specs.Sites.{at_label}
-use Rattle.wast_demands.specs.Demands.{HasMany, first_unmet, site_demands, Answers}
+use Rattle.wast_demands.specs.Demands.{first_unmet, site_demands, Answers}
 use Rattle.wast_demands.specs.Resolved.{numbered}
 use Rattle.wast_passes.specs.Resolvers.{scope_of}
 use Rattle.wast_demands.proofs.Unmet.{answers_more}

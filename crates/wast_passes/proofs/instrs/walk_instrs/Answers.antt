@@ -3,15 +3,14 @@ use Rattle.std.proofs.Common.{arith, ◌≤◌, ◌<◌, length, get_or, take, s
 use Rattle.std.proofs.lemmas.Result.{err_from_is_err_and}
 use Rattle.wast_base.specs.Faults.{told}
 use Rattle.wast_map.specs.Mapped.{mapped_instr}
-use Rattle.wast_nodes.specs.Sites.{Here, Locals, in_instr, in_instrs}
+use Rattle.wast_nodes.specs.Sites.{Here, in_instr, in_instrs}
 use Rattle.wast_demands.specs.Demands.{first_unmet, site_demands, open_counts, HasMany, Answers}
-use Rattle.wast_passes.specs.Locals.{Numbers}
 use Rattle.wast_passes.specs.Openable.{here, IsPassed}
 use Rattle.wast_demands.specs.Resolved.{numbering}
 use Rattle.wast_passes.specs.Resolvers.{scope_of}
 use Rattle.wast_passes.proofs.Moving.{stands_by}
 use Rattle.wast_passes.proofs.Parts.{more_answers}
-use Rattle.wast_passes.proofs.Stepping.{reached, along_more, along_openable, along_passed, partway_more, partway_passed, partway_stops, partway_many, all_met, all_become}
+use Rattle.wast_passes.proofs.Stepping.{along_more, along_openable, along_passed, partway_more, partway_passed, partway_stops, partway_many, all_met, all_become}
 use Rattle.wast_passes.proofs.instrs.walk_instrs.Goals as goal
 
 pub returns-in_err-walk_instr : goal.returns-in_err-walk_instr

@@ -1,7 +1,7 @@
 use Rattle.std.proofs.Common.{arith, [], ◌≤◌, length}
 use Rattle.std.proofs.lemmas.Result.{err_from_is_err_and}
 use Rattle.wast_base.specs.Faults.{told}
-use Rattle.wast_passes.specs.Resolvers.{Resolution, without_types}
+use Rattle.wast_passes.specs.Resolvers.{without_types}
 use Rattle.wast_passes.proofs.Each.{stops, goes_on, all_met, all_become}
 use Rattle.wast_passes.proofs.instrs.walk_labels.Goals as goal
 

@@ -1,5 +1,5 @@
 use Rattle.std.specs.Prelude.{⊤, [], ◌∷◌, ◌++◌, flat_map}
-use Rattle.std.proofs.Common.{◌≡◌, ap, sym, subst, ◌∙◌, None, true}
+use Rattle.std.proofs.Common.{◌≡◌, ap, sym, subst, ◌∙◌, true}
 use Rattle.std.proofs.lemmas.Grind.{flat_map-append}
 use Rattle.std.proofs.lemmas.Result.{err_from_is_err_and}
 use Rattle.wast_base.specs.Faults.{told}
@@ -9,8 +9,8 @@ use Rattle.wast_labels.specs.Gathered.{knows}
 use Rattle.wast_labels.specs.OpenBlocks.{with_open}
 use Rattle.wast_nodes.specs.Sites.{Here, OfBlock, Begins, after_all, in_catch, in_try_table, in_use}
 use Rattle.wast_nodes.proofs.Behind.{after-append}
-use Rattle.wast_passes.specs.Tree.{BlockType, Id}
-use Rattle.wast_demands.specs.Demands.{HasMany, open_counts_at, open_counts, first_unmet, site_demand, site_demands, Answers}
+use Rattle.wast_passes.specs.Tree.{BlockType}
+use Rattle.wast_demands.specs.Demands.{HasMany, open_counts_at, open_counts, site_demand}
 use Rattle.wast_passes.specs.Openable.{with_blocks, here}
 use Rattle.wast_passes.specs.Resolvers.{scope_of}
 use Rattle.wast_demands.proofs.Counted.{many_right}

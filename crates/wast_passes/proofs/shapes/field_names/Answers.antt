@@ -1,10 +1,10 @@
-use Rattle.std.proofs.Common.{map, length, ap, ◌∙◌, sym, subst}
+use Rattle.std.proofs.Common.{map, length, ap, ◌∙◌, subst}
 use Rattle.std.proofs.lemmas.List.{length-map}
 use Rattle.std.proofs.lemmas.Result.{err_from_is_err_and}
 use Rattle.wast_base.specs.Faults.{told}
 use Rattle.wast_base.specs.Spaces.{name_if, position_of}
 use Rattle.wast_nodes.specs.Items.{field_ids}
-use Rattle.wast_namespace.specs.Filling.{FillsSpace, IsFilled, IsFirstClash}
+use Rattle.wast_namespace.specs.Filling.{FillsSpace, IsFilled}
 use Rattle.wast_passes.proofs.FieldClashes.{no_clash}
 use Rattle.wast_passes.proofs.Shaping.{stops_refused}
 use Rattle.wast_passes.proofs.shapes.field_names.Goals as goal

@@ -1,9 +1,9 @@
-use Rattle.std.proofs.Common.{map, arith}
+use Rattle.std.proofs.Common.{map}
 use Rattle.std.proofs.lemmas.Result.{err_from_is_err_and}
 use Rattle.wast_passes.specs.Resolvers.{read_shape}
-use Rattle.wast_demands.specs.Scopes.{shape_of, shapes_in}
-use Rattle.wast_passes.specs.Shaping.{type_demands, types_demands, type_fields, types_fields}
-use Rattle.wast_passes.proofs.Shaping.{next_met, next_read, next_one, many_next, many_here, refused_more}
+use Rattle.wast_demands.specs.Scopes.{shapes_in}
+use Rattle.wast_passes.specs.Shaping.{types_demands, types_fields}
+use Rattle.wast_passes.proofs.Shaping.{next_met, next_read, many_next, refused_more}
 use Rattle.wast_passes.proofs.shapes.type_shapes.Goals as goal
 
 pub add_field-requires : goal.add_field-requires

@@ -2,7 +2,7 @@ use Rattle.wast_nodes.specs.Sites.{in_field}
 use Rattle.wast_demands.specs.Demands.{site_demand}
 use Rattle.wast_map.specs.Mapped.{mapped}
 use Rattle.wast_demands.specs.Resolved.{numbering}
-use Rattle.wast_passes.specs.Resolvers.{known_of, scope_of}
+use Rattle.wast_passes.specs.Resolvers.{scope_of}
 use Rattle.wast_passes.proofs.Each.{IsHalfway}
 use Rattle.wast_passes.proofs.walks.walk_fields.Given as goal
 

@@ -5,7 +5,7 @@ use Rattle.wast_base.specs.Faults.{told}
 use Rattle.wast_nodes.specs.Sites.{param_marks}
 use Rattle.wast_passes.specs.Tree.{FuncKind}
 use Rattle.wast_demands.specs.Demands.{first_unmet, Answers, ask_demands, site_demands, declared, kind_marks, open_counts, HasMany}
-use Rattle.wast_passes.specs.Locals.{opening, names, locals_in, NumbersIn, kind_counts}
+use Rattle.wast_passes.specs.Locals.{opening, names, locals_in, kind_counts}
 use Rattle.wast_demands.specs.Resolved.{numbering}
 use Rattle.wast_passes.specs.Resolvers.{scope_of}
 use Rattle.wast_demands.specs.Scopes.{nameless}

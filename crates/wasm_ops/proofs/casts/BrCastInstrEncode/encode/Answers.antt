@@ -1,6 +1,6 @@
 use Rattle.std.proofs.Common.{◌++◌, subst}
-use Rattle.std.specs.Prelude.{ℕ, [], ◌∷◌}
-use Rattle.wasm_ops.specs.CastInstrs.{br_cast_key, nullables}
+use Rattle.std.specs.Prelude.{ℕ, ◌∷◌}
+use Rattle.wasm_ops.specs.CastInstrs.{br_cast_key}
 use Rattle.wasm_ops.specs.Leb128.{unsigned}
 use Rattle.wasm_ops.specs.Opcodes.{opcode_of, opcode_bytes}
 use Rattle.wasm_ops.specs.Sinks.{Writes}

@@ -1,5 +1,4 @@
-use Rattle.std.proofs.Common.{◌≡◌, ◌<◌, ◌≤◌, ◌*◌, ◌/◌, ◌^◌, ◌-◌, ℕ, List, length, ◌+◌, refl, sym, ap, subst, ◌∙◌, arith, set, replicate}
-use Rattle.std.specs.List.{flat_map}
+use Rattle.std.proofs.Common.{◌≡◌, ◌*◌, ◌/◌, ℕ, length, ◌+◌, refl, sym, ap, subst, ◌∙◌, arith, set, replicate}
 use Rattle.std.proofs.lemmas.List.{length-set, length-replicate}
 use Rattle.wast_names.specs.declared.arities.Checkpoints.{Checkpoints}
 use Rattle.wast_names.specs.Checkpoints.{Tells}

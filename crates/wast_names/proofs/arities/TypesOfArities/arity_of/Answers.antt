@@ -1,4 +1,4 @@
-use Rattle.std.proofs.Common.{◌∙◌, ap, ◌*◌, ◌<◌, ◌^◌, ◌-◌, arith, get_or}
+use Rattle.std.proofs.Common.{◌∙◌, ap, ◌*◌, ◌-◌, arith, get_or}
 use Rattle.std.specs.Prelude.{slice_get}
 use Rattle.std.specs.List.{flat_map}
 use Rattle.wast_names.specs.WithinItems.{arity_of}

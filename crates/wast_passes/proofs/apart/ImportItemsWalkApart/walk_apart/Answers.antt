@@ -1,11 +1,9 @@
-use Rattle.std.proofs.Common.{false, List, ap, sym, refl}
+use Rattle.std.proofs.Common.{false, refl}
 use Rattle.std.specs.List.{flat_map}
 use Rattle.wast_nodes.specs.Sites.{Covered, in_sig}
-use Rattle.wast_map.specs.Mapped.{mapped_sig}
 use Rattle.wast_passes.specs.Tree.{ItemSig}
 use Rattle.wast_passes.specs.Tree.form
 use Rattle.wast_passes.specs.Tree.import_items
-use Rattle.wast_demands.specs.Resolved.{numbering}
 use Rattle.wast_passes.specs.Resolvers.{scope_of}
 use Rattle.wast_passes.proofs.Parts.{walks_before}
 use Rattle.wast_passes.proofs.apart.ImportItemsWalkApart.walk_apart.Goals as goal

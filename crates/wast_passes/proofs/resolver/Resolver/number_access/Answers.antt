@@ -1,10 +1,10 @@
-use Rattle.std.proofs.Common.{◌≡◌, ◌++◌, Some, None, ap, sym, ◌∙◌, subst, append-nil}
+use Rattle.std.proofs.Common.{ap, sym, ◌∙◌, subst, append-nil}
 use Rattle.std.proofs.lemmas.Result.{err_from_is_err_and}
 use Rattle.wast_base.specs.Faults.{told}
 use Rattle.wast_nodes.specs.Sites.{Wants}
 use Rattle.wast_passes.specs.Tree.space
 use Rattle.wast_demands.specs.Demands.{first_unmet, ask_demand, field_at, Answers}
-use Rattle.wast_passes.specs.Resolvers.{known_of, scope_of}
+use Rattle.wast_passes.specs.Resolvers.{scope_of}
 use Rattle.wast_demands.specs.Scopes.{denoted, field_in, type_at}
 use Rattle.wast_demands.specs.Resolved.{numbered}
 use Rattle.wast_demands.proofs.Unmet.{answers_first, answers_after, first_unmet-append}

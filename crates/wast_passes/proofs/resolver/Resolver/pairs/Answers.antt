@@ -1,6 +1,6 @@
 use Rattle.std.proofs.Common.{◌≡◌, ℕ, [], sym, ap, ◌∙◌, arith, length}
 use Rattle.std.specs.FinMap as finmap
-use Rattle.std.specs.FinMap.{from_sorted, entries-from_sorted}
+use Rattle.std.specs.FinMap.{entries-from_sorted}
 use Rattle.std.proofs.Math.ListN.{get_or-eq_default}
 use Rattle.wast_base.specs.Spaces.{rank_of}
 use Rattle.wast_namespace.specs.Namespaces.{key_cmp, empty_from}

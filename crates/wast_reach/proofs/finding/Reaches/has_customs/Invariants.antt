@@ -1,5 +1,4 @@
 use Rattle.std.proofs.Common.{◌≡◌, ℕ, ◌<◌, ◌≤◌, get_or}
-use Rattle.wast_reach.specs.declared.stretches.Reach.{Reach}
 use Rattle.wast_reach.proofs.finding.Reaches.has_customs.Given as goal
 
 abbrev pub invariant-loop-rank : goal.invariant-loop-rank
