@@ -12,6 +12,7 @@ mod immediates;
 mod imports;
 mod instrs;
 mod moves;
+mod ref_types;
 mod references;
 mod segments;
 mod types;

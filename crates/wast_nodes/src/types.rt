@@ -66,7 +66,7 @@ impl<'a> RefType<'a> {
     }
 
     /// `(ref null ..)` of a type that no module defines and that is not shared.
-    fn nullable_of(ty: AbstractHeapType) -> RefType<'a>
+    pub(crate) fn nullable_of(ty: AbstractHeapType) -> RefType<'a>
         ensures { result ≡ record { nullable = true; heap = heap.Abstract false ty } }
     {
         RefType::new(true, HeapType::of(ty))
