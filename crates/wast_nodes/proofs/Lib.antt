@@ -1,3 +1,4 @@
 pub mod Asking
 pub mod Bearing
 pub mod Behind
+pub mod Pushing

@@ -1,7 +1,7 @@
 use Rattle.std.proofs.Common.{arith}
 use Rattle.std.specs.Borrow.{Bor}
 use Rattle.wast_nodes.specs.Tree.{ItemSig}
-use Rattle.wast_visits.proofs.Shared.{pushed_again}
+use Rattle.wast_nodes.proofs.Pushing.{pushed_again}
 use Rattle.wast_nodes.proofs.imports.push_shared.Goals as goal
 
 pub loop-name-preserved : goal.loop-name-preserved
