@@ -187,6 +187,6 @@ abbrev pub parts : Option (List ℕ) → List ModuleField → List Part
 parts name fields = flat_map (in_slot name fields) order
 
 -- What a text module means: the parts of its fields, with what stands in place as fields of their own, and of the types that
--- they imply; each type use by the position of its type, and each id by the position of what it denotes.
+-- they imply; each type use that needs a type by the position of it, and each id by the position of what it denotes.
 abbrev pub meaning : Option (List ℕ) → List ModuleField → List Part
 meaning name fields = parts name (resolved (by_positions fields))

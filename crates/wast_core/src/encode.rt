@@ -140,10 +140,11 @@ impl EncodeOptions {
 
     /// Appends the bytes of a resolved text module to a sink (binary format, modules). It takes no memory of its own.
     ///
-    /// It needs a text module at rest: nothing stands in place in it, its indices are numbers, and each type use has one. A
-    /// text module that [`Module::resolve`] did not refuse is so, as its clause `at_rest` tells. E11 comes exactly where a
-    /// form in its fields is not covered, and names the first one. Else the errors are the sink's refusal, where all the
-    /// bytes do not fit, and E10, where a count, length or position is 2^32 or more. Then the sink stays as it was.
+    /// It needs a text module at rest: nothing stands in place in it, its indices are numbers, and each type use has
+    /// one, but that of a block with a short type. A text module that [`Module::resolve`] did not refuse is so, as its
+    /// clause `at_rest` tells. E11 comes exactly where a form in its fields is not covered, and names the first one.
+    /// Else the errors are the sink's refusal, where all the bytes do not fit, and E10, where a count, length or
+    /// position is 2^32 or more. Then the sink stays as it was.
     pub fn put_module<'e, S: Sink>(self, module: &Module, out: &mut S) -> Result<(), Error<'e>>
         requires { IsTextAtRest «module».now.kind }
         ensures { PutsModule S.rules (name_of_module «module».now) «module».now.kind out.old out.new result }

@@ -105,17 +105,19 @@ impl<'a> Module<'a> {
         own.max(held)
     }
 
-    /// Writes abbreviations out, gives each type use an index and each index the number of what it names, and answers what
-    /// the names of the module denote (text format, abbreviations, identifiers, indices and type uses).
+    /// Writes abbreviations out, gives each type use that needs a type an index and each index the number of what it
+    /// names, and answers what the names of the module denote (text format, abbreviations, identifiers, indices and
+    /// type uses).
     ///
     /// It needs a well formed module and a counter above its generated ids, and leaves both so. A text module is
     /// resolved where no import, also none in place, stands behind a function, table, memory, global or tag of the
     /// module, the id of each item is new in its space, that of each field of a struct new in the struct, each id that
     /// stands for an index denotes an item, a local, an open block or a field, each inline type is that of the index
-    /// beside it, the parameters and locals of a function differ in their ids, and a label at an `else` or `end` is that
-    /// of its block. Exports, imports, elements and data in place are then fields of their own, and a type for each signature
-    /// that a type use needs and no type has is put after all fields. Each item without an id that is exported or
-    /// filled in place, and each type without an id, is given a generated one: the counter rises by as many.
+    /// beside it, the parameters and locals of a function differ in their ids, and a label at an `else` or `end` is
+    /// that of its block. Exports, imports, elements and data in place are then fields of their own, and a type for
+    /// each signature that a type use needs and no type has is put after all fields. Each item without an id that is
+    /// exported or filled in place, each field that is a type without an id, and each type that is put there, is given
+    /// a generated one, and no member of a group: the counter rises by as many.
     ///
     /// Else the answer is the first that is not so, with its place: E1 at an import behind what is defined; after that
     /// E2 where two items of a space have one id, and directly after a type E3 where two of its fields have one; after

@@ -1,4 +1,4 @@
--- What is so of every map over the fields of a module.
+-- What is so of maps over the fields of a module, of every one or of those that keep something.
 use Rattle.std.specs.Prelude.{◌≡◌, Option, List, map}
 use Rattle.wast_base.specs.Ids.{marked}
 use Rattle.wast_nodes.specs.Items.{items}

@@ -4,7 +4,8 @@
 
 ghost use Rattle.wast_map.specs.Laws.{StandsMapped, StaysStill, MapsJoin, MapsTwice, MapsAlike, StaysWrittenOut, ItemsStay};
 
-/// What is so of every map over the fields of a module. It does nothing.
+/// What is so of maps over the fields of a module: of every one, or of one that keeps the ids of parameters or of items, where
+/// a clause asks that. It does nothing.
 pub fn map_laws()
     ensures stands { StandsMapped }
     ensures still { StaysStill }

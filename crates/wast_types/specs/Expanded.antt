@@ -1,4 +1,5 @@
--- The list of fields in which each type has an id and each type use an index (text format, type uses: abbreviations).
+-- The list of fields in which each type that is a field of its own has an id, and each type use that needs a type an index
+-- (text format, type uses: abbreviations).
 use Rattle.std.specs.Prelude.{ℕ, ◌+◌, is_none, length, Bool, true, false, List, [], ◌∷◌, ◌++◌, map, flat_map, Option, Some, None}
 use Rattle.wast_types.specs.Tree.{Span, Id, Index, NameAnnotation, ValType, FunctionType, TypeUse, InnerTypeKind, TypeDef, ModuleField}
 use Rattle.wast_types.specs.Tree.index
@@ -61,7 +62,7 @@ abbrev pub implied_types : ℕ → List Signature → List ModuleField
 implied_types n [] = []
 implied_types n (s ∷ ss) = implied_type n s ∷ implied_types (n + 1) ss
 
--- each type has an id, and the implied types stand last
+-- each type that is a field of its own has an id, and the implied types stand last
 abbrev pub typed : ℕ → List ModuleField → List ModuleField
 typed n fields = filled lacks_id with_type_id n fields ++ implied_types (n + wanted lacks_id fields) (implied fields)
 

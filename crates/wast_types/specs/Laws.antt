@@ -10,7 +10,7 @@ use Rattle.wast_types.specs.TypeSpace.{types_in, type_space, index_for, type_ids
 use Rattle.wast_types.specs.Expanders.{index_of}
 use Rattle.wast_types.specs.Expanded.{typed, bindings, expanded, ids_wanted}
 
--- Each use has an index.
+-- Each use that needs a type has an index.
 abbrev pub UsesAreBound : Type 0
 UsesAreBound = (n : ℕ) (fields : List ModuleField) → needed (expanded n fields) ≡ []
 

@@ -1,4 +1,4 @@
--- The list in which each type use has the position of its type, and no id is made (text format, type uses: abbreviations).
+-- The list in which each type use that needs a type has the position of it, and no id is made (text format, type uses: abbreviations).
 use Rattle.std.specs.Prelude.{List, map, option_map}
 use Rattle.wast_types.specs.Tree.{ModuleField}
 use Rattle.wast_types.specs.Tree.index

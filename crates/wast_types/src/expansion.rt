@@ -1,4 +1,4 @@
-//! The pass that gives each type an id and each type use an index.
+//! The pass that gives each type that is a field of its own an id, and each type use that needs a type the index of one.
 
 ghost use Rattle.std.specs.Prelude.{◌≡◌, ◌≤◌, ◌+◌, ◌++◌, IfOk, IfErr, OnOk};
 ghost use Rattle.wast_base.specs.Faults.{out_of_memory};
@@ -15,13 +15,15 @@ use std::mem;
 use wast_base::{Error, Gensym, Id, Index, Seq};
 use wast_nodes::{InnerTypeKind, ModuleField, discard_fields, push_field, take_field};
 
-/// Binds each type use that has no index to the first type that has its signature as it is written (text format, type
-/// uses: abbreviations).
+/// Binds each type use that needs a type and has no index to the first type that has its signature as it is written
+/// (text format, type uses: abbreviations); that of a block needs none where it has no parameter and at most one
+/// result.
 ///
-/// It gives the fields in their order, and after them a type for each signature that no written type has, in the order of
-/// first use. A use is bound by the id of its type, so each type without an id is given a generated one, at its place. No
-/// use takes a member of a group, and no member is given an id. Ids and indices that are there stay, and so do inline
-/// types. It takes any fields; the ids that it makes are new where the counter stands above `gensym_bound` of `wast_tree`.
+/// It gives the fields in their order, and after them a type for each signature that no written type has, in the order
+/// of first use. A use is bound by the id of its type, so each field that is a type without an id is given a generated
+/// one, at its place. No use takes a member of a group, and no member is given an id. Ids and indices that are there
+/// stay, and so do inline types. It takes any fields; the ids that it makes are new where the counter stands above
+/// `gensym_bound` of `wast_tree`.
 ///
 /// It takes memory for the keys of types and for the new fields. The error is E12 where memory was refused, and E10 only
 /// where the counter would pass the greatest `u64`. On an error the fields are dropped, and the counter stands where it
@@ -86,7 +88,7 @@ fn expand_fields<'a>(
     }
 }
 
-/// Gives each type an id.
+/// Gives each type that is a field of its own an id.
 fn name_types<'a>(fields: &mut Seq<ModuleField<'a>>, gensym: &mut Gensym) -> Result<(), Error<'a>>
     ensures fields { OnOk result (fields.new ≡ filled lacks_id with_type_id gensym.old fields.old) }
     ensures counted { OnOk result (gensym.new ≡ gensym.old + wanted lacks_id fields.old) }

@@ -1,5 +1,5 @@
-//! Type uses of a WebAssembly module in the text format: each that has no index is bound to a type, and the types that no
-//! text defines are appended.
+//! Type uses of a WebAssembly module in the text format: each that needs a type and has no index is bound to one, and
+//! the types that no text defines are appended.
 //!
 //! A call takes memory only where its text says so. A call that can fail says when, and with what.
 #![tactic(auto)]
