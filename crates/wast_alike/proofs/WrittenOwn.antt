@@ -20,8 +20,7 @@ use Rattle.wast_alike.specs.Tree.{Id, Index, Space, ModuleField}
 use Rattle.wast_alike.specs.Tree.index
 use Rattle.wast_demands.specs.Demands.{first_unmet, item_demands}
 use Rattle.wast_demands.specs.Resolved.{numbered_by, numbered_at}
-use Rattle.wast_demands.proofs.Ranks.{same_rank}
-use Rattle.wast_demands.proofs.Ranks.{itself}
+use Rattle.wast_demands.proofs.Ranks.{same_rank, itself}
 use Rattle.wast_alike.proofs.FreeNames.{free_position}
 use Rattle.wast_alike.proofs.WrittenSame.{AllOwn}
 
