@@ -1,10 +1,10 @@
 -- How lines come out of bytes, piece by piece.
 use Rattle.std.proofs.Common.{◌≡◌, ◌≢◌, ℕ, List, [], ◌∷◌, ◌++◌, refl, sym, ap, subst, ◌∙◌, append_assoc, append-nil}
-use Rattle.std.specs.List.{AllZip}
+use Rattle.std.specs.List.{AllZip, AllByRecursion}
 use Rattle.std.proofs.lemmas.Bool.{ne_eqb}
 use Rattle.std.proofs.lemmas.Grind.{flat_map-append}
 use Rattle.wast_rows.specs.Lines.{line_feed, before_if, before_lines, onto_first, lines_of, ended_line, ended_lines}
-use Rattle.wast_rows.specs.Runs.{IsOpen, AnswersText, BeginsAnswer, BeginsText, Feeds}
+use Rattle.wast_rows.specs.Runs.{IsOpen, AnswersText, BeginsAnswer, BeginsText, BeginsLines, AnswersEnded}
 
 -- a byte that is no line feed goes onto the first line
 before_other : (byte : ℕ) (lines : List (List ℕ)) → byte ≢ line_feed → before_lines byte lines ≡ onto_first byte lines
@@ -30,38 +30,60 @@ all_zip_append R [] us (y ∷ ys) vs p q = absurd p
 all_zip_append R (x ∷ xs) us [] vs p q = absurd p
 all_zip_append R (x ∷ xs) us (y ∷ ys) vs p q = (p.0, all_zip_append R xs us ys vs p.1 q)
 
-module _ (P : List ℕ → List ℕ → Type 0) where
-  -- no bytes
-  pub Feeds-nil : (pending : List ℕ) → Feeds P pending [] pending []
-  Feeds-nil pending = record { asked = []; told = []; split = λ rest. refl; answered = tt; shown = refl }
+all_append : {A : Type 0} (Q : A → Type 0) (xs ys : List A) → AllByRecursion Q xs → AllByRecursion Q ys → AllByRecursion Q (xs ++ ys)
+all_append Q [] ys p q = q
+all_append Q (x ∷ xs) ys p q = (p.0, all_append Q xs ys p.1 q)
 
-  -- a byte that is no line feed
-  pub Feeds-byte : (pending : List ℕ) (byte : ℕ) → Feeds P pending (byte ∷ []) (pending ++ (byte ∷ [])) []
-  Feeds-byte pending byte = record { asked = []; told = []; split = λ rest. ap lines_of (sym (append_assoc pending (byte ∷ []) rest)); answered = tt; shown = refl }
+-- ended lines come first
+lines_of-ended : (asked : List (List ℕ)) (rest : List ℕ) → AllByRecursion IsOpen asked → lines_of (ended_lines asked ++ rest) ≡ asked ++ lines_of rest
+lines_of-ended [] rest each = refl
+lines_of-ended (line ∷ asked) rest each =
+    ap lines_of (append_assoc (ended_line line) (ended_lines asked) rest ∙ append_assoc line (line_feed ∷ []) (ended_lines asked ++ rest))
+    ∙ lines_of-fed line (ended_lines asked ++ rest) each.0 ∙ ap (λ l. line ∷ l) (lines_of-ended asked rest each.1)
+
+module _ (P : List ℕ → List ℕ → Type 0) where
+  -- an open line alone
+  pub AnswersEnded-nil : (line : List ℕ) → IsOpen line → AnswersEnded P line line []
+  AnswersEnded-nil line no_feed = record { asked = []; told = []; each_open = tt; left_open = no_feed; split = refl; answered = tt; shown = refl }
 
   -- a line feed
-  pub Feeds-feed : (pending told : List ℕ) → IsOpen pending → P pending told → Feeds P pending (line_feed ∷ []) [] (ended_line told)
-  Feeds-feed pending told no_feed answers =
-      record { asked = pending ∷ []; told = told ∷ []; split = λ rest. lines_of-fed pending rest no_feed; answered = (answers, tt); shown = sym (append-nil (ended_line told)) }
+  pub AnswersEnded-feed : (line told : List ℕ) → IsOpen line → P line told → AnswersEnded P (ended_line line) [] (ended_line told)
+  AnswersEnded-feed line told no_feed answers =
+      record {
+        asked = line ∷ [];
+        told = told ∷ [];
+        each_open = (no_feed, tt);
+        left_open = tt;
+        split = sym (append-nil (ended_line line)) ∙ sym (append-nil (ended_lines (line ∷ [])));
+        answered = (answers, tt);
+        shown = sym (append-nil (ended_line told));
+      }
 
-  -- some bytes, and then more
-  pub Feeds-more : (pending bytes middle more left output after : List ℕ) → Feeds P pending bytes middle output → Feeds P middle more left after
-      → Feeds P pending (bytes ++ more) left (output ++ after)
-  Feeds-more pending bytes middle more left output after first second =
+  -- some text, and then more
+  pub AnswersEnded-more : (text middle more left output after : List ℕ) → AnswersEnded P text middle output → AnswersEnded P (middle ++ more) left after
+      → AnswersEnded P (text ++ more) left (output ++ after)
+  AnswersEnded-more text middle more left output after first second =
       record {
         asked = first.asked ++ second.asked;
         told = first.told ++ second.told;
-        split = λ rest. ap (λ b. lines_of (pending ++ b)) (append_assoc bytes more rest) ∙ first.split (more ++ rest) ∙ ap (λ l. first.asked ++ l) (second.split rest)
-            ∙ sym (append_assoc first.asked second.asked (lines_of (left ++ rest)));
+        each_open = all_append IsOpen first.asked second.asked first.each_open second.each_open;
+        left_open = second.left_open;
+        split = ap (λ t. t ++ more) first.split ∙ append_assoc (ended_lines first.asked) middle more ∙ ap (λ t. ended_lines first.asked ++ t) second.split
+            ∙ sym (append_assoc (ended_lines first.asked) (ended_lines second.asked) left) ∙ ap (λ t. t ++ left) (sym (flat_map-append ended_line first.asked second.asked));
         answered = all_zip_append P _ _ _ _ first.answered second.answered;
         shown = ap (λ o. o ++ after) first.shown ∙ ap (λ o. ended_lines first.told ++ o) second.shown ∙ sym (flat_map-append ended_line first.told second.told);
       }
 
+  -- the lines of a longer text are those that are answered, and those of what is left
+  lines_beyond : (text left output rest : List ℕ) → (fed : AnswersEnded P text left output) → lines_of (text ++ rest) ≡ fed.asked ++ lines_of (left ++ rest)
+  lines_beyond text left output rest fed =
+      ap (λ t. lines_of (t ++ rest)) fed.split ∙ ap lines_of (append_assoc (ended_lines fed.asked) left rest) ∙ lines_of-ended fed.asked (left ++ rest) fed.each_open
+
   -- an answer to what is left answers the whole
-  pub AnswersText-more : (bytes left output after : List ℕ) → Feeds P [] bytes left output → AnswersText P left after → AnswersText P bytes (output ++ after)
-  AnswersText-more bytes left output after fed last =
-      let split : lines_of bytes ≡ fed.asked ++ lines_of left =
-      ap lines_of (sym (append-nil bytes)) ∙ fed.split [] ∙ ap (λ l. fed.asked ++ lines_of l) (append-nil left) in
+  pub AnswersText-more : (text left output after : List ℕ) → AnswersEnded P text left output → AnswersText P left after → AnswersText P text (output ++ after)
+  AnswersText-more text left output after fed last =
+      let split : lines_of text ≡ fed.asked ++ lines_of left =
+      ap lines_of (sym (append-nil text)) ∙ lines_beyond text left output [] fed ∙ ap (λ l. fed.asked ++ lines_of l) (append-nil left) in
       record {
         told = fed.told ++ last.told;
         answered = subst (λ l. AllZip P l (fed.told ++ last.told)) (sym split) (all_zip_append P _ _ _ _ fed.answered last.answered);
@@ -79,24 +101,37 @@ module _ (P : List ℕ → List ℕ → Type 0) where
       }
 
   -- the beginning of an answer to what is left begins an answer to the whole
-  pub BeginsText-more : (pending bytes middle more output after : List ℕ) → Feeds P pending bytes middle output → BeginsText P (middle ++ more) after
-      → BeginsText P (pending ++ (bytes ++ more)) (output ++ after)
-  BeginsText-more pending bytes middle more output after fed last =
+  pub BeginsText-more : (text middle more output after : List ℕ) → AnswersEnded P text middle output → BeginsText P (middle ++ more) after
+      → BeginsText P (text ++ more) (output ++ after)
+  BeginsText-more text middle more output after fed last =
       record {
         asked = fed.asked ++ last.asked;
         told = fed.told ++ last.told;
         later = last.later;
         part = last.part;
-        split = fed.split more ∙ ap (λ l. fed.asked ++ l) last.split ∙ sym (append_assoc fed.asked last.asked last.later);
+        split = lines_beyond text middle output more fed ∙ ap (λ l. fed.asked ++ l) last.split ∙ sym (append_assoc fed.asked last.asked last.later);
         answered = all_zip_append P _ _ _ _ fed.answered last.answered;
         begun = last.begun;
         shown = ap (λ o. o ++ after) fed.shown ∙ ap (λ o. ended_lines fed.told ++ o) last.shown ∙ sym (append_assoc (ended_lines fed.told) (ended_lines last.told) last.part)
             ∙ ap (λ o. o ++ last.part) (sym (flat_map-append ended_line fed.told last.told));
       }
 
-  -- nothing is written
-  pub BeginsText-nil : (text : List ℕ) → BeginsText P text []
-  BeginsText-nil text = record { asked = []; told = []; later = lines_of text; part = []; split = refl; answered = tt; begun = BeginsAnswer.nothing refl; shown = refl }
+  -- no line is answered
+  pub short_none : (text : List ℕ) → BeginsLines P text []
+  short_none text = record { asked = []; told = []; later = lines_of text; split = refl; answered = tt; shown = refl }
+
+  -- answers to the first lines of what is left are, behind the answers before them, answers to the first lines of the whole
+  pub short_more : (text middle more output after : List ℕ) → AnswersEnded P text middle output → BeginsLines P (middle ++ more) after
+      → BeginsLines P (text ++ more) (output ++ after)
+  short_more text middle more output after fed last =
+      record {
+        asked = fed.asked ++ last.asked;
+        told = fed.told ++ last.told;
+        later = last.later;
+        split = lines_beyond text middle output more fed ∙ ap (λ l. fed.asked ++ l) last.split ∙ sym (append_assoc fed.asked last.asked last.later);
+        answered = all_zip_append P _ _ _ _ fed.answered last.answered;
+        shown = ap (λ o. o ++ after) fed.shown ∙ ap (λ o. ended_lines fed.told ++ o) last.shown ∙ sym (flat_map-append ended_line fed.told last.told);
+      }
 
   begins_longer : (line : List ℕ) (later : List (List ℕ)) (part : List ℕ) → BeginsAnswer P (line ∷ []) part → BeginsAnswer P (line ∷ later) part
   begins_longer line later part (BeginsAnswer.nothing e) = BeginsAnswer.nothing e

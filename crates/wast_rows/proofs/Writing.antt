@@ -1,16 +1,23 @@
 -- What a writer has taken after several writes.
-use Rattle.std.proofs.Common.{◌+◌, ◌<◌, suc, add-one, get_or, subst, ◌≡◌, ◌≢◌, ℕ, List, [], ◌∷◌, ◌++◌, length, ◌==◌, false, Option, Result, Ok, Err, OnErr, refl, sym, ap, ◌∙◌, append_assoc, take, drop, take-append-drop}
+use Rattle.std.proofs.Common.{◌+◌, ◌<◌, suc, add-one, get_or, subst, ◌≡◌, ◌≢◌, ℕ, List, [], ◌∷◌, ◌++◌, length, ◌==◌, false, Option, Result, Ok, Err, OnErr, IfErr, IsErrAnd, refl, sym, ap, ◌∙◌, append_assoc, take, drop, take-append-drop}
 use Rattle.std.proofs.Math.Seq.{take-suc, drop-cons}
-use Rattle.std.specs.Io.KnownBytes.{Appends}
-use Rattle.std.proofs.KnownBytes.{Appends-nil, Appends-trans}
+use Rattle.std.specs.Io.KnownBytes.{Appends, Keeps}
+use Rattle.std.proofs.KnownBytes.{Appends-nil, Appends-trans, Appends-kept, Keeps-refl}
+use Rattle.wast_rows.specs.declared.errors.RunError.{RunError}
+use Rattle.wast_rows.specs.declared.errors.RunError.TheVariants as error
 use Rattle.wast_rows.specs.Lines.{line_feed, ended_line}
-use Rattle.wast_rows.specs.Runs.{IsOpen, WritesOn, BeginsAnswer, BeginsLine, BeginsBytes, BeginsWriter, AnswersLine, AnswersWriter, FeedsWriter}
-use Rattle.wast_rows.proofs.Feeding.{IsOpen-push, Feeds-nil, Feeds-byte, Feeds-feed, Feeds-more, AnswersText-open, AnswersText-more, BeginsText-nil, BeginsText-feed, BeginsText-open, BeginsText-more}
+use Rattle.wast_rows.specs.Runs.{IsOpen, WritesOn, BeginsAnswer, BeginsLine, BeginsBytes, StopsWriter, StopsLine, AnswersLine, AnswersWriter, EndedWriter}
+use Rattle.wast_rows.proofs.Feeding.{AnswersEnded-nil, AnswersEnded-feed, AnswersEnded-more, AnswersText-open, AnswersText-more, BeginsText-feed, BeginsText-open, BeginsText-more, short_none, short_more}
 
--- what holds holds on an error
-pub on_err_of : {T E P : Type 0} (r : Result T E) → P → OnErr r P
-on_err_of (Ok x) p = tt
-on_err_of (Err e) p = p
+-- what holds after a failed write holds on an error that is one
+pub when_written : {T : Type 0} (r : Result T RunError) (S : RunError → Type 0) → OnErr r (S error.Write) → IfErr r (λ e. e ≡ error.Write) → IfErr r S
+when_written (Ok x) S p e = tt
+when_written (Err y) S p e = subst S (sym e) p
+
+-- what holds of an error holds where that is the one
+pub if_raised : {T : Type 0} (r : Result T RunError) (S : RunError → Type 0) (e : RunError) → IsErrAnd r (λ d. d ≡ e) → S e → IfErr r S
+if_raised (Ok x) S e is p = absurd is
+if_raised (Err y) S e is p = subst S (sym is) p
 
 -- a line of some length has bytes
 pub some_line : (line : List ℕ) → (length line == 0) ≡ false → line ≢ []
@@ -33,68 +40,79 @@ module _ (P : List ℕ → List ℕ → Type 0) where
       let taken = begun.writes_on in
       record { part = taken.part; begun = BeginsAnswer.partly line [] told begun.rest refl answers (sym e ∙ taken.split); appended = taken.appended }
 
-  -- what feeding writes: for no bytes, for a byte that is no line feed, for a line feed, and for bytes and more
-  pub FeedsWriter-nil : (pending : List ℕ) (a : Option (List ℕ)) → IsOpen pending → FeedsWriter P pending [] pending a a
-  FeedsWriter-nil pending a no_feed = record { output = []; feeds = Feeds-nil P pending; appended = Appends-nil a; still_open = no_feed }
+  -- a text that leaves a line open: an open line, one that a line feed ends, and more
+  pub EndedWriter-nil : (line : List ℕ) (a : Option (List ℕ)) → IsOpen line → EndedWriter P line line a a
+  EndedWriter-nil line a no_feed = record { output = []; answered = AnswersEnded-nil P line no_feed; appended = Appends-nil a }
 
-  pub FeedsWriter-byte : (pending : List ℕ) (byte : ℕ) (a : Option (List ℕ)) → IsOpen pending → byte ≢ line_feed → FeedsWriter P pending (byte ∷ []) (pending ++ (byte ∷ [])) a a
-  FeedsWriter-byte pending byte a no_feed other =
-      record { output = []; feeds = Feeds-byte P pending byte; appended = Appends-nil a; still_open = IsOpen-push pending byte no_feed other }
+  pub EndedWriter-feed : (line : List ℕ) (a b : Option (List ℕ)) → IsOpen line → AnswersLine P line a b → EndedWriter P (ended_line line) [] a b
+  EndedWriter-feed line a b no_feed last = record { output = ended_line last.told; answered = AnswersEnded-feed P line last.told no_feed last.answers; appended = last.appended }
 
-  pub FeedsWriter-feed : (pending : List ℕ) (a b : Option (List ℕ)) → IsOpen pending → AnswersLine P pending a b → FeedsWriter P pending (line_feed ∷ []) [] a b
-  FeedsWriter-feed pending a b no_feed line =
-      record { output = ended_line line.told; feeds = Feeds-feed P pending line.told no_feed line.answers; appended = line.appended; still_open = tt }
-
-  pub FeedsWriter-more : (pending bytes middle more left : List ℕ) (a b c : Option (List ℕ)) → FeedsWriter P pending bytes middle a b → FeedsWriter P middle more left b c
-      → FeedsWriter P pending (bytes ++ more) left a c
-  FeedsWriter-more pending bytes middle more left a b c first second =
+  pub EndedWriter-more : (text middle more left : List ℕ) (a b c : Option (List ℕ)) → EndedWriter P text middle a b → EndedWriter P (middle ++ more) left b c
+      → EndedWriter P (text ++ more) left a c
+  EndedWriter-more text middle more left a b c first second =
       record {
         output = first.output ++ second.output;
-        feeds = Feeds-more P pending bytes middle more left first.output second.output first.feeds second.feeds;
+        answered = AnswersEnded-more P text middle more left first.output second.output first.answered second.answered;
         appended = Appends-trans a b c first.output second.output first.appended second.appended;
-        still_open = second.still_open;
       }
 
-  -- what is written at the end: for an open line, and after what feeding wrote
+  -- what is written at the end: for an open line, and behind the answers to what is ended
   pub AnswersWriter-open : (line : List ℕ) (a b : Option (List ℕ)) → line ≢ [] → IsOpen line → AnswersLine P line a b → AnswersWriter P line a b
   AnswersWriter-open line a b some no_feed last = record { output = ended_line last.told; answered = AnswersText-open P line last.told some no_feed last.answers; appended = last.appended }
 
-  pub AnswersWriter-more : (bytes left : List ℕ) (a b c : Option (List ℕ)) → FeedsWriter P [] bytes left a b → AnswersWriter P left b c → AnswersWriter P bytes a c
-  AnswersWriter-more bytes left a b c fed last =
+  pub AnswersWriter-more : (text left : List ℕ) (a b c : Option (List ℕ)) → EndedWriter P text left a b → AnswersWriter P left b c → AnswersWriter P text a c
+  AnswersWriter-more text left a b c fed last =
       record {
         output = fed.output ++ last.output;
-        answered = AnswersText-more P bytes left fed.output last.output fed.feeds last.answered;
+        answered = AnswersText-more P text left fed.output last.output fed.answered last.answered;
         appended = Appends-trans a b c fed.output last.output fed.appended last.appended;
       }
 
-  -- what is written before an error: nothing, the beginning of a line, and that after what feeding wrote
-  pub BeginsWriter-nil : (text : List ℕ) (a : Option (List ℕ)) → BeginsWriter P text a a
-  BeginsWriter-nil text a = record { output = []; begun = BeginsText-nil P text; appended = Appends-nil a }
+  -- what is written before an error: for a line that a line feed ends, for the last line, and behind the answers to what is ended
+  nothing_short : (text : List ℕ) (a b : Option (List ℕ)) → Keeps a b → StopsWriter P text error.Memory a b
+  nothing_short text a b kept = record { output = []; begun = short_none P text; appended = Appends-kept a a b [] (Appends-nil a) kept }
 
-  pub BeginsWriter-feed : (line rest : List ℕ) (a b : Option (List ℕ)) → IsOpen line → BeginsLine P line a b → BeginsWriter P (line ++ (line_feed ∷ rest)) a b
-  BeginsWriter-feed line rest a b no_feed begun = record { output = begun.part; begun = BeginsText-feed P line rest begun.part no_feed begun.begun; appended = begun.appended }
+  pub StopsWriter-none : (text : List ℕ) (a : Option (List ℕ)) → StopsWriter P text error.Memory a a
+  StopsWriter-none text a = nothing_short text a a (Keeps-refl a)
 
-  pub BeginsWriter-open : (line : List ℕ) (a b : Option (List ℕ)) → line ≢ [] → IsOpen line → BeginsLine P line a b → BeginsWriter P line a b
-  BeginsWriter-open line a b some no_feed begun = record { output = begun.part; begun = BeginsText-open P line begun.part some no_feed begun.begun; appended = begun.appended }
+  pub StopsWriter-feed : (line rest : List ℕ) (e : RunError) (a b : Option (List ℕ)) → IsOpen line → StopsLine P line e a b → StopsWriter P (line ++ (line_feed ∷ rest)) e a b
+  StopsWriter-feed line rest error.Read a b no_feed stopped = absurd stopped
+  StopsWriter-feed line rest error.Write a b no_feed stopped =
+      record { output = stopped.part; begun = BeginsText-feed P line rest stopped.part no_feed stopped.begun; appended = stopped.appended }
+  StopsWriter-feed line rest error.Memory a b no_feed stopped = nothing_short (line ++ (line_feed ∷ rest)) a b stopped
 
-  pub BeginsWriter-more : (pending bytes middle more : List ℕ) (a b c : Option (List ℕ)) → FeedsWriter P pending bytes middle a b → BeginsWriter P (middle ++ more) b c
-      → BeginsWriter P (pending ++ (bytes ++ more)) a c
-  BeginsWriter-more pending bytes middle more a b c fed last =
+  pub StopsWriter-open : (line : List ℕ) (e : RunError) (a b : Option (List ℕ)) → line ≢ [] → IsOpen line → StopsLine P line e a b → StopsWriter P line e a b
+  StopsWriter-open line error.Read a b some no_feed stopped = absurd stopped
+  StopsWriter-open line error.Write a b some no_feed stopped =
+      record { output = stopped.part; begun = BeginsText-open P line stopped.part some no_feed stopped.begun; appended = stopped.appended }
+  StopsWriter-open line error.Memory a b some no_feed stopped = nothing_short line a b stopped
+
+  pub StopsWriter-more : (text middle more : List ℕ) (e : RunError) (a b c : Option (List ℕ)) → EndedWriter P text middle a b → StopsWriter P (middle ++ more) e b c
+      → StopsWriter P (text ++ more) e a c
+  StopsWriter-more text middle more error.Read a b c fed stopped = absurd stopped
+  StopsWriter-more text middle more error.Write a b c fed stopped =
       record {
-        output = fed.output ++ last.output;
-        begun = BeginsText-more P pending bytes middle more fed.output last.output fed.feeds last.begun;
-        appended = Appends-trans a b c fed.output last.output fed.appended last.appended;
+        output = fed.output ++ stopped.output;
+        begun = BeginsText-more P text middle more fed.output stopped.output fed.answered stopped.begun;
+        appended = Appends-trans a b c fed.output stopped.output fed.appended stopped.appended;
+      }
+  StopsWriter-more text middle more error.Memory a b c fed stopped =
+      record {
+        output = fed.output ++ stopped.output;
+        begun = short_more P text middle more fed.output stopped.output fed.answered stopped.begun;
+        appended = Appends-trans a b c fed.output stopped.output fed.appended stopped.appended;
       }
 
   -- one turn of a loop over bytes
-  pub FeedsWriter-next : (pending bytes middle left : List ℕ) (i : ℕ) (a b c : Option (List ℕ)) → i < length bytes → FeedsWriter P pending (take i bytes) middle a b
-      → FeedsWriter P middle (get_or bytes i 0 ∷ []) left b c → FeedsWriter P pending (take (i + 1) bytes) left a c
-  FeedsWriter-next pending bytes middle left i a b c inside first second =
-      rw (add-one, take-suc bytes i 0 inside) (FeedsWriter-more pending (take i bytes) middle (get_or bytes i 0 ∷ []) left a b c first second)
+  pub EndedWriter-next : (pending bytes middle left : List ℕ) (i : ℕ) (a b c : Option (List ℕ)) → i < length bytes → EndedWriter P (pending ++ take i bytes) middle a b
+      → EndedWriter P (middle ++ (get_or bytes i 0 ∷ [])) left b c → EndedWriter P (pending ++ take (i + 1) bytes) left a c
+  EndedWriter-next pending bytes middle left i a b c inside first second =
+      rw (add-one, take-suc bytes i 0 inside, sym (append_assoc pending (take i bytes) (get_or bytes i 0 ∷ []))) (EndedWriter-more (pending ++ take i bytes) middle (get_or bytes i 0 ∷ []) left a b c first second)
 
-  pub BeginsWriter-next : (pending bytes middle : List ℕ) (i : ℕ) (a b c : Option (List ℕ)) → i < length bytes → FeedsWriter P pending (take i bytes) middle a b
-      → ((rest : List ℕ) → BeginsWriter P (middle ++ (get_or bytes i 0 ∷ rest)) b c) → BeginsWriter P (pending ++ bytes) a c
-  BeginsWriter-next pending bytes middle i a b c inside first second =
+  pub StopsWriter-next : (pending bytes middle : List ℕ) (i : ℕ) (e : RunError) (a b c : Option (List ℕ)) → i < length bytes → EndedWriter P (pending ++ take i bytes) middle a b
+      → ((rest : List ℕ) → StopsWriter P (middle ++ (get_or bytes i 0 ∷ rest)) e b c) → StopsWriter P (pending ++ bytes) e a c
+  StopsWriter-next pending bytes middle i e a b c inside first second =
       let rest = drop (suc i) bytes in
       let whole : take i bytes ++ (get_or bytes i 0 ∷ rest) ≡ bytes = ap (λ l. take i bytes ++ l) (sym (drop-cons bytes i 0 inside)) ∙ take-append-drop i bytes in
-      subst (λ l. BeginsWriter P (pending ++ l) a c) whole (BeginsWriter-more pending (take i bytes) middle (get_or bytes i 0 ∷ rest) a b c first (second rest))
+      subst (λ l. StopsWriter P l e a c) (append_assoc pending (take i bytes) (get_or bytes i 0 ∷ rest) ∙ ap (λ l. pending ++ l) whole)
+      (StopsWriter-more (pending ++ take i bytes) middle (get_or bytes i 0 ∷ rest) e a b c first (second rest))

@@ -1,7 +1,9 @@
 -- What a run has written when it ends, where P relates a line to the lines that may answer it.
 use Rattle.std.specs.Prelude.{◌≡◌, ◌≢◌, ℕ, List, [], ◌∷◌, ◌++◌, Option}
 use Rattle.std.specs.List.{AllZip, AllByRecursion}
-use Rattle.std.specs.Io.KnownBytes.{Appends, Consumes, IsAtEnd}
+use Rattle.std.specs.Io.KnownBytes.{Appends, Consumes, IsAtEnd, Keeps}
+use Rattle.wast_rows.specs.declared.errors.RunError.{RunError}
+use Rattle.wast_rows.specs.declared.errors.RunError.TheVariants as error
 use Rattle.wast_rows.specs.Lines.{line_feed, lines_of, ended_line, ended_lines}
 
 -- a line that no line feed has ended
@@ -30,6 +32,25 @@ pub record BeginsText (P : List ℕ → List ℕ → Type 0) (text output : List
   pub begun : BeginsAnswer P later part
   pub shown : output ≡ ended_lines told ++ part
 
+-- the output answers the first lines of the text, in order, and has no part of a further answer
+pub record BeginsLines (P : List ℕ → List ℕ → Type 0) (text output : List ℕ) : Type 0 where
+  pub asked : List (List ℕ)
+  pub told : List (List ℕ)
+  pub later : List (List ℕ)
+  pub split : lines_of text ≡ asked ++ later
+  pub answered : AllZip P asked told
+  pub shown : output ≡ ended_lines told
+
+-- the output answers the lines that a line feed ends in the text, in order, and what is left of the text is no whole line
+pub record AnswersEnded (P : List ℕ → List ℕ → Type 0) (text left output : List ℕ) : Type 0 where
+  pub asked : List (List ℕ)
+  pub told : List (List ℕ)
+  pub each_open : AllByRecursion IsOpen asked
+  pub left_open : IsOpen left
+  pub split : text ≡ ended_lines asked ++ left
+  pub answered : AllZip P asked told
+  pub shown : output ≡ ended_lines told
+
 -- the reader gave a text up to its end, and the writer took an output that answers it
 pub record Ran (P : List ℕ → List ℕ → Type 0) (reader reader_after writer writer_after : Option (List ℕ)) : Type 0 where
   pub text : List ℕ
@@ -37,6 +58,14 @@ pub record Ran (P : List ℕ → List ℕ → Type 0) (reader reader_after write
   pub consumed : Consumes reader reader_after text
   pub at_end : IsAtEnd reader_after
   pub answered : AnswersText P text output
+  pub appended : Appends writer writer_after output
+
+-- the reader gave a text, and the writer took an output that answers each line that is ended in it, and not what is left
+pub record StopsReading (P : List ℕ → List ℕ → Type 0) (left : List ℕ) (reader reader_after writer writer_after : Option (List ℕ)) : Type 0 where
+  pub text : List ℕ
+  pub output : List ℕ
+  pub consumed : Consumes reader reader_after text
+  pub answered : AnswersEnded P text left output
   pub appended : Appends writer writer_after output
 
 -- the reader gave a text, and the writer took the beginning of an output that answers it
@@ -47,28 +76,27 @@ pub record Broke (P : List ℕ → List ℕ → Type 0) (reader reader_after wri
   pub begun : BeginsText P text output
   pub appended : Appends writer writer_after output
 
+-- the reader gave a text, and the writer took answers to its first lines
+pub record StopsShort (P : List ℕ → List ℕ → Type 0) (reader reader_after writer writer_after : Option (List ℕ)) : Type 0 where
+  pub text : List ℕ
+  pub output : List ℕ
+  pub consumed : Consumes reader reader_after text
+  pub begun : BeginsLines P text output
+  pub appended : Appends writer writer_after output
+
+-- what a run that ends with an error has read and written
+abbrev pub Stopped : (List ℕ → List ℕ → Type 0) → RunError → (reader reader_after writer writer_after : Option (List ℕ)) → Type 0
+Stopped P error.Read reader reader_after writer writer_after = (left : List ℕ) × StopsReading P left reader reader_after writer writer_after
+Stopped P error.Write reader reader_after writer writer_after = Broke P reader reader_after writer writer_after
+Stopped P error.Memory reader reader_after writer writer_after = StopsShort P reader reader_after writer writer_after
+
 -- The steps of a run.
 
--- the bytes after a line that is still open end some lines, which the output answers, and leave a line open
-pub record Feeds (P : List ℕ → List ℕ → Type 0) (pending bytes left output : List ℕ) : Type 0 where
-  pub asked : List (List ℕ)
-  pub told : List (List ℕ)
-  pub split : (rest : List ℕ) → lines_of (pending ++ (bytes ++ rest)) ≡ asked ++ lines_of (left ++ rest)
-  pub answered : AllZip P asked told
-  pub shown : output ≡ ended_lines told
-
--- the writer took such an output
-pub record FeedsWriter (P : List ℕ → List ℕ → Type 0) (pending bytes left : List ℕ) (writer writer_after : Option (List ℕ)) : Type 0 where
+-- the writer took an output that answers the lines that are ended in the text
+pub record EndedWriter (P : List ℕ → List ℕ → Type 0) (text left : List ℕ) (writer writer_after : Option (List ℕ)) : Type 0 where
   pub output : List ℕ
-  pub feeds : Feeds P pending bytes left output
+  pub answered : AnswersEnded P text left output
   pub appended : Appends writer writer_after output
-  pub still_open : IsOpen left
-
--- the reader gave a text, and the writer took such an output for it
-pub record FeedsRun (P : List ℕ → List ℕ → Type 0) (left : List ℕ) (reader reader_after writer writer_after : Option (List ℕ)) : Type 0 where
-  pub text : List ℕ
-  pub consumed : Consumes reader reader_after text
-  pub fed : FeedsWriter P [] text left writer writer_after
 
 -- the writer took an output that answers the text
 pub record AnswersWriter (P : List ℕ → List ℕ → Type 0) (text : List ℕ) (writer writer_after : Option (List ℕ)) : Type 0 where
@@ -76,11 +104,23 @@ pub record AnswersWriter (P : List ℕ → List ℕ → Type 0) (text : List ℕ
   pub answered : AnswersText P text output
   pub appended : Appends writer writer_after output
 
--- the writer took the beginning of such an output
+-- the writer took the beginning of an output that answers the text
 pub record BeginsWriter (P : List ℕ → List ℕ → Type 0) (text : List ℕ) (writer writer_after : Option (List ℕ)) : Type 0 where
   pub output : List ℕ
   pub begun : BeginsText P text output
   pub appended : Appends writer writer_after output
+
+-- the writer took answers to the first lines of the text
+pub record ShortWriter (P : List ℕ → List ℕ → Type 0) (text : List ℕ) (writer writer_after : Option (List ℕ)) : Type 0 where
+  pub output : List ℕ
+  pub begun : BeginsLines P text output
+  pub appended : Appends writer writer_after output
+
+-- what the writer took for the text, where that ends with an error
+abbrev pub StopsWriter : (List ℕ → List ℕ → Type 0) → List ℕ → RunError → (writer writer_after : Option (List ℕ)) → Type 0
+StopsWriter P text error.Read writer writer_after = ⊥
+StopsWriter P text error.Write writer writer_after = BeginsWriter P text writer writer_after
+StopsWriter P text error.Memory writer writer_after = ShortWriter P text writer writer_after
 
 -- the writer took the line that answers a line
 pub record AnswersLine (P : List ℕ → List ℕ → Type 0) (line : List ℕ) (writer writer_after : Option (List ℕ)) : Type 0 where
@@ -93,6 +133,12 @@ pub record BeginsLine (P : List ℕ → List ℕ → Type 0) (line : List ℕ) (
   pub part : List ℕ
   pub begun : BeginsAnswer P (line ∷ []) part
   pub appended : Appends writer writer_after part
+
+-- what the writer took for a line, where that ends with an error
+abbrev pub StopsLine : (List ℕ → List ℕ → Type 0) → List ℕ → RunError → (writer writer_after : Option (List ℕ)) → Type 0
+StopsLine P line error.Read writer writer_after = ⊥
+StopsLine P line error.Write writer writer_after = BeginsLine P line writer writer_after
+StopsLine P line error.Memory writer writer_after = Keeps writer writer_after
 
 -- the writer took what stands before the rest of some bytes
 pub record WritesOn (bytes rest : List ℕ) (writer writer_after : Option (List ℕ)) : Type 0 where

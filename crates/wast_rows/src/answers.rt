@@ -1,6 +1,7 @@
 //! The line that answers a line.
 
-ghost use Rattle.std.specs.Prelude.{◌≡◌, IfOk, Some, Ok, string_bytes};
+ghost use Rattle.std.specs.Prelude.{◌≡◌, IfOk, IfErr, Some, Ok, string_bytes};
+ghost use Rattle.wast_rows.specs.declared.errors.RunError.TheVariants as error;
 ghost use Rattle.wast_rows.specs.Answers.{TellsLine, TellsRow, TellsAnswer, refusal_text, no_row_text, ill_formed_text, generated_text};
 
 use crate::errors::RunError;
@@ -45,7 +46,8 @@ fn refusal(alloc: Global, error: Error<'_>) -> Result<String, AllocError>
 
 /// What encoding answered: bytes in lower case hexadecimal, or why there are none. Want of memory is no answer.
 fn told(alloc: Global, answer: Result<Vec<u8>, Error<'_>>) -> Result<String, RunError>
-    ensures { IfOk result (λ line. TellsAnswer answer.entry (string_bytes line)) }
+    ensures told { IfOk result (λ line. TellsAnswer answer.entry (string_bytes line)) }
+    ensures want { IfErr result (λ e. e ≡ error.Memory) }
 {
     match answer {
         Ok(bytes) => Ok(hex::encode(alloc, bytes.as_slice())?),
@@ -60,7 +62,8 @@ fn told(alloc: Global, answer: Result<Vec<u8>, Error<'_>>) -> Result<String, Run
 
 /// The line of a module, which is encoded where it is well formed and holds no generated id.
 fn line_of_module(alloc: Global, module: &mut Module<'_>) -> Result<String, RunError>
-    ensures { IfOk result (λ line. TellsRow (Some (Ok «module».old)) (string_bytes line)) }
+    ensures told { IfOk result (λ line. TellsRow (Some (Ok «module».old)) (string_bytes line)) }
+    ensures want { IfErr result (λ e. e ≡ error.Memory) }
 {
     if let Some(clause) = module.ill_formed() {
         return Ok(ill_formed(alloc, clause)?);
@@ -78,7 +81,8 @@ fn line_of_row(
     alloc: Global,
     row: Option<Result<Module<'_>, Error<'_>>>,
 ) -> Result<String, RunError>
-    ensures { IfOk result (λ line. TellsRow row.entry (string_bytes line)) }
+    ensures told { IfOk result (λ line. TellsRow row.entry (string_bytes line)) }
+    ensures want { IfErr result (λ e. e ≡ error.Memory) }
 {
     match row {
         None => Ok(no_row(alloc)?),
@@ -98,7 +102,8 @@ pub(crate) fn answer<'a, F: Fn(u32) -> Option<Result<Module<'a>, Error<'a>>>>(
     sample: &F,
 ) -> Result<String, RunError>
     requires { F.IsAlwaysCallable sample.now }
-    ensures { IfOk result (λ text. TellsLine (F.post sample.now) line.now (string_bytes text)) }
+    ensures told { IfOk result (λ text. TellsLine (F.post sample.now) line.now (string_bytes text)) }
+    ensures want { IfErr result (λ e. e ≡ error.Memory) }
 {
     match number(line) {
         None => Ok(no_row(alloc)?),

@@ -1,9 +1,10 @@
 //! Runs: a line is written for each line that is read.
 
-ghost use Rattle.std.specs.Prelude.{ℕ, ◌<◌, ◌≤◌, List, [], ◌∷◌, ◌++◌, length, take, OnOk, OnErr, IfOk, IfSome, IfNone};
+ghost use Rattle.std.specs.Prelude.{◌≡◌, ℕ, ◌<◌, ◌≤◌, List, [], ◌∷◌, ◌++◌, length, take, OnOk, OnErr, IfOk, IfErr, IfSome, IfNone};
 ghost use Rattle.std.specs.Io.KnownBytes.{Appends, Consumes, IsAtEnd, Keeps};
 ghost use Rattle.wast_rows.specs.Answers.{TellsLine};
-ghost use Rattle.wast_rows.specs.Runs.{IsOpen, Ran, Broke, FeedsWriter, AnswersWriter, BeginsWriter, AnswersLine, BeginsLine, BeginsBytes};
+ghost use Rattle.wast_rows.specs.declared.errors.RunError.TheVariants as error;
+ghost use Rattle.wast_rows.specs.Runs.{IsOpen, Ran, Stopped, EndedWriter, AnswersWriter, StopsWriter, AnswersLine, StopsLine, BeginsBytes};
 
 use crate::answers::answer;
 use crate::errors::RunError;
@@ -22,6 +23,7 @@ const PIECE_LEN: usize = 4096;
 fn write_bytes<W: Write>(writer: &mut W, bytes: &[u8]) -> Result<(), RunError>
     ensures ok { OnOk result (Appends (W.contents writer.old) (W.contents writer.new) bytes.now) }
     ensures err { OnErr result (BeginsBytes bytes.now (W.contents writer.old) (W.contents writer.new)) }
+    ensures error { IfErr result (λ e. e ≡ error.Write) }
 {
     let mut rest = bytes;
     for _ in 0..u64::MAX {
@@ -39,6 +41,7 @@ fn write_some<W: Write>(writer: &mut W, bytes: &[u8]) -> Result<usize, RunError>
     ensures bound { IfOk result (λ count. count ≤ length bytes.now) }
     ensures ok { IfOk result (λ count. Appends (W.contents writer.old) (W.contents writer.new) (take count bytes.now)) }
     ensures err { OnErr result (Keeps (W.contents writer.old) (W.contents writer.new)) }
+    ensures error { IfErr result (λ e. e ≡ error.Write) }
 {
     match writer.write(bytes) {
         Ok(0) => Err(RunError::Write),
@@ -62,7 +65,7 @@ fn answer_line<'a, W: Write, F: Fn(u32) -> Option<Result<Module<'a>, Error<'a>>>
 ) -> Result<(), RunError>
     requires { F.IsAlwaysCallable sample.now }
     ensures ok { OnOk result (AnswersLine (TellsLine (F.post sample.now)) line.now (W.contents writer.old) (W.contents writer.new)) }
-    ensures err { OnErr result (BeginsLine (TellsLine (F.post sample.now)) line.now (W.contents writer.old) (W.contents writer.new)) }
+    ensures err { IfErr result (λ e. StopsLine (TellsLine (F.post sample.now)) line.now e (W.contents writer.old) (W.contents writer.new)) }
 {
     let mut text = answer(alloc, line, sample)?;
     text.push('\n')?;
@@ -79,8 +82,8 @@ fn take_byte<'a, W: Write, F: Fn(u32) -> Option<Result<Module<'a>, Error<'a>>>>(
 ) -> Result<(), RunError>
     requires callable { F.IsAlwaysCallable sample.now }
     requires still_open { IsOpen pending.old.items }
-    ensures ok { OnOk result (FeedsWriter (TellsLine (F.post sample.now)) pending.old.items (byte ∷ []) pending.new.items (W.contents writer.old) (W.contents writer.new)) }
-    ensures err { OnErr result ((rest : List ℕ) → BeginsWriter (TellsLine (F.post sample.now)) (pending.old.items ++ (byte ∷ rest)) (W.contents writer.old) (W.contents writer.new)) }
+    ensures ok { OnOk result (EndedWriter (TellsLine (F.post sample.now)) (pending.old.items ++ (byte ∷ [])) pending.new.items (W.contents writer.old) (W.contents writer.new)) }
+    ensures err { IfErr result (λ e. (rest : List ℕ) → StopsWriter (TellsLine (F.post sample.now)) (pending.old.items ++ (byte ∷ rest)) e (W.contents writer.old) (W.contents writer.new)) }
 {
     if byte != b'\n' {
         pending.push(byte)?;
@@ -101,8 +104,8 @@ fn feed<'a, W: Write, F: Fn(u32) -> Option<Result<Module<'a>, Error<'a>>>>(
 ) -> Result<(), RunError>
     requires callable { F.IsAlwaysCallable sample.now }
     requires still_open { IsOpen pending.old.items }
-    ensures ok { OnOk result (FeedsWriter (TellsLine (F.post sample.now)) pending.old.items bytes.now pending.new.items (W.contents writer.old) (W.contents writer.new)) }
-    ensures err { OnErr result (BeginsWriter (TellsLine (F.post sample.now)) (pending.old.items ++ bytes.now) (W.contents writer.old) (W.contents writer.new)) }
+    ensures ok { OnOk result (EndedWriter (TellsLine (F.post sample.now)) (pending.old.items ++ bytes.now) pending.new.items (W.contents writer.old) (W.contents writer.new)) }
+    ensures err { IfErr result (λ e. StopsWriter (TellsLine (F.post sample.now)) (pending.old.items ++ bytes.now) e (W.contents writer.old) (W.contents writer.new)) }
 {
     for byte in bytes {
         take_byte(alloc, *byte, pending, writer, sample)?;
@@ -120,7 +123,7 @@ fn finish<'a, W: Write, F: Fn(u32) -> Option<Result<Module<'a>, Error<'a>>>>(
     requires callable { F.IsAlwaysCallable sample.now }
     requires still_open { IsOpen pending.now }
     ensures ok { OnOk result (AnswersWriter (TellsLine (F.post sample.now)) pending.now (W.contents writer.old) (W.contents writer.new)) }
-    ensures err { OnErr result (BeginsWriter (TellsLine (F.post sample.now)) pending.now (W.contents writer.old) (W.contents writer.new)) }
+    ensures err { IfErr result (λ e. StopsWriter (TellsLine (F.post sample.now)) pending.now e (W.contents writer.old) (W.contents writer.new)) }
 {
     if pending.is_empty() {
         return Ok(());
@@ -138,6 +141,7 @@ fn read_piece<'b, R: Read>(
     ensures end { IfOk result (λ piece. IfNone piece (IsAtEnd (R.remaining reader.new))) }
     ensures no_more { IfOk result (λ piece. IfNone piece (Consumes (R.remaining reader.old) (R.remaining reader.new) [])) }
     ensures err { OnErr result (Keeps (R.remaining reader.old) (R.remaining reader.new)) }
+    ensures error { IfErr result (λ e. e ≡ error.Read) }
 {
     match reader.read(buffer) {
         Ok(0) => Ok(None),
@@ -165,9 +169,12 @@ fn read_piece<'b, R: Read>(
 /// - `fault at P: text` or `refused: text` where encoding refuses the module with a place P or without one.
 ///
 /// It answers `Read` where a read fails, or where a million reads do not meet the end; `Write` where a write or a flush
-/// fails; and `Memory` where memory is refused, also while a module is made or encoded, and for every error that the
-/// function handed in gives. A read or a write that is interrupted is made again. Lines that were written before an
-/// error stay written, and a beginning of the next one may stand after them.
+/// fails, or a write takes no byte; and `Memory` where memory is refused, also while a module is made or encoded, and for
+/// every error that the function handed in gives. A read or a write that is interrupted is made again.
+///
+/// What was written before an error stays. After `Read`, it answers the lines whose line feed was read, and no other;
+/// after `Memory`, it answers some first lines, each of them whole; after `Write`, a beginning of the next answer may
+/// stand behind such lines.
 ///
 /// The contract speaks of readers and writers that tell their bytes, as `&[u8]` and `Vec<u8>` do; of others, such as the
 /// standard streams, it says nothing of what was read and written.
@@ -179,7 +186,7 @@ pub fn run<'a, R: Read, W: Write, F: Fn(u32) -> Option<Result<Module<'a>, Error<
 ) -> Result<(), RunError>
     requires { F.IsAlwaysCallable sample }
     ensures ok { OnOk result (Ran (TellsLine (F.post sample)) (R.remaining reader.old) (R.remaining reader.new) (W.contents writer.old) (W.contents writer.new)) }
-    ensures err { OnErr result (Broke (TellsLine (F.post sample)) (R.remaining reader.old) (R.remaining reader.new) (W.contents writer.old) (W.contents writer.new)) }
+    ensures err { IfErr result (λ e. Stopped (TellsLine (F.post sample)) e (R.remaining reader.old) (R.remaining reader.new) (W.contents writer.old) (W.contents writer.new)) }
 {
     let mut buffer = [0u8; PIECE_LEN];
     let mut pending = Vec::new(alloc);

@@ -1,6 +1,6 @@
 use Rattle.std.proofs.Common.{sym, ◌∙◌}
-use Rattle.std.proofs.lemmas.Result.{on_ok_weaker, on_err_weaker}
-use Rattle.wast_rows.proofs.Writing.{some_line, AnswersWriter-open, BeginsWriter-open}
+use Rattle.std.proofs.lemmas.Result.{on_ok_weaker, IfErr-weaker}
+use Rattle.wast_rows.proofs.Writing.{some_line, AnswersWriter-open, StopsWriter-open}
 use Rattle.wast_rows.proofs.runs.finish.Goals as goal
 
 pub returns-clause-ok : goal.returns-clause-ok
@@ -11,4 +11,4 @@ returns-clause-ok g c =
 pub returns-clause-err : goal.returns-clause-err
 returns-clause-err g c =
     let some = some_line c.args.pending.now (sym c.is_empty.ensures ∙ c.if-is_empty.false) in
-    on_err_weaker c.answer_line.result (λ begun. BeginsWriter-open _ _ _ _ some c.requires.still_open begun) c.answer_line.ensures.err
+    IfErr-weaker c.answer_line.result _ _ (λ e stopped. StopsWriter-open _ _ e _ _ some c.requires.still_open stopped) c.answer_line.ensures.err
