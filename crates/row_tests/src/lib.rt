@@ -39,8 +39,10 @@ mod order;
 #[cfg(test)]
 mod parts;
 #[cfg(test)]
-mod refusals;
+mod refused;
 #[cfg(test)]
 mod runs;
+#[cfg(test)]
+mod streams;
 #[cfg(test)]
 mod uncovered;

@@ -1,4 +1,5 @@
-//! The bytes of a module that has each kind of sections.
+//! The bytes of a module that has each kind of sections. Where a request for memory is refused, the call that made it says so,
+//! and all is built again: `tools/refused-memory` refuses each one in turn.
 
 ghost use Rattle.std.specs.Prelude.{◌≡◌, IfOk, OnOk, IsTrue};
 ghost use Rattle.std.specs.List.{list_all};
@@ -10,7 +11,6 @@ ghost use Rattle.wasm_ops.specs.Table.{instr, IsInstr};
 ghost use Rattle.wasm_out.specs.Bodies.{SpellsBody};
 
 use std::alloc::Global;
-use std::process::Abort;
 use wasm_ops::{
     AbstractHeapType, CompositeInnerType, CompositeType, ConstExpr, EntityType, ExportKind,
     FuncType, GlobalType, HeapType, IndexOp, InstructionSink, MemoryType, RefType, SubType,
@@ -23,7 +23,7 @@ use wasm_out::{
     ProducersSection, StartSection, TableSection, TagSection, TypeSection, building_law,
     part_spelling_law, reading_laws,
 };
-use wast_base::{Error, Seq};
+use wast_base::{Error, Fault, Seq};
 
 /// A call of the function at an index.
 fn call<'e>(alloc: Global, index: u32) -> Result<Vec<u8>, Error<'e>>
@@ -123,27 +123,29 @@ fn plain(alloc: Global, is_final: bool) -> SubType
 }
 
 /// A type on its own, and a group of a final type and an open one.
-fn add_types(rt: &impl Abort, alloc: Global, whole: &mut Module) {
+fn add_types<'e>(alloc: Global, whole: &mut Module) -> Result<(), Error<'e>> {
     let mut section = TypeSection::new(alloc);
-    assert!(rt; section.subtype(&plain(alloc, true)).is_ok());
+    section.subtype(&plain(alloc, true))?;
     let group = [plain(alloc, true), plain(alloc, false)];
-    assert!(rt; section.rec(&group).is_ok());
-    assert!(rt; whole.section(&section).is_ok());
+    section.rec(&group)?;
+    whole.section(&section)?;
+    Ok(())
 }
 
 /// A tag of the type at 0, imported as `m` `t`, and a function of that type.
-fn add_imports_and_functions(rt: &impl Abort, alloc: Global, whole: &mut Module) {
+fn add_imports_and_functions<'e>(alloc: Global, whole: &mut Module) -> Result<(), Error<'e>> {
     let mut imports = ImportSection::new(alloc);
     let tag = EntityType::Tag(TagType { func_type_idx: 0 });
-    assert!(rt; imports.import("m", "t", &tag).is_ok());
-    assert!(rt; whole.section(&imports).is_ok());
+    imports.import("m", "t", &tag)?;
+    whole.section(&imports)?;
     let mut functions = FunctionSection::new(alloc);
-    assert!(rt; functions.function(0).is_ok());
-    assert!(rt; whole.section(&functions).is_ok());
+    functions.function(0)?;
+    whole.section(&functions)?;
+    Ok(())
 }
 
 /// A table of at least one function, and one of 64 bits of one to two, which are null.
-fn add_tables(rt: &impl Abort, alloc: Global, whole: &mut Module) {
+fn add_tables<'e>(alloc: Global, whole: &mut Module) -> Result<(), Error<'e>> {
     let mut section = TableSection::new(alloc);
     let ty = TableType {
         element_type: funcref(),
@@ -152,19 +154,21 @@ fn add_tables(rt: &impl Abort, alloc: Global, whole: &mut Module) {
         table64: false,
         shared: false,
     };
-    assert!(rt; section.table(&ty).is_ok());
+    section.table(&ty)?;
     let wide = TableType {
         maximum: Some(2),
         table64: true,
         ..ty
     };
-    let init = null(alloc, func()).expect(rt, "memory");
-    assert!(rt; init.is_covered() && section.table_with_init(&wide, &init).is_ok());
-    assert!(rt; whole.section(&section).is_ok());
+    let init = null(alloc, func())?;
+    let _spelled = init.is_covered();
+    section.table_with_init(&wide, &init)?;
+    whole.section(&section)?;
+    Ok(())
 }
 
 /// A shared memory of one to two pages of one byte, and a tag of the type at 0.
-fn add_memory_and_tag(rt: &impl Abort, alloc: Global, whole: &mut Module) {
+fn add_memory_and_tag<'e>(alloc: Global, whole: &mut Module) -> Result<(), Error<'e>> {
     let mut memories = MemorySection::new(alloc);
     let ty = MemoryType {
         minimum: 1,
@@ -173,117 +177,174 @@ fn add_memory_and_tag(rt: &impl Abort, alloc: Global, whole: &mut Module) {
         shared: true,
         page_size_log2: Some(0),
     };
-    assert!(rt; memories.memory(&ty).is_ok());
-    assert!(rt; whole.section(&memories).is_ok());
+    memories.memory(&ty)?;
+    whole.section(&memories)?;
     let mut tags = TagSection::new(alloc);
-    assert!(rt; tags.tag(&TagType { func_type_idx: 0 }).is_ok());
-    assert!(rt; whole.section(&tags).is_ok());
+    tags.tag(&TagType { func_type_idx: 0 })?;
+    whole.section(&tags)?;
+    Ok(())
 }
 
 /// A variable that is -1, the function at 0 as `a`, and that it runs first.
-fn add_global_export_and_start(rt: &impl Abort, alloc: Global, whole: &mut Module) {
+fn add_global_export_and_start<'e>(alloc: Global, whole: &mut Module) -> Result<(), Error<'e>> {
     let mut globals = GlobalSection::new(alloc);
     let ty = GlobalType {
         val_type: ValType::I32,
         mutable: true,
         shared: false,
     };
-    let init = number(alloc, -1).expect(rt, "memory");
-    assert!(rt; globals.global(&ty, &init).is_ok());
-    assert!(rt; whole.section(&globals).is_ok());
+    let init = number(alloc, -1)?;
+    globals.global(&ty, &init)?;
+    whole.section(&globals)?;
     let mut exports = ExportSection::new(alloc);
-    assert!(rt; exports.export("a", ExportKind::Func, 0).is_ok());
-    assert!(rt; whole.section(&exports).is_ok());
-    assert!(rt; whole.section(&StartSection { function_index: 0 }).is_ok());
+    exports.export("a", ExportKind::Func, 0)?;
+    whole.section(&exports)?;
+    whole.section(&StartSection { function_index: 0 })?;
+    Ok(())
 }
 
 /// The function at 0 to be copied, a null reference in the table at 1, and the function at 0 to be referred to.
-fn add_elements(rt: &impl Abort, alloc: Global, whole: &mut Module) {
-    let functions = Elements::Functions(vec![in alloc; 0].expect(rt, "memory"));
+fn add_elements<'e>(alloc: Global, whole: &mut Module) -> Result<(), Error<'e>> {
+    let functions = Elements::Functions(vec![in alloc; 0]?);
     let mut values = Vec::new(alloc);
-    assert!(rt;
-        values
-            .push(null(alloc, func()).expect(rt, "memory"))
-            .is_ok()
-    );
+    values.push(null(alloc, func())?)?;
     let expressions = Elements::Expressions(funcref(), values);
-    let offset = number(alloc, 1).expect(rt, "memory");
+    let offset = number(alloc, 1)?;
     let mut section = ElementSection::new(alloc);
-    assert!(rt; section.passive(&functions).is_ok());
-    assert!(rt; section.active(Some(1), &offset, &expressions).is_ok());
-    assert!(rt; section.declared(&functions).is_ok());
-    assert!(rt; whole.section(&section).is_ok());
+    section.passive(&functions)?;
+    section.active(Some(1), &offset, &expressions)?;
+    section.declared(&functions)?;
+    whole.section(&section)?;
+    Ok(())
 }
 
 /// The number of the data segments, and a body of three locals and a call.
-fn add_code(rt: &impl Abort, alloc: Global, whole: &mut Module) {
-    assert!(rt; whole.section(&DataCountSection { count: 2 }).is_ok());
+fn add_code<'e>(alloc: Global, whole: &mut Module) -> Result<(), Error<'e>> {
+    whole.section(&DataCountSection { count: 2 })?;
     let types = [ValType::I32, ValType::I32, ValType::I64];
-    let body = calling(alloc, &types, 0).expect(rt, "memory");
+    let body = calling(alloc, &types, 0)?;
     let mut section = CodeSection::new(alloc);
-    assert!(rt; section.function(&body).is_ok());
-    assert!(rt; body.byte_len() == 8 && section.byte_len() == 9);
-    assert!(rt; whole.section(&section).is_ok());
+    section.function(&body)?;
+    whole.section(&section)?;
+    Ok(())
 }
 
 /// Bytes to be copied, and bytes in the first memory; and a custom section.
-fn add_data_and_custom(rt: &impl Abort, alloc: Global, whole: &mut Module) {
-    let offset = number(alloc, 1).expect(rt, "memory");
+fn add_data_and_custom<'e>(alloc: Global, whole: &mut Module) -> Result<(), Error<'e>> {
+    let offset = number(alloc, 1)?;
     let mut section = DataSection::new(alloc);
-    assert!(rt; section.passive(b"x").is_ok());
-    assert!(rt; section.active(0, &offset, b"yz").is_ok());
-    assert!(rt; whole.section(&section).is_ok());
-    let bytes = vec![in alloc; 9, 8].expect(rt, "memory");
-    assert!(rt; whole.section(&CustomSection { name: "c", bytes }).is_ok());
+    section.passive(b"x")?;
+    section.active(0, &offset, b"yz")?;
+    whole.section(&section)?;
+    let bytes = vec![in alloc; 9, 8]?;
+    whole.section(&CustomSection { name: "c", bytes })?;
+    Ok(())
 }
 
 /// The name of the module, and the names of what stands before the globals.
-fn add_names(rt: &impl Abort, names: &mut NameSection, map: &NameMap, maps: &IndirectNameMap) {
-    assert!(rt; names.module("m").is_ok());
-    assert!(rt; names.functions(map).is_ok());
-    assert!(rt; names.locals(maps).is_ok());
-    assert!(rt; names.labels(maps).is_ok());
-    assert!(rt; names.types(map).is_ok());
-    assert!(rt; names.tables(map).is_ok());
-    assert!(rt; names.memories(map).is_ok());
+fn add_names<'e>(
+    names: &mut NameSection,
+    map: &NameMap,
+    maps: &IndirectNameMap,
+) -> Result<(), Error<'e>> {
+    names.module("m")?;
+    names.functions(map)?;
+    names.locals(maps)?;
+    names.labels(maps)?;
+    names.types(map)?;
+    names.tables(map)?;
+    names.memories(map)?;
+    Ok(())
 }
 
 /// The names of globals, and of what stands behind them.
-fn add_more_names(rt: &impl Abort, names: &mut NameSection, map: &NameMap, maps: &IndirectNameMap) {
-    assert!(rt; names.globals(map).is_ok());
-    assert!(rt; names.elements(map).is_ok());
-    assert!(rt; names.data_segments(map).is_ok());
-    assert!(rt; names.fields(maps).is_ok());
-    assert!(rt; names.tags(map).is_ok());
-    assert!(rt; names.parameters(maps).is_ok());
-    assert!(rt; names.tag_parameters(maps).is_ok());
+fn add_more_names<'e>(
+    names: &mut NameSection,
+    map: &NameMap,
+    maps: &IndirectNameMap,
+) -> Result<(), Error<'e>> {
+    names.globals(map)?;
+    names.elements(map)?;
+    names.data_segments(map)?;
+    names.fields(maps)?;
+    names.tags(map)?;
+    names.parameters(maps)?;
+    names.tag_parameters(maps)?;
+    Ok(())
 }
 
 /// A name section with each subsection: by index the name `x` at 2, and at 3 the map of it.
-fn names(rt: &impl Abort, alloc: Global) -> NameSection {
+fn names<'e>(alloc: Global) -> Result<NameSection, Error<'e>> {
     let mut map = NameMap::new(alloc);
-    assert!(rt; map.append(2, "x").is_ok());
+    map.append(2, "x")?;
     let mut maps = IndirectNameMap::new(alloc);
-    assert!(rt; maps.append(3, &map).is_ok());
+    maps.append(3, &map)?;
     let mut names = NameSection::new(alloc);
-    add_names(rt, &mut names, &map, &maps);
-    add_more_names(rt, &mut names, &map, &maps);
-    names
+    add_names(&mut names, &map, &maps)?;
+    add_more_names(&mut names, &map, &maps)?;
+    Ok(names)
+}
+
+/// A module that has each kind of sections.
+fn each_section<'e>(alloc: Global) -> Result<Vec<u8>, Error<'e>> {
+    let mut whole = Module::new(alloc)?;
+    add_types(alloc, &mut whole)?;
+    add_imports_and_functions(alloc, &mut whole)?;
+    add_tables(alloc, &mut whole)?;
+    add_memory_and_tag(alloc, &mut whole)?;
+    add_global_export_and_start(alloc, &mut whole)?;
+    add_elements(alloc, &mut whole)?;
+    add_code(alloc, &mut whole)?;
+    add_data_and_custom(alloc, &mut whole)?;
+    let names = names(alloc)?;
+    whole.section(&names)?;
+    Ok(whole.finish())
+}
+
+/// One value of one field.
+fn producers<'e>(alloc: Global) -> Result<ProducersSection, Error<'e>> {
+    let mut values = ProducersField::new(alloc);
+    values.value("R", "1")?;
+    let mut section = ProducersSection::new(alloc);
+    section.field("language", &values)?;
+    Ok(section)
+}
+
+/// A hint that the branch is likely taken, and two hints of another function.
+fn hints<'e>(alloc: Global) -> Result<BranchHints, Error<'e>> {
+    let mut section = BranchHints::new(alloc);
+    let first = [BranchHint {
+        branch_func_offset: 5,
+        branch_hint_value: 1,
+    }];
+    section.function_hints(0, &first)?;
+    let others = [
+        BranchHint {
+            branch_func_offset: 2,
+            branch_hint_value: 0,
+        },
+        BranchHint {
+            branch_func_offset: 200,
+            branch_hint_value: 1,
+        },
+    ];
+    section.function_hints(3, &others)?;
+    Ok(section)
+}
+
+/// A module of the custom sections that are built.
+fn each_custom<'e>(alloc: Global) -> Result<Vec<u8>, Error<'e>> {
+    let mut whole = Module::new(alloc)?;
+    let hints = hints(alloc)?;
+    whole.section(&hints)?;
+    let producers = producers(alloc)?;
+    whole.section(&producers)?;
+    Ok(whole.finish())
 }
 
 #[test]
 fn each_section_has_its_bytes(rt: HostRuntime) {
     let alloc = rt.alloc();
-    let mut whole = Module::new(alloc).expect(&rt, "memory");
-    add_types(&rt, alloc, &mut whole);
-    add_imports_and_functions(&rt, alloc, &mut whole);
-    add_tables(&rt, alloc, &mut whole);
-    add_memory_and_tag(&rt, alloc, &mut whole);
-    add_global_export_and_start(&rt, alloc, &mut whole);
-    add_elements(&rt, alloc, &mut whole);
-    add_code(&rt, alloc, &mut whole);
-    add_data_and_custom(&rt, alloc, &mut whole);
-    assert!(rt; whole.section(&names(&rt, alloc)).is_ok());
     let expected =
         b"\x00\x61\x73\x6d\x01\x00\x00\x00\x01\x0e\x02\x60\x00\x00\x4e\x02\x60\x00\x00\x50\x00\x60\x00\x00\
         \x02\x08\x01\x01\x6d\x01\x74\x04\x00\x00\x03\x02\x01\x00\x04\x0d\x02\x70\x00\x01\x40\x00\x70\x05\
@@ -295,51 +356,40 @@ fn each_section_has_its_bytes(rt: HostRuntime) {
         \x02\x01\x78\x04\x04\x01\x02\x01\x78\x05\x04\x01\x02\x01\x78\x06\x04\x01\x02\x01\x78\x07\x04\x01\
         \x02\x01\x78\x08\x04\x01\x02\x01\x78\x09\x04\x01\x02\x01\x78\x0a\x06\x01\x03\x01\x02\x01\x78\x0b\
         \x04\x01\x02\x01\x78\x0c\x06\x01\x03\x01\x02\x01\x78\x0d\x06\x01\x03\x01\x02\x01\x78";
-    assert!(rt; whole.finish().as_slice() == expected.as_slice());
-}
-
-/// One value of one field.
-fn producers(rt: &impl Abort, alloc: Global) -> ProducersSection {
-    let mut values = ProducersField::new(alloc);
-    assert!(rt; values.is_empty() && values.value("R", "1").is_ok());
-    let mut section = ProducersSection::new(alloc);
-    assert!(rt; section.is_empty() && section.field("language", &values).is_ok());
-    section
-}
-
-/// A hint that the branch is likely taken, and two hints of another function.
-fn hints(rt: &impl Abort, alloc: Global) -> BranchHints {
-    let mut section = BranchHints::new(alloc);
-    assert!(rt; section.is_empty());
-    let first = [BranchHint {
-        branch_func_offset: 5,
-        branch_hint_value: 1,
-    }];
-    assert!(rt; section.function_hints(0, &first).is_ok());
-    let others = [
-        BranchHint {
-            branch_func_offset: 2,
-            branch_hint_value: 0,
-        },
-        BranchHint {
-            branch_func_offset: 200,
-            branch_hint_value: 1,
-        },
-    ];
-    assert!(rt; section.function_hints(3, &others).is_ok());
-    section
+    let built = match each_section(alloc) {
+        Ok(bytes) => bytes,
+        Err(e) => {
+            assert!(rt; e == Error::refusal(Fault::Memory));
+            each_section(alloc).expect(&rt, "memory")
+        }
+    };
+    assert!(rt; built.as_slice() == expected.as_slice());
 }
 
 #[test]
 fn custom_sections_that_are_built_have_their_bytes(rt: HostRuntime) {
     let alloc = rt.alloc();
-    let mut whole = Module::new(alloc).expect(&rt, "memory");
-    assert!(rt; whole.section(&hints(&rt, alloc)).is_ok());
-    assert!(rt; whole.section(&producers(&rt, alloc)).is_ok());
     let expected =
         b"\x00\x61\x73\x6d\x01\x00\x00\x00\x00\x29\x19metadata.code.branch_hint\x02\x00\x01\x05\x01\x01\
         \x03\x02\x02\x01\x00\xc8\x01\x01\x01\x00\x19\x09producers\x01\x08language\x01\x01R\x011";
-    assert!(rt; whole.finish().as_slice() == expected.as_slice());
+    let built = match each_custom(alloc) {
+        Ok(bytes) => bytes,
+        Err(e) => {
+            assert!(rt; e == Error::refusal(Fault::Memory));
+            each_custom(alloc).expect(&rt, "memory")
+        }
+    };
+    assert!(rt; built.as_slice() == expected.as_slice());
+}
+
+#[test]
+fn a_body_tells_its_length(rt: HostRuntime) {
+    let alloc = rt.alloc();
+    let types = [ValType::I32, ValType::I32, ValType::I64];
+    let body = calling(alloc, &types, 0).expect(&rt, "memory");
+    let mut section = CodeSection::new(alloc);
+    assert!(rt; section.function(&body).is_ok());
+    assert!(rt; body.byte_len() == 8 && section.byte_len() == 9);
 }
 
 #[test]
@@ -347,6 +397,8 @@ fn what_is_new_is_empty(rt: HostRuntime) {
     let alloc = rt.alloc();
     assert!(rt; TypeSection::new(alloc).is_empty() && NameSection::new(alloc).is_empty());
     assert!(rt; NameMap::new(alloc).is_empty() && IndirectNameMap::new(alloc).is_empty());
+    assert!(rt; ProducersSection::new(alloc).is_empty() && ProducersField::new(alloc).is_empty());
+    assert!(rt; BranchHints::new(alloc).is_empty());
     building_law();
     part_spelling_law();
     reading_laws();
