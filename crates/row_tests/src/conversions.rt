@@ -160,7 +160,7 @@ fn types_of_functions_and_tags_are_converted(rt: HostRuntime) {
 
 /// `i32.const 8`
 #[tactic(auto, unfolding(wast_base::specs::Blocks::stays_open))]
-fn eight<'a>(alloc: Global) -> Result<Expression<'a>, Error<'a>>
+pub(crate) fn eight<'a>(alloc: Global) -> Result<Expression<'a>, Error<'a>>
     ensures { IfOk result (λ e. IsTrue (is_encodable_expression e)) }
 {
     Expression::one(alloc, Instruction::i32_const(8))

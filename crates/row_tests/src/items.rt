@@ -17,7 +17,7 @@ use wast_tree::{
 };
 
 /// The item has these bytes behind a count of 1 as the payload of a section, and alone in a vector.
-fn has_bytes<I: SectionItem>(rt: &impl Abort, alloc: Global, item: &I, bytes: &[u8])
+pub(crate) fn has_bytes<I: SectionItem>(rt: &impl Abort, alloc: Global, item: &I, bytes: &[u8])
 where
     I::Section: Drop,
     requires { IsTrue (I.is_encodable item.now) }

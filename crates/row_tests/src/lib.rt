@@ -5,9 +5,13 @@
 #[cfg(test)]
 mod accesses;
 #[cfg(test)]
+mod ample;
+#[cfg(test)]
 mod around;
 #[cfg(test)]
 mod bodies;
+#[cfg(test)]
+mod bounds;
 #[cfg(test)]
 mod by_hand;
 #[cfg(test)]

@@ -34,7 +34,7 @@ fn is_refused<T>(answer: &Result<T, Error<'_>>) -> bool {
 }
 
 /// The number is that of a worked row that is well formed.
-fn is_row(n: u32) -> bool {
+pub(crate) fn is_row(n: u32) -> bool {
     n != 20 && (n < 58 || n > 64)
 }
 
@@ -47,7 +47,12 @@ fn answer_of<'a>(rt: &impl Abort, alloc: Global, n: u32) -> Result<Vec<u8>, Erro
 }
 
 /// The answer is that of encoding the row.
-fn is_of_row(rt: &impl Abort, alloc: Global, n: u32, answer: Result<Vec<u8>, Error<'_>>) {
+pub(crate) fn is_of_row(
+    rt: &impl Abort,
+    alloc: Global,
+    n: u32,
+    answer: Result<Vec<u8>, Error<'_>>,
+) {
     let want = answer_of(rt, alloc, n);
     match answer {
         Ok(bytes) => {
