@@ -22,57 +22,32 @@ use wast_conv::{RecOrType, Resolved, conv};
 use wast_nodes::ModuleField;
 use wast_reach::{FieldKind, Reach, Reaches};
 
+/// Whether a field puts an entry into the section of a kind.
+fn puts(kind: SectionKind, field: &ModuleField) -> bool
+    ensures { result ≡ puts (section_kind kind) field.now }
+{
+    match kind {
+        SectionKind::Types => FieldKind::Ty.is_of(field) || FieldKind::Rec.is_of(field),
+        SectionKind::Imports => FieldKind::Import.is_of(field),
+        SectionKind::Functions | SectionKind::Code => FieldKind::Func.is_of(field),
+        SectionKind::Tables => FieldKind::Table.is_of(field),
+        SectionKind::Memories => FieldKind::Memory.is_of(field),
+        SectionKind::Tags => FieldKind::Tag.is_of(field),
+        SectionKind::Globals => FieldKind::Global.is_of(field),
+        SectionKind::Exports => FieldKind::Export.is_of(field),
+        SectionKind::Elements => FieldKind::Elem.is_of(field),
+        SectionKind::Data => FieldKind::Data.is_of(field),
+    }
+}
+
 /// How many entries a field puts into the section of a kind: at most one.
 fn entries_of(kind: SectionKind, field: &ModuleField) -> u32
     ensures { result ≡ length (entries_in (section_kind kind) field.now) }
 {
-    match kind {
-        SectionKind::Types => match field {
-            ModuleField::Ty(_) => 1,
-            ModuleField::Rec(_) => 1,
-            _ => 0,
-        },
-        SectionKind::Imports => match field {
-            ModuleField::Import(_) => 1,
-            _ => 0,
-        },
-        SectionKind::Functions => match field {
-            ModuleField::Func(_) => 1,
-            _ => 0,
-        },
-        SectionKind::Tables => match field {
-            ModuleField::Table(_) => 1,
-            _ => 0,
-        },
-        SectionKind::Memories => match field {
-            ModuleField::Memory(_) => 1,
-            _ => 0,
-        },
-        SectionKind::Tags => match field {
-            ModuleField::Tag(_) => 1,
-            _ => 0,
-        },
-        SectionKind::Globals => match field {
-            ModuleField::Global(_) => 1,
-            _ => 0,
-        },
-        SectionKind::Exports => match field {
-            ModuleField::Export(_) => 1,
-            _ => 0,
-        },
-        SectionKind::Elements => match field {
-            ModuleField::Elem(_) => 1,
-            _ => 0,
-        },
-        SectionKind::Code => match field {
-            ModuleField::Func(_) => 1,
-            _ => 0,
-        },
-        SectionKind::Data => match field {
-            ModuleField::Data(_) => 1,
-            _ => 0,
-        },
+    if puts(kind, field) {
+        return 1;
     }
+    0
 }
 
 /// Appends the entry of a field to the section of a kind, where it has one.
@@ -81,52 +56,22 @@ fn put_entry<S: Sink>(kind: SectionKind, field: &ModuleField, out: &mut S) -> Re
     ensures { Writes S.rules (All (InRangeEntry (section_kind kind)) (entries_in (section_kind kind) field.now))
         out.old out.new (flat_map (entry (section_kind kind)) (entries_in (section_kind kind) field.now)) result }
 {
-    match kind {
-        SectionKind::Types => match field {
-            ModuleField::Ty(ty) => RecOrType::Ty(ty).encode(out),
-            ModuleField::Rec(rec) => RecOrType::Rec(rec).encode(out),
-            _ => Ok(()),
-        },
-        SectionKind::Imports => match field {
-            ModuleField::Import(imports) => By(imports, Resolved).encode(out),
-            _ => Ok(()),
-        },
-        SectionKind::Functions => match field {
-            ModuleField::Func(func) => By(&func.ty, Resolved).encode(out),
-            _ => Ok(()),
-        },
-        SectionKind::Tables => match field {
-            ModuleField::Table(table) => By(table, Resolved).encode(out),
-            _ => Ok(()),
-        },
-        SectionKind::Memories => match field {
-            ModuleField::Memory(memory) => By(memory, Resolved).encode(out),
-            _ => Ok(()),
-        },
-        SectionKind::Tags => match field {
-            ModuleField::Tag(tag) => By(tag, Resolved).encode(out),
-            _ => Ok(()),
-        },
-        SectionKind::Globals => match field {
-            ModuleField::Global(global) => By(global, Resolved).encode(out),
-            _ => Ok(()),
-        },
-        SectionKind::Exports => match field {
-            ModuleField::Export(export) => By(export, Resolved).encode(out),
-            _ => Ok(()),
-        },
-        SectionKind::Elements => match field {
-            ModuleField::Elem(elem) => By(elem, Resolved).encode(out),
-            _ => Ok(()),
-        },
-        SectionKind::Code => match field {
-            ModuleField::Func(func) => WithLength(By(&func.kind, Resolved)).encode(out),
-            _ => Ok(()),
-        },
-        SectionKind::Data => match field {
-            ModuleField::Data(data) => By(data, Resolved).encode(out),
-            _ => Ok(()),
-        },
+    match (kind, field) {
+        (SectionKind::Types, ModuleField::Ty(ty)) => RecOrType::Ty(ty).encode(out),
+        (SectionKind::Types, ModuleField::Rec(rec)) => RecOrType::Rec(rec).encode(out),
+        (SectionKind::Imports, ModuleField::Import(imports)) => By(imports, Resolved).encode(out),
+        (SectionKind::Functions, ModuleField::Func(func)) => By(&func.ty, Resolved).encode(out),
+        (SectionKind::Tables, ModuleField::Table(table)) => By(table, Resolved).encode(out),
+        (SectionKind::Memories, ModuleField::Memory(memory)) => By(memory, Resolved).encode(out),
+        (SectionKind::Tags, ModuleField::Tag(tag)) => By(tag, Resolved).encode(out),
+        (SectionKind::Globals, ModuleField::Global(global)) => By(global, Resolved).encode(out),
+        (SectionKind::Exports, ModuleField::Export(export)) => By(export, Resolved).encode(out),
+        (SectionKind::Elements, ModuleField::Elem(elem)) => By(elem, Resolved).encode(out),
+        (SectionKind::Code, ModuleField::Func(func)) => {
+            WithLength(By(&func.kind, Resolved)).encode(out)
+        }
+        (SectionKind::Data, ModuleField::Data(data)) => By(data, Resolved).encode(out),
+        _ => Ok(()),
     }
 }
 

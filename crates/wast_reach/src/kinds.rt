@@ -1,7 +1,7 @@
 //! The kinds of fields.
 
 ghost use Rattle.std.specs.Prelude.{◌≡◌, ◌<◌};
-ghost use Rattle.wast_reach.specs.Kinds.{kind_in, kind_rank};
+ghost use Rattle.wast_reach.specs.Kinds.{kind_in, kind_rank, is_of};
 
 use wast_nodes::{CustomPlace, ModuleField};
 
@@ -80,5 +80,12 @@ impl FieldKind {
             FieldKind::Tag => 11,
             FieldKind::Custom(place) => 12 + place.rank(),
         }
+    }
+
+    /// Whether a field is of the kind. It takes no memory.
+    pub fn is_of(self, field: &ModuleField<'_>) -> bool
+        ensures { result ≡ is_of self field.now }
+    {
+        self.rank() == FieldKind::rank_of(field)
     }
 }
