@@ -27,17 +27,7 @@ fn types_within<'b, 'a>(field: &'b ModuleField<'a>) -> &'b [Type<'a>]
     match field {
         ModuleField::Ty(ty) => slice::from_ref(ty),
         ModuleField::Rec(rec) => rec.types.as_slice(),
-        ModuleField::Import(_)
-        | ModuleField::Func(_)
-        | ModuleField::Table(_)
-        | ModuleField::Memory(_)
-        | ModuleField::Global(_)
-        | ModuleField::Export(_)
-        | ModuleField::Start(_)
-        | ModuleField::Elem(_)
-        | ModuleField::Data(_)
-        | ModuleField::Tag(_)
-        | ModuleField::Custom(_) => &[],
+        _ => &[],
     }
 }
 

@@ -249,14 +249,7 @@ fn lists_in<'b, 'a, A: Arities>(
         ModuleField::Import(imports) => Lists::Imported(&imports.items),
         ModuleField::Func(func) => Lists::One(listed_in_func(within, arities, func)),
         ModuleField::Tag(tag) => Lists::One(listed_in_tag(within, &tag.ty)),
-        ModuleField::Table(_)
-        | ModuleField::Memory(_)
-        | ModuleField::Global(_)
-        | ModuleField::Export(_)
-        | ModuleField::Start(_)
-        | ModuleField::Elem(_)
-        | ModuleField::Data(_)
-        | ModuleField::Custom(_) => Lists::One(None),
+        _ => Lists::One(None),
     }
 }
 

@@ -113,18 +113,7 @@ fn name_type<'a>(field: &mut ModuleField<'a>, gensym: &mut Gensym) -> Result<(),
             gensym.fill(ty.span, &mut ty.id)?;
             Ok(())
         }
-        ModuleField::Rec(_) => Ok(()),
-        ModuleField::Import(_) => Ok(()),
-        ModuleField::Func(_) => Ok(()),
-        ModuleField::Table(_) => Ok(()),
-        ModuleField::Memory(_) => Ok(()),
-        ModuleField::Global(_) => Ok(()),
-        ModuleField::Export(_) => Ok(()),
-        ModuleField::Start(_) => Ok(()),
-        ModuleField::Elem(_) => Ok(()),
-        ModuleField::Data(_) => Ok(()),
-        ModuleField::Tag(_) => Ok(()),
-        ModuleField::Custom(_) => Ok(()),
+        _ => Ok(()),
     }
 }
 
@@ -157,18 +146,7 @@ fn bind_type<'a>(
             bind_kind(alloc, &ty.def.kind, ty.id, cx)?;
             Ok(())
         }
-        ModuleField::Import(_)
-        | ModuleField::Func(_)
-        | ModuleField::Table(_)
-        | ModuleField::Memory(_)
-        | ModuleField::Global(_)
-        | ModuleField::Export(_)
-        | ModuleField::Start(_)
-        | ModuleField::Elem(_)
-        | ModuleField::Data(_)
-        | ModuleField::Tag(_)
-        | ModuleField::Custom(_)
-        | ModuleField::Rec(_) => Ok(()),
+        _ => Ok(()),
     }
 }
 
