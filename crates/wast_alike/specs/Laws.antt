@@ -42,7 +42,7 @@ ExplicitStaysWellFormed = (n : ℕ) (fields : List ModuleField) → greatest_gen
 abbrev pub NoIdIsLeft : Type 0
 NoIdIsLeft = (n : ℕ) (fields : List ModuleField) → greatest_generation fields < n → first_unmet (demands (explicit fields)) ≡ None → has_numbers (finished n fields) ≡ true
 
--- and, as each type use has an index, the list is resolved.
+-- and, as each type use that needs a type has an index, the list is resolved.
 abbrev pub FinishedIsResolved : Type 0
 FinishedIsResolved = (n : ℕ) (fields : List ModuleField) → greatest_generation fields < n → first_unmet (demands (explicit fields)) ≡ None → is_resolved (finished n fields) ≡ true
 
@@ -58,7 +58,7 @@ SamePositions = (n : ℕ) (fields : List ModuleField) → greatest_generation fi
 abbrev pub FinishedIsBelow : Type 0
 FinishedIsBelow = (n : ℕ) (fields : List ModuleField) → greatest_generation fields < n → greatest_generation (finished n fields) < n + ids_filled fields
 
--- Each type use has an index.
+-- No type use is left that needs a type and has no index.
 abbrev pub UsesHaveIndices : Type 0
 UsesHaveIndices = (n : ℕ) (fields : List ModuleField) → needed (finished n fields) ≡ []
 

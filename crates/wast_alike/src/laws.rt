@@ -6,10 +6,11 @@ ghost use Rattle.wast_alike.specs.Laws.{SameAnswer, SameCounts, SameBodyCounts, 
 use wast_labels::walking_law;
 
 /// Where the counter begins above the ids of the fields, the ids that are filled in change no answer and no count of items, nor
-/// one in bodies where no items clash, and well formed fields stay well formed. In the resolved list of fields whose demands are met no id is left where an index
-/// is wanted, each type use has an index, so it is resolved; it is well formed if they are, and each generation in it is below
-/// that of the next id; it is written out; and it is the list by positions, generated ids and places of type uses aside. Its items are
-/// those of the list in which nothing is left out, whatever is met. It does nothing.
+/// one in bodies where no items clash, and well formed fields stay well formed. In the resolved list of fields whose demands
+/// are met no id is left where an index is wanted, each type use that needs a type has an index (that of a block with a short
+/// type needs none), so it is resolved; it is well formed if they are, and each generation in it is below that of the next id;
+/// it is written out; and it is the list by positions, generated ids and places of type uses aside. Its items are those of the
+/// list in which nothing is left out, whatever is met. It does nothing.
 #[tactic(auto, using(crate::proofs::Explicit::explicit_answer, crate::proofs::Explicit::explicit_counts, crate::proofs::Explicit::explicit_bodies, crate::proofs::Explicit::explicit_well_formed, crate::proofs::Explicit::finished_numbered, crate::proofs::Explicit::finished_resolved, crate::proofs::Explicit::finished_well_formed, crate::proofs::Explicit::finished_by_position, crate::proofs::Explicit::finished_below, crate::proofs::Explicit::finished_indexed, crate::proofs::Explicit::finished_written_out, crate::proofs::Explicit::finished_items))]
 pub fn resolved_laws()
     ensures answer { SameAnswer }

@@ -11,11 +11,11 @@ use Rattle.wast_demands.specs.Tree.{ModuleField}
 abbrev pub explicit : List ModuleField → List ModuleField
 explicit fields = completed (written_out fields)
 
--- and each type use has the position of its type
+-- and each type use that needs a type has its position
 abbrev pub by_positions : List ModuleField → List ModuleField
 by_positions fields = positioned (written_out fields)
 
--- with the ids that a counter gives to items and types, and an index in each type use
+-- with the ids that a counter gives to items and types, and an index in each type use that needs a type
 abbrev pub explicit_from : ℕ → List ModuleField → List ModuleField
 explicit_from n fields = expanded (n + references_wanted fields) (written_out_from n fields)
 

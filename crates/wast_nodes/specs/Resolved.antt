@@ -1,4 +1,4 @@
--- What is resolved: each index is a number, and each type use has one (text format: indices, type uses).
+-- What is resolved: each index is a number, and each type use that needs a type has one (text format: indices, type uses).
 use Rattle.std.specs.Prelude.{Bool, true, ◌&&◌, ◌||◌, is_some, List}
 use Rattle.std.specs.List.{list_all}
 use Rattle.wast_base.specs.Ids.{is_number}

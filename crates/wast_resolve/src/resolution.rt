@@ -116,8 +116,8 @@ impl<'a> Names<'a> {
     }
 }
 
-/// Resolves the fields of a module: its abbreviations are written out, each type use has an index, and each id where an
-/// index is wanted becomes its number, at the id's place (text format, abbreviations, indices and type uses).
+/// Resolves the fields of a module: its abbreviations are written out, each type use that needs a type has an index, and each
+/// id where an index is wanted becomes its number, at the id's place (text format, abbreviations, indices and type uses).
 ///
 /// It gives the fields in their order, each with the fields that stand for it once its exports, import, elements or data in
 /// place are written out, as [`deinline::run`] tells, and after them a type for each signature that a use without an index
