@@ -1,7 +1,9 @@
--- Lines and columns of places in a worked text, computed.
-use Rattle.std.specs.Prelude.{◌≡◌, ℕ, List, ◌∷◌, ◌++◌, codes}
+-- Lines and columns of places in a worked text, and names in their order, computed.
+use Rattle.std.specs.Prelude.{◌≡◌, ℕ, true, false, List, ◌∷◌, ◌++◌, codes}
 use Rattle.wast_base.specs.declared.ids.Span.{Span}
+use Rattle.wast_base.specs.Ids.{Written, Generated}
 use Rattle.wast_base.specs.Lines.{line_of, column_of}
+use Rattle.wast_base.specs.Order.{name_lt}
 
 -- two lines, `(module` and ` $m)`
 abbrev pub two_lines : List ℕ
@@ -17,3 +19,11 @@ PlacesInTwoLines =
     (line_of two_lines (at 0) ≡ 1) × (column_of two_lines (at 0) ≡ 1) × (line_of two_lines (at 7) ≡ 1)
     × (column_of two_lines (at 7) ≡ 8) × (line_of two_lines (at 11) ≡ 2) × (column_of two_lines (at 11) ≡ 4)
     × (line_of two_lines (at 100) ≡ 2) × (column_of two_lines (at 100) ≡ 5)
+
+-- Texts stand in the order of their bytes; that of generated names is `gensym`, and a written one comes before them.
+abbrev pub NamesInOrder : Type 0
+NamesInOrder =
+    (name_lt (Written (codes "a")) (Written (codes "aa")) ≡ true) × (name_lt (Written (codes "aa")) (Written (codes "b")) ≡ true)
+    × (name_lt (Written (codes "b")) (Written (codes "b")) ≡ false) × (name_lt (Generated 2) (Written (codes "h")) ≡ true)
+    × (name_lt (Written (codes "gensym")) (Generated 1) ≡ true) × (name_lt (Generated 1) (Written (codes "gensym")) ≡ false)
+    × (name_lt (Generated 2) (Generated 10) ≡ true)
