@@ -115,13 +115,13 @@ impl EncodeOptions {
 
     /// Resolves the module, and gives its bytes (binary format, modules).
     ///
-    /// It needs what [`Module::resolve`] needs. The bytes of a text module are read as what its fields mean. A refusal
-    /// of resolving is answered and kept, and a refused module answers what it keeps; a refusal of encoding leaves the
-    /// module resolved: E11, first and without memory, exactly where a form stands in the resolved fields that no encoder
-    /// covers, and it names the first one; E10 where a count, length or position is 2^32 or more or the bytes are more
-    /// than the greatest usize, E12 where memory is refused. A binary module gives its pieces, one after another, and stays
-    /// as it is. The module is well formed afterwards, and its span, id and name stay. The counter is left as
-    /// [`Module::resolve`] leaves it.
+    /// It needs what [`Module::resolve`] needs. The bytes of a text module are read as what its fields mean, and as no other
+    /// ([`one_meaning`](crate::laws::one_meaning)). A refusal of resolving is answered and kept, and a refused module answers
+    /// what it keeps; a refusal of encoding leaves the module resolved: E11, first and without memory, exactly where a form
+    /// stands in the resolved fields that no encoder covers, and it names the first one; E10 where a count, length or position
+    /// is 2^32 or more or the bytes are more than the greatest usize, E12 where memory is refused. A binary module gives its
+    /// pieces, one after another, and stays as it is. The module is well formed afterwards, and its span, id and name stay. The
+    /// counter is left as [`Module::resolve`] leaves it.
     pub fn encode_module<'a>(
         &self,
         alloc: Global,

@@ -1,9 +1,24 @@
 //! Laws of text modules, for callers to cite.
 
+ghost use Rattle.std.specs.Prelude.{◌≡◌, ℕ, List};
+ghost use Rattle.wasm_out.specs.Parts.{Part};
+ghost use Rattle.wasm_out.specs.Reads.{Reads};
 ghost use Rattle.wast_core.specs.HintPlaces.{HintsPointAtInstructions};
 ghost use Rattle.wast_core.specs.Laws.{MeansWhatIsWritten, TooLargeIsUnbounded, CustomsStandOnce};
 
+use wasm_out::reading_laws;
 use wast_resolve::resolved_laws;
+
+/// Bytes have one meaning, and a meaning has one spelling (binary format, modules): no bytes are read as two lists of parts, and
+/// no list of parts is read from two lists of bytes. So the bytes that
+/// [`EncodeOptions::encode_module`](crate::EncodeOptions::encode_module) gives are read as what the module means and as no other,
+/// and no other bytes are read as it. It does nothing.
+pub fn one_meaning()
+    ensures one_module { (bytes : List ℕ) (p q : List Part) → Reads bytes p → Reads bytes q → p ≡ q }
+    ensures one_spelling { (b c : List ℕ) (p : List Part) → Reads b p → Reads c p → b ≡ c }
+{
+    reading_laws();
+}
 
 /// What resolving leaves of a text module is what the module means (binary format, modules): where the counter begins above
 /// the ids of the fields and each demand is met, the parts of the list with the ids that the counter gives are those of the

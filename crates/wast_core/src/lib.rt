@@ -8,7 +8,7 @@ mod entries;
 mod examples;
 mod hints;
 mod items;
-mod laws;
+pub mod laws;
 mod module;
 mod sections;
 mod slots;
@@ -17,7 +17,7 @@ mod utf8_names;
 mod wat;
 
 pub use encode::EncodeOptions;
-pub use laws::{bounded_law, customs_law, hint_places, meaning_law};
+pub use laws::{bounded_law, customs_law, hint_places, meaning_law, one_meaning};
 pub use module::{Module, ModuleKind, discard_module};
 pub use spelled::Encode;
 pub use wast_conv::{FuncSectionTy, RecOrType, SectionItem, conv};

@@ -13,6 +13,12 @@ pub use wast_passes::{
     resolve_storagetype, resolve_type, resolve_type_def, resolve_type_func, resolve_valtype,
 };
 
+/// Laws for callers to cite, which the root of the crate passes on too.
+pub mod laws {
+    pub use wast_alike::{early_law, label_law, resolved_laws};
+    pub use wast_passes::core_type_laws;
+}
+
 /// The two passes over a list of fields, and what they ask of inline types.
 pub mod names {
     pub use wast_passes::names::{TypeReference, resolve};

@@ -114,6 +114,62 @@ impl<'a> Names<'a> {
         self.resolver.number(idx, Space::Global)?;
         Ok(())
     }
+
+    /// Replaces the id of a tag by its number, at the id's place; a number passes.
+    ///
+    /// It needs that a generated id is known. An unknown id is E4 at its place, and then the index stays. It takes no
+    /// memory.
+    pub fn resolve_tag(&self, idx: &mut Index<'a>) -> Result<(), Error<'a>>
+        requires { IsSettledFor (known_to self.now) space.Tag idx.old }
+        ensures met { OnOk result (IsMetBy (known_to self.now) space.Tag idx.old) }
+        ensures refusal { IfErr result (AnswersFor (known_to self.now) space.Tag idx.old) }
+        ensures index { idx.new ≡ numbered_at (known_to self.now) space.Tag idx.old }
+    {
+        self.resolver.number(idx, Space::Tag)?;
+        Ok(())
+    }
+
+    /// Replaces the id of a type by its number, at the id's place; a number passes.
+    ///
+    /// It needs that a generated id is known. An unknown id is E4 at its place, and then the index stays. It takes no
+    /// memory.
+    pub fn resolve_type(&self, idx: &mut Index<'a>) -> Result<(), Error<'a>>
+        requires { IsSettledFor (known_to self.now) space.Ty idx.old }
+        ensures met { OnOk result (IsMetBy (known_to self.now) space.Ty idx.old) }
+        ensures refusal { IfErr result (AnswersFor (known_to self.now) space.Ty idx.old) }
+        ensures index { idx.new ≡ numbered_at (known_to self.now) space.Ty idx.old }
+    {
+        self.resolver.number(idx, Space::Ty)?;
+        Ok(())
+    }
+
+    /// Replaces the id of an element segment by its number, at the id's place; a number passes.
+    ///
+    /// It needs that a generated id is known. An unknown id is E4 at its place, and then the index stays. It takes no
+    /// memory.
+    pub fn resolve_elem(&self, idx: &mut Index<'a>) -> Result<(), Error<'a>>
+        requires { IsSettledFor (known_to self.now) space.Elem idx.old }
+        ensures met { OnOk result (IsMetBy (known_to self.now) space.Elem idx.old) }
+        ensures refusal { IfErr result (AnswersFor (known_to self.now) space.Elem idx.old) }
+        ensures index { idx.new ≡ numbered_at (known_to self.now) space.Elem idx.old }
+    {
+        self.resolver.number(idx, Space::Elem)?;
+        Ok(())
+    }
+
+    /// Replaces the id of a data segment by its number, at the id's place; a number passes.
+    ///
+    /// It needs that a generated id is known. An unknown id is E4 at its place, and then the index stays. It takes no
+    /// memory.
+    pub fn resolve_data(&self, idx: &mut Index<'a>) -> Result<(), Error<'a>>
+        requires { IsSettledFor (known_to self.now) space.Data idx.old }
+        ensures met { OnOk result (IsMetBy (known_to self.now) space.Data idx.old) }
+        ensures refusal { IfErr result (AnswersFor (known_to self.now) space.Data idx.old) }
+        ensures index { idx.new ≡ numbered_at (known_to self.now) space.Data idx.old }
+    {
+        self.resolver.number(idx, Space::Data)?;
+        Ok(())
+    }
 }
 
 /// Resolves the fields of a module: its abbreviations are written out, each type use that needs a type has an index, and each
