@@ -240,7 +240,7 @@ fn fields_are_resolved_alone(rt: HostRuntime) {
             assert!(rt; wast_tree::gensym_bound(fields.as_slice()) == 0);
             let answer = resolve(alloc, fields, &mut Gensym::new(1));
             let (fields, names) = answer.expect(&rt, "memory");
-            assert!(rt; fields.len() == 2);
+            assert!(rt; fields.len() == 3);
             discard_fields(fields);
             discard_names(names);
         }
