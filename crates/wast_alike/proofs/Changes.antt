@@ -13,7 +13,7 @@ use Rattle.wast_nodes.specs.Generations.{generation_or_zero, greatest_item}
 use Rattle.wast_nodes.proofs.Bearing.{borne_among, borne_by_both}
 use Rattle.wast_alike.specs.Tree.{Span, Space}
 use Rattle.wast_demands.specs.Demands.{first_unmet, each_after, new_name_by, own_demand, field_demands, item_demand, item_demands, space_counts, field_counts, item_counts}
-use Rattle.wast_namespace.proofs.Called.{position_head}
+use Rattle.wast_base.proofs.Positions.{position_head}
 use Rattle.wast_demands.proofs.Unmet.{alike_behind}
 
 pub data Change : Type 0 where

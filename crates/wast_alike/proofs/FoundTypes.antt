@@ -15,7 +15,7 @@ use Rattle.wast_alike.specs.Tree.index
 use Rattle.wast_alike.specs.Tree.space
 use Rattle.wast_alike.specs.Tree.inner
 use Rattle.wast_alike.specs.Tree.field
-use Rattle.wast_namespace.proofs.Called.{same_name_itself}
+use Rattle.wast_base.proofs.Names.{same_name_itself}
 
 -- the index is the id of a type among the items
 pub record IsTypeOf (xs : List Item) (i : Index) : Type 0 where

@@ -9,7 +9,8 @@ use Rattle.wast_base.specs.Faults.{Cause, Duplicate}
 use Rattle.wast_nodes.proofs.Bearing.{borne_by_both}
 use Rattle.wast_alike.specs.Tree.{Span, Space}
 use Rattle.wast_demands.specs.Demands.{first_unmet, new_name_in, own_demand, field_demands, item_demand, item_demands, each_after}
-use Rattle.wast_namespace.proofs.Called.{same_name_itself, position_head}
+use Rattle.wast_base.proofs.Names.{same_name_itself}
+use Rattle.wast_base.proofs.Positions.{position_head}
 use Rattle.wast_demands.proofs.Ranks.{same_rank}
 use Rattle.wast_demands.proofs.Unmet.{met_parts}
 

@@ -19,7 +19,7 @@ use Rattle.wast_alike.specs.Tree.heap
 use Rattle.wast_alike.specs.Tree.value
 use Rattle.wast_demands.specs.Matches.{same_number, same_type, matches}
 use Rattle.wast_demands.specs.Demands.{first_unmet, ask_demand, ask_demands}
-use Rattle.wast_namespace.proofs.Called.{same_name_equal}
+use Rattle.wast_base.proofs.Names.{same_name_equal}
 use Rattle.wast_demands.proofs.Unmet.{met_parts}
 use Rattle.wast_alike.proofs.CompletedAsks.{pass, value_passes}
 use Rattle.wast_alike.proofs.ImpliedSignatures.{both_so, values_pass}

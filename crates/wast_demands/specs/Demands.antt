@@ -18,7 +18,7 @@ use Rattle.wast_nodes.specs.Known.{Known, names_in}
 use Rattle.wast_types.specs.Signatures.{Signature}
 use Rattle.wast_deinline.specs.Segments.{overflows}
 use Rattle.wast_demands.specs.Explicit.{explicit, ids_filled}
-pub use Rattle.wast_namespace.specs.FirstUnmet.{Demand, one_demand, first_unmet, unknown, known_index, Answers}
+pub use Rattle.wast_base.specs.FirstUnmet.{Demand, one_demand, first_unmet, unknown, known_index, Answers}
 use Rattle.wast_demands.specs.ImportOrder.{order_demand}
 use Rattle.wast_demands.specs.Scopes.{Shape, Function, Struct, Other, Scope, scope, denoted, type_at, nameless, local_number}
 use Rattle.wast_demands.specs.Matches.{matches}

@@ -13,7 +13,7 @@ use Rattle.wast_demands.specs.Tree.memory
 use Rattle.wast_demands.specs.Tree.global
 use Rattle.wast_demands.specs.Tree.tag_kind
 use Rattle.wast_demands.specs.Tree.field
-use Rattle.wast_namespace.specs.FirstUnmet.{Demand, one_demand}
+use Rattle.wast_base.specs.FirstUnmet.{Demand, one_demand}
 
 -- the place of a function, where it is imported in place
 abbrev pub func_place : Span → FuncKind → Option Span

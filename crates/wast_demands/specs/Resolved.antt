@@ -8,7 +8,7 @@ use Rattle.wast_nodes.specs.Sites.{Where, OfItem, OfCall, OfBlock}
 use Rattle.wast_nodes.specs.Types.{said_once}
 use Rattle.wast_nodes.specs.Known.{Known}
 use Rattle.wast_map.specs.Mapped.{Indices, Change, mapped_signature, mapped}
-pub use Rattle.wast_namespace.specs.Denoted.{numbered_by, numbered}
+pub use Rattle.wast_base.specs.Denoted.{numbered_by, numbered}
 
 -- an index with the number that it denotes in a space
 abbrev pub numbered_at : Known → Indices

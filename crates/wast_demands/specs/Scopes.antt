@@ -5,7 +5,7 @@ use Rattle.wast_nodes.specs.Items.{field_ids, items}
 use Rattle.wast_nodes.specs.Known.{Known, known}
 use Rattle.wast_nodes.specs.Types.{types_of}
 use Rattle.wast_types.specs.Signatures.{Signature, signature_of}
-pub use Rattle.wast_namespace.specs.Denoted.{denoted}
+pub use Rattle.wast_base.specs.Denoted.{denoted}
 use Rattle.wast_base.specs.Ids.{Name}
 use Rattle.wast_base.specs.Spaces.{name_if, position_of}
 use Rattle.wast_nodes.specs.Sites.{Locals}

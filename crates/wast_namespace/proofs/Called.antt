@@ -1,47 +1,13 @@
--- Names that are the same, and the first position in a list that bears a name.
-use Rattle.std.proofs.Common.{◌≡◌, ℕ, zero, suc, ◌+◌, ◌<◌, List, [], ◌∷◌, length, get_or, take, length-take, get_or-take, Option, Some, None, is_some, option_map, Bool, true, false, true≢false, cond, refl, sym, ap, ◌∙◌, arith}
-use Prim.Native.Nat.compare
-use Rattle.std.specs.List.{position, position_or_len}
-use Rattle.std.specs.Prelude.{nat_lt}
-use Rattle.std.specs.Cmp.Lexicographic.{bytes_decides}
-use Rattle.std.proofs.lemmas.Bool.{eqb-true, eq-eqb, lt-ltb}
-use Rattle.std.proofs.lemmas.Cmp.{nat_list_eq_equiv}
+-- The first position in a list that bears a name.
+use Rattle.std.proofs.Common.{◌≡◌, ℕ, zero, suc, ◌<◌, List, [], ◌∷◌, length, get_or, take, length-take, get_or-take, Option, Some, None, is_some, option_map, Bool, true, false, true≢false, cond, refl, sym, ap, ◌∙◌, arith}
+use Rattle.std.specs.List.{position}
 use Rattle.std.proofs.lemmas.List.Quantifiers.{position-Some}
-use Rattle.wast_base.specs.Ids.{Name, Written, Generated, same_name}
+use Rattle.wast_base.specs.Ids.{Name}
 use Rattle.wast_base.specs.Spaces.{is_called, position_of, is_borne}
-use Rattle.wast_namespace.specs.Namespaces.{Key, key_of}
-
--- names
-pub same_name_equal : (a b : Name) → same_name a b ≡ true → a ≡ b
-same_name_equal (Written a) (Written b) h = ap Written ((bytes_decides a b).0 h)
-same_name_equal (Generated m) (Generated n) h = ap Generated (eqb-true m n h)
-same_name_equal (Written a) (Generated n) h = cc
-same_name_equal (Generated m) (Written b) h = cc
-
-pub same_name_itself : (a : Name) → same_name a a ≡ true
-same_name_itself (Written a) = nat_list_eq_equiv.refl a
-same_name_itself (Generated n) = eq-eqb n n refl
-
-abbrev pub name_from : Key → Name
-name_from (text, None) = Written text
-name_from (text, Some n) = Generated n
-
-pub name_from-key_of : (a : Name) → name_from (key_of a) ≡ a
-name_from-key_of (Written a) = refl
-name_from-key_of (Generated n) = refl
-
--- where a name stands, with or without an item
-called_is : (q : Name) (o : Option Name) → is_called q o ≡ true → o ≡ Some q
-called_is q None h = absurd (true≢false (sym h))
-called_is q (Some n) h = ap Some (sym (same_name_equal q n h))
-
-is_called_so : (q : Name) (o : Option Name) → o ≡ Some q → is_called q o ≡ true
-is_called_so q o h = ap (is_called q) h ∙ same_name_itself q
+use Rattle.wast_base.proofs.Names.{called_is, is_called_so}
+use Rattle.wast_base.proofs.Positions.{position_head}
 
 -- positions
-one_more : (n : ℕ) → 1 + n ≡ suc n
-one_more n = omega arith
-
 fails : (b : Bool) (o : Option ℕ) → cond b (Some 0) (option_map suc o) ≡ None → b ≡ false
 fails true o h = absurd (cc h)
 fails false o h = refl
@@ -51,21 +17,11 @@ fails_later true o h = absurd (cc h)
 fails_later false None h = refl
 fails_later false (Some n) h = absurd (cc h)
 
-shifted : (b : Bool) (n : ℕ) → cond b (Some (suc n)) None ≡ option_map suc (cond b (Some n) None)
-shifted true n = refl
-shifted false n = refl
-
 module _ {X : Type 0} (p : X → Bool) where
-  pub position_head : (b : Bool) (x : X) (xs : List X) → p x ≡ b → position p (x ∷ xs) ≡ cond b (Some 0) (option_map suc (position p xs))
-  position_head true x xs h =
-      let e : nat_lt 0 (suc (length xs)) ≡ true = lt-ltb 0 (suc (length xs)) (omega arith) in
-      rw h (ap (λ b. cond {A = Option ℕ} b (Some 0) None) e)
-  position_head false x xs h = rw (h, one_more (position_or_len p xs), compare.suc-suc) (shifted (nat_lt (position_or_len p xs) (length xs)) (position_or_len p xs))
-
   position-None : (xs : List X) → position p xs ≡ None → (i : ℕ) (d : X) → i < length xs → p (get_or xs i d) ≡ false
   position-None [] h i d lt = absurd (omega arith)
-  position-None (x ∷ xs) h zero d lt = fails (p x) (position p xs) (sym (position_head (p x) x xs refl) ∙ h)
-  position-None (x ∷ xs) h (suc i) d lt = position-None xs (fails_later (p x) (position p xs) (sym (position_head (p x) x xs refl) ∙ h)) i d (omega arith)
+  position-None (x ∷ xs) h zero d lt = fails (p x) (position p xs) (sym (position_head p (p x) x xs refl) ∙ h)
+  position-None (x ∷ xs) h (suc i) d lt = position-None xs (fails_later (p x) (position p xs) (sym (position_head p (p x) x xs refl) ∙ h)) i d (omega arith)
 
 -- a position that bears the name
 pub position_bears : (q : Name) (names : List (Option Name)) (i : ℕ) → position_of q names ≡ Some i → (i < length names) × (get_or names i None ≡ Some q)

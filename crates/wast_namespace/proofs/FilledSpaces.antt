@@ -8,12 +8,13 @@ use Rattle.std.proofs.lemmas.List.Sorted.{IsPermutation-map}
 use Rattle.wast_base.specs.declared.ids.Id.{Id}
 use Rattle.wast_base.specs.Ids.{Name}
 use Rattle.wast_base.specs.Spaces.{position_of}
-use Rattle.wast_namespace.specs.Namespaces.{Key, key_of, key_cmp, NameSpace, number_in}
+use Rattle.wast_base.specs.Order.{Key, key_of, key_cmp}
+use Rattle.wast_namespace.specs.Namespaces.{NameSpace, number_in}
 use Rattle.wast_namespace.specs.Places.{entry_of, entries_of, AreSorted}
-use Rattle.wast_namespace.specs.Filling.{keys_of, numbered_from, pair_cmp, IsClash, IsFirstClash, IsFilled, IsTie, IsLeastTie, IsFirstTie, HasFirstClash}
+use Rattle.wast_namespace.specs.Filling.{keys_of, numbered_from, pair_cmp, AreRanked, IsClash, IsFirstClash, IsFilled, IsTie, IsLeastTie, IsFirstTie, HasFirstClash}
 use Rattle.wast_namespace.proofs.Basics.{some_element}
-use Rattle.wast_namespace.proofs.Keys.{keys_total, exact_keys}
-use Rattle.wast_namespace.proofs.Called.{name_from, name_from-key_of, position_bears, no_position, borne_at, earlier_bearer}
+use Rattle.wast_base.proofs.Keys.{keys_total, exact_keys, name_from, name_from-key_of}
+use Rattle.wast_namespace.proofs.Called.{position_bears, no_position, borne_at, earlier_bearer}
 use Rattle.wast_namespace.proofs.Searches.{get_sorted}
 use Rattle.wast_namespace.proofs.LeastTie.{key_get}
 use Rattle.wast_namespace.proofs.Ties.{IsAgain, tie_is_again, again_is_tie}
@@ -63,10 +64,7 @@ again_from_clash names p c =
     }
 
 -- pairs are sorted by their names and numbers where their entries are
-abbrev pub IsInOrder : List (Id × ℕ) → Type 0
-IsInOrder es = IsSortedBy (λ a b. is_lt (pair_cmp key_cmp (entry_of a) (entry_of b))) es
-
-sorted_entries : (es : List (Id × ℕ)) → IsInOrder es → IsSortedBy (λ a b. is_lt (pair_cmp key_cmp a b)) (entries_of es)
+sorted_entries : (es : List (Id × ℕ)) → AreRanked es → IsSortedBy (λ a b. is_lt (pair_cmp key_cmp a b)) (entries_of es)
 sorted_entries es h k x le lt =
     let long = length-map es entry_of in
     let within : k + 1 < length es = omega (arith, long, lt) in
@@ -74,7 +72,7 @@ sorted_entries es h k x le lt =
     subst₂ (λ (a b : Key × ℕ). is_lt (pair_cmp key_cmp a b) ≡ false) (sym (key_get es (k + 1) d x within)) (sym (key_get es k d x (omega arith))) (h k d le within)
 
 -- pairs es in order, of the same ids and numbers as ps, which are those of the names
-module _ (names : List (Option Name)) (ps es : List (Id × ℕ)) (are : entries_of ps ≡ numbered_from 0 (keys_of names)) (moved : IsPermutation ps es) (ordered : IsInOrder es) where
+module _ (names : List (Option Name)) (ps es : List (Id × ℕ)) (are : entries_of ps ≡ numbered_from 0 (keys_of names)) (moved : IsPermutation ps es) (ordered : AreRanked es) where
   moved_entries : IsPermutation (numbered_from 0 (keys_of names)) (entries_of es)
   moved_entries = subst (λ (xs : List (Key × ℕ)). IsPermutation xs (entries_of es)) are (IsPermutation-map entry_of ps es moved)
 

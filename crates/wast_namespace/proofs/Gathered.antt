@@ -3,7 +3,7 @@ use Rattle.std.proofs.Common.{◌≡◌, ℕ, zero, suc, ◌+◌, ◌-◌, List,
 use Rattle.wast_base.specs.declared.ids.Id.{Id}
 use Rattle.wast_base.specs.Ids.{Name, name_of, marked}
 use Rattle.wast_base.specs.Spaces.{name_if}
-use Rattle.wast_namespace.specs.Namespaces.{Key}
+use Rattle.wast_base.specs.Order.{Key}
 use Rattle.wast_namespace.specs.Places.{entry_of, entries_of}
 use Rattle.wast_namespace.specs.Filling.{unnamed, names_from, ArePositions, keys_of, numbered_from}
 

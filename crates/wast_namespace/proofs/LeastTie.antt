@@ -7,11 +7,11 @@ use Rattle.std.proofs.lemmas.Bool.{cases_Bool, ltb-true, ltb-false}
 use Rattle.std.proofs.lemmas.Cmp.{tied_itself}
 use Rattle.std.proofs.lemmas.List.{get_or-map, length-map}
 use Rattle.wast_base.specs.declared.ids.Id.{Id}
-use Rattle.wast_namespace.specs.Namespaces.{Key, key_cmp}
+use Rattle.wast_base.specs.Order.{Key, key_cmp}
 use Rattle.wast_namespace.specs.Places.{key_at, entry_of, entries_of}
 use Rattle.wast_namespace.specs.Filling.{IsTie, IsFirstTie, least_of}
 use Rattle.wast_namespace.proofs.Basics.{is_equal, some_element}
-use Rattle.wast_namespace.proofs.Keys.{exact_keys, keys_total}
+use Rattle.wast_base.proofs.Keys.{exact_keys, keys_total}
 
 abbrev value : Option ℕ → ℕ
 value None = 0

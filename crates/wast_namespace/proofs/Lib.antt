@@ -1,13 +1,10 @@
 pub mod Basics
-pub mod Bytes
 pub mod Called
 pub mod FilledSpaces
 pub mod Gathered
-pub mod HeadOrder
-pub mod HeadSorts
-pub mod Keys
 pub mod LeastTie
 pub mod Numbered
+pub mod Orders
 pub mod Rising
 pub mod Searches
 pub mod Ties

@@ -1,21 +1,22 @@
 -- What a search finds among sorted pairs, and what an edit at that place does.
-use Rattle.std.proofs.Common.{◌≡◌, ℕ, zero, suc, ◌+◌, ◌<◌, ◌≤◌, List, [], ◌∷◌, Some, None, refl, ap, sym, ◌∙◌, subst, T, length, get_or, set, true, false, ◌&&◌, Bool, arith, inl, inr}
+use Rattle.std.proofs.Common.{◌≡◌, ℕ, zero, suc, ◌+◌, ◌<◌, ◌≤◌, List, [], ◌∷◌, Some, None, refl, ap, sym, ◌∙◌, subst, subst₂, T, length, get_or, set, map, true, false, true≢false, ◌&&◌, Bool, arith, inl, inr}
 use Rattle.std.specs.declared.cmp.Ordering.{Ordering}
 use Rattle.std.specs.declared.cmp.Ordering.TheVariants.{Less, Equal, Greater}
-use Rattle.std.specs.Ordering.{is_lt, ordering_reverse}
+use Rattle.std.specs.Ordering.{is_lt}
 use Rattle.std.specs.List.{insert}
 use Rattle.std.specs.FinMap.{find, put, is_sorted, get, insert as map_insert, from_sorted, empty, entries-insert, entries-from_sorted, get-from_sorted, same_entries_map, empty_of_len, len-entries}
 use Rattle.std.specs.FinMap.Entries.{below_all, is_sorted-put}
 use Rattle.std.specs.Prelude.{nat_lt}
 use Rattle.std.proofs.lemmas.Bool.{cases_Bool, ltb-true, ltb-false}
 use Rattle.std.proofs.lemmas.Cmp.{tied_itself}
-use Rattle.wast_base.specs.Ids.{name_of, same_id}
-use Rattle.wast_namespace.specs.Namespaces.{Key, key_of, key_cmp}
+use Rattle.std.proofs.lemmas.List.{get_or-map, length-map}
+use Rattle.wast_base.specs.Ids.{Name, name_of, same_id, same_name}
+use Rattle.wast_base.specs.Order.{Key, key_of, key_cmp, name_lt, AreInOrder, IsPlaceOf}
 use Rattle.wast_base.specs.declared.ids.Id.{Id}
-use Rattle.wast_namespace.specs.Places.{key_at, entry_of, entries_of, AreSorted, IsAbove, IsBelow, IsBetween, IsAt, IsGap}
-use Rattle.wast_namespace.proofs.Basics.{any_default}
-use Rattle.wast_namespace.proofs.Called.{same_name_equal}
-use Rattle.wast_namespace.proofs.Keys.{exact_keys, keys_total}
+use Rattle.wast_namespace.specs.Places.{key_at, entry_of, entries_of, AreSorted, IsAbove, IsAt, IsGap}
+use Rattle.wast_namespace.proofs.Basics.{some_element, any_default}
+use Rattle.wast_base.proofs.Names.{same_name_equal, same_name_itself}
+use Rattle.wast_base.proofs.Keys.{exact_keys, keys_total, turned, name_from, name_from-key_of}
 
 both_of : (a b : Bool) → T (a && b) → T a × T b
 both_of true b p = (tt, p)
@@ -37,9 +38,6 @@ rises [] h i j d lt in_range = absurd (omega arith)
 rises (e ∷ es) h i zero d lt in_range = absurd (omega arith)
 rises (e ∷ es) h zero (suc j) d lt in_range = above_all (key_at e) es (both_of _ _ h).0 j d (omega arith)
 rises (e ∷ es) h (suc i) (suc j) d lt in_range = rises es (both_of _ _ h).1 i j d (omega arith) (omega arith)
-
-pub turned : (x y : Key) (r : Ordering) → key_cmp x y ≡ r → key_cmp y x ≡ ordering_reverse r
-turned x y r h = keys_total.antisymm y x ∙ ap ordering_reverse h
 
 above_tail : (e : Id × ℕ) (es : List (Id × ℕ)) (k : Key) (i : ℕ) → IsAbove (e ∷ es) k (suc i) → IsAbove es k i
 above_tail e es k i h = record { smaller = λ j d lt. h.smaller (suc j) d (omega arith) }
@@ -76,63 +74,83 @@ module _ (id : Id) (n : ℕ) where
   put_gap (e ∷ es) zero h = rw (turned (key_at e) (key_of (name_of id)) Greater (h.below.greater 0 e (omega arith) (omega arith))) refl
   put_gap (e ∷ es) (suc i) h = rw (turned (key_at e) (key_of (name_of id)) Less (h.above.smaller 0 e (omega arith))) (ap (λ t. entry_of e ∷ t) (put_gap es i (gap_tail e es (key_of (name_of id)) i h)))
 
-smaller_before : (k : Key) (es : List (Id × ℕ)) → AreSorted es → (at : ℕ) → at < length es → ((d : Id × ℕ) → key_cmp (key_at (get_or es at d)) k ≡ Equal) → (j : ℕ) (d : Id × ℕ) → j < at → key_cmp (key_at (get_or es j d)) k ≡ Less
-smaller_before k es h at lt same j d below =
-    let e : key_at (get_or es at d) ≡ k = exact_keys (key_at (get_or es at d)) k (same d) in
-    subst (λ (n : Key). key_cmp (key_at (get_or es j d)) n ≡ Less) e (rises es h j at d below lt)
-
--- what a comparison of keys says of the pairs
-pub compared : (a b k l : Key) (o r : Ordering) → a ≡ k → b ≡ l → o ≡ key_cmp a b → o ≡ r → key_cmp k l ≡ r
-compared a b k l o r p q h e = subst (λ (x : Key). key_cmp x l ≡ r) p (subst (λ (y : Key). key_cmp a y ≡ r) q (sym h ∙ e))
-
 pub any_answer : (es : List (Id × ℕ)) (k : Key) (at : ℕ) (r : Ordering) (e : Id × ℕ) → at < length es → key_cmp (key_at (get_or es at e)) k ≡ r → (d : Id × ℕ) → key_cmp (key_at (get_or es at d)) k ≡ r
 any_answer es k at r e lt h d = subst (λ (x : Id × ℕ). key_cmp (key_at x) k ≡ r) (any_default es at e d lt) h
 
--- a place that is found
-pub found_at : (es : List (Id × ℕ)) (k : Key) (at : ℕ) → AreSorted es → at < length es → ((d : Id × ℕ) → key_cmp (key_at (get_or es at d)) k ≡ Equal) → IsAt es k at
-found_at es k at h lt same = record { in_range = lt; above = record { smaller = smaller_before k es h at lt same }; same = same }
+-- what a search by halving needs and finds
+abbrev pub names_in : List (Id × ℕ) → List Name
+names_in es = map (λ e. name_of e.0) es
 
--- after a place that is smaller
-pub raised : (es : List (Id × ℕ)) (k : Key) (at : ℕ) → AreSorted es → at < length es → ((d : Id × ℕ) → key_cmp (key_at (get_or es at d)) k ≡ Less) → IsAbove es k (at + 1)
-raised es k at h lt less = record {
-  smaller = λ j d below. elim (cases_Bool (nat_lt j at)) [
-    | inl e ↦ keys_total.trans (key_at (get_or es j d)) (key_at (get_or es at d)) k (rises es h j at d (ltb-true j at e) lt) (less d)
-    | inr e ↦
-        let n = ltb-false j at e in
-        let p : at ≡ j = omega arith in
-        subst (λ (i : ℕ). key_cmp (key_at (get_or es i d)) k ≡ Less) p (less d)
-  ];
-}
+pub in_order : (es : List (Id × ℕ)) → AreSorted es → AreInOrder (names_in es)
+in_order es h k d le lt =
+    let within : k + 1 < length es = omega (arith, lt, length-map es (λ e. name_of e.0)) in
+    let e = some_element es k (omega (arith, within)) in
+    let up = get_or-map (λ e. name_of e.0) es (k + 1) e d within in
+    let at = get_or-map (λ e. name_of e.0) es k e d (omega (arith, within)) in
+    subst₂ (λ (a b : Name). name_lt a b ≡ false) (sym up) (sym at)
+    (ap is_lt (turned (key_at (get_or es k e)) (key_at (get_or es (k + 1) e)) Less (rises es h k (k + 1) e (omega arith) within)))
 
--- from a place on that is greater
-pub lowered : (es : List (Id × ℕ)) (k : Key) (at : ℕ) → AreSorted es → ((d : Id × ℕ) → key_cmp (key_at (get_or es at d)) k ≡ Greater) → IsBelow es k at
-lowered es k at h more = record {
-  greater = λ j d le lt. elim (cases_Bool (nat_lt at j)) [
-    | inl e ↦ turned k (key_at (get_or es j d)) Less (keys_total.trans k (key_at (get_or es at d)) (key_at (get_or es j d)) (turned (key_at (get_or es at d)) k Greater (more d)) (rises es h at j d (ltb-true at j e) lt))
-    | inr e ↦
-        let n = ltb-false at j e in
-        let p : at ≡ j = omega arith in
-        subst (λ (i : ℕ). key_cmp (key_at (get_or es i d)) k ≡ Greater) p (more d)
-  ];
-}
+smaller_key : (o : Ordering) → is_lt o ≡ true → o ≡ Less
+smaller_key Less h = refl
+smaller_key Equal h = cc
+smaller_key Greater h = cc
 
-none_above : (es : List (Id × ℕ)) (k : Key) → IsAbove es k 0
-none_above es k = record { smaller = λ j d lt. absurd (omega arith) }
+module _ (es : List (Id × ℕ)) (name : Name) (at : ℕ) (h : IsPlaceOf (names_in es) name at) where
+  many : length (names_in es) ≡ length es
+  many = length-map es (λ e. name_of e.0)
 
-none_below : (es : List (Id × ℕ)) (k : Key) → IsBelow es k (length es)
-none_below es k = record { greater = λ j d le lt. absurd (omega arith) }
+  above_place : IsAbove es (key_of name) at
+  above_place = record {
+    smaller = λ j d lt.
+        let is = get_or-map (λ (e : Id × ℕ). name_of e.0) es j d name (omega (arith, lt, h.within, many)) in
+        smaller_key (key_cmp (key_at (get_or es j d)) (key_of name)) (subst (λ (n : Name). name_lt n name ≡ true) is (h.before j lt));
+  }
 
--- all places
-pub all_between : (es : List (Id × ℕ)) (k : Key) → IsBetween es k 0 (length es)
-all_between es k = record { order = omega arith; within = omega arith; above = none_above es k; below = none_below es k }
+  -- where it stands there
+  pub there : AreSorted es → at < length es → (e : Id × ℕ) (id : Id) → name_of id ≡ name → same_id (get_or es at e).0 id ≡ true → IsAt es (key_of name) at
+  there sorted lt e id is same =
+      let key : key_at (get_or es at e) ≡ key_of name = ap key_of (same_name_equal (name_of (get_or es at e).0) (name_of id) same ∙ is) in
+      record {
+        in_range = lt;
+        above = above_place;
+        same = any_answer es (key_of name) at Equal e lt (subst (λ (k : Key). key_cmp k (key_of name) ≡ Equal) (sym key) (tied_itself keys_total (key_of name)));
+      }
 
--- a range that is empty is a gap
-pub narrowed : (es : List (Id × ℕ)) (k : Key) (low high : ℕ) → high ≤ low → IsBetween es k low high → IsGap es k low
-narrowed es k low high le h = record {
-  in_range = omega (arith, h.order, h.within);
-  above = h.above;
-  below = record { greater = λ j d from lt. h.below.greater j d (omega arith) lt };
-}
+  -- where another one does, or none
+  greater_key : AreSorted es → (at < length es → (d : Id × ℕ) → key_at (get_or es at d) ≡ key_of name → ⊥) → (j : ℕ) (d : Id × ℕ) → at ≤ j → j < length es → key_cmp (key_at (get_or es j d)) (key_of name) ≡ Greater
+  greater_key sorted other j d le lt = by_order (key_cmp (key_at (get_or es j d)) (key_of name)) refl
+    where
+      not_less : (i : ℕ) → at ≤ i → i < length es → is_lt (key_cmp (key_at (get_or es i d)) (key_of name)) ≡ false
+      not_less i from within =
+          let is = get_or-map (λ (e : Id × ℕ). name_of e.0) es i d name within in
+          subst (λ (n : Name). name_lt n name ≡ false) is (h.behind i from (omega (arith, within, many)))
+
+      by_order : (o : Ordering) → key_cmp (key_at (get_or es j d)) (key_of name) ≡ o → key_cmp (key_at (get_or es j d)) (key_of name) ≡ Greater
+      by_order Greater e = e
+      by_order Less e = absurd (true≢false (sym (ap is_lt e) ∙ not_less j le lt))
+      by_order Equal e =
+          let key = exact_keys (key_at (get_or es j d)) (key_of name) e in
+          elim (cases_Bool (nat_lt at j)) [
+            | inl before ↦
+                let less = rises es sorted at j d (ltb-true at j before) lt in
+                absurd (true≢false (sym (ap is_lt (subst (λ (k : Key). key_cmp (key_at (get_or es at d)) k ≡ Less) key less)) ∙ not_less at (omega arith) (omega (arith, le, lt))))
+            | inr not ↦
+                let here : at ≡ j = omega (arith, le, ltb-false at j not) in
+                absurd (other (omega (arith, here, lt)) d (ap (λ i. key_at (get_or es i d)) here ∙ key))
+          ]
+
+  pub nowhere : AreSorted es → (at < length es → (d : Id × ℕ) → key_at (get_or es at d) ≡ key_of name → ⊥) → IsGap es (key_of name) at
+  nowhere sorted other = record {
+    in_range = omega (arith, h.within, many);
+    above = above_place;
+    below = record { greater = greater_key sorted other };
+  }
+
+-- names that are not the same have other keys
+pub another : (a b : Name) → same_name a b ≡ false → key_of a ≡ key_of b → ⊥
+another a b h e =
+    let same : a ≡ b = sym (name_from-key_of a) ∙ ap name_from e ∙ name_from-key_of b in
+    true≢false (sym (same_name_itself b) ∙ ap (λ n. same_name n b) (sym same) ∙ h)
 
 pub get_sorted : (es : List (Id × ℕ)) (k : Key) → AreSorted es → get (from_sorted {R = key_cmp} (entries_of es)) k ≡ find key_cmp k (entries_of es)
 get_sorted es k h = get-from_sorted key_cmp (entries_of es) k h
@@ -149,9 +167,6 @@ still_sorted es fs k n h e = subst (λ es. T (is_sorted key_cmp es)) e (is_sorte
 pub none_sorted : from_sorted {X = ℕ} {R = key_cmp} [] ≡ empty
 none_sorted = empty_of_len _ (len-entries (from_sorted {R = key_cmp} []) ∙ ap length (entries-from_sorted {X = ℕ} key_cmp [] tt))
 
--- a place where the same id stands
-pub same_at : (es : List (Id × ℕ)) (id : Id) (at : ℕ) (e : Id × ℕ) → AreSorted es → at < length es → same_id (get_or es at e).0 id ≡ true → IsAt es (key_of (name_of id)) at
-same_at es id at e h lt same =
-    let name = key_of (name_of id) in
-    let is : key_at (get_or es at e) ≡ name = ap key_of (same_name_equal (name_of (get_or es at e).0) (name_of id) same) in
-    found_at es name at h lt (any_answer es name at Equal e lt (subst (λ (k : Key). key_cmp k name ≡ Equal) (sym is) (tied_itself keys_total name)))
+pub another_there : (es : List (Id × ℕ)) (at : ℕ) (e d : Id × ℕ) (id : Id) → at < length es → same_id (get_or es at e).0 id ≡ false → key_at (get_or es at d) ≡ key_of (name_of id) → ⊥
+another_there es at e d id lt h is =
+    another (name_of (get_or es at e).0) (name_of id) h (ap key_at (any_default es at e d lt) ∙ is)

@@ -1,11 +1,14 @@
 -- A name space that is filled with all items of a space at once, by the names that the items bear.
 use Rattle.std.specs.Prelude.{◌≡◌, ℕ, zero, suc, ◌-◌, ◌<◌, ◌≤◌, true, cond, nat_lt, List, [], ◌∷◌, length, map, take, Option, Some, None, option_map, slice_index_or, Result, Ok, Err}
 use Rattle.std.specs.declared.cmp.Ordering.{Ordering}
-use Rattle.std.specs.Ordering.{nat_cmp, ordering_then}
+use Rattle.std.specs.Ordering.{nat_cmp, ordering_then, is_lt}
+use Rattle.std.specs.List.Sorted.{IsSortedBy}
 use Rattle.wast_base.specs.declared.ids.Id.{Id}
 use Rattle.wast_base.specs.Ids.{Name, name_of}
 use Rattle.wast_base.specs.Spaces.{position_of, is_borne}
-use Rattle.wast_namespace.specs.Namespaces.{Key, key_of, NameSpace, number_in}
+use Rattle.wast_base.specs.Order.{Key, key_of, key_cmp}
+use Rattle.wast_namespace.specs.Places.{entry_of}
+use Rattle.wast_namespace.specs.Namespaces.{NameSpace, number_in}
 
 -- The item at p has the name of an earlier one.
 pub record IsClash (names : List (Option Name)) (p : ℕ) : Type 0 where
@@ -58,6 +61,10 @@ numbered_from n (Some k ∷ xs) = (k, n) ∷ numbered_from (suc n) xs
 -- by the key, and then by the number
 abbrev pub pair_cmp : {K : Type 0} → (K → K → Ordering) → K × ℕ → K × ℕ → Ordering
 pair_cmp R a b = ordering_then (R a.0 b.0) (nat_cmp a.1 b.1)
+
+-- Pairs do not fall along the list, by the name and then by the number.
+abbrev pub AreRanked : List (Id × ℕ) → Type 0
+AreRanked es = IsSortedBy (λ a b. is_lt (pair_cmp key_cmp (entry_of a) (entry_of b))) es
 
 -- Two neighbours have one key, and p is the number of the second.
 pub record IsTie {K : Type 0} (es : List (K × ℕ)) (p : ℕ) : Type 0 where

@@ -1,31 +1,11 @@
 -- A name space as a value: a finite map from names to numbers, beside a count (text format: identifiers, indices).
 use Rattle.std.specs.Prelude.{ℕ, ◌+◌, Bool, not, is_some, List, [], Option, Some, None, refl}
-use Rattle.std.specs.declared.cmp.Ordering.{Ordering}
-use Rattle.std.specs.Ordering.{nat_cmp, ordering_then}
-use Rattle.std.specs.Option.{option_cmp}
-use Rattle.std.specs.Cmp.Lexicographic.{slice_cmp}
 use Rattle.std.specs.FinMap.{FinMap, empty, get, insert, code}
 use Rattle.std.specs.Coded.{Coded, coded×, coded_ℕ, coded_list, coded_option, code_by}
-use Rattle.wast_base.specs.Ids.{Name, Written, Generated, text_of, Mark}
+use Rattle.wast_base.specs.Ids.{Name, text_of, Mark}
 use Rattle.wast_base.specs.Faults.{Duplicate, DuplicateField}
-use Rattle.wast_namespace.specs.FirstUnmet.{Demand, one_demand}
-
--- the text of a name, and its generation where it is generated
-abbrev pub Key : Type 0
-Key = List ℕ × Option ℕ
-
--- the generation of a name, where it is generated
-abbrev pub generation_if : Name → Option ℕ
-generation_if (Written text) = None
-generation_if (Generated n) = Some n
-
--- a name as a key
-abbrev pub key_of : Name → Key
-key_of name = (text_of name, generation_if name)
-
--- by the bytes of the text, then written names before generated ones, then by generation
-abbrev pub key_cmp : Key → Key → Ordering
-key_cmp a b = ordering_then (slice_cmp nat_cmp a.0 b.0) (option_cmp nat_cmp a.1 b.1)
+use Rattle.wast_base.specs.Order.{key_of, key_cmp}
+use Rattle.wast_base.specs.FirstUnmet.{Demand, one_demand}
 
 -- a name space: the number of each name, and how many items it has
 pub record NameSpace : Type 0 where

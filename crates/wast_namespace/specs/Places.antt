@@ -4,7 +4,7 @@ use Rattle.std.specs.declared.cmp.Ordering.TheVariants.{Less, Equal, Greater}
 use Rattle.std.specs.FinMap.{is_sorted}
 use Rattle.wast_base.specs.Ids.{name_of}
 use Rattle.wast_base.specs.declared.ids.Id.{Id}
-use Rattle.wast_namespace.specs.Namespaces.{Key, key_of, key_cmp}
+use Rattle.wast_base.specs.Order.{Key, key_of, key_cmp}
 
 -- what the id of a pair is called
 abbrev pub key_at : Id × ℕ → Key
@@ -29,13 +29,6 @@ pub record IsAbove (es : List (Id × ℕ)) (key : Key) (at : ℕ) : Type 0 where
 -- The names from a place on are greater.
 pub record IsBelow (es : List (Id × ℕ)) (key : Key) (at : ℕ) : Type 0 where
   pub greater : (j : ℕ) (d : Id × ℕ) → at ≤ j → j < length es → key_cmp (key_at (slice_index_or es j d)) key ≡ Greater
-
--- A name can stand only from low on and before high.
-pub record IsBetween (es : List (Id × ℕ)) (key : Key) (low high : ℕ) : Type 0 where
-  pub order : low ≤ high
-  pub within : high ≤ length es
-  pub above : IsAbove es key low
-  pub below : IsBelow es key high
 
 -- The name stands at a place.
 pub record IsAt (es : List (Id × ℕ)) (key : Key) (at : ℕ) : Type 0 where

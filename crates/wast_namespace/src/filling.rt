@@ -1,24 +1,16 @@
 //! Filling a name space at once, with the names of all its items.
 
 ghost use Rattle.std.specs.Prelude.{◌≡◌, ◌+◌, ◌<◌, ◌≤◌, ◌^◌, ◌↔◌, ◌++◌, ◌∷◌, [], IsTrue, List, Option as Maybe, length, IfOk, OnOk, OnErr};
-ghost use Rattle.std.specs.Ordering.{is_lt};
-ghost use Rattle.std.specs.List.Sorted.{IsPermutation, IsSortedBy};
 ghost use Rattle.wast_base.specs.Ids.{Name, marked};
 ghost use Rattle.wast_base.specs.Spaces.{name_if};
-ghost use Rattle.wast_namespace.specs.Namespaces.{key_cmp};
-ghost use Rattle.wast_namespace.specs.Places.{entry_of, entries_of};
-ghost use Rattle.wast_namespace.specs.Filling.{ArePositions, names_from, pair_cmp, IsFirstTie, HasFirstClash, FillsSpace, least_of};
+ghost use Rattle.wast_namespace.specs.Places.{entries_of};
+ghost use Rattle.wast_namespace.specs.Filling.{ArePositions, names_from, IsFirstTie, HasFirstClash, FillsSpace, least_of};
 
-use crate::heads::in_order_by_heads;
-use crate::hints::Hints;
 use crate::namespace::Namespace;
-use crate::order::{compare, compare_pairs};
+use crate::sorting::in_order;
 use std::alloc::{AllocError, Global};
 use std::marker::Model;
-use wast_base::Id;
-
-/// Up to so many pairs are sorted where they stand.
-const FEW: usize = 20;
+use wast_base::{Id, compare_names};
 
 /// The items of a space in their order, before its name space is filled: the list of their names.
 #[derive(Drop)]
@@ -82,8 +74,7 @@ impl<'a> Gathering<'a> {
 
     /// The name space of the items, or the position of the first item that has the name of an earlier one.
     ///
-    /// It takes memory only where there are more than 16 ids: for hints, by which names are looked up, and to sort more
-    /// than 20.
+    /// It takes memory only where there are more than 20 ids, to sort them, and gives it back.
     pub fn filled(self, alloc: Global) -> Result<Result<Namespace<'a>, u32>, AllocError>
         ensures { IfOk result (FillsSpace self.entry) }
     {
@@ -92,30 +83,8 @@ impl<'a> Gathering<'a> {
         if let Some(number) = first_tie(&pairs) {
             return Ok(Err(number));
         }
-        let hints = Hints::of(alloc, &pairs)?;
-        Ok(Ok(Namespace::from_sorted(pairs, hints, count)))
+        Ok(Ok(Namespace::from_sorted(pairs, count)))
     }
-}
-
-/// The pairs by the name, and then by the number. It takes memory only where they are not few.
-fn in_order<'a>(alloc: Global, pairs: Vec<(Id<'a>, u32)>) -> Result<Vec<(Id<'a>, u32)>, AllocError>
-    ensures permutation { IfOk result (λ es. IsPermutation pairs.entry.items es.items) }
-    ensures sorted { IfOk result (λ es. IsSortedBy (λ a b. is_lt (pair_cmp key_cmp (entry_of a) (entry_of b))) es.items) }
-{
-    if pairs.len() > FEW {
-        return in_order_by_heads(alloc, &pairs);
-    }
-    let mut pairs = pairs;
-    put_in_order(&mut pairs);
-    Ok(pairs)
-}
-
-/// Sorts by the name, and then by the number.
-fn put_in_order<'a>(pairs: &mut Vec<(Id<'a>, u32)>)
-    ensures permutation { IsPermutation pairs.old.items pairs.new.items }
-    ensures sorted { IsSortedBy (λ a b. is_lt (pair_cmp key_cmp (entry_of a) (entry_of b))) pairs.new.items }
-{
-    pairs.sort_unstable_by(|a, b| compare_pairs(a, b));
 }
 
 /// The least number of a pair that has the name of the one before it.
@@ -127,7 +96,7 @@ fn first_tie<'a>(pairs: &[(Id<'a>, u32)]) -> Option<u32>
     }
     let mut least: Option<u32> = None;
     'seek: for t in 0..pairs.len() - 1 {
-        if compare(&pairs[t].0, &pairs[t + 1].0).is_eq() {
+        if compare_names(&pairs[t].0, &pairs[t + 1].0).is_eq() {
             let number = pairs[t + 1].1;
             least = Some(lesser(least, number));
         }

@@ -1,14 +1,10 @@
-//! Heads of names: eight bytes behind a prefix as one number, by which many names are sorted.
+//! Heads of names: eight bytes behind a prefix as one number, by which many names are sorted first.
 
-ghost use Rattle.std.specs.Prelude.{◌≡◌, IfOk, map, slice_index_or};
-ghost use Rattle.std.specs.Ordering.{is_lt};
-ghost use Rattle.std.specs.List.Sorted.{IsPermutation, IsSortedBy};
-ghost use Rattle.wast_namespace.specs.Namespaces.{key_cmp};
-ghost use Rattle.wast_namespace.specs.Places.{entry_of};
-ghost use Rattle.wast_namespace.specs.Filling.{pair_cmp};
-ghost use Rattle.wast_namespace.specs.Heads.{head as head_of, leading as leading_of, headed_cmp, seen, pair_of, with_heads as with_heads_of};
+ghost use Rattle.std.specs.Prelude.{◌≡◌, IfOk, map};
+ghost use Rattle.std.specs.List.Sorted.{IsPermutation};
+ghost use Rattle.wast_namespace.specs.Heads.{pair_of};
 
-use crate::order::compare_pairs;
+use crate::sorting::compare_pairs;
 use std::alloc::{AllocError, Global};
 use std::cmp::Ordering;
 use wast_base::Id;
@@ -20,13 +16,15 @@ struct Headed<'p, 'a> {
     pair: &'p (Id<'a>, u32),
 }
 
-/// The pairs by the name, and then by the number: most are told apart by their heads. It takes memory twice.
-pub(crate) fn in_order_by_heads<'a>(
+/// The pairs by the heads of their names, and then by the name and the number. It takes memory twice.
+///
+/// Nothing is promised of the order. It is that of the names where no two heads are told apart otherwise than the names
+/// are, as those of most names.
+pub(crate) fn by_heads<'a>(
     alloc: Global,
     pairs: &[(Id<'a>, u32)],
 ) -> Result<Vec<(Id<'a>, u32)>, AllocError>
-    ensures permutation { IfOk result (λ es. IsPermutation pairs.now es.items) }
-    ensures sorted { IfOk result (λ es. IsSortedBy (λ a b. is_lt (pair_cmp key_cmp (entry_of a) (entry_of b))) es.items) }
+    ensures { IfOk result (λ es. IsPermutation pairs.now es.items) }
 {
     let prefix = likely_prefix(pairs);
     let mut headed = with_heads(alloc, prefix, pairs)?;
@@ -41,7 +39,7 @@ fn with_heads<'p, 'a>(
     prefix: &[u8],
     pairs: &'p [(Id<'a>, u32)],
 ) -> Result<Vec<Headed<'p, 'a>>, AllocError>
-    ensures { IfOk result (λ hs. map seen hs.items ≡ with_heads_of prefix.now pairs.now) }
+    ensures { IfOk result (λ hs. map pair_of hs.items ≡ pairs.now) }
 {
     let mut headed = Vec::with_capacity(alloc, pairs.len())?;
     'each: for i in 0..pairs.len() {
@@ -69,17 +67,14 @@ fn without_heads<'p, 'a>(
 }
 
 /// By the head, and then by the name and the number.
-fn compare_headed<'p, 'a>(a: &Headed<'p, 'a>, b: &Headed<'p, 'a>) -> Ordering
-    ensures { result ≡ headed_cmp (seen a.now) (seen b.now) }
-{
+fn compare_headed<'p, 'a>(a: &Headed<'p, 'a>, b: &Headed<'p, 'a>) -> Ordering {
     if a.head != b.head {
         return a.head.cmp(&b.head);
     }
     compare_pairs(a.pair, b.pair)
 }
 
-/// What most names are taken to begin with: the most that two of three of them begin with alike. Whatever it is, heads
-/// behind it have the order of the names.
+/// What most names are taken to begin with: the most that two of three of them begin with alike.
 fn likely_prefix<'a>(names: &[(Id<'a>, u32)]) -> &'a [u8] {
     let quarter = names.len() / 4;
     let first = written_text(&names[quarter..]);
@@ -114,9 +109,7 @@ fn shared<'a>(a: &'a [u8], b: &[u8]) -> &'a [u8] {
 }
 
 /// The first eight bytes behind a prefix; for a text without the prefix the least number or the greatest, by its order.
-fn head(prefix: &[u8], text: &[u8]) -> u64
-    ensures { result ≡ head_of prefix.now text.now }
-{
+fn head(prefix: &[u8], text: &[u8]) -> u64 {
     let Some(rest) = text.strip_prefix(prefix) else {
         return match text.cmp(prefix) {
             Ordering::Greater => u64::MAX,
@@ -126,10 +119,8 @@ fn head(prefix: &[u8], text: &[u8]) -> u64
     leading(rest)
 }
 
-/// The first eight bytes as a number, the first of them the most; missing bytes count as 0.
-pub(crate) fn leading(bytes: &[u8]) -> u64
-    ensures { result ≡ leading_of 8 bytes.now }
-{
+/// The first eight bytes of a text as a number, the first of them the most; missing bytes count as 0. It takes no memory.
+pub fn leading(bytes: &[u8]) -> u64 {
     if bytes.len() < 8 {
         return leading_short(bytes);
     }
@@ -138,21 +129,12 @@ pub(crate) fn leading(bytes: &[u8]) -> u64
     ])
 }
 
-/// The same of a text that may have fewer than eight bytes, one byte after the other.
-fn leading_short(bytes: &[u8]) -> u64
-    ensures { result ≡ leading_of 8 bytes.now }
-{
+/// The same of a text that has fewer than eight bytes, one byte after the other.
+fn leading_short(bytes: &[u8]) -> u64 {
     let mut number = 0u64;
-    'byte: for i in 0..8usize {
-        let byte = byte_at(bytes, i);
-        number = number * 256 + u64::from(byte);
+    for i in 0..8usize {
+        let byte = if i < bytes.len() { bytes[i] } else { 0 };
+        number = number << 8 | u64::from(byte);
     }
     number
-}
-
-/// A byte of a text; a missing one is 0.
-fn byte_at(bytes: &[u8], at: usize) -> u8
-    ensures { result ≡ slice_index_or bytes.now at 0 }
-{
-    if at < bytes.len() { bytes[at] } else { 0 }
 }

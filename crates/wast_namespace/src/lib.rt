@@ -3,11 +3,11 @@
 
 mod filling;
 mod heads;
-mod hints;
 mod namespace;
-mod order;
+mod sorting;
 
 pub use filling::Gathering;
+pub use heads::leading;
 pub use namespace::{Namespace, resolve_error};
 
 #[cfg(test)]

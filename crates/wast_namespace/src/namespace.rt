@@ -6,28 +6,24 @@ ghost use Rattle.std.specs.FinMap.{find, put};
 ghost use Rattle.wast_base.specs.Ids.{name_of, place_of, mark_of, marked, text_of, is_generated};
 ghost use Rattle.wast_base.specs.Faults.{told, At, Unknown};
 ghost use Rattle.wast_base.specs.Spaces.{is_settled_index};
-ghost use Rattle.wast_namespace.specs.FirstUnmet.{first_unmet, Answers, known_index};
-ghost use Rattle.wast_namespace.specs.Denoted.{denoted, numbered};
-ghost use Rattle.wast_namespace.specs.Outcomes.{Gives, unless_refused};
-ghost use Rattle.wast_namespace.specs.Places.{entries_of, AreSorted};
-ghost use Rattle.wast_namespace.specs.Namespaces.{NameSpace, coded_space, key_cmp, key_of, empty_from, number_in, counted, named, registered, new_item, new_name};
+ghost use Rattle.wast_base.specs.FirstUnmet.{first_unmet, Answers, known_index};
+ghost use Rattle.wast_base.specs.Denoted.{denoted, numbered};
+ghost use Rattle.wast_base.specs.Outcomes.{Gives, unless_refused};
+ghost use Rattle.wast_namespace.specs.Places.{entries_of, AreSorted, IsPlace};
+ghost use Rattle.wast_namespace.specs.Namespaces.{NameSpace, coded_space, empty_from, number_in, counted, named, registered, new_item, new_name};
+ghost use Rattle.wast_base.specs.Order.{key_cmp, key_of};
 
-use crate::hints::Hints;
-use crate::order::place_between;
 use std::alloc::{AllocError, Global};
 use std::marker::Model;
-use wast_base::{Error, Fault, Id, Index};
+use wast_base::{Error, Fault, Id, Index, Numbering, number_index, place_among, try_number};
 
 /// A name space (text format, indices): a finite map from ids to numbers, beside a count of items.
 ///
-/// Names are those of ids: an id is found whatever its place. A count is at most 4,294,967,295. A name is found by
-/// a hint where the space was filled at once with many, and else by halving.
+/// Names are those of ids: an id is found whatever its place, by halving. A count is at most 4,294,967,295.
 #[derive(Drop)]
 pub struct Namespace<'a> {
     // sorted by name
     names: Vec<(Id<'a>, u32)>,
-    // which need not tell the truth
-    hints: Hints,
     count: u32,
 }
 
@@ -53,19 +49,15 @@ impl<'a> Namespace<'a> {
     pub fn with_count(alloc: Global, count: u32) -> Self
         ensures { result ≡ empty_from count }
     {
-        Namespace::from_sorted(Vec::new(alloc), Hints::none(alloc), count)
+        Namespace::from_sorted(Vec::new(alloc), count)
     }
 
-    /// Sorted names with hints for them, and a count.
-    pub(crate) fn from_sorted(names: Vec<(Id<'a>, u32)>, hints: Hints, count: u32) -> Self
+    /// Sorted names, and a count.
+    pub(crate) fn from_sorted(names: Vec<(Id<'a>, u32)>, count: u32) -> Self
         requires { AreSorted names.items }
         ensures { result ≡ record { names = finmap.from_sorted (entries_of names.entry.items); count = count } }
     {
-        Namespace {
-            names,
-            hints,
-            count,
-        }
+        Namespace { names, count }
     }
 
     /// The number of the next item, which is the count; the count rises by one, and the item's id, if it has one, gets
@@ -140,13 +132,7 @@ impl<'a> Namespace<'a> {
         ensures number { result ≡ denoted (number_in self.now) idx.old }
         ensures index { idx.new ≡ numbered (number_in self.now) idx.old }
     {
-        let id = match *idx {
-            Index::Num(number, _) => return Some(number),
-            Index::Id(id) => id,
-        };
-        let number = self.find(&id)?;
-        *idx = Index::Num(number, id.span());
-        Some(number)
+        try_number(self, idx)
     }
 
     /// The number of an index, as [`Namespace::try_resolve`] gives it.
@@ -159,15 +145,7 @@ impl<'a> Namespace<'a> {
         ensures refusal { IfErr result (λ e. Answers ⊥ ⊥ (told e) (first_unmet (known_index (number_in self.now) desc.now idx.old))) }
         ensures index { idx.new ≡ numbered (number_in self.now) idx.old }
     {
-        let id = match *idx {
-            Index::Num(number, _) => return Ok(number),
-            Index::Id(id) => id,
-        };
-        let Some(number) = self.find(&id) else {
-            return Err(resolve_error(id, desc));
-        };
-        *idx = Index::Num(number, id.span());
-        Ok(number)
+        number_index(self, idx, desc)
     }
 
     /// The ids with their numbers, each once: by the bytes of the names, then written before generated, then by
@@ -182,33 +160,41 @@ impl<'a> Namespace<'a> {
     pub fn find(&self, id: &Id<'a>) -> Option<u32>
         ensures { result ≡ number_in self.now (name_of id.now) }
     {
-        if let Some(at) = self.hints.place(&self.names, id) {
-            return Some(self.names[at].1);
-        }
-        self.find_by_halving(id)
-    }
-
-    /// The number of an id, as [`find`](Namespace::find) gives it, without hints.
-    #[inline(never)]
-    fn find_by_halving(&self, id: &Id<'a>) -> Option<u32>
-        ensures { result ≡ number_in self.now (name_of id.now) }
-    {
-        match place_between(&self.names, id, 0, self.names.len()) {
+        match place_of(&self.names, id) {
             Ok(at) => Some(self.names[at].1),
             Err(_) => None,
         }
     }
 
-    /// Sets the number of a name, and gives the one before. Where memory is refused nothing changes. The hints are dropped,
-    /// and names are looked up by halving alone.
+    /// Sets the number of a name, and gives the one before. Where memory is refused nothing changes.
     fn put(&mut self, id: Id<'a>, number: u32) -> Result<Option<u32>, AllocError>
         ensures before { IfOk result (λ before. before ≡ number_in self.old (name_of id.entry)) }
         ensures ok { OnOk result (self.new ≡ named self.old (name_of id.entry) number) }
         ensures err { OnErr result (self.new ≡ self.old) }
     {
         let before = put_among(&mut self.names, id, number)?;
-        self.hints.clear();
         Ok(before)
+    }
+}
+
+impl<'a> Numbering<'a> for Namespace<'a> {
+    ghost numbers = { number_in };
+
+    fn number_of(&self, id: &Id<'a>) -> Option<u32> {
+        self.find(id)
+    }
+}
+
+/// The place of a name among sorted names, or the place where it would go.
+fn place_of<'a>(names: &[(Id<'a>, u32)], id: &Id<'a>) -> Result<usize, usize>
+    requires { AreSorted names.now }
+    ensures { IsPlace names.now (key_of (name_of id.now)) result }
+{
+    let at = place_among(names, id);
+    if at < names.len() && names[at].0.is_same(id) {
+        Ok(at)
+    } else {
+        Err(at)
     }
 }
 
@@ -223,7 +209,7 @@ fn put_among<'a>(
     ensures ok { OnOk result (entries_of names.new.items ≡ put key_cmp (key_of (name_of id.entry)) number (entries_of names.old.items)) }
     ensures err { OnErr result (names.new.items ≡ names.old.items) }
 {
-    match place_between(names, &id, 0, names.len()) {
+    match place_of(names, &id) {
         Ok(at) => {
             let before = names[at].1;
             names[at] = (id, number);

@@ -1,5 +1,5 @@
-//! Calls that take memory, with ample memory: no contract says that they get it. Many names, whose hints and heads no
-//! contract speaks of.
+//! Calls that take memory, with ample memory: no contract says that they get it. Many names, whose heads no contract
+//! speaks of.
 
 use crate::{Gathering, Namespace};
 use std::alloc::Global;

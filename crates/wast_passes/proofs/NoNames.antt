@@ -9,9 +9,10 @@ use Rattle.std.proofs.lemmas.Simd.{map-map}
 use Rattle.wast_base.specs.Ids.{Name, Mark, marked}
 use Rattle.wast_base.specs.Spaces.{name_if, is_called, position_of}
 use Rattle.wast_nodes.specs.Items.{field_ids}
-use Rattle.wast_namespace.specs.Namespaces.{NameSpace, key_cmp, key_of, empty_from, number_in}
+use Rattle.wast_namespace.specs.Namespaces.{NameSpace, empty_from, number_in}
+use Rattle.wast_base.specs.Order.{key_cmp, key_of}
 use Rattle.wast_namespace.specs.Filling.{IsFilled}
-use Rattle.wast_namespace.proofs.Called.{position_head}
+use Rattle.wast_base.proofs.Positions.{position_head}
 use Rattle.wast_passes.specs.Tree.{StructField}
 use Rattle.wast_passes.specs.Clashes.{FindsAmong}
 use Rattle.wast_passes.specs.Locals.{marks, names}

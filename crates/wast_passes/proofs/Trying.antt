@@ -17,7 +17,8 @@ use Rattle.wast_nodes.specs.Known.{known, names_in}
 use Rattle.wast_passes.specs.Tree.{Space, Span, ModuleField}
 use Rattle.wast_passes.specs.Tree.space
 use Rattle.wast_demands.specs.Demands.{Answers, HasManyItems, space_counts, field_counts, item_counts}
-use Rattle.wast_namespace.specs.Namespaces.{NameSpace, key_cmp, key_of, empty_from, number_in}
+use Rattle.wast_namespace.specs.Namespaces.{NameSpace, empty_from, number_in}
+use Rattle.wast_base.specs.Order.{key_cmp, key_of}
 use Rattle.wast_passes.specs.Resolvers.{known_in}
 use Rattle.wast_passes.specs.Gathers.{Stops, Gathers, gathered_of}
 use Rattle.wast_namespace.specs.Filling.{HasFirstClash, IsTried}

@@ -3,8 +3,8 @@
 ghost use Rattle.std.specs.Prelude.{◌≡◌, None, IfOk, IfErr, OnOk};
 ghost use Rattle.wast_base.specs.Faults.{told};
 ghost use Rattle.wast_nodes.specs.Imports.{defined_space};
-ghost use Rattle.wast_namespace.specs.FirstUnmet.{first_unmet, Answers};
-ghost use Rattle.wast_namespace.specs.Outcomes.{Outcome};
+ghost use Rattle.wast_base.specs.FirstUnmet.{first_unmet, Answers};
+ghost use Rattle.wast_base.specs.Outcomes.{Outcome};
 ghost use Rattle.wast_demands.specs.ImportOrder.{import_place, defines, defined_word, nothing_defined};
 ghost use Rattle.wast_demands.specs.Demands.{order_demands};
 

@@ -2,9 +2,9 @@
 
 ghost use Rattle.std.specs.Prelude.{◌≡◌, codes};
 ghost use Rattle.wast_base.specs.Ids.{name_of};
-ghost use Rattle.wast_namespace.specs.FirstUnmet.{first_unmet, known_index};
+ghost use Rattle.wast_base.specs.FirstUnmet.{first_unmet, known_index};
 ghost use Rattle.wast_namespace.specs.Namespaces.{empty_from};
-ghost use Rattle.wast_namespace.specs.Outcomes.{Outcome};
+ghost use Rattle.wast_base.specs.Outcomes.{Outcome};
 ghost use Rattle.wast_demands.specs.Resolved.{numbered};
 ghost use Rattle.wast_passes.specs.Locals.{local_in, AreFew};
 

@@ -9,7 +9,7 @@ ghost use Rattle.wast_passes.specs.Tree.{Index, ValType};
 ghost use Rattle.wast_demands.specs.Scopes.{Scope};
 ghost use Rattle.wast_demands.specs.Matches.{same_type, matches};
 ghost use Rattle.wast_demands.specs.Demands.{Demand, first_unmet, ask_demands, match_demands, Answers};
-ghost use Rattle.wast_namespace.specs.Outcomes.{Outcome};
+ghost use Rattle.wast_base.specs.Outcomes.{Outcome};
 ghost use Rattle.wast_map.specs.Mapped.{Indices, mapped_signature};
 ghost use Rattle.wast_demands.specs.Resolved.{numbered_at};
 ghost use Rattle.wast_passes.specs.LookUps.{are_settled, LooksTypesUp};

@@ -12,7 +12,7 @@ ghost use Rattle.wast_demands.specs.Scopes.{Function, Struct, Other, denoted, ty
 ghost use Rattle.wast_passes.specs.Tree.space;
 ghost use Rattle.wast_demands.specs.Matches.{same_type};
 ghost use Rattle.wast_demands.specs.Demands.{first_unmet, match_demands, field_at, access_demand};
-ghost use Rattle.wast_namespace.specs.Outcomes.{Outcome};
+ghost use Rattle.wast_base.specs.Outcomes.{Outcome};
 ghost use Rattle.wast_passes.specs.Resolvers.{space_of, space_in, known_of, scope_of, read_shape, without_types, with_types, IsFieldsOf};
 ghost use Rattle.wast_passes.specs.Walking.{Walks};
 

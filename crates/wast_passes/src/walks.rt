@@ -7,7 +7,7 @@ ghost use Rattle.wast_map.specs.Mapped.{Change, mapped_heap, mapped_ref, mapped_
 ghost use Rattle.wast_demands.specs.Demands.{match_if, first_unmet, body_counts_in, HasMany};
 ghost use Rattle.wast_passes.specs.Locals.{NumbersIn, SaysAsMuch, kind_counts};
 ghost use Rattle.wast_passes.specs.Openable.{begin};
-ghost use Rattle.wast_namespace.specs.Outcomes.{Outcome};
+ghost use Rattle.wast_base.specs.Outcomes.{Outcome};
 ghost use Rattle.wast_passes.specs.TwoSteps.{in_locals, in_body, with_locals, with_body};
 ghost use Rattle.wast_passes.specs.Resolvers.{known_of, scope_of};
 ghost use Rattle.wast_passes.specs.LookUps.{LooksTypesUp};

@@ -14,9 +14,9 @@ seek-preserved c =
     let lt : n + 1 < length es = omega arith in
     elim c.if-is_eq.branch [
       | then-is_eq w ↦ subst (IsLeastTo (entries_of es) (n + 1)) (ap Some (sym w.lesser.ensures) ∙ sym w.least-is)
-          (more_pairs es n (n + 1) c.seek.least _ _ _ _ is lt (ap is_eq (sym c.compare.ensures) ∙ sym c.is_eq.ensures ∙ w.if-is_eq.true) refl c.seek.invariant)
+          (more_pairs es n (n + 1) c.seek.least _ _ _ _ is lt (ap is_eq (sym c.compare_names.ensures) ∙ sym c.is_eq.ensures ∙ w.if-is_eq.true) refl c.seek.invariant)
       | else-is_eq w ↦ subst (IsLeastTo (entries_of es) (n + 1)) (sym w.least-is)
-          (skip_pairs es n (n + 1) c.seek.least _ _ is lt (ap is_eq (sym c.compare.ensures) ∙ sym c.is_eq.ensures ∙ w.if-is_eq.false) c.seek.invariant)
+          (skip_pairs es n (n + 1) c.seek.least _ _ is lt (ap is_eq (sym c.compare_names.ensures) ∙ sym c.is_eq.ensures ∙ w.if-is_eq.false) c.seek.invariant)
     ]
 
 pub returns : goal.returns

@@ -1,6 +1,6 @@
 use Rattle.std.proofs.Common.{sym, ◌∙◌, ap, Some}
 use Rattle.wast_base.specs.Ids.{name_of}
-use Rattle.wast_namespace.specs.Namespaces.{key_of}
+use Rattle.wast_base.specs.Order.{key_of}
 use Rattle.wast_namespace.specs.Places.{IsAt, IsGap, entries_of}
 use Rattle.wast_namespace.proofs.Searches.{find_at, find_gap, put_at, put_gap}
 use Rattle.wast_namespace.proofs.namespace.put_among.Goals as goal

@@ -1,5 +1,5 @@
 use Rattle.std.proofs.Common.{sym, ap}
-use Rattle.wast_namespace.specs.FirstUnmet.{first_unmet}
+use Rattle.wast_base.specs.FirstUnmet.{first_unmet}
 use Rattle.wast_demands.proofs.Orders.{orders_are}
 use Rattle.wast_passes.proofs.imports.check_order.Goals as goal
 

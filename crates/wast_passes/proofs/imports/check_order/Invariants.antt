@@ -1,5 +1,5 @@
 use Rattle.std.proofs.Common.{◌≡◌, drop}
-use Rattle.wast_namespace.specs.FirstUnmet.{first_unmet}
+use Rattle.wast_base.specs.FirstUnmet.{first_unmet}
 use Rattle.wast_demands.specs.Demands.{order_demands}
 use Rattle.wast_demands.proofs.Orders.{orders_from}
 use Rattle.wast_passes.proofs.imports.check_order.Given as goal

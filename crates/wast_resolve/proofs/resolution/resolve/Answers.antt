@@ -4,7 +4,7 @@ use Rattle.wast_base.specs.Filling.{RunsOut}
 use Rattle.wast_nodes.specs.Items.{items}
 use Rattle.wast_nodes.specs.Known.{known}
 use Rattle.wast_types.specs.Expanded.{ids_wanted}
-use Rattle.wast_namespace.specs.FirstUnmet.{first_unmet, Answers}
+use Rattle.wast_base.specs.FirstUnmet.{first_unmet, Answers}
 use Rattle.wast_base.specs.Faults.{told}
 use Rattle.wast_resolve.specs.Tree.{ModuleField}
 use Rattle.wast_demands.specs.Demands.{order_demands}

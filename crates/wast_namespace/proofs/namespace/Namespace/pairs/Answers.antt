@@ -1,6 +1,6 @@
 use Rattle.std.proofs.Common.{sym, ◌∙◌, ap}
 use Rattle.std.specs.FinMap.{entries, entries-from_sorted}
-use Rattle.wast_namespace.specs.Namespaces.{key_cmp}
+use Rattle.wast_base.specs.Order.{key_cmp}
 use Rattle.wast_namespace.specs.Places.{entries_of}
 use Rattle.wast_namespace.specs.Namespaces.{NameSpace}
 use Rattle.wast_namespace.proofs.namespace.Namespace.pairs.Goals as goal

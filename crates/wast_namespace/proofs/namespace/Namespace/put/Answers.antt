@@ -1,7 +1,8 @@
 use Rattle.std.proofs.Common.{sym, ◌∙◌, ap}
 use Rattle.std.specs.FinMap.{get}
 use Rattle.wast_base.specs.Ids.{name_of}
-use Rattle.wast_namespace.specs.Namespaces.{NameSpace, named, key_of}
+use Rattle.wast_namespace.specs.Namespaces.{NameSpace, named}
+use Rattle.wast_base.specs.Order.{key_of}
 use Rattle.wast_namespace.proofs.Searches.{get_sorted, insert_sorted, still_sorted}
 use Rattle.wast_namespace.proofs.namespace.Namespace.put.Goals as goal
 

@@ -1,6 +1,7 @@
 use Rattle.std.proofs.Common.{◌≡◌, ◌∙◌, None, ap}
 use Rattle.std.specs.FinMap.{get-empty}
-use Rattle.wast_namespace.specs.Namespaces.{key_of, key_cmp, number_in}
+use Rattle.wast_base.specs.Order.{key_of, key_cmp}
+use Rattle.wast_namespace.specs.Namespaces.{number_in}
 use Rattle.wast_passes.proofs.local_names.LocalNames.none.Goals as goal
 
 pub invariant_of-result : goal.invariant_of-result

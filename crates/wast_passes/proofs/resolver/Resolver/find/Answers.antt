@@ -3,7 +3,8 @@ use Rattle.std.specs.FinMap.{get-empty}
 use Rattle.std.proofs.Math.ListN.{get_or-eq_default}
 use Rattle.wast_base.specs.Ids.{name_of}
 use Rattle.wast_base.specs.Spaces.{rank_of}
-use Rattle.wast_namespace.specs.Namespaces.{key_of, key_cmp, number_in, empty_from}
+use Rattle.wast_base.specs.Order.{key_of, key_cmp}
+use Rattle.wast_namespace.specs.Namespaces.{number_in, empty_from}
 use Rattle.wast_passes.specs.Resolvers.{Resolution}
 use Rattle.wast_passes.proofs.resolver.Resolver.find.Goals as goal
 

@@ -3,7 +3,8 @@ use Rattle.std.specs.FinMap as finmap
 use Rattle.std.specs.FinMap.{entries-from_sorted}
 use Rattle.std.proofs.Math.ListN.{get_or-eq_default}
 use Rattle.wast_base.specs.Spaces.{rank_of}
-use Rattle.wast_namespace.specs.Namespaces.{key_cmp, empty_from}
+use Rattle.wast_base.specs.Order.{key_cmp}
+use Rattle.wast_namespace.specs.Namespaces.{empty_from}
 use Rattle.wast_namespace.proofs.Searches.{none_sorted}
 use Rattle.wast_passes.specs.Resolvers.{Resolution}
 use Rattle.wast_passes.proofs.resolver.Resolver.pairs.Goals as goal

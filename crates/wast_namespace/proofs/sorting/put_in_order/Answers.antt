@@ -1,12 +1,12 @@
 use Rattle.std.proofs.Common.{rules}
 use Rattle.std.specs.Ordering.{is_lt}
 use Rattle.std.proofs.lemmas.List.Sorted.{answers_always, ranks_by}
-use Rattle.wast_namespace.specs.Namespaces.{key_cmp}
+use Rattle.wast_base.specs.Order.{key_cmp}
 use Rattle.wast_namespace.specs.Places.{entry_of}
 use Rattle.wast_namespace.specs.Filling.{pair_cmp}
-use Rattle.wast_namespace.proofs.Keys.{keys_total, exact_keys}
+use Rattle.wast_base.proofs.Keys.{keys_total, exact_keys}
 use Rattle.wast_namespace.proofs.Ties.{pairs_total}
-use Rattle.wast_namespace.proofs.filling.put_in_order.Goals as goal
+use Rattle.wast_namespace.proofs.sorting.put_in_order.Goals as goal
 
 pub returns-clause-sorted : goal.returns-clause-sorted
 returns-clause-sorted c =
