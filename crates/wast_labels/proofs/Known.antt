@@ -4,7 +4,7 @@ use Rattle.wast_base.specs.Blocks.{Turn, Opens, Closes, Stays}
 use Rattle.wast_base.specs.Ids.{Name, same_name}
 use Rattle.wast_labels.specs.Gathered.{with_opener, is_among, knows}
 use Rattle.wast_labels.specs.Turns.{gathered}
-use Rattle.wast_labels.proofs.Positions.{same_name_itself}
+use Rattle.wast_base.proofs.Names.{same_name_itself}
 
 -- a label that is there stays
 either_way : (b c d : Bool) → (c ≡ true → d ≡ true) → (b || c) ≡ true → (b || d) ≡ true

@@ -6,7 +6,8 @@ use Rattle.wast_base.specs.Ids.{Name}
 use Rattle.wast_base.specs.Spaces.{is_called}
 use Rattle.wast_labels.specs.OpenBlocks.{denotes, expects}
 use Rattle.wast_labels.specs.Turns.{open_blocks, open_count, IsOpen, IsLastOpen, IsLastOf}
-use Rattle.wast_labels.proofs.Positions.{called_is, position_head, same_name_itself}
+use Rattle.wast_base.proofs.Names.{called_is, same_name_itself}
+use Rattle.wast_base.proofs.Positions.{position_head}
 
 -- openers behind the first instruction
 one_behind : (t : Turn) (ts : List Turn) (l : Option Name) (at : ℕ) → IsOpen ts l at → IsOpen (t ∷ ts) l (suc at)

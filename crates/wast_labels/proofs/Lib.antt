@@ -1,9 +1,7 @@
 pub mod Counting
-pub mod Keys
 pub mod Known
 pub mod Lasts
 pub mod Linked
-pub mod Positions
 pub mod Searches
 pub mod Tables
 pub mod Worked

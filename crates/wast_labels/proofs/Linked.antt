@@ -15,7 +15,8 @@ use Rattle.wast_labels.specs.OpenBlocks.{denotes, is_innermost}
 use Rattle.wast_labels.specs.Places.{innermost_of, innermost_if, kept_at, keep_at}
 use Rattle.wast_labels.specs.Rows.{names_of, row_of, row_if, label_at}
 use Rattle.wast_labels.specs.declared.labels.Block.{Block}
-use Rattle.wast_labels.proofs.Positions.{same_name_equal, same_name_itself, called_is, position_head}
+use Rattle.wast_base.proofs.Names.{same_name_equal, same_name_itself, called_is}
+use Rattle.wast_base.proofs.Positions.{position_head}
 use Rattle.wast_labels.proofs.Tables.{known_row}
 
 the_same : (a b : Name) → ◌≡◌ {A = Option Name} (Some a) (Some b) → a ≡ b

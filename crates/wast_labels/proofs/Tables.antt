@@ -9,7 +9,8 @@ use Rattle.wast_base.specs.Ids.{Name, same_name, name_of}
 use Rattle.wast_labels.specs.Gathered.{is_among, IsTable}
 use Rattle.wast_labels.specs.OpenBlocks.{OpenBlocks}
 use Rattle.wast_labels.specs.Rows.{names_of, row_of}
-use Rattle.wast_labels.proofs.Positions.{same_name_equal, same_name_itself, position_head}
+use Rattle.wast_base.proofs.Names.{same_name_equal, same_name_itself}
+use Rattle.wast_base.proofs.Positions.{position_head}
 
 first_or : (a b : Bool) → a ≡ true → (a || b) ≡ true
 first_or a b h = rw h

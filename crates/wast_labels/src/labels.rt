@@ -1,18 +1,22 @@
 //! The open blocks of an expression, by their labels.
 
-ghost use Rattle.std.specs.Prelude.{◌≡◌, ◌+◌, ◌<◌, ◌≤◌, ◌^◌, ◌↔◌, [], length, Some, reverse, IsTrue, IfOk, OnOk, OnErr};
+ghost use Rattle.std.specs.Prelude.{◌≡◌, ◌+◌, ◌<◌, ◌≤◌, ◌^◌, ◌↔◌, [], length, Some, codes, reverse, IsTrue, IfOk, OnOk, OnErr};
 ghost use Rattle.wast_base.specs.Ids.{name_of, marked};
 ghost use Rattle.wast_base.specs.Spaces.{name_if};
-ghost use Rattle.wast_labels.specs.Asked.{numbered, denoted, Outcome, unknown_label, wrong_label};
+ghost use Rattle.wast_base.specs.Denoted.{denoted, numbered};
+ghost use Rattle.wast_base.specs.FirstUnmet.{first_unmet, known_index};
+ghost use Rattle.wast_base.specs.Order.{AreInOrder};
+ghost use Rattle.wast_base.specs.Outcomes.{Outcome};
+ghost use Rattle.wast_labels.specs.Asked.{number_among, wrong_label};
 ghost use Rattle.wast_labels.specs.Gathered.{knows};
 ghost use Rattle.wast_labels.specs.OpenBlocks.{OpenBlocks, denotes, is_innermost, expects, with_open, with_closed};
-ghost use Rattle.wast_labels.specs.Rows.{AreSorted, names_of, row_if};
+ghost use Rattle.wast_labels.specs.Rows.{names_of, row_if};
 ghost use Rattle.wast_labels.specs.Places.{IsWithin, kept_at, keep_at};
 
 use crate::order::first_row;
 use std::alloc::{AllocError, Global};
 use std::marker::Model;
-use wast_base::{Error, Fault, Id, Index};
+use wast_base::{Error, Fault, Id, Index, Numbering, number_index};
 
 /// The open blocks of an expression (text format, control instructions: labels), and which labels may be opened.
 ///
@@ -39,7 +43,8 @@ pub(crate) struct Block {
 impl<'a> Model for Labels<'a> {
     ghost use Rattle.std.specs.Prelude.{reverse};
     ghost use Rattle.wast_labels.specs.OpenBlocks.{OpenBlocks};
-    ghost use Rattle.wast_labels.specs.Rows.{names_of, AreSorted};
+    ghost use Rattle.wast_base.specs.Order.{AreInOrder};
+    ghost use Rattle.wast_labels.specs.Rows.{names_of};
 
     ghost Value = { OpenBlocks };
 
@@ -47,13 +52,13 @@ impl<'a> Model for Labels<'a> {
 
     ghost view = { λ s. record { known = names_of s.ids.items; blocks = labels_of (names_of s.ids.items) (reverse s.blocks.items) } };
 
-    ghost invariant = { λ s. AreSorted (names_of s.ids.items) × IsLinked (names_of s.ids.items) s.innermost.items (reverse s.blocks.items) };
+    ghost invariant = { λ s. AreInOrder (names_of s.ids.items) × IsLinked (names_of s.ids.items) s.innermost.items (reverse s.blocks.items) };
 }
 
 impl<'a> Labels<'a> {
     /// No open blocks, where the labels of these ids may be opened.
     pub(crate) fn of(alloc: Global, ids: Vec<Id<'a>>) -> Result<Self, AllocError>
-        requires { AreSorted (names_of ids.items) }
+        requires { AreInOrder (names_of ids.items) }
         ensures { IfOk result (λ s. s ≡ record { known = names_of ids.entry.items; blocks = [] }) }
     {
         let mut innermost = Vec::new(alloc);
@@ -124,19 +129,11 @@ impl<'a> Labels<'a> {
     ///
     /// An id that denotes no open block is E4 `label` at its place, and then the index stays. It takes no memory.
     pub fn number(&self, idx: &mut Index<'a>) -> Result<u32, Error<'a>>
-        ensures answer { Outcome (unknown_label self.now.blocks idx.old) result }
-        ensures number { IfOk result (λ n. denoted self.now.blocks idx.old ≡ Some n) }
-        ensures index { idx.new ≡ numbered self.now.blocks idx.old }
+        ensures answer { Outcome ⊥ ⊥ (first_unmet (known_index (number_among self.now.blocks) (codes "label") idx.old)) result }
+        ensures number { IfOk result (λ n. denoted (number_among self.now.blocks) idx.old ≡ Some n) }
+        ensures index { idx.new ≡ numbered (number_among self.now.blocks) idx.old }
     {
-        let id = match *idx {
-            Index::Num(number, _) => return Ok(number),
-            Index::Id(id) => id,
-        };
-        let Some(number) = self.denotes(&id) else {
-            return Err(Error::new(id.span(), Fault::Unknown("label", id.name())));
-        };
-        *idx = Index::Num(number, id.span());
-        Ok(number)
+        number_index(self, idx, "label")
     }
 
     /// Whether the innermost open block has this label; not where no block is open. It takes no memory.
@@ -166,7 +163,7 @@ impl<'a> Labels<'a> {
     /// The check of the label at an `else` or an `end`, before the block is closed: E8 at its place, where
     /// [`expects`](Labels::expects) tells that it may not stand there. It takes no memory.
     pub fn check(&self, label: Option<Id<'a>>) -> Result<(), Error<'a>>
-        ensures { Outcome (wrong_label self.now.blocks (marked label.entry)) result }
+        ensures { Outcome ⊥ ⊥ (wrong_label self.now.blocks (marked label.entry)) result }
     {
         if let Some(id) = label {
             if !self.expects(label) {
@@ -177,9 +174,17 @@ impl<'a> Labels<'a> {
     }
 }
 
+impl<'a> Numbering<'a> for Labels<'a> {
+    ghost numbers = { λ s. number_among s.blocks };
+
+    fn number_of(&self, id: &Id<'a>) -> Option<u32> {
+        self.denotes(id)
+    }
+}
+
 /// The first row of a label, if there is a label.
 fn row_of_label<'a>(ids: &[Id<'a>], label: Option<Id<'a>>) -> Option<usize>
-    requires { AreSorted (names_of ids.now) }
+    requires { AreInOrder (names_of ids.now) }
     ensures { result ≡ row_if (name_if (marked label.entry)) (names_of ids.now) }
 {
     match label {

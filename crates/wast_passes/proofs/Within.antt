@@ -7,11 +7,11 @@ use Rattle.wast_base.specs.declared.faults.Error.{Error}
 use Rattle.wast_base.specs.Faults.{Cause, Told, At, Nowhere, told}
 use Rattle.wast_base.specs.Ids.{Name, Mark, name_of, mark_of, marked}
 use Rattle.wast_labels.specs.OpenBlocks.{denotes}
-use Rattle.wast_labels.specs.Asked as labels
-use Rattle.wast_labels.specs.Asked.{Tells, unknown_label, unless_denoted, wrong_label}
-use Rattle.wast_namespace.specs.FirstUnmet.{unknown}
-use Rattle.wast_namespace.specs.Namespaces.{key_of, key_cmp, empty_from}
-use Rattle.wast_namespace.specs.Outcomes.{Outcome}
+use Rattle.wast_labels.specs.Asked.{number_among, wrong_label}
+use Rattle.wast_base.specs.FirstUnmet.{unknown}
+use Rattle.wast_base.specs.Order.{key_of, key_cmp}
+use Rattle.wast_namespace.specs.Namespaces.{empty_from}
+use Rattle.wast_base.specs.Outcomes.{Outcome}
 use Rattle.wast_passes.specs.Tree.{Span, Id, Index}
 use Rattle.wast_passes.specs.Tree.index
 use Rattle.wast_demands.specs.Scopes.{Scope, local_number}
@@ -42,27 +42,9 @@ local_walked M c l s i new (Err e) h unmet is =
     let all = append-nil (known_index (local_number c l) (codes "local") i) ∙ sym (same_known (local_in s) (local_number c l) h (codes "local") i) in
     answers_more (told e) _ _ (λ l. absurd l) (λ m. absurd m) (λ f g. ap first_unmet all ∙ g) unmet
 
--- what is told of labels is an answer
-pub tells_answers : (K M : Type 0) (t : Told) (o : Option (Cause × Span)) → Tells t o → Answers K M t o
-tells_answers K M (At fault place) o h = h
-tells_answers K M (Nowhere fault) o h = absurd h
-
-denoted_unmet : (o : Option ℕ) (id : Id) → unless_denoted o id ≡ first_unmet (unknown (codes "label") (mark_of id) (is_some o) ++ [])
-denoted_unmet None id = refl
-denoted_unmet (Some n) id = refl
-
 -- a label that denotes no open block
-pub label_unmet : (blocks : Blocks) (i : Index) → unknown_label blocks i ≡ first_unmet (known_index (λ name. denotes name blocks) (codes "label") i ++ [])
-label_unmet blocks (index.Num n p) = refl
-label_unmet blocks (index.Id id) = denoted_unmet (denotes (name_of id) blocks) id
-
-same_by : (o : Option ℕ) (id : Id) → labels.numbered_by o id ≡ numbered_by o id
-same_by None id = refl
-same_by (Some n) id = refl
-
-pub label_numbered : (blocks : Blocks) (i : Index) → labels.numbered blocks i ≡ numbered (λ name. denotes name blocks) i
-label_numbered blocks (index.Num n p) = refl
-label_numbered blocks (index.Id id) = same_by (denotes (name_of id) blocks) id
+pub label_unmet : (blocks : Blocks) (i : Index) → first_unmet (known_index (number_among blocks) (codes "label") i) ≡ first_unmet (known_index (number_among blocks) (codes "label") i ++ [])
+label_unmet blocks i = ap first_unmet (sym (append-nil (known_index (number_among blocks) (codes "label") i)))
 
 -- a label that is not expected
 pub repeated_unmet : (blocks : Blocks) (m : Option Mark) → wrong_label blocks m ≡ first_unmet (repeated_demand blocks m ++ [])
@@ -70,10 +52,10 @@ repeated_unmet blocks None = refl
 repeated_unmet blocks (Some m) = refl
 
 -- a label at an `else` or an `end`
-pub label_checked : (M : Type 0) (c : Scope) (blocks : Blocks) (o : Option Id) (result : Result (Unit {0}) Error) → labels.Outcome (wrong_label blocks (marked o)) result
+pub label_checked : (M : Type 0) (c : Scope) (blocks : Blocks) (o : Option Id) (result : Result (Unit {0}) Error) → Outcome ⊥ ⊥ (wrong_label blocks (marked o)) result
     → Walks ⊤ M (site_demands c (Repeated blocks (marked o) ∷ [])) o o result
 label_checked M c blocks o (Ok x) h = (sym (repeated_unmet blocks (marked o)) ∙ h, refl)
-label_checked M c blocks o (Err e) h = tells_answers ⊤ M (told e) _ (subst (Tells (told e)) (repeated_unmet blocks (marked o)) h)
+label_checked M c blocks o (Err e) h = answers_more (told e) _ _ (λ l. absurd l) (λ m. absurd m) (λ f g. sym (repeated_unmet blocks (marked o)) ∙ g) h
 
 -- a constant expression has no names
 pub none_numbers : (c : Scope) (s : LocalSpace) → s ≡ record { space = empty_from 0; nameless = 0 } → Numbers c start.locals s

@@ -1,8 +1,8 @@
 use Rattle.std.proofs.Common.{rules}
 use Rattle.std.proofs.lemmas.List.Sorted.{answers_always, ranks_by}
 use Rattle.wast_base.specs.Ids.{name_of}
-use Rattle.wast_labels.specs.Rows.{key_of, name_lt}
-use Rattle.wast_labels.proofs.Keys.{keys_total}
+use Rattle.wast_base.specs.Order.{key_of, name_lt}
+use Rattle.wast_base.proofs.Keys.{keys_total}
 use Rattle.wast_labels.proofs.Searches.{sorted_names}
 use Rattle.wast_labels.proofs.order.put_in_order.Goals as goal
 

@@ -1,16 +1,16 @@
 use Rattle.std.proofs.Common.{◌∙◌, sym, subst}
 use Rattle.std.proofs.lemmas.Result.{err_from_is_err_and}
 use Rattle.wast_base.specs.Faults.{told}
-use Rattle.wast_labels.specs.Asked.{Tells}
-use Rattle.wast_passes.proofs.Within.{tells_answers, label_unmet, label_numbered}
+use Rattle.wast_base.specs.FirstUnmet.{Answers}
+use Rattle.wast_passes.proofs.Within.{label_unmet}
 use Rattle.wast_passes.proofs.instrs.walk_label.Goals as goal
 
 pub returns-in_err-number : goal.returns-in_err-number
 returns-in_err-number c names =
     let t = told c.in_err-number.field-0.0 in
     let p = err_from_is_err_and c.from_residual.result c.from_residual.ensures.1 in
-    rw (p.1, p.2) (tells_answers ⊥ ⊥ t _ (subst (Tells t) (label_unmet c.args.labels.now.blocks c.args.label.now) c.in_err-number.ensures.answer))
+    rw (p.1, p.2) (subst (Answers ⊥ ⊥ t) (label_unmet c.args.labels.now.blocks c.args.label.now) c.in_err-number.ensures.answer)
 
 pub returns : goal.returns
 returns c names =
-    (sym (label_unmet c.args.labels.now.blocks c.args.label.now) ∙ c.in_ok-number.ensures.answer, c.in_ok-number.ensures.index ∙ label_numbered c.args.labels.now.blocks c.args.label.now)
+    (sym (label_unmet c.args.labels.now.blocks c.args.label.now) ∙ c.in_ok-number.ensures.answer, c.in_ok-number.ensures.index)
