@@ -9,7 +9,7 @@ mod encode;
 mod entities;
 mod instr_sink;
 mod instrs;
-mod laws;
+pub mod laws;
 mod leb128;
 mod lengths;
 mod memargs;

@@ -1,6 +1,6 @@
 //! Reference types, and the heap types that they refer to.
 
-ghost use Rattle.std.specs.Prelude.{◌≡◌, true};
+ghost use Rattle.std.specs.Prelude.{◌≡◌, true, [], ◌∷◌};
 ghost use Rattle.wasm_ops.specs.Covered.{is_covered_abstract_heap_type, is_covered_heap_type, is_covered_ref_type};
 ghost use Rattle.wasm_ops.specs.Spelling.{heap_type, InRangeHeapType, is_short, ref_type, InRangeRefType};
 
@@ -53,7 +53,7 @@ impl AbstractHeapType {
     }
 }
 
-/// What a reference leads to (binary format, heap types).
+/// What a reference leads to (binary format, heap types). Those that have a name of their own and are covered are constants.
 #[derive(Clone, Copy, Debug, PartialEq, Eq, Hash)]
 pub enum HeapType {
     /// A type that has a name of its own.
@@ -70,6 +70,78 @@ pub enum HeapType {
 }
 
 impl HeapType {
+    /// `func`, which is not shared.
+    pub const FUNC: HeapType = HeapType::Abstract {
+        shared: false,
+        ty: AbstractHeapType::Func,
+    };
+
+    /// `extern`, which is not shared.
+    pub const EXTERN: HeapType = HeapType::Abstract {
+        shared: false,
+        ty: AbstractHeapType::Extern,
+    };
+
+    /// `exn`, which is not shared.
+    pub const EXN: HeapType = HeapType::Abstract {
+        shared: false,
+        ty: AbstractHeapType::Exn,
+    };
+
+    /// `noexn`, which is not shared.
+    pub const NO_EXN: HeapType = HeapType::Abstract {
+        shared: false,
+        ty: AbstractHeapType::NoExn,
+    };
+
+    /// `any`, which is not shared.
+    pub const ANY: HeapType = HeapType::Abstract {
+        shared: false,
+        ty: AbstractHeapType::Any,
+    };
+
+    /// `eq`, which is not shared.
+    pub const EQ: HeapType = HeapType::Abstract {
+        shared: false,
+        ty: AbstractHeapType::Eq,
+    };
+
+    /// `struct`, which is not shared.
+    pub const STRUCT: HeapType = HeapType::Abstract {
+        shared: false,
+        ty: AbstractHeapType::Struct,
+    };
+
+    /// `array`, which is not shared.
+    pub const ARRAY: HeapType = HeapType::Abstract {
+        shared: false,
+        ty: AbstractHeapType::Array,
+    };
+
+    /// `nofunc`, which is not shared.
+    pub const NO_FUNC: HeapType = HeapType::Abstract {
+        shared: false,
+        ty: AbstractHeapType::NoFunc,
+    };
+
+    /// `noextern`, which is not shared.
+    pub const NO_EXTERN: HeapType = HeapType::Abstract {
+        shared: false,
+        ty: AbstractHeapType::NoExtern,
+    };
+
+    /// `none`, which is not shared.
+    pub const NONE: HeapType = HeapType::Abstract {
+        shared: false,
+        ty: AbstractHeapType::None,
+    };
+
+    /// `i31`, which is not shared.
+    pub const I31: HeapType = HeapType::Abstract {
+        shared: false,
+        ty: AbstractHeapType::I31,
+    };
+
     /// Whether the encoder covers it: it is not shared, not exact, and none of continuations.
     pub fn is_covered(&self) -> bool
         ensures { result ≡ is_covered_heap_type self.now }
@@ -114,7 +186,8 @@ impl Encode for HeapType {
     }
 }
 
-/// A reference type (binary format, reference types).
+/// A reference type (binary format, reference types). Those that have a word of their own in the text format, all nullable,
+/// are constants of that word.
 #[derive(Clone, Copy, Debug, PartialEq, Eq, Hash)]
 pub struct RefType {
     /// Whether a reference may be null.
@@ -124,6 +197,78 @@ pub struct RefType {
 }
 
 impl RefType {
+    /// `funcref`
+    pub const FUNCREF: RefType = RefType {
+        nullable: true,
+        heap_type: HeapType::FUNC,
+    };
+
+    /// `externref`
+    pub const EXTERNREF: RefType = RefType {
+        nullable: true,
+        heap_type: HeapType::EXTERN,
+    };
+
+    /// `exnref`
+    pub const EXNREF: RefType = RefType {
+        nullable: true,
+        heap_type: HeapType::EXN,
+    };
+
+    /// `nullexnref`
+    pub const NULLEXNREF: RefType = RefType {
+        nullable: true,
+        heap_type: HeapType::NO_EXN,
+    };
+
+    /// `anyref`
+    pub const ANYREF: RefType = RefType {
+        nullable: true,
+        heap_type: HeapType::ANY,
+    };
+
+    /// `eqref`
+    pub const EQREF: RefType = RefType {
+        nullable: true,
+        heap_type: HeapType::EQ,
+    };
+
+    /// `structref`
+    pub const STRUCTREF: RefType = RefType {
+        nullable: true,
+        heap_type: HeapType::STRUCT,
+    };
+
+    /// `arrayref`
+    pub const ARRAYREF: RefType = RefType {
+        nullable: true,
+        heap_type: HeapType::ARRAY,
+    };
+
+    /// `nullfuncref`
+    pub const NULLFUNCREF: RefType = RefType {
+        nullable: true,
+        heap_type: HeapType::NO_FUNC,
+    };
+
+    /// `nullexternref`
+    pub const NULLEXTERNREF: RefType = RefType {
+        nullable: true,
+        heap_type: HeapType::NO_EXTERN,
+    };
+
+    /// `nullref`
+    pub const NULLREF: RefType = RefType {
+        nullable: true,
+        heap_type: HeapType::NONE,
+    };
+
+    /// `i31ref`
+    pub const I31REF: RefType = RefType {
+        nullable: true,
+        heap_type: HeapType::I31,
+    };
+
     /// Whether the encoder covers it: it covers its heap type.
     pub fn is_covered(&self) -> bool
         ensures { result ≡ is_covered_ref_type self.now }
@@ -150,3 +295,19 @@ impl Encode for RefType {
         (0x63u8, self.heap_type).encode(out)
     }
 }
+
+/// The bytes of the reference types that are constants (binary format, reference types).
+pub(crate) fn constant_ref_types()
+    ensures func { ref_type RefType.FUNCREF ≡ 0x70 ∷ [] }
+    ensures extern_ { ref_type RefType.EXTERNREF ≡ 0x6f ∷ [] }
+    ensures exn { ref_type RefType.EXNREF ≡ 0x63 ∷ 0x69 ∷ [] }
+    ensures no_exn { ref_type RefType.NULLEXNREF ≡ 0x63 ∷ 0x74 ∷ [] }
+    ensures any { ref_type RefType.ANYREF ≡ 0x63 ∷ 0x6e ∷ [] }
+    ensures eq { ref_type RefType.EQREF ≡ 0x63 ∷ 0x6d ∷ [] }
+    ensures struct_ { ref_type RefType.STRUCTREF ≡ 0x63 ∷ 0x6b ∷ [] }
+    ensures array { ref_type RefType.ARRAYREF ≡ 0x63 ∷ 0x6a ∷ [] }
+    ensures no_func { ref_type RefType.NULLFUNCREF ≡ 0x63 ∷ 0x73 ∷ [] }
+    ensures no_extern { ref_type RefType.NULLEXTERNREF ≡ 0x63 ∷ 0x72 ∷ [] }
+    ensures none { ref_type RefType.NULLREF ≡ 0x63 ∷ 0x71 ∷ [] }
+    ensures i31 { ref_type RefType.I31REF ≡ 0x63 ∷ 0x6c ∷ [] }
+{}

@@ -1,6 +1,6 @@
 //! Types of the binary format, and the kinds of what a module exports.
 
-ghost use Rattle.std.specs.Prelude.{◌≡◌, true, false};
+ghost use Rattle.std.specs.Prelude.{◌≡◌, true, false, [], ◌∷◌};
 ghost use Rattle.std.specs.List.{list_all};
 ghost use Rattle.wasm_ops.specs.Covered.{is_covered_val_type, is_covered_storage_type, is_covered_field_type, is_covered_func_type, is_covered_struct_type, is_covered_array_type, is_covered_composite_inner_type, is_covered_composite_type, is_covered_sub_type};
 ghost use Rattle.wasm_ops.specs.Spelling.{Any, val_type, InRangeValType, storage_type, InRangeStorageType, field_type, InRangeFieldType, export_kind, func_type, InRangeFuncType, struct_type, InRangeStructType, array_type, InRangeArrayType, composite_inner_type, InRangeCompositeInnerType, composite_type, InRangeCompositeType, sub_type, InRangeSubType};
@@ -28,6 +28,12 @@ pub enum ValType {
 }
 
 impl ValType {
+    /// `funcref`
+    pub const FUNCREF: ValType = ValType::Ref(RefType::FUNCREF);
+
+    /// `externref`
+    pub const EXTERNREF: ValType = ValType::Ref(RefType::EXTERNREF);
+
     /// Whether the encoder covers it: it is a number, a vector, or a reference whose heap type it covers.
     pub fn is_covered(&self) -> bool
         ensures { result ≡ is_covered_val_type self.now }
@@ -59,6 +65,12 @@ impl Encode for ValType {
     }
 }
 
+/// The bytes of the value types that are constants (binary format, value types).
+pub(crate) fn constant_val_types()
+    ensures func { val_type ValType.FUNCREF ≡ 0x70 ∷ [] }
+    ensures extern_ { val_type ValType.EXTERNREF ≡ 0x6f ∷ [] }
+{}
+
 /// What a field of a struct or an element of an array is stored as (binary format, composite types).
 #[derive(Clone, Copy, Debug, PartialEq, Eq, Hash)]
 pub enum StorageType {
@@ -80,6 +92,17 @@ impl StorageType {
             StorageType::I16 => true,
             StorageType::Val(ty) => ty.is_covered(),
         }
+    }
+}
+
+/// What is stored as a value type, and not packed.
+impl From<ValType> for StorageType {
+    ghost use Rattle.wasm_ops.specs.declared.types.StorageType.TheVariants.{Val};
+
+    ghost from_gives = { λ ty storage. storage ≡ Val ty };
+
+    fn from(ty: ValType) -> Self {
+        StorageType::Val(ty)
     }
 }
 

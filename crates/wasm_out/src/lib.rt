@@ -8,7 +8,7 @@ mod data_segments;
 mod elements;
 mod entity_sections;
 mod hints;
-mod laws;
+pub mod laws;
 mod locals;
 mod modules;
 mod names;
