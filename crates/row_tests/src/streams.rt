@@ -147,6 +147,17 @@ fn is_told(
     is_made
 }
 
+/// Each call of the kind fails in turn, up to a run that makes no more of them.
+fn fail_in_turn(rt: &impl Abort, alloc: Global, failing: Failing, piece: usize) {
+    for fails_at in 0..MOST {
+        if !is_told(rt, alloc, failing, piece, fails_at) {
+            assert!(rt; fails_at > 0);
+            return;
+        }
+    }
+    assert!(rt; false, "a run makes more calls");
+}
+
 #[test]
 fn each_call_on_a_stream_fails_once(rt: HostRuntime) {
     for failing in [
@@ -158,11 +169,7 @@ fn each_call_on_a_stream_fails_once(rt: HostRuntime) {
         Failing::Flush(ErrorKind::Other),
     ] {
         for piece in [1, 2, 3, 50, 4096] {
-            let mut made = 0;
-            while made < MOST && is_told(&rt, rt.alloc(), failing, piece, made) {
-                made += 1;
-            }
-            assert!(rt; made > 0 && made < MOST);
+            fail_in_turn(&rt, rt.alloc(), failing, piece);
         }
     }
 }
