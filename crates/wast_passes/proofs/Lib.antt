@@ -10,6 +10,7 @@ pub mod Each
 pub mod FieldClashes
 pub mod FoundClashes
 pub mod Functions
+pub mod Guessing
 pub mod Moving
 pub mod NoNames
 pub mod Parts

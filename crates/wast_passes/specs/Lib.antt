@@ -1,5 +1,6 @@
 pub mod Clashes
 pub mod Gathers
+pub mod Guesses
 pub mod Laws
 pub mod Locals
 pub mod LookUps

@@ -6,6 +6,7 @@ mod clashes;
 mod constants;
 mod core_types;
 mod gathers;
+mod guesses;
 mod imports;
 mod instrs;
 mod laws;

@@ -8,16 +8,16 @@ ghost use Rattle.wast_base.specs.Outcomes.{Outcome};
 ghost use Rattle.wast_demands.specs.Resolved.{numbered};
 ghost use Rattle.wast_passes.specs.Locals.{local_in, AreFew};
 
+use crate::guesses::GuessedNames;
 use std::alloc::Global;
 use std::marker::Model;
 use wast_base::{Error, Fault, Id, Index};
-use wast_namespace::Namespace;
 
 /// The names of the parameters and locals of a function, and what they denote (text format, indices: locals).
 #[derive(Drop)]
 pub(crate) struct LocalNames<'a> {
     // by their positions among the parameters and locals that can have names
-    space: Namespace<'a>,
+    space: GuessedNames<'a>,
     // how many stand before those, of which no name is written
     nameless: u32,
 }
@@ -42,13 +42,13 @@ impl<'a> LocalNames<'a> {
         ensures { result ≡ record { space = empty_from 0; nameless = 0 } }
     {
         LocalNames {
-            space: Namespace::new(alloc),
+            space: GuessedNames::new(alloc),
             nameless: 0,
         }
     }
 
     /// These names, behind parameters of which no name is written.
-    pub(crate) fn behind(nameless: u32, space: Namespace<'a>) -> Self
+    pub(crate) fn behind(nameless: u32, space: GuessedNames<'a>) -> Self
         requires { AreFew (record { space = space; nameless = nameless }) }
         ensures { result ≡ record { space = space.entry; nameless = nameless } }
     {

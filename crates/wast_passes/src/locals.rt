@@ -12,11 +12,12 @@ ghost use Rattle.wast_passes.specs.Gathers.{Stops, Gathers};
 ghost use Rattle.wast_passes.specs.Locals.{params_in, opening, marks_of, names as names_of, NumbersFrom, NumbersIn, locals_in, NamesLocals};
 
 use crate::gathers::{count_ids, gather_each, have_ids};
+use crate::guesses::{GuessedNames, filled};
 use crate::local_names::LocalNames;
 use crate::resolver::Resolver;
 use std::alloc::Global;
 use wast_base::{Error, Fault, Id, NameAnnotation};
-use wast_namespace::{Gathering, Namespace};
+use wast_namespace::Gathering;
 use wast_nodes::{FuncKind, FunctionType, Local, TypeUse, ValType};
 
 /// A parameter: its id, its name annotation and its type.
@@ -58,17 +59,17 @@ fn try_names<'a>(
     alloc: Global,
     params: &[Param<'a>],
     locals: &[Local<'a>],
-) -> Result<Result<Namespace<'a>, u32>, Error<'a>>
+) -> Result<Result<GuessedNames<'a>, u32>, Error<'a>>
     requires { length (marks_of params.now locals.now) < 2 ^ 32 }
     ensures found { IfOk result (FillsSpace (names_of (marks_of params.now locals.now))) }
     ensures stops { IfErr result (λ e. Stops (told e) 0 (length (marks_of params.now locals.now))) }
 {
     if !have_ids(params) && !have_ids(locals) {
         let count = params.len() + locals.len();
-        return Ok(Ok(Namespace::with_count(alloc, count as u32)));
+        return Ok(Ok(GuessedNames::with_count(alloc, count as u32)));
     }
     let gathering = gather_locals(alloc, params, locals)?;
-    Ok(gathering.filled(alloc)?)
+    Ok(filled(gathering, alloc)?)
 }
 
 /// Whether there are 2^32 parameters and locals or more, with those of which no name is written.

@@ -16,11 +16,11 @@ ghost use Rattle.wast_base.specs.Outcomes.{Outcome};
 ghost use Rattle.wast_passes.specs.Resolvers.{space_of, space_in, known_of, scope_of, read_shape, without_types, with_types, IsFieldsOf};
 ghost use Rattle.wast_passes.specs.Walking.{Walks};
 
+use crate::guesses::GuessedNames;
 use crate::matches::has_signature;
 use std::alloc::Global;
 use std::marker::Model;
 use wast_base::{Error, Fault, Id, Index, Space};
-use wast_namespace::Namespace;
 use wast_nodes::{FunctionType, StructAccess, TypeUse};
 use wast_types::FuncKey;
 
@@ -62,7 +62,7 @@ impl Ns {
 #[derive(Drop)]
 pub(crate) struct TypeShape<'a> {
     signature: Option<FuncKey<'a>>,
-    fields: Option<Namespace<'a>>,
+    fields: Option<GuessedNames<'a>>,
 }
 
 impl<'a> TypeShape<'a> {
@@ -87,7 +87,7 @@ impl<'a> TypeShape<'a> {
     }
 
     /// The names of the fields, if it is of a struct type with a named field.
-    fn fields(&self) -> Option<&Namespace<'a>>
+    fn fields(&self) -> Option<&GuessedNames<'a>>
         ensures { IsFieldsOf (Some (read_shape self.now)) (option_map (λ names. names.now) result) }
     {
         match &self.signature {
@@ -97,7 +97,7 @@ impl<'a> TypeShape<'a> {
     }
 
     /// Of a struct type whose fields have these names.
-    pub(crate) fn of_struct(names: Namespace<'a>) -> Self
+    pub(crate) fn of_struct(names: GuessedNames<'a>) -> Self
         ensures { read_shape result ≡ Struct (λ name. number_in names.entry name) }
     {
         TypeShape {
@@ -110,7 +110,7 @@ impl<'a> TypeShape<'a> {
 /// What the ids of a module denote in each space, and its types (text format, indices and types).
 #[derive(Drop)]
 pub struct Resolver<'a> {
-    spaces: Vec<Namespace<'a>>,
+    spaces: Vec<GuessedNames<'a>>,
     // by their positions
     types: Vec<TypeShape<'a>>,
 }
@@ -129,7 +129,7 @@ impl<'a> Model for Resolver<'a> {
 
 impl<'a> Resolver<'a> {
     /// These name spaces, by their ranks, and no types. It takes no memory.
-    pub fn new(alloc: Global, spaces: Vec<Namespace<'a>>) -> Self
+    pub fn new(alloc: Global, spaces: Vec<GuessedNames<'a>>) -> Self
         ensures { result ≡ without_types spaces.entry.items }
     {
         Resolver {
@@ -261,7 +261,7 @@ impl<'a> Resolver<'a> {
     }
 
     /// The names of the fields of the struct type of this number, if it is one with a named field.
-    fn fields_of(&self, owner: u32) -> Option<&Namespace<'a>>
+    fn fields_of(&self, owner: u32) -> Option<&GuessedNames<'a>>
         ensures { IsFieldsOf (type_at (scope_of self.now).types (Some owner)) (option_map (λ names. names.now) result) }
     {
         match self.types.get(owner as usize) {

@@ -11,23 +11,23 @@ ghost use Rattle.wast_demands.specs.Scopes.{Function, struct_shape, shape_of, sh
 ghost use Rattle.wast_passes.specs.Shaping.{NamesFields, type_demands, types_demands, type_fields, types_fields, IsRefused};
 
 use crate::gathers::{gather_fields, have_ids};
+use crate::guesses::{GuessedNames, filled};
 use crate::resolver::TypeShape;
 use std::alloc::Global;
 use std::slice;
 use wast_base::Error;
-use wast_namespace::Namespace;
 use wast_nodes::{FunctionType, InnerTypeKind, ModuleField, StructField, Type};
 use wast_types::TypeReference;
 
 /// What the ids of the fields of a struct denote; no two are the same.
 ///
 /// It takes memory for the ids. Where it is refused, that is E12; where there are 2^32 fields or more, E10.
-fn field_names<'a>(alloc: Global, fields: &[StructField<'a>]) -> Result<Namespace<'a>, Error<'a>>
+fn field_names<'a>(alloc: Global, fields: &[StructField<'a>]) -> Result<GuessedNames<'a>, Error<'a>>
     requires { first_unmet (field_demands (field_ids fields.now)) ≡ None }
     ensures names { IfOk result (NamesFields (field_ids fields.now)) }
     ensures refusal { IfErr result (IsRefused (2 ^ 32 ≤ length (field_ids fields.now))) }
 {
-    match gather_fields(alloc, fields)?.filled(alloc)? {
+    match filled(gather_fields(alloc, fields)?, alloc)? {
         Ok(names) => Ok(names),
         Err(_) => unreachable!(),
     }

@@ -12,25 +12,26 @@ ghost use Rattle.wast_namespace.specs.Filling.{IsTried};
 
 use crate::clashes::first_clash;
 use crate::gathers::gather;
+use crate::guesses::{GuessedNames, filled};
 use crate::resolver::Resolver;
 use std::alloc::Global;
 use wast_base::Error;
-use wast_namespace::{Gathering, Namespace};
+use wast_namespace::Gathering;
 use wast_nodes::ModuleField;
 
 /// The name space of a space and no clash, or the position of the first item whose id an earlier one bears.
 fn try_space<'a>(
     alloc: Global,
     gathered: Result<Gathering<'a>, Error<'a>>,
-) -> Result<(Namespace<'a>, Option<u32>), Error<'a>>
+) -> Result<(GuessedNames<'a>, Option<u32>), Error<'a>>
     ensures tried { (names : List (Maybe Name)) → Gathers (Ok []) names gathered.entry →
         IfOk result (λ r. IsTried names r.0 r.1) }
     ensures stops { (names : List (Maybe Name)) → Gathers (Ok []) names gathered.entry →
         IfErr result (λ e. Stops (told e) 0 (length names)) }
 {
-    match gathered?.filled(alloc)? {
+    match filled(gathered?, alloc)? {
         Ok(names) => Ok((names, None)),
-        Err(clash) => Ok((Namespace::new(alloc), Some(clash))),
+        Err(clash) => Ok((GuessedNames::new(alloc), Some(clash))),
     }
 }
 
