@@ -49,7 +49,10 @@ def joined(lines):
 
 
 def signature(lines, start, indent):
-    """What a function takes and gives, and the number of the line behind it."""
+    """What a function takes and gives, and the number of the line behind it; of a constant its value too, if it fits the line."""
+    value = re.match(r" *(pub(?:\([a-z]+\))? )?const \w+: [^=]+? = .*[{]$", lines[start])
+    if value:
+        return joined([lines[start].partition(" = ")[0]]), start + 1
     taken = []
     for number in range(start, len(lines)):
         line = lines[number]
