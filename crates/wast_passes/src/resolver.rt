@@ -1,6 +1,6 @@
 //! The name spaces of a module.
 
-ghost use Rattle.std.specs.Prelude.{◌≡◌, Some, option_map, IfOk, IfErr};
+ghost use Rattle.std.specs.Prelude.{◌≡◌, Some, [], option_map, IfOk, IfErr};
 ghost use Rattle.wast_base.specs.Ids.{name_of};
 ghost use Rattle.wast_passes.specs.LookUps.{IsSettledFor, AnswersFor};
 ghost use Rattle.wast_demands.specs.Resolved.{numbered, numbered_at, numbering};
@@ -128,8 +128,15 @@ impl<'a> Model for Resolver<'a> {
 }
 
 impl<'a> Resolver<'a> {
+    /// No names and no types. It takes no memory.
+    pub fn empty(alloc: Global) -> Self
+        ensures { result ≡ without_types [] }
+    {
+        Resolver::new(alloc, Vec::new(alloc))
+    }
+
     /// These name spaces, by their ranks, and no types. It takes no memory.
-    pub fn new(alloc: Global, spaces: Vec<GuessedNames<'a>>) -> Self
+    pub(crate) fn new(alloc: Global, spaces: Vec<GuessedNames<'a>>) -> Self
         ensures { result ≡ without_types spaces.entry.items }
     {
         Resolver {

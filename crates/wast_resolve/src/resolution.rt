@@ -47,7 +47,7 @@ impl<'a> Names<'a> {
         ensures value { result ≡ no_names }
     {
         Names {
-            resolver: Resolver::new(alloc, Vec::new(alloc)),
+            resolver: Resolver::empty(alloc),
         }
     }
 
