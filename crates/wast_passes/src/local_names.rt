@@ -11,7 +11,7 @@ ghost use Rattle.wast_passes.specs.Locals.{local_in, AreFew};
 use crate::guesses::GuessedNames;
 use std::alloc::Global;
 use std::marker::Model;
-use wast_base::{Error, Fault, Id, Index};
+use wast_base::{Error, Id, Index, Numbering, number_index};
 
 /// The names of the parameters and locals of a function, and what they denote (text format, indices: locals).
 #[derive(Drop)]
@@ -71,14 +71,15 @@ impl<'a> LocalNames<'a> {
         ensures answer { Outcome ⊥ ⊥ (first_unmet (known_index (local_in self.now) (codes "local") idx.old)) result }
         ensures index { idx.new ≡ numbered (local_in self.now) idx.old }
     {
-        let id = match *idx {
-            Index::Num(_, _) => return Ok(()),
-            Index::Id(id) => id,
-        };
-        let Some(number) = self.find(&id) else {
-            return Err(Error::new(id.span(), Fault::Unknown("local", id.name())));
-        };
-        *idx = Index::Num(number, id.span());
+        number_index(self, idx, "local")?;
         Ok(())
+    }
+}
+
+impl<'a> Numbering<'a> for LocalNames<'a> {
+    ghost numbers = { local_in };
+
+    fn number_of(&self, id: &Id<'a>) -> Option<u32> {
+        self.find(id)
     }
 }
