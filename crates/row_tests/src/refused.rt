@@ -3,8 +3,7 @@
 //! refused that the call makes, in each row at once. It knows the call by a request for `BEGIN` bytes that stands before it
 //! and one for `END` bytes behind it.
 
-ghost use Rattle.std.specs.Prelude.{◌<◌, IsTrue};
-ghost use Rattle.wast_core.specs.Modules.{is_well_formed, generation_bound};
+ghost use Rattle.wast_core.specs.Modules.{IsReady};
 
 use crate::made::{module, row};
 use std::alloc::Global;
@@ -177,10 +176,8 @@ fn refusal<'a>(
     gensym: &mut Gensym,
     begin: usize,
 ) -> Option<Error<'a>>
-    requires well_formed { IsTrue (is_well_formed «module».old) }
-    requires above { generation_bound «module».old < gensym.old }
-    ensures well_formed { IsTrue (is_well_formed «module».new) }
-    ensures above { generation_bound «module».new < gensym.new }
+    requires { IsReady «module».old gensym.old }
+    ensures { IsReady «module».new gensym.new }
 {
     mark(rt, alloc, begin);
     let answer = module.resolve(alloc, gensym);
