@@ -1,4 +1,4 @@
-//! Tests of `wast_conv`, `wast_core`, `wast_resolve` and `wast_rows`, as their callers use them: each call that takes memory
+//! Tests of `wast_core`, `wast_resolve` and `wast_rows`, as their callers use them: each call that takes memory
 //! has its answer where there is enough, and runs on streams that fail end as they are told to.
 #![tactic(auto)]
 
@@ -17,19 +17,11 @@ mod by_hand;
 #[cfg(test)]
 mod control;
 #[cfg(test)]
-mod conversions;
-#[cfg(test)]
-mod customs;
-#[cfg(test)]
 mod forms;
-#[cfg(test)]
-mod hints;
 #[cfg(test)]
 mod holders;
 #[cfg(test)]
 mod immediates;
-#[cfg(test)]
-mod items;
 #[cfg(test)]
 mod lines;
 #[cfg(test)]

@@ -1,7 +1,6 @@
 //! Branch hints: which stand on the instructions of their body, and the section that they are written into.
 
-use crate::customs::{HEAD, LAST, Word, behind, first_type, has_bytes, line};
-use crate::made::at;
+use crate::customs::{HEAD, LAST, Word, at, behind, first_type, has_bytes, line};
 use std::alloc::Global;
 use std::process::Abort;
 use wast_tree::{

@@ -3,18 +3,21 @@
 ghost use Rattle.std.specs.Prelude.{IsTrue};
 ghost use Rattle.wast_conv.specs.Encodable.{is_encodable_type, is_encodable_type_use, is_encodable_import, is_encodable_table, is_encodable_memory, is_encodable_global, is_encodable_tag, is_encodable_elem, is_encodable_data};
 
-use crate::made::at;
 use std::alloc::Global;
 use std::process::Abort;
 use wasm_out::{Build, Section};
-use wast_core::{FuncSectionTy, RecOrType, SectionItem};
+use wast_conv::{FuncSectionTy, RecOrType, SectionItem};
 use wast_tree::{
     Data, DataKind, Elem, ElemKind, ElemPayload, Export, ExportKind, Expression, FunctionType,
     GlobalKind, GlobalType, ImportItems, Imports, Index, InlineExport, InnerTypeKind, ItemKind,
-    ItemSig, Limits, Memory, MemoryKind, MemoryType, ModuleField, Rec, RefType, Seq, Table,
+    ItemSig, Limits, Memory, MemoryKind, MemoryType, ModuleField, Rec, RefType, Seq, Span, Table,
     TableKind, TableType, Tag, TagKind, TagType, Type, TypeDef, TypeUse, ValType, discard_field,
     discard_type_use,
 };
+
+pub(crate) fn at(offset: usize) -> Span {
+    Span { offset }
+}
 
 /// The item has these bytes behind a count of 1 as the payload of a section, and alone in a vector.
 pub(crate) fn has_bytes<I: SectionItem>(rt: &impl Abort, alloc: Global, item: &I, bytes: &[u8])

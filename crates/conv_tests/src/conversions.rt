@@ -3,10 +3,10 @@
 ghost use Rattle.std.specs.Prelude.{◌≡◌, IsTrue, IfOk};
 ghost use Rattle.wast_conv.specs.Encodable.{is_encodable_expression};
 
-use crate::made::at;
+use crate::items::at;
 use std::alloc::Global;
 use wasm_ops::Encode;
-use wast_core::conv;
+use wast_conv::conv;
 use wast_tree::{
     Error, Expression, FunctionType, InnerTypeKind, Instruction, Seq, StorageType, StructField,
     StructType, Type, TypeDef, discard_expression, discard_type,

@@ -4,8 +4,6 @@ ghost use Rattle.std.specs.Prelude.{IsTrue};
 ghost use Rattle.wast_conv.specs.Customs.{is_encodable_subsection};
 
 use crate::hints::{Hinted, hinted_func, hinted_global};
-use crate::made::{at, module};
-use crate::parts::{func, zero};
 use std::alloc::Global;
 use std::process::Abort;
 use wast_core::{Encode, FuncSectionTy, Module, ModuleKind, RecOrType, SectionItem};
@@ -13,10 +11,19 @@ use wast_rows::run;
 use wast_tree::{
     BranchHint, Custom, CustomPlace, CustomPlaceAnchor, Data, DataKind, Dylink0, Dylink0Subsection,
     Elem, ElemKind, ElemPayload, Error, Export, ExportKind, Func, FunctionType, GlobalType, Id,
-    Imports, InlineExport, InnerTypeKind, Instruction, ItemKind, ItemSig, Limits, Maker, Memory,
-    MemoryType, ModuleField, Producers, RawCustomSection, RefType, Seq, Table, TableType, Tag,
-    TagKind, TagType, Type, TypeDef, TypeUse, ValType,
+    Imports, Index, InlineExport, InnerTypeKind, Instruction, ItemKind, ItemSig, Limits, Maker,
+    Memory, MemoryType, ModuleField, Producers, RawCustomSection, RefType, Seq, Span, Table,
+    TableType, Tag, TagKind, TagType, Type, TypeDef, TypeUse, ValType,
 };
+
+pub(crate) fn at(offset: usize) -> Span {
+    Span { offset }
+}
+
+/// The number 0 as an index.
+fn zero<'a>() -> Index<'a> {
+    Index::Num(0, at(0))
+}
 
 /// The first eight bytes of a module.
 pub(crate) const HEAD: &str = "0061736d01000000";
@@ -179,7 +186,10 @@ fn field<'a>(alloc: Global, maker: &mut Maker, word: Word<'a>) -> ModuleField<'a
         Word::ImportedMemory => { import(ItemKind::Memory(MemoryType::new(Limits::new(0, None)))) }
         Word::Hinted(body) => hinted_func(alloc, maker, body),
         Word::HintedGlobal(hints) => hinted_global(alloc, maker, hints),
-        Word::Func => func(alloc, first_type(), Seq::new(alloc), Seq::new(alloc)),
+        Word::Func => {
+            let none = Seq::new(alloc);
+            ModuleField::Func(Func::new(alloc, at(9), None, first_type(), none, Seq::new(alloc)))
+        }
         Word::Named => {
             let f = Some(Id::new("f", at(9)));
             let none = Seq::new(alloc);
@@ -223,7 +233,12 @@ fn made<'a>(alloc: Global, words: &[Word<'a>]) -> Result<Module<'a>, Error<'a>> 
         maker.push_field(&mut fields, field);
     }
     let fields = maker.finish(fields)?;
-    Ok(module(ModuleKind::Text(fields)))
+    Ok(Module {
+        span: at(1),
+        id: None,
+        name: None,
+        kind: ModuleKind::Text(fields),
+    })
 }
 
 /// The line that answers the module of some words.
