@@ -30,6 +30,7 @@ use Rattle.wast_alike.proofs.Bodies.{IsOuter, all_outer}
 use Rattle.wast_alike.proofs.OwnLocals.{outer, outer_use}
 use Rattle.wast_alike.proofs.ImpliedSignatures.{both_so, all_pass, all_parts}
 use Rattle.wast_alike.proofs.Standing.{numbered_in, asked_passes}
+use Rattle.wast_demands.proofs.Numbering.{numbering_keeps}
 use Rattle.wast_demands.proofs.Unmet.{met_parts}
 
 -- an index whose demand is met becomes a number
@@ -156,7 +157,7 @@ module _ (c : Scope) where
         all_parts is_under (numbered_in c) ss ∙ all_pass (λ s. list_all is_under (asked_in s)) (λ s. list_all is_under (numbered_in c s)) site_under ss (sym (all_parts is_under asked_in ss) ∙ h)
 
   pub items_stay : (fields : List ModuleField) → items (map (mapped (numbering c)) fields) ≡ items fields
-  items_stay fields = items_alone (numbering c) (λ o. refl) fields
+  items_stay fields = items_alone (numbering c) (λ o. refl) (numbering_keeps c) fields
 
   module _ (l : Known) where
     kept_ask : (a : Ask) → is_kept c.known a ≡ true → is_numbered (numbered_ask a) ≡ true → is_kept l (numbered_ask a) ≡ true

@@ -11,6 +11,7 @@ use Rattle.wast_types.specs.ImpliedTypes.{implied}
 use Rattle.wast_types.specs.Expanders.{LookUp}
 use Rattle.wast_types.specs.Expanded.{lacks_id, with_type_id, unnamed_type, implied_types, typed, bound_if, bound_index, bound_inline, bound_use, binding, bound_field}
 use Rattle.wast_types.specs.Completed.{completed}
+use Rattle.wast_types.proofs.Staying.{binding_keeps}
 use Rattle.wast_alike.specs.Tree.{Index, FunctionType, TypeUse, ModuleField}
 use Rattle.wast_alike.specs.Tree.space
 use Rattle.wast_alike.specs.Tree.field
@@ -66,7 +67,7 @@ module _ {M : Type 0} (find : LookUp) (measure : List Ask → M) (each : (a : As
   sites_measure (s ∷ ss) = site_measure s (asked (map (mapped_site (binding find)) ss)) (asked ss) (sites_measure ss)
 
   pub bound_measure : (xs : List ModuleField) → measure (asked (in_module (map (bound_field find) xs))) ≡ measure (asked (in_module xs))
-  bound_measure xs = ap (λ ss. measure (asked ss)) (stands (binding find) (λ u. refl) xs) ∙ sites_measure (in_module xs)
+  bound_measure xs = ap (λ ss. measure (asked ss)) (stands (binding find) (binding_keeps find) xs) ∙ sites_measure (in_module xs)
 
 -- Ids ask nothing.
 named_asks : (b : Bool) (n : ℕ) (x : ModuleField) → in_field (given_if b with_type_id n x) ≡ in_field x

@@ -7,10 +7,12 @@ use Rattle.wast_nodes.specs.Items.{items}
 use Rattle.wast_nodes.specs.Sites.{Site, OfItem, param_marks, in_field}
 use Rattle.wast_map.specs.Mapped.{Change, KeepsMarks, mapped_site, mapped_func_kind, mapped}
 use Rattle.wast_map.proofs.Fields.{field_at}
+use Rattle.wast_map.proofs.Kept.{stands_at}
 use Rattle.wast_types.specs.Signatures.{empty_signature, same_signature}
 use Rattle.wast_types.specs.Expanders.{LookUp, index_of}
 use Rattle.wast_types.specs.Expanded.{with_type_id, typed, bindings, bound_index, binding, bound_field, expanded}
 use Rattle.wast_types.specs.Completed.{completed}
+use Rattle.wast_types.proofs.Staying.{binding_keeps}
 use Rattle.wast_alike.specs.Tree.{ValType, Index, FunctionType, ModuleField}
 use Rattle.wast_alike.specs.Tree.space
 use Rattle.wast_alike.specs.Tree.field
@@ -29,7 +31,7 @@ all_open f [] = refl
 all_open f (s ∷ ss) = ap (λ ns. ns ++ open_counts (map (mapped_site f) ss)) (one_open f s) ∙ ap (λ ns. open_counts_at s ++ ns) (all_open f ss)
 
 pub still_open : (f : Change) → KeepsMarks f → (x : ModuleField) → open_counts (in_field (mapped f x)) ≡ open_counts (in_field x)
-still_open f keeps x = ap open_counts ((field_at x).stands f keeps) ∙ all_open f (in_field x)
+still_open f keeps x = ap open_counts (stands_at x (field_at x) f keeps) ∙ all_open f (in_field x)
 
 -- A type that has the empty signature has no parameters.
 no_params : (vs : List ValType) (rs : List ValType) → same_signature empty_signature (vs, rs) ≡ true → length vs ≡ 0
@@ -62,9 +64,9 @@ module _ (n : ℕ) (fields : List ModuleField) (free : first_unmet (item_demands
       let x : ModuleField = bound_field find (field.Func f) in
       let now : ℕ = length (declared f.ty.inline (mapped_func_kind (binding find) f.ty f.kind)) in
       ap (λ m. (m + now) ∷ open_counts (in_field x)) (bound_unsaid f.ty.index f.ty.inline)
-      ∙ (ap (λ ms. (unsaid_params new f.ty.index f.ty.inline + length (param_marks f.ty.inline ++ ms)) ∷ open_counts (in_field x)) (kind_declared (binding find) f.ty f.kind)
-      ∙ ap (λ ns. (unsaid_params new f.ty.index f.ty.inline + length (declared f.ty.inline f.kind)) ∷ ns) (still_open (binding find) (λ u. refl) (field.Func f)))
-  bound_body x = still_open (binding find) (λ u. refl) x
+      ∙ (ap (λ ms. (unsaid_params new f.ty.index f.ty.inline + length (param_marks f.ty.inline ++ ms)) ∷ open_counts (in_field x)) (kind_declared (binding find) (binding_keeps find) f.ty f.kind)
+      ∙ ap (λ ns. (unsaid_params new f.ty.index f.ty.inline + length (declared f.ty.inline f.kind)) ∷ ns) (still_open (binding find) (binding_keeps find) (field.Func f)))
+  bound_body x = still_open (binding find) (binding_keeps find) x
 
   given_body : (m : ℕ) (x : ModuleField) → body_counts_in new (with_type_id m x) ≡ body_counts_in new x
   given_body m (field.Ty t) = refl

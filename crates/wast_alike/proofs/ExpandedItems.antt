@@ -16,6 +16,7 @@ use Rattle.wast_base.specs.Filling.{one_if, given_if, filled, wanted}
 use Rattle.wast_types.specs.Expanders.{LookUp, index_of}
 use Rattle.wast_types.specs.Expanded.{lacks_id, with_type_id, start_of_text, unnamed_type, implied_types, typed, bindings, binding, bound_field, expanded, ids_wanted}
 use Rattle.wast_types.specs.Completed.{completed}
+use Rattle.wast_types.proofs.Staying.{binding_keeps}
 use Rattle.wast_alike.specs.Tree.{Id, Span, Space, StructField, ModuleField}
 use Rattle.wast_alike.specs.Tree.space
 use Rattle.wast_alike.specs.Tree.ty
@@ -92,7 +93,7 @@ pub typed_items : (n : ℕ) (fields : List ModuleField) → items (typed n field
 typed_items n fields = new_fields n fields (implied fields)
 
 pub bound_items : (find : LookUp) (xs : List ModuleField) → items (map (bound_field find) xs) ≡ items xs
-bound_items find xs = items_alone (binding find) (λ o. refl) xs
+bound_items find xs = items_alone (binding find) (λ o. refl) (binding_keeps find) xs
 
 pub new_items : (n : ℕ) (fields : List ModuleField) → items (expanded n fields) ≡ news n (changes fields)
 new_items n fields = bound_items (index_of (bindings (typed n fields))) (typed n fields) ∙ typed_items n fields

@@ -16,6 +16,7 @@ use Rattle.wast_types.specs.NeedingUses.{inline_signature, needs_type}
 use Rattle.wast_types.specs.Expanders.{LookUp, index_of}
 use Rattle.wast_types.specs.Expanded.{typed, bindings, bound_if, bound_index, bound_inline, binding, expanded}
 use Rattle.wast_types.specs.Completed.{completed}
+use Rattle.wast_types.proofs.Staying.{binding_keeps}
 use Rattle.wast_alike.specs.Tree.{Index, Span, FunctionType, ModuleField}
 use Rattle.wast_alike.specs.Tree.space
 use Rattle.wast_demands.specs.Scopes.{Scope, scope}
@@ -108,5 +109,5 @@ module _ (n : ℕ) (fields : List ModuleField) where
 
     pub uses_met : first_unmet (site_demands new_scope (in_module (expanded n fields))) ≡ first_unmet (site_demands new_scope (in_module (completed fields)))
     uses_met =
-        ap (λ ss. first_unmet (site_demands new_scope ss)) (stands (binding find) (λ u. refl) types)
+        ap (λ ss. first_unmet (site_demands new_scope ss)) (stands (binding find) (binding_keeps find) types)
         ∙ (sites_met (in_module types) ∙ ap (λ ss. first_unmet (site_demands new_scope ss)) (typed_asks n fields))

@@ -16,7 +16,7 @@ use Rattle.wast_types.specs.Signatures.{Signature, signature_of}
 use Rattle.wast_types.specs.NeedingUses.{needed_if, needed_without, needed_by_use, needed_at, needed_in, needed}
 use Rattle.wast_types.specs.Expanders.{LookUp, index_of}
 use Rattle.wast_types.specs.Expanded.{typed, bindings, bound_index, bound_inline, binding, expanded}
-use Rattle.wast_types.proofs.Staying.{left_none, right_none}
+use Rattle.wast_types.proofs.Staying.{binding_keeps, left_none, right_none}
 use Rattle.wast_types.proofs.HavingTypes.{uses_are_bound}
 use Rattle.wast_alike.specs.Tree.{Index, FunctionType, ModuleField}
 use Rattle.wast_demands.specs.Scopes.{Scope, scope}
@@ -67,7 +67,7 @@ all_said find (s ∷ ss) = both_so (is_said (mapped_site (binding find) s)) (lis
 expanded_said : (n : ℕ) (fields : List ModuleField) → list_all is_said (in_module (expanded n fields)) ≡ true
 expanded_said n fields =
     let find : LookUp = index_of (bindings (typed n fields)) in
-    ap (list_all is_said) (stands (binding find) (λ u. refl) (typed n fields)) ∙ all_said find (in_module (typed n fields))
+    ap (list_all is_said) (stands (binding find) (binding_keeps find) (typed n fields)) ∙ all_said find (in_module (typed n fields))
 
 module _ (c : Scope) where
   short_still : (t : FunctionType) → is_short (mapped_signature (numbered_at c.known) t) ≡ is_short t

@@ -10,11 +10,13 @@ use Rattle.wast_map.specs.Mapped.{Change, same, then, mapped_signature, JoinsAsk
 use Rattle.wast_map.specs.Laws.{all_mapped}
 use Rattle.wast_map.proofs.Ways.{each_first, each_rest, option_at}
 use Rattle.wast_map.proofs.Types.{signature_at}
-use Rattle.wast_map.proofs.Laws.{twice, alike}
+use Rattle.wast_map.proofs.Laws.{twice, same_keeps, alike}
+use Rattle.wast_map.proofs.Kept.{joins_in}
 use Rattle.wast_types.specs.Signatures.{Signature}
 use Rattle.wast_types.specs.NeedingUses.{inline_signature, needs_type}
 use Rattle.wast_types.specs.Expanders.{LookUp}
 use Rattle.wast_types.specs.Expanded.{bound_if, bound_index, bound_inline, bound_use, binding}
+use Rattle.wast_types.proofs.Staying.{binding_keeps}
 use Rattle.wast_alike.specs.Tree.{Index, FunctionType, TypeUse, ModuleField}
 use Rattle.wast_alike.specs.Tree.space
 use Rattle.wast_demands.specs.Scopes.{Shape, Scope, denoted, type_at, field_in, nameless}
@@ -30,7 +32,7 @@ telling c find = then (then (binding find) (numbering c)) stripping
 
 pub one_pass : (c : Scope) (find : LookUp) (xs : List ModuleField) → all_mapped stripping (all_mapped (numbering c) (all_mapped (binding find) xs)) ≡ all_mapped (telling c find) xs
 one_pass c find xs =
-    ap (all_mapped stripping) (twice (binding find) (numbering c) (λ u. refl) xs) ∙ twice (then (binding find) (numbering c)) stripping (λ u. numbering_keeps c ((binding find).used OfItem u)) xs
+    ap (all_mapped stripping) (twice (binding find) (numbering c) (binding_keeps find) xs) ∙ twice (then (binding find) (numbering c)) stripping (record { params = λ u. (numbering_keeps c).params ((binding find).used OfItem u); owns = λ o. refl }) xs
 
 -- a local by its name, behind some parameters without names
 abbrev behind_nameless : List (Option Name) → Index → ℕ → Index
@@ -50,7 +52,7 @@ module _ (c d : Scope) where
   inline_alike : (t : Option FunctionType) → Same (if_there in_signature t) → inline_at c.known t ≡ inline_at d.known t
   inline_alike t h =
       let a = option_at signature_at t in
-      ap (inline_at c.known) (sym a.still) ∙ a.joins same (numbering c) (numbering d) (record { keeps = λ u. refl; ids = λ o. refl }) h
+      ap (inline_at c.known) (sym a.still) ∙ joins_in t a same (numbering c) (numbering d) (record { keeps = same_keeps; ids = λ o. refl; owns = λ o. refl }) h
 
   -- the inline type that a block is given has no index
   given_alike : (w : Where) (i : Option Index) (t : Option FunctionType) → inline_at c.known t ≡ inline_at d.known t → inline_at c.known (bound_inline w i t) ≡ inline_at d.known (bound_inline w i t)
@@ -125,4 +127,4 @@ module _ (c d : Scope) where
       sites_alike (s ∷ ss) h o = (site_alike s (each_first SameAsk (asked_in s) (asked ss) h) o.0, sites_alike ss (each_rest SameAsk (asked_in s) (asked ss) h) o.1)
 
       pub all_same : (xs : List ModuleField) → Same (asked (in_module xs)) → all_mapped (telling c find) xs ≡ all_mapped (telling d other) xs
-      all_same xs h = alike (telling c find) (telling d other) (λ o. refl) xs (sites_alike (in_module xs) h (all_stand SameAsk xs h))
+      all_same xs h = alike (telling c find) (telling d other) (λ o. refl) (λ o. refl) xs (sites_alike (in_module xs) h (all_stand SameAsk xs h))

@@ -6,10 +6,11 @@ use Rattle.std.specs.Cmp.{first_so}
 use Rattle.std.proofs.lemmas.List.Folds.{list_all-map}
 use Rattle.wast_nodes.specs.Sites.{Ask, Wants, Where, OfItem, OfCall, OfBlock, Site, Used, if_there, in_index, in_signature, in_type_use, asked_in, asked, in_module}
 use Rattle.wast_nodes.specs.Types.{inline_alone}
-use Rattle.wast_map.specs.Mapped.{Change, mapped_ask, mapped_site, mapped_func_kind, mapped}
+use Rattle.wast_map.specs.Mapped.{Change, KeepsMarks, mapped_ask, mapped_site, mapped_func_kind, mapped}
 use Rattle.wast_map.proofs.Ways.{index_in, both_at, option_at}
 use Rattle.wast_map.proofs.Types.{signature_at}
-use Rattle.wast_map.proofs.Fields.{marks_still}
+use Rattle.wast_map.proofs.Fields.{marks_stay}
+use Rattle.wast_map.proofs.Kept.{stands_in}
 use Rattle.wast_map.proofs.Laws.{stands}
 use Rattle.wast_alike.specs.Tree.{Index, FunctionType, TypeUse, FuncKind, ModuleField}
 use Rattle.wast_alike.specs.Tree.space
@@ -22,7 +23,7 @@ use Rattle.wast_demands.proofs.Numbering.{numbering_keeps}
 
 module _ (c : Scope) where
   pub use_stands : (u : TypeUse FunctionType) → in_type_use (numbered_use c.known u) ≡ map (mapped_ask (numbered_at c.known)) (in_type_use u)
-  use_stands u = (both_at u.index u.inline (option_at (index_in space.Ty) u.index) (option_at signature_at u.inline)).stands (numbering c) (numbering_keeps c)
+  use_stands u = stands_in (u.index, u.inline) (both_at u.index u.inline (option_at (index_in space.Ty) u.index) (option_at signature_at u.inline)) (numbering c) (numbering_keeps c)
 
   -- what is asked at a site once it is numbered, its inline type beside an index too
   abbrev pub numbered_in : Site → List Ask
@@ -54,7 +55,7 @@ module _ (c : Scope) where
     pub asked_passes : (fields : List ModuleField) → list_all ok (flat_map numbered_in (in_module fields)) ≡ true → list_all ok (asked (in_module (map (mapped (numbering c)) fields))) ≡ true
     asked_passes fields h = ap (λ ss. list_all ok (asked ss)) (stands (numbering c) (numbering_keeps c) fields) ∙ sites_pass (in_module fields) h
 
--- What a function declares stays, whatever changes.
-pub kind_declared : (f : Change) (u : TypeUse FunctionType) (k : FuncKind) → kind_marks (mapped_func_kind f u k) ≡ kind_marks k
-kind_declared f u (func.Import import exact) = refl
-kind_declared f u (func.Inline locals e) = marks_still f locals
+-- What a function declares stays, where the ids of its locals do.
+pub kind_declared : (f : Change) → KeepsMarks f → (u : TypeUse FunctionType) (k : FuncKind) → kind_marks (mapped_func_kind f u k) ≡ kind_marks k
+kind_declared f keeps u (func.Import import exact) = refl
+kind_declared f keeps u (func.Inline locals e) = marks_stay f keeps locals

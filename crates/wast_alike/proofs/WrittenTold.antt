@@ -21,7 +21,7 @@ use Rattle.wast_alike.proofs.WrittenOwn.{Numbers}
 
 module _ (k : Known) (used : Where → TypeUse FunctionType → TypeUse FunctionType) (local : Locals → Index → Index) (member : Index → Index → Index) (label : Blocks → Index → Index) where
   abbrev pub telling_numbers : Change
-  telling_numbers = record { index = numbered_at k; used = used; local = local; field = member; label = label; id = written_id }
+  telling_numbers = record { index = numbered_at k; used = used; local = local; field = member; label = label; id = written_id; own = λ o. o }
 
   told_blind : (n : ℕ) → IsBlind (Numbers k) n (mapped telling_numbers)
   told_blind n = record {

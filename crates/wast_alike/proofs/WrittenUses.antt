@@ -72,7 +72,7 @@ module _ (c : Scope) where
       ∙ (ap (λ o. option_or o (first_unmet (site_demands c ss))) (site_unmet s) ∙ ap (option_or (unmet (mapped_site numbers s))) (sites_unmet ss))
 
   fields_unmet : (xs : List ModuleField) → first_unmet (site_demands c (in_module xs)) ≡ first_of (map unmet (in_module (all_mapped numbers xs)))
-  fields_unmet xs = sites_unmet (in_module xs) ∙ ap (λ ss. first_of (map unmet ss)) (sym (stands numbers (λ u. refl) xs))
+  fields_unmet xs = sites_unmet (in_module xs) ∙ ap (λ ss. first_of (map unmet ss)) (sym (stands numbers (record { params = λ u. refl; owns = λ o. refl }) xs))
 
   pub written_uses : (n : ℕ) (fields : List ModuleField) → AllOwn (Numbers c.known) n [] fields
       → first_unmet (site_demands c (in_module (completed (written_out_from n fields)))) ≡ first_unmet (site_demands c (in_module (completed (written_out fields))))

@@ -1,4 +1,4 @@
--- Numbering the indices of a module keeps the ids of the parameters in a type use.
+-- Numbering the indices of a module keeps the ids of the parameters in a type use, and those within items.
 use Rattle.std.proofs.Common.{◌≡◌, List, [], ◌∷◌, refl, ap, map, Option, Some, None, option_map}
 use Rattle.wast_base.specs.Ids.{marked}
 use Rattle.wast_nodes.specs.Sites.{param_marks}
@@ -17,4 +17,4 @@ module _ (f : Indices) where
   inline_keeps (Some t) = params_keep t.params
 
 pub numbering_keeps : (c : Scope) → KeepsMarks (numbering c)
-numbering_keeps c u = inline_keeps (numbered_at c.known) u.inline
+numbering_keeps c = record { params = λ u. inline_keeps (numbered_at c.known) u.inline; owns = λ o. refl }

@@ -33,6 +33,7 @@ numbering c = record {
   field = λ owner i. numbered (field_number c owner) i;
   label = λ blocks i. numbered (λ name. denotes name blocks) i;
   id = λ o. o;
+  own = λ o. o;
 }
 
 -- the list with the numbers that its own items have

@@ -23,4 +23,4 @@ stripped_use u = record u { index = option_map at_start u.index }
 
 -- what is taken away
 abbrev pub stripping : Change
-stripping = record { index = λ s i. i; used = λ w. stripped_use; local = λ l i. i; field = λ o i. i; label = λ b i. i; id = written_id }
+stripping = record { index = λ s i. i; used = λ w. stripped_use; local = λ l i. i; field = λ o i. i; label = λ b i. i; id = written_id; own = λ o. o }

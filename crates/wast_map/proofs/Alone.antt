@@ -1,7 +1,8 @@
 -- What no map changes of a field: whether it is written out, its items but for their ids, and what import order asks of it.
 use Rattle.std.specs.Prelude.{◌&&◌, Option}
 use Rattle.std.specs.Borrow.{Bor}
-use Rattle.std.proofs.Common.{◌≡◌, ℕ, List, [], ◌∷◌, ◌++◌, refl, ap, ◌∙◌, map}
+use Rattle.std.proofs.Common.{◌≡◌, ℕ, List, [], ◌∷◌, ◌++◌, refl, sym, ap, ◌∙◌, map}
+use Rattle.std.proofs.lemmas.List.{map-append}
 use Rattle.std.specs.List.{flat_map}
 use Rattle.wast_map.specs.Tree.{Id, TypeUse, FunctionType, FuncKind, TableKind, GlobalKind, ItemSig, ItemKind, ImportItems, InnerTypeKind, Space, StructField, ModuleField}
 use Rattle.wast_map.specs.Tree.space
@@ -17,8 +18,10 @@ use Rattle.wast_base.specs.Ids.{Mark, marked}
 use Rattle.wast_nodes.specs.Items.{Item, item, field_ids, fields_of, space_of_kind, items_of_type, item_of_sig, items_of_import, items_in, items}
 use Rattle.wast_nodes.specs.Imports.{defined_space}
 use Rattle.wast_nodes.specs.WrittenOut.{exports_nothing, is_written_func, is_written_table, is_written_global, is_written_field, is_written_out}
-use Rattle.wast_map.specs.Mapped.{Change, mapped_struct_field, mapped_inner, mapped_type, mapped_func_kind, mapped_table_kind, mapped_global_kind, mapped_item_kind, mapped_sig, mapped_import_items, mapped}
-use Rattle.wast_map.specs.Laws.{KeepsItems, all_mapped}
+use Rattle.wast_map.specs.Mapped.{Change, KeepsMarks, named_struct_field, named_inner, mapped_type, mapped_func_kind, mapped_table_kind, mapped_global_kind, mapped_item_kind, mapped_sig, mapped_import_items, mapped}
+use Rattle.wast_map.specs.Named.{Naming, kept, renamed_mark, renamed_item, Names}
+use Rattle.wast_map.specs.Laws.{KeepsItems, NamesItems, all_mapped}
+use Rattle.wast_map.proofs.Kept.{mark_kept, items_kept, names_kept_by}
 
 module _ (f : Change) where
   func_alone : (u : TypeUse FunctionType) (k : FuncKind) → is_written_func (mapped_func_kind f u k) ≡ is_written_func k
@@ -51,24 +54,24 @@ module _ (f : Change) where
   defines_alone (field.Func x) = refl
   defines_alone x = refl
 
--- The items are the same, where their ids are.
-module _ (f : Change) (keeps : KeepsItems f) where
-  struct_alone : (fields : List StructField) → field_ids (map (mapped_struct_field f.index) fields) ≡ field_ids fields
-  struct_alone [] = refl
-  struct_alone (x ∷ xs) = ap (λ ids. marked x.id ∷ ids) (struct_alone xs)
+-- The items are those of the list, called otherwise.
+module _ (n : Naming) (f : Change) (ids : NamesItems n f) (names : Names n f) where
+  struct_named : (fields : List StructField) → field_ids (map (named_struct_field f.own f.index) fields) ≡ map (renamed_mark n) (field_ids fields)
+  struct_named [] = refl
+  struct_named (x ∷ xs) = λ i. names.owns x.id i ∷ struct_named xs i
 
-  inner_alone : (t : InnerTypeKind) → field_ids (fields_of (mapped_inner f.index t)) ≡ field_ids (fields_of t)
-  inner_alone (inner.Func t) = refl
-  inner_alone (inner.Struct t) = struct_alone t.fields
-  inner_alone (inner.Array t) = refl
-  inner_alone (inner.Cont t) = refl
+  inner_named : (t : InnerTypeKind) → field_ids (fields_of (named_inner f.own f.index t)) ≡ map (renamed_mark n) (field_ids (fields_of t))
+  inner_named (inner.Func t) = refl
+  inner_named (inner.Struct t) = struct_named t.fields
+  inner_named (inner.Array t) = refl
+  inner_named (inner.Cont t) = refl
 
-  type_alone : (t : ty.«Type») → items_of_type (mapped_type f t) ≡ items_of_type t
-  type_alone t = λ i. record { space = space.Ty; id = keeps t.id i; fields = inner_alone t.def.kind i } ∷ []
+  type_named : (t : ty.«Type») → items_of_type (mapped_type f t) ≡ map (renamed_item n) (items_of_type t)
+  type_named t = λ i. record { space = space.Ty; id = ids t.id i; fields = inner_named t.def.kind i } ∷ []
 
-  types_alone : (ts : List ty.«Type») → flat_map items_of_type (map (mapped_type f) ts) ≡ flat_map items_of_type ts
-  types_alone [] = refl
-  types_alone (t ∷ ts) = ap (λ xs. xs ++ flat_map items_of_type (map (mapped_type f) ts)) (type_alone t) ∙ ap (λ xs. items_of_type t ++ xs) (types_alone ts)
+  types_named : (ts : List ty.«Type») → flat_map items_of_type (map (mapped_type f) ts) ≡ map (renamed_item n) (flat_map items_of_type ts)
+  types_named [] = refl
+  types_named (t ∷ ts) = λ i. type_named t i ++ types_named ts i
 
   kind_alone : (k : ItemKind) → space_of_kind (mapped_item_kind f k) ≡ space_of_kind k
   kind_alone (kind.Func u) = refl
@@ -78,34 +81,42 @@ module _ (f : Change) (keeps : KeepsItems f) where
   kind_alone (kind.Global t) = refl
   kind_alone (kind.Tag t) = refl
 
-  sig_alone : (s : ItemSig) → item_of_sig (mapped_sig f s) ≡ item_of_sig s
-  sig_alone s = λ i. record { space = kind_alone s.kind i; id = keeps s.id i; fields = [] }
+  sig_named : (s : ItemSig) → item_of_sig (mapped_sig f s) ≡ renamed_item n (item_of_sig s)
+  sig_named s = λ i. record { space = kind_alone s.kind i; id = ids s.id i; fields = [] }
 
-  sigs_alone : (ps : List (Bor (List ℕ) × ItemSig)) → flat_map (λ (p : Bor (List ℕ) × ItemSig). item_of_sig p.1 ∷ []) (map (λ (p : Bor (List ℕ) × ItemSig). (p.0, mapped_sig f p.1)) ps) ≡ flat_map (λ (p : Bor (List ℕ) × ItemSig). item_of_sig p.1 ∷ []) ps
-  sigs_alone [] = refl
-  sigs_alone (p ∷ ps) = λ i. sig_alone p.1 i ∷ sigs_alone ps i
+  sigs_named : (ps : List (Bor (List ℕ) × ItemSig)) → flat_map (λ (p : Bor (List ℕ) × ItemSig). item_of_sig p.1 ∷ []) (map (λ (p : Bor (List ℕ) × ItemSig). (p.0, mapped_sig f p.1)) ps) ≡ map (renamed_item n) (flat_map (λ (p : Bor (List ℕ) × ItemSig). item_of_sig p.1 ∷ []) ps)
+  sigs_named [] = refl
+  sigs_named (p ∷ ps) = λ i. sig_named p.1 i ∷ sigs_named ps i
 
-  import_alone : (i : ImportItems) → items_of_import (mapped_import_items f i) ≡ items_of_import i
-  import_alone (import_items.Single source name sig) = λ i. sig_alone sig i ∷ []
-  import_alone (import_items.Group1 source items) = sigs_alone items
-  import_alone (import_items.Group2 source sig names) = ap (λ (x : Item). flat_map (λ name. x ∷ []) names) (sig_alone sig)
+  group_named : (x y : Item) → x ≡ renamed_item n y → (texts : List (Bor (List ℕ))) → flat_map (λ (text : Bor (List ℕ)). x ∷ []) texts ≡ map (renamed_item n) (flat_map (λ (text : Bor (List ℕ)). y ∷ []) texts)
+  group_named x y e [] = refl
+  group_named x y e (text ∷ texts) = λ i. e i ∷ group_named x y e texts i
 
-  item_alone : (s : Space) (o : Option Id) → item s (f.id o) [] ∷ [] ≡ item s o [] ∷ []
-  item_alone s o = ap (λ (m : Option Mark). record { space = s; id = m; fields = [] } ∷ []) (keeps o)
+  import_named : (i : ImportItems) → items_of_import (mapped_import_items f i) ≡ map (renamed_item n) (items_of_import i)
+  import_named (import_items.Single source name sig) = λ i. sig_named sig i ∷ []
+  import_named (import_items.Group1 source items) = sigs_named items
+  import_named (import_items.Group2 source sig texts) = group_named (item_of_sig (mapped_sig f sig)) (item_of_sig sig) (sig_named sig) texts
 
-  pub items_alone_in : (x : ModuleField) → items_in (mapped f x) ≡ items_in x
-  items_alone_in (field.Ty t) = type_alone t
-  items_alone_in (field.Rec r) = types_alone r.types
-  items_alone_in (field.Import i) = import_alone i.items
-  items_alone_in (field.Func x) = item_alone space.Func x.id
-  items_alone_in (field.Table x) = item_alone space.Table x.id
-  items_alone_in (field.Memory x) = item_alone space.Memory x.id
-  items_alone_in (field.Global x) = item_alone space.Global x.id
-  items_alone_in (field.Elem x) = item_alone space.Elem x.id
-  items_alone_in (field.Data x) = item_alone space.Data x.id
-  items_alone_in (field.Tag x) = item_alone space.Tag x.id
-  items_alone_in x = refl
+  item_named : (s : Space) (o : Option Id) → item s (f.id o) [] ∷ [] ≡ map (renamed_item n) (item s o [] ∷ [])
+  item_named s o = ap (λ (m : Option Mark). record { space = s; id = m; fields = [] } ∷ []) (ids o)
 
-  pub items_alone : (xs : List ModuleField) → items (all_mapped f xs) ≡ items xs
-  items_alone [] = refl
-  items_alone (x ∷ xs) = ap (λ its. its ++ items (all_mapped f xs)) (items_alone_in x) ∙ ap (λ its. items_in x ++ its) (items_alone xs)
+  pub items_named_in : (x : ModuleField) → items_in (mapped f x) ≡ map (renamed_item n) (items_in x)
+  items_named_in (field.Ty t) = type_named t
+  items_named_in (field.Rec r) = types_named r.types
+  items_named_in (field.Import i) = import_named i.items
+  items_named_in (field.Func x) = item_named space.Func x.id
+  items_named_in (field.Table x) = item_named space.Table x.id
+  items_named_in (field.Memory x) = item_named space.Memory x.id
+  items_named_in (field.Global x) = item_named space.Global x.id
+  items_named_in (field.Elem x) = item_named space.Elem x.id
+  items_named_in (field.Data x) = item_named space.Data x.id
+  items_named_in (field.Tag x) = item_named space.Tag x.id
+  items_named_in x = refl
+
+  pub items_named : (xs : List ModuleField) → items (all_mapped f xs) ≡ map (renamed_item n) (items xs)
+  items_named [] = refl
+  items_named (x ∷ xs) = (λ i. items_named_in x i ++ items_named xs i) ∙ sym (map-append (renamed_item n) (items_in x) (items xs))
+
+-- They are the same, where their ids are.
+pub items_alone : (f : Change) → KeepsItems f → KeepsMarks f → (xs : List ModuleField) → items (all_mapped f xs) ≡ items xs
+items_alone f keeps marks xs = items_named kept f (λ o. keeps o ∙ sym (mark_kept (marked o))) (names_kept_by f marks) xs ∙ items_kept (items xs)

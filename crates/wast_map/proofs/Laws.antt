@@ -4,8 +4,10 @@ use Rattle.std.proofs.Common.{◌≡◌, List, [], ◌∷◌, refl, sym, ap, ◌
 use Rattle.wast_map.specs.Tree.{Id, ModuleField}
 use Rattle.wast_nodes.specs.Sites.{Site, Asked, Wants, Within, Unasked, Clause, Covered, Used, Declared, LocalAt, FieldAt, LabelAt, Repeated, Begins, Ends, in_module}
 use Rattle.wast_map.specs.Mapped.{Change, same, then, mapped, mapped_site, KeepsMarks, Joins, AreJoint, Each}
+use Rattle.wast_map.specs.Named.{Naming, Names, named_site, NamedJoins, AreNamedJoint}
 use Rattle.wast_map.proofs.Ways.{At, list_at}
 use Rattle.wast_map.proofs.Fields.{field_at}
+use Rattle.wast_map.proofs.Kept.{stands_at, joins_at}
 
 fields_at : (xs : List ModuleField) → At in_module (λ f xs. map (mapped f) xs) xs
 fields_at xs = list_at field_at xs
@@ -15,16 +17,22 @@ each_so p h [] = tt
 each_so p h (x ∷ xs) = (h x, each_so p h xs)
 
 -- What stands in the changed list is the changed list of what stood.
+pub stands_named : (n : Naming) (f : Change) → Names n f → (xs : List ModuleField) → in_module (map (mapped f) xs) ≡ map (named_site n f) (in_module xs)
+stands_named n f k xs = (fields_at xs).stands n f k
+
 pub stands : (f : Change) → KeepsMarks f → (xs : List ModuleField) → in_module (map (mapped f) xs) ≡ map (mapped_site f) (in_module xs)
-stands f k xs = (fields_at xs).stands f k
+stands f k xs = stands_at xs (fields_at xs) f k
 
 -- Where nothing changes, the list is the same.
 pub still : (xs : List ModuleField) → map (mapped same) xs ≡ xs
 still xs = (fields_at xs).still
 
 -- Two changes are a third where they are so at each site.
+pub joins_named : (n : Naming) (h g f : Change) → AreNamedJoint n h g f → (xs : List ModuleField) → Each (NamedJoins n h g f) (in_module xs) → map (mapped g) (map (mapped h) xs) ≡ map (mapped f) xs
+joins_named n h g f j xs e = (fields_at xs).joins n h g f j e
+
 pub joins : (h g f : Change) → AreJoint h g f → (xs : List ModuleField) → Each (Joins h g f) (in_module xs) → map (mapped g) (map (mapped h) xs) ≡ map (mapped f) xs
-joins h g f j xs e = (fields_at xs).joins h g f j e
+joins h g f j xs e = joins_at xs (fields_at xs) h g f j e
 
 joins_then : (h g : Change) (s : Site) → Joins h g (then h g) s
 joins_then h g (Asked (Wants s i)) = refl
@@ -43,8 +51,12 @@ joins_then h g Ends = tt
 
 -- Two changes after one another are one.
 pub twice : (h g : Change) → KeepsMarks h → (xs : List ModuleField) → map (mapped g) (map (mapped h) xs) ≡ map (mapped (then h g)) xs
-twice h g k xs = joins h g (then h g) (record { keeps = k; ids = λ o. refl }) xs (each_so (Joins h g (then h g)) (joins_then h g) (in_module xs))
+twice h g k xs = joins h g (then h g) (record { keeps = k; ids = λ o. refl; owns = λ o. refl }) xs (each_so (Joins h g (then h g)) (joins_then h g) (in_module xs))
+
+-- What changes nothing keeps marks.
+pub same_keeps : KeepsMarks same
+same_keeps = record { params = λ u. refl; owns = λ o. refl }
 
 -- Changes that are the same at each site give the same list.
-pub alike : (f g : Change) → ((o : Option Id) → f.id o ≡ g.id o) → (xs : List ModuleField) → Each (Joins same f g) (in_module xs) → map (mapped f) xs ≡ map (mapped g) xs
-alike f g ids xs e = sym (ap (map (mapped f)) (still xs)) ∙ joins same f g (record { keeps = λ u. refl; ids = ids }) xs e
+pub alike : (f g : Change) → ((o : Option Id) → f.id o ≡ g.id o) → ((o : Option Id) → f.own o ≡ g.own o) → (xs : List ModuleField) → Each (Joins same f g) (in_module xs) → map (mapped f) xs ≡ map (mapped g) xs
+alike f g ids owns xs e = sym (ap (map (mapped f)) (still xs)) ∙ joins same f g (record { keeps = same_keeps; ids = ids; owns = owns }) xs e

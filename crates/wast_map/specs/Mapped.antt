@@ -1,7 +1,8 @@
--- The one map over the tree: what each index, each type use and each id of an item becomes (text format: indices, type
--- uses, identifiers).
+-- The one map over the tree: what each index, each type use and each id becomes (text format: indices, type uses,
+-- identifiers).
 use Rattle.std.specs.Prelude.{⊤, ◌≡◌, List, [], ◌∷◌, ◌++◌, map, Option, option_map}
 use Rattle.wast_base.specs.Blocks.{Blocks, closed}
+use Rattle.wast_base.specs.Ids.{marked}
 use Rattle.wast_map.specs.Tree.{Id, Index, NameAnnotation, Space, RefType, HeapType, ValType, StorageType, StructField, StructType, ArrayType, FunctionType, TypeUse, InnerTypeKind, TypeDef, Rec, BlockType, BrTableIndices, TryTable, TryTableCatch, TryTableCatchKind, TableArg, MemoryArg, MemoryInit, MemoryCopy, TableInit, TableCopy, CallIndirect, SelectTypes, MemArg, MemArgTarget, StructAccess, Handle, ResumeTable, Instruction, Expression, TableType, GlobalType, TagType, Imports, ImportItems, ItemSig, ItemKind, Local, FuncKind, Func, Table, TableKind, Memory, Global, GlobalKind, Tag, Elem, ElemKind, ElemPayload, Data, DataKind, Export, ModuleField}
 use Rattle.wast_map.specs.Tree.space
 use Rattle.wast_map.specs.Tree.heap
@@ -29,7 +30,11 @@ use Rattle.wast_nodes.specs.Sites.{Locals, Here, start, behind, param_marks, loc
 abbrev pub Indices : Type 0
 Indices = Space → Index → Index
 
--- what an index, a type use and the id of an item become
+-- what an id that may be missing becomes
+abbrev pub Ids : Type 0
+Ids = Option Id → Option Id
+
+-- what an index, a type use and an id become
 pub record Change : Type 0 where
   pub index : Indices
   -- a type use, with what stands in it, by where it stands
@@ -41,7 +46,9 @@ pub record Change : Type 0 where
   -- an index of a label, where these blocks are open
   pub label : Blocks → Index → Index
   -- the id of an item
-  pub id : Option Id → Option Id
+  pub id : Ids
+  -- any other id: of a parameter, a field of a struct or a local, a label of a block, and where a label is repeated
+  pub own : Ids
 
 -- the locals of a body whose function is changed
 abbrev pub mapped_locals : Change → Locals → Locals
@@ -53,7 +60,7 @@ mapped_here f h = record h { locals = mapped_locals f h.locals }
 
 -- nothing changes
 abbrev pub same : Change
-same = record { index = λ s i. i; used = λ w u. u; local = λ l i. i; field = λ o i. i; label = λ b i. i; id = λ o. o }
+same = record { index = λ s i. i; used = λ w u. u; local = λ l i. i; field = λ o i. i; label = λ b i. i; id = λ o. o; own = λ o. o }
 
 -- one after the other
 abbrev pub then : Change → Change → Change
@@ -64,6 +71,7 @@ then h g = record {
   field = λ o i. g.field (h.index space.Ty o) (h.field o i);
   label = λ b i. g.label b (h.label b i);
   id = λ o. g.id (h.id o);
+  own = λ o. g.own (h.own o);
 }
 
 -- Types.
@@ -91,45 +99,63 @@ mapped_storage f storage.I8 = storage.I8
 mapped_storage f storage.I16 = storage.I16
 mapped_storage f (storage.Val t) = storage.Val (mapped_val f t)
 
--- a parameter
+-- a parameter, with what its id becomes; and where that stays, as of each part of a type below
+abbrev pub named_param : Ids → Indices → Option Id × Option NameAnnotation × ValType → Option Id × Option NameAnnotation × ValType
+named_param own f p = (own p.0, p.1, mapped_val f p.2)
+
 abbrev pub mapped_param : Indices → Option Id × Option NameAnnotation × ValType → Option Id × Option NameAnnotation × ValType
-mapped_param f p = (p.0, p.1, mapped_val f p.2)
+mapped_param f p = named_param (λ o. o) f p
 
 -- a function type
+abbrev pub named_signature : Ids → Indices → FunctionType → FunctionType
+named_signature own f t = record { params = map (named_param own f) t.params; results = map (mapped_val f) t.results }
+
 abbrev pub mapped_signature : Indices → FunctionType → FunctionType
-mapped_signature f t = record { params = map (mapped_param f) t.params; results = map (mapped_val f) t.results }
+mapped_signature f t = named_signature (λ o. o) f t
 
 -- a field of a struct
+abbrev pub named_struct_field : Ids → Indices → StructField → StructField
+named_struct_field own f x = record x { id = own x.id; ty = mapped_storage f x.ty }
+
 abbrev pub mapped_struct_field : Indices → StructField → StructField
-mapped_struct_field f x = record x { ty = mapped_storage f x.ty }
+mapped_struct_field f x = named_struct_field (λ o. o) f x
 
 -- a struct type
+abbrev pub named_struct : Ids → Indices → StructType → StructType
+named_struct own f t = record { fields = map (named_struct_field own f) t.fields }
+
 abbrev pub mapped_struct : Indices → StructType → StructType
-mapped_struct f t = record { fields = map (mapped_struct_field f) t.fields }
+mapped_struct f t = named_struct (λ o. o) f t
 
 -- an array type
 abbrev pub mapped_array : Indices → ArrayType → ArrayType
 mapped_array f t = record t { ty = mapped_storage f t.ty }
 
 -- a composite type
+abbrev pub named_inner : Ids → Indices → InnerTypeKind → InnerTypeKind
+named_inner own f (inner.Func t) = inner.Func (named_signature own f t)
+named_inner own f (inner.Struct t) = inner.Struct (named_struct own f t)
+named_inner own f (inner.Array t) = inner.Array (mapped_array f t)
+named_inner own f (inner.Cont t) = inner.Cont (record { 0 = f space.Ty t.0 })
+
 abbrev pub mapped_inner : Indices → InnerTypeKind → InnerTypeKind
-mapped_inner f (inner.Func t) = inner.Func (mapped_signature f t)
-mapped_inner f (inner.Struct t) = inner.Struct (mapped_struct f t)
-mapped_inner f (inner.Array t) = inner.Array (mapped_array f t)
-mapped_inner f (inner.Cont t) = inner.Cont (record { 0 = f space.Ty t.0 })
+mapped_inner f t = named_inner (λ o. o) f t
 
 -- what a type is defined as
-abbrev pub mapped_def : Indices → TypeDef → TypeDef
-mapped_def f d = record d {
+abbrev pub named_def : Ids → Indices → TypeDef → TypeDef
+named_def own f d = record d {
   parents = map (f space.Ty) d.parents;
   descriptor = option_map (f space.Ty) d.descriptor;
   describes = option_map (f space.Ty) d.describes;
-  kind = mapped_inner f d.kind;
+  kind = named_inner own f d.kind;
 }
+
+abbrev pub mapped_def : Indices → TypeDef → TypeDef
+mapped_def f d = named_def (λ o. o) f d
 
 -- a type, which is an item
 abbrev pub mapped_type : Change → ty.«Type» → ty.«Type»
-mapped_type f t = record t { id = f.id t.id; def = mapped_def f.index t.def }
+mapped_type f t = record t { id = f.id t.id; def = named_def f.own f.index t.def }
 
 -- the types of a group
 abbrev pub mapped_rec : Change → Rec → Rec
@@ -185,7 +211,7 @@ mapped_indirect f c = record { table = f.index space.Table c.table; ty = f.used 
 
 -- the type of a block
 abbrev pub mapped_block : Change → BlockType → BlockType
-mapped_block f b = record b { ty = f.used OfBlock b.ty }
+mapped_block f b = record b { label = f.own b.label; ty = f.used OfBlock b.ty }
 
 -- what a clause of `try_table` catches, and where it goes
 abbrev pub mapped_caught : Indices → TryTableCatchKind → TryTableCatchKind
@@ -226,10 +252,10 @@ mapped_instr f h (instr.MemLane op a) = instr.MemLane op (record a { memarg = ma
 mapped_instr f h (instr.block b) = instr.block (mapped_block f b)
 mapped_instr f h (instr.loop_ b) = instr.loop_ (mapped_block f b)
 mapped_instr f h (instr.if_ b) = instr.if_ (mapped_block f b)
-mapped_instr f h (instr.else_ label) = instr.else_ label
+mapped_instr f h (instr.else_ label) = instr.else_ (f.own label)
 mapped_instr f h (instr.try_ b) = instr.try_ (mapped_block f b)
 mapped_instr f h (instr.try_table t) = instr.try_table (mapped_try_table f h.blocks t)
-mapped_instr f h (instr.end_ label) = instr.end_ label
+mapped_instr f h (instr.end_ label) = instr.end_ (f.own label)
 mapped_instr f h (instr.delegate l) = instr.delegate (f.label (closed h.blocks) l)
 mapped_instr f h (instr.br l) = instr.br (f.label h.blocks l)
 mapped_instr f h (instr.br_if l) = instr.br_if (f.label h.blocks l)
@@ -332,7 +358,7 @@ mapped_constant f e = mapped_expression f start e
 
 -- Fields.
 abbrev pub mapped_local : Change → Local → Local
-mapped_local f l = record l { ty = mapped_val f.index l.ty }
+mapped_local f l = record l { id = f.own l.id; ty = mapped_val f.index l.ty }
 
 -- behind a type use
 abbrev pub mapped_func_kind : Change → TypeUse FunctionType → FuncKind → FuncKind
@@ -457,9 +483,11 @@ mapped_site f (Repeated blocks m) = Repeated blocks m
 mapped_site f (Begins blocks m) = Begins blocks m
 mapped_site f Ends = Ends
 
--- A change keeps the ids of the parameters in the type use of an item: a body stands behind these.
-abbrev pub KeepsMarks : Change → Type 0
-KeepsMarks f = (u : TypeUse FunctionType) → param_marks (f.used OfItem u).inline ≡ param_marks u.inline
+-- A change keeps the marks that stand beside the items: those of the parameters in the type use of an item, which its body
+-- stands behind, and those of what stands within items.
+pub record KeepsMarks (f : Change) : Type 0 where
+  pub params : (u : TypeUse FunctionType) → param_marks (f.used OfItem u).inline ≡ param_marks u.inline
+  pub owns : (o : Option Id) → marked (f.own o) ≡ marked o
 
 -- At a site, two changes after one another are a third.
 abbrev pub JoinsAsk : Indices → Indices → Indices → Ask → Type 0
@@ -481,10 +509,11 @@ Joins h g f (Repeated blocks m) = ⊤
 Joins h g f (Begins blocks m) = ⊤
 Joins h g f Ends = ⊤
 
--- They are so at the ids of items, and the first keeps the ids of parameters.
+-- They are so at the ids of items and at the others, and the first keeps the marks beside the items.
 pub record AreJoint (h g f : Change) : Type 0 where
   pub keeps : KeepsMarks h
   pub ids : (o : Option Id) → g.id (h.id o) ≡ f.id o
+  pub owns : (o : Option Id) → g.own (h.own o) ≡ f.own o
 
 -- so at each of a list
 abbrev pub Each : {S : Type 0} → (S → Type 0) → List S → Type 0

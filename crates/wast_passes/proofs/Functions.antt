@@ -6,8 +6,8 @@ use Rattle.std.specs.List.{flat_map}
 use Rattle.wast_base.specs.Ids.{Name, Mark, name_of}
 use Rattle.wast_base.specs.Spaces.{position_of}
 use Rattle.wast_nodes.specs.Sites.{Here, Locals, in_local, local_marks, param_marks, declaring, body_here, in_expression, in_func_kind, asking}
-use Rattle.wast_map.specs.Mapped.{Change, mapped_signature, mapped_func_kind}
-use Rattle.wast_map.proofs.Fields.{marks_still}
+use Rattle.wast_map.specs.Mapped.{Change, KeepsMarks, mapped_signature, mapped_func_kind}
+use Rattle.wast_map.proofs.Fields.{marks_stay}
 use Rattle.wast_passes.specs.Tree.{Id, Index, FunctionType, TypeUse, FuncKind}
 use Rattle.wast_passes.specs.Tree.index
 use Rattle.wast_passes.specs.Tree.space
@@ -63,13 +63,13 @@ module _ (f : Change) where
   body_stays h (func.Import import exact) = refl
   body_stays h (func.Inline locals e) = refl
 
-  pub marks_stay : (k : FuncKind) → kind_marks (with_locals f k) ≡ kind_marks k
-  marks_stay (func.Import import exact) = refl
-  marks_stay (func.Inline locals e) = marks_still f locals
+  pub kind_stays : KeepsMarks f → (k : FuncKind) → kind_marks (with_locals f k) ≡ kind_marks k
+  kind_stays keeps (func.Import import exact) = refl
+  kind_stays keeps (func.Inline locals e) = marks_stay f keeps locals
 
-  pub opening_stays : (params : List (Option Mark)) (k : FuncKind) → opening params (with_locals f k) ≡ opening params k
-  opening_stays params (func.Import import exact) = refl
-  opening_stays params (func.Inline locals e) = ap (λ ms. declaring [] (params ++ ms)) (marks_still f locals)
+  pub opening_stays : KeepsMarks f → (params : List (Option Mark)) (k : FuncKind) → opening params (with_locals f k) ≡ opening params k
+  opening_stays keeps params (func.Import import exact) = refl
+  opening_stays keeps params (func.Inline locals e) = ap (λ ms. declaring [] (params ++ ms)) (marks_stay f keeps locals)
 
   -- and then the body
   pub kind_becomes : (u : TypeUse FunctionType) (k : FuncKind) → with_body f (inside u k) (with_locals f k) ≡ mapped_func_kind f u k

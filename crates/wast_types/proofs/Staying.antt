@@ -9,8 +9,9 @@ use Rattle.wast_nodes.specs.Types.{is_short}
 use Rattle.wast_types.specs.Tree.{Index, FunctionType, Rec, ModuleField}
 use Rattle.wast_types.specs.Tree.ty
 use Rattle.wast_types.specs.Tree.field
-use Rattle.wast_map.specs.Mapped.{same, mapped_site, Joins, Each}
-use Rattle.wast_map.proofs.Laws.{stands, still, alike}
+use Rattle.wast_map.specs.Mapped.{same, mapped_site, KeepsMarks, Joins, Each}
+use Rattle.wast_map.proofs.Laws.{stands, still, same_keeps, alike}
+use Rattle.wast_map.proofs.Kept.{joins_at}
 use Rattle.wast_map.proofs.Fields.{field_at}
 use Rattle.wast_types.specs.Signatures.{Signature, signature_of}
 use Rattle.wast_types.specs.NeedingUses.{inline_signature, needs_type, needed_if, needed_without, needed_at, needed_in, needed}
@@ -46,6 +47,10 @@ says Ends = true
 pub asking_says : (asks : List Ask) → list_all says (asking asks) ≡ true
 asking_says [] = refl
 asking_says (a ∷ asks) = asking_says asks
+
+-- Binding keeps ids.
+pub binding_keeps : (find : LookUp) → KeepsMarks (binding find)
+binding_keeps find = record { params = λ u. refl; owns = λ o. refl }
 
 module _ (find : LookUp) where
   -- a use with an index stays, and so does that of a block that has a short inline type
@@ -88,12 +93,12 @@ module _ (find : LookUp) where
 
   -- What needs nothing stays, where each type use of a block says what it is.
   pub fields_stay : (xs : List ModuleField) → needed xs ≡ [] → list_all says (in_module xs) ≡ true → map (bound_field find) xs ≡ xs
-  fields_stay xs h e = alike (binding find) same (λ o. refl) xs (sites_stay (in_module xs) h e) ∙ still xs
+  fields_stay xs h e = alike (binding find) same (λ o. refl) (λ o. refl) xs (sites_stay (in_module xs) h e) ∙ still xs
 
   field_stays : (x : ModuleField) → needed_in (in_field x) ≡ [] → list_all says (in_field x) ≡ true → bound_field find x ≡ x
   field_stays x h e =
       let a = field_at x in
-      sym (ap (bound_field find) a.still) ∙ (a.joins same (binding find) same (record { keeps = λ u. refl; ids = λ o. refl }) (sites_stay (in_field x) h e) ∙ a.still)
+      sym (ap (bound_field find) a.still) ∙ (joins_at x a same (binding find) same (record { keeps = same_keeps; ids = λ o. refl; owns = λ o. refl }) (sites_stay (in_field x) h e) ∙ a.still)
 
   pub ty_stays : (t : ty.«Type») → bound_field find (field.Ty t) ≡ field.Ty t
   ty_stays t = field_stays (field.Ty t) (ty_none t) (asking_says (in_type t))
@@ -145,7 +150,7 @@ module _ (find : LookUp) where
       ap (λ zs. zs ++ needed_in (map (mapped_site (binding find)) ss)) (site_bound s (first_so (found (needed_at s)) (found (needed_in ss)) both)) ∙ sites_bound ss (second_so (found (needed_at s)) (found (needed_in ss)) both)
 
   pub fields_bound : (xs : List ModuleField) → found (needed xs) ≡ true → needed (map (bound_field find) xs) ≡ []
-  fields_bound xs h = ap needed_in (stands (binding find) (λ u. refl) xs) ∙ sites_bound (in_module xs) h
+  fields_bound xs h = ap needed_in (stands (binding find) (binding_keeps find) xs) ∙ sites_bound (in_module xs) h
 
 -- Once type uses are bound, each of a block says what it is.
 module _ (find : LookUp) where
@@ -176,4 +181,4 @@ module _ (find : LookUp) where
   sites_say (s ∷ ss) = ap (λ b. b && list_all says (map (mapped_site (binding find)) ss)) (bound_says s) ∙ sites_say ss
 
   pub fields_say : (xs : List ModuleField) → list_all says (in_module (map (bound_field find) xs)) ≡ true
-  fields_say xs = ap (list_all says) (stands (binding find) (λ u. refl) xs) ∙ sites_say (in_module xs)
+  fields_say xs = ap (list_all says) (stands (binding find) (binding_keeps find) xs) ∙ sites_say (in_module xs)

@@ -110,7 +110,7 @@ bound_use find w u = record { index = bound_index find w u.index u.inline; inlin
 
 -- no other index changes, and no id
 abbrev pub binding : LookUp → Change
-binding find = record { index = λ s i. i; used = λ w u. bound_use find w u; local = λ l i. i; field = λ o i. i; label = λ b i. i; id = λ o. o }
+binding find = record { index = λ s i. i; used = λ w u. bound_use find w u; local = λ l i. i; field = λ o i. i; label = λ b i. i; id = λ o. o; own = λ o. o }
 
 -- a field, its type uses bound
 abbrev pub bound_field : LookUp → ModuleField → ModuleField

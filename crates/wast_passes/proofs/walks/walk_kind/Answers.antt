@@ -10,8 +10,9 @@ use Rattle.wast_demands.specs.Resolved.{numbering}
 use Rattle.wast_passes.specs.Resolvers.{scope_of}
 use Rattle.wast_demands.specs.Scopes.{nameless}
 use Rattle.wast_passes.specs.TwoSteps.{in_locals, in_body, with_body}
+use Rattle.wast_demands.proofs.Numbering.{numbering_keeps}
 use Rattle.wast_demands.proofs.Unmet.{answers_first, answers_after, first_unmet-append}
-use Rattle.wast_passes.proofs.Functions.{inside, kind_demands, many_blocks, many_locals, numbers_still, body_stays, marks_stay, opening_stays, kind_becomes}
+use Rattle.wast_passes.proofs.Functions.{inside, kind_demands, many_blocks, many_locals, numbers_still, body_stays, kind_stays, opening_stays, kind_becomes}
 use Rattle.wast_passes.proofs.walks.walk_kind.Goals as goal
 
 pub returns-in_err-walk_locals : goal.returns-in_err-walk_locals
@@ -31,11 +32,12 @@ returns-in_err-locals c u says =
     let s = scope_of c.args.names.now in
     let e = told c.in_err-locals.field-0.0 in
     let f = numbering s in
+    let keeps = numbering_keeps s in
     let many = HasMany (kind_counts s u k) in
     let p = err_from_is_err_and c.from_residual-in_err-locals.result c.from_residual-in_err-locals.ensures.1 in
     let is = c.in_ok-walk_locals.ensures.1 in
-    let long = ap (λ (x : FuncKind). length (declared v.inline x)) is ∙ (ap (λ ms. length (param_marks v.inline ++ ms)) (marks_stay f k) ∙ ap (λ ps. length (ps ++ kind_marks k)) says.marks) in
-    let opened = ap (opening (param_marks v.inline)) is ∙ (opening_stays f (param_marks v.inline) k ∙ ap (λ ps. opening ps k) says.marks) in
+    let long = ap (λ (x : FuncKind). length (declared v.inline x)) is ∙ (ap (λ ms. length (param_marks v.inline ++ ms)) (kind_stays f keeps k) ∙ ap (λ ps. length (ps ++ kind_marks k)) says.marks) in
+    let opened = ap (opening (param_marks v.inline)) is ∙ (opening_stays f keeps (param_marks v.inline) k ∙ ap (λ ps. opening ps k) says.marks) in
     rw (p.1, p.2) (subst (λ ds. Answers ⊤ many e (first_unmet ds)) (sym (kind_demands s u k))
     (answers_after e (ask_demands s.known (in_locals k)) (site_demands s (opening (param_marks u.inline) k) ++ site_demands s (in_body (inside u k) k)) (λ l. l) (λ m. m) c.in_ok-walk_locals.ensures.0
     (answers_first e (site_demands s (opening (param_marks u.inline) k)) (site_demands s (in_body (inside u k) k)) (λ l. l) (many_locals s u k)
@@ -50,12 +52,13 @@ returns-in_err-walk_body c u says =
     let s = scope_of c.args.names.now in
     let e = told c.in_err-walk_body.field-0.0 in
     let f = numbering s in
+    let keeps = numbering_keeps s in
     let here = inside u k in
     let many = HasMany (kind_counts s u k) in
     let p = err_from_is_err_and c.from_residual-in_err-walk_body.result c.from_residual-in_err-walk_body.ensures.1 in
     let is = c.in_ok-walk_locals.ensures.1 in
-    let opened = ap (opening (param_marks v.inline)) is ∙ (opening_stays f (param_marks v.inline) k ∙ ap (λ ps. opening ps k) says.marks) in
-    let called = ap (λ (x : FuncKind). names (declared v.inline x)) is ∙ (ap (λ ms. names (param_marks v.inline ++ ms)) (marks_stay f k) ∙ ap (λ ps. names (ps ++ kind_marks k)) says.marks) in
+    let opened = ap (opening (param_marks v.inline)) is ∙ (opening_stays f keeps (param_marks v.inline) k ∙ ap (λ ps. opening ps k) says.marks) in
+    let called = ap (λ (x : FuncKind). names (declared v.inline x)) is ∙ (ap (λ ms. names (param_marks v.inline ++ ms)) (kind_stays f keeps k) ∙ ap (λ ps. names (ps ++ kind_marks k)) says.marks) in
     let body = ap (in_body here) is ∙ body_stays f here k in
     let met = subst (λ ss. first_unmet (site_demands s ss) ≡ None) opened (c.in_ok-locals.ensures.names s).0 in
     let numbers = numbers_still s (locals_in v c.walk_locals.new.kind) (locals_in u k) c.walk_locals.new.kind c.in_ok-locals.locals says.nameless called c.in_ok-locals.ensures.numbers in
@@ -70,10 +73,11 @@ returns c u says =
     let v = c.args.ty.now in
     let s = scope_of c.args.names.now in
     let f = numbering s in
+    let keeps = numbering_keeps s in
     let here = inside u k in
     let is = c.in_ok-walk_locals.ensures.1 in
-    let opened = ap (opening (param_marks v.inline)) is ∙ (opening_stays f (param_marks v.inline) k ∙ ap (λ ps. opening ps k) says.marks) in
-    let called = ap (λ (x : FuncKind). names (declared v.inline x)) is ∙ (ap (λ ms. names (param_marks v.inline ++ ms)) (marks_stay f k) ∙ ap (λ ps. names (ps ++ kind_marks k)) says.marks) in
+    let opened = ap (opening (param_marks v.inline)) is ∙ (opening_stays f keeps (param_marks v.inline) k ∙ ap (λ ps. opening ps k) says.marks) in
+    let called = ap (λ (x : FuncKind). names (declared v.inline x)) is ∙ (ap (λ ms. names (param_marks v.inline ++ ms)) (kind_stays f keeps k) ∙ ap (λ ps. names (ps ++ kind_marks k)) says.marks) in
     let stays = ap (in_body here) is ∙ body_stays f here k in
     let met = subst (λ ss. first_unmet (site_demands s ss) ≡ None) opened (c.in_ok-locals.ensures.names s).0 in
     let numbers = numbers_still s (locals_in v c.walk_locals.new.kind) (locals_in u k) c.walk_locals.new.kind c.in_ok-locals.locals says.nameless called c.in_ok-locals.ensures.numbers in
