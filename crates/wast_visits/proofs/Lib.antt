@@ -1,5 +1,6 @@
 pub mod Balancing
 pub mod Failing
+pub mod Locating
 pub mod Looking
 pub mod Places
 pub mod Shared

@@ -1,5 +1,5 @@
 -- Where a list of fields is not well formed: the first clause that fails, and the nearest place.
-use Rattle.std.specs.Prelude.{List, [], ◌∷◌, ◌++◌, map, flat_map, Option}
+use Rattle.std.specs.Prelude.{ℕ, ◌==◌, List, [], ◌∷◌, ◌++◌, map, flat_map, Option, codes, if◌then◌else◌}
 use Rattle.wast_base.specs.Ids.{span_of_index}
 use Rattle.wast_visits.specs.Tree.{Span, Custom, ModuleField}
 use Rattle.wast_visits.specs.Tree.custom
@@ -23,10 +23,14 @@ nearest before (Covered f holds) = before
 abbrev pub failing_at : Known → Span → Ask → List IllFormed
 failing_at k place a = map (λ n. record { clause = n; span = place }) (failing k a)
 
--- the clauses that fail behind a place, each with the place that is nearest
+-- what is found behind a place, each with the place that is nearest
+abbrev pub found_from : {F : Type 0} → (Span → Ask → List F) → Span → List Ask → List F
+found_from found_at before [] = []
+found_from found_at before (a ∷ asks) = let here = nearest before a in found_at here a ++ found_from found_at here asks
+
+-- the clauses that fail behind a place
 abbrev pub failing_from : Known → Span → List Ask → List IllFormed
-failing_from k before [] = []
-failing_from k before (a ∷ asks) = let here = nearest before a in failing_at k here a ++ failing_from k here asks
+failing_from k before asks = found_from (failing_at k) before asks
 
 -- the place of a custom section; nothing that stands in one fails
 abbrev pub custom_place : Custom → Span
@@ -57,3 +61,14 @@ failing_in k f = failing_from k (field_place f) (asked (in_field f))
 -- the first clause that fails in the fields
 abbrev pub first_ill_formed : List ModuleField → Option IllFormed
 first_ill_formed fields = first (flat_map (failing_in (known (items fields))) fields)
+
+-- what is wrong where the clause of a number fails
+abbrev pub clause_text : ℕ → List ℕ
+clause_text n =
+    if n == 1 then codes "alignment is no power of two"
+    else if n == 2 then codes "branch hint is on no instruction, not behind the one before it, or neither 0 nor 1"
+    else if n == 3 then codes "page of 2^64 bytes or more"
+    else if n == 4 then codes "element segment without a table is not of type funcref"
+    else if n == 5 then codes "constant expression does not close as many blocks as it opens"
+    else if n == 6 then codes "generated id is not that of an item of its space"
+    else codes "not well formed"

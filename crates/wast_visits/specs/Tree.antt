@@ -3,6 +3,7 @@ pub use Rattle.wast_base.specs.declared.ids.Span.{Span}
 pub use Rattle.wast_base.specs.declared.ids.Id.{Id}
 pub use Rattle.wast_base.specs.declared.ids.Index.{Index}
 pub use Rattle.wast_base.specs.declared.ids.Index.TheVariants as index
+pub use Rattle.wast_base.specs.declared.faults.Form.{Form}
 pub use Rattle.wast_base.specs.declared.faults.Form.TheVariants as form
 pub use Rattle.wast_base.specs.declared.spaces.Space.{Space}
 pub use Rattle.wast_base.specs.declared.spaces.Space.TheVariants as space

@@ -1,7 +1,7 @@
 //! Where fields are not well formed.
 
-ghost use Rattle.std.specs.Prelude.{◌≡◌, List, None, is_none, map, flat_map};
-ghost use Rattle.wast_visits.specs.IllFormed.{nearest, failing_at, failing_from, custom_place, field_place, first_ill_formed};
+ghost use Rattle.std.specs.Prelude.{◌≡◌, List, Some, None, is_none, map, flat_map};
+ghost use Rattle.wast_visits.specs.IllFormed.{clause_text, nearest, failing_at, failing_from, custom_place, field_place, first_ill_formed};
 ghost use Rattle.wast_nodes.specs.Known.{known};
 ghost use Rattle.wast_nodes.specs.Sites.{Ask, in_field, asked};
 ghost use Rattle.wast_visits.specs.Tree.{Span};
@@ -11,6 +11,7 @@ ghost use Rattle.wast_nodes.specs.WellFormed.{is_well_formed, unless_holds};
 use crate::bearers::HasItems;
 use crate::settling::{Bearers, Settler, is_written};
 use crate::visits::{Visit, Visitor};
+use std::fmt;
 use wast_base::{Form, Id, Index, Space, Span};
 use wast_nodes::{Custom, ModuleField};
 
@@ -22,6 +23,29 @@ pub struct IllFormed {
     /// The nearest place: of clause 6 that of the index; else that of the last index or id before it in its field, or of the
     /// field, where none stands before it.
     pub span: Span,
+}
+
+/// What is wrong, in words, without the place.
+impl fmt::Display for IllFormed {
+    ghost output = { λ i. Some (clause_text i.clause) };
+
+    fn fmt<W: fmt::Write>(&self, f: &mut fmt::Formatter<W>) -> fmt::Result {
+        match self.clause {
+            1 => write!(f, "alignment is no power of two"),
+            2 => write!(
+                f,
+                "branch hint is on no instruction, not behind the one before it, or neither 0 nor 1"
+            ),
+            3 => write!(f, "page of 2^64 bytes or more"),
+            4 => write!(f, "element segment without a table is not of type funcref"),
+            5 => write!(
+                f,
+                "constant expression does not close as many blocks as it opens"
+            ),
+            6 => write!(f, "generated id is not that of an item of its space"),
+            _ => write!(f, "not well formed"),
+        }
+    }
 }
 
 /// The place of a custom section.
@@ -36,7 +60,7 @@ fn custom_place(custom: &Custom<'_>) -> Span
 }
 
 /// The place of a field.
-fn field_place(field: &ModuleField<'_>) -> Span
+pub(crate) fn field_place(field: &ModuleField<'_>) -> Span
     ensures { result ≡ field_place field.now }
 {
     match field {

@@ -15,10 +15,12 @@ mod first_failing;
 mod forms;
 mod generations;
 mod settling;
+mod uncovered_places;
 mod visits;
 
 pub use check::{ill_formed, well_formed};
 pub use first_failing::{IllFormed, first_ill_formed};
 pub use forms::uncovered;
 pub use generations::gensym_bound;
+pub use uncovered_places::{Uncovered, first_uncovered};
 pub use visits::{ItemVisitor, Visitor, visit_fields, visit_items};
