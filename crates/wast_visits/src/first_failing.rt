@@ -178,10 +178,12 @@ fn first_failing_own<T: HasItems + Looked>(parts: &[T]) -> Option<IllFormed>
 /// The first clause of "well formed" that fails in the fields, with the nearest place, for messages; `None` where they are
 /// well formed (text format: indices, modules). It takes no memory.
 ///
-/// It is the first in the order in which things are asked (`in_module`): field by field as the text has them, within a field
-/// as they are demanded. That is the order of the text, but that a segment is asked before the table or memory that it fills
-/// (`table.init`, `memory.init`), the type that a branch casts to before the one it casts from, and whether hints stand and
-/// blocks are closed behind the instructions.
+/// It is the first in the order in which things are asked (`in_module`): field by field as the text has them, and within a
+/// field in the order of the text, but for these. A segment is asked before the table or memory that it fills (`table.init`,
+/// `memory.init`), the memory that `memory.copy` reads before the one it writes, the type that a branch casts to before the
+/// one it casts from, element expressions before their type, and a descriptor before what a type describes, however the two
+/// are written. Whether hints stand and blocks are closed is asked behind the instructions, and whether a segment suits its
+/// table behind all of the segment.
 ///
 /// [`ill_formed`](crate::ill_formed) lists the clauses, tells the least one, and says how long both take.
 pub fn first_ill_formed(fields: &[ModuleField<'_>]) -> Option<IllFormed>
