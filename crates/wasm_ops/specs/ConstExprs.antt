@@ -12,9 +12,11 @@ expression is = instrs is ++ 0x0b ∷ []
 abbrev pub InRangeExpression : List Instr → Type 0
 InRangeExpression is = All InRangeInstr is
 
+-- the encoder covers each of its instructions
 abbrev pub is_covered_expression : List Instr → Bool
 is_covered_expression is = list_all is_covered_instr is
 
+-- the row of each of its instructions stands in the table
 abbrev pub HasRowsExpression : List Instr → Type 0
 HasRowsExpression is = All HasRow is
 

@@ -8,6 +8,7 @@ use Rattle.wasm_ops.specs.declared.ref_types.HeapType.{HeapType}
 abbrev pub i32_const_instr : ℤ → Instr
 i32_const_instr z = record { row = record { opcode = opcode_of 0x41; kinds = Signed32 ∷ [] }; numbers = (z, tt) }
 
+-- an integer of 64 bits
 abbrev pub i64_const_instr : ℤ → Instr
 i64_const_instr z = record { row = record { opcode = opcode_of 0x42; kinds = Signed64 ∷ [] }; numbers = (z, tt) }
 
@@ -15,6 +16,7 @@ i64_const_instr z = record { row = record { opcode = opcode_of 0x42; kinds = Sig
 abbrev pub f32_const_instr : ℕ → Instr
 f32_const_instr bits = record { row = record { opcode = opcode_of 0x43; kinds = Bits32 ∷ [] }; numbers = (bits, tt) }
 
+-- a floating-point number of 64 bits, by the number of its bits
 abbrev pub f64_const_instr : ℕ → Instr
 f64_const_instr bits = record { row = record { opcode = opcode_of 0x44; kinds = Bits64 ∷ [] }; numbers = (bits, tt) }
 

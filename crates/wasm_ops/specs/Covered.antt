@@ -32,9 +32,11 @@ is_covered_heap_type (heap.Abstract shared ty) = not shared && is_covered_abstra
 is_covered_heap_type (heap.Concrete index) = true
 is_covered_heap_type (heap.Exact index) = false
 
+-- a reference type whose heap type is covered
 abbrev pub is_covered_ref_type : RefType → Bool
 is_covered_ref_type r = is_covered_heap_type r.heap_type
 
+-- a value type: a number, a vector, or a reference type that is covered
 abbrev pub is_covered_val_type : ValType → Bool
 is_covered_val_type val.I32 = true
 is_covered_val_type val.I64 = true
@@ -43,23 +45,29 @@ is_covered_val_type val.F64 = true
 is_covered_val_type val.V128 = true
 is_covered_val_type (val.Ref r) = is_covered_ref_type r
 
+-- what a field is stored as: a packed integer, or a value type that is covered
 abbrev pub is_covered_storage_type : StorageType → Bool
 is_covered_storage_type storage.I8 = true
 is_covered_storage_type storage.I16 = true
 is_covered_storage_type (storage.Val t) = is_covered_val_type t
 
+-- a field type whose storage type is covered
 abbrev pub is_covered_field_type : FieldType → Bool
 is_covered_field_type f = is_covered_storage_type f.element_type
 
+-- a function type whose parameters and results are covered
 abbrev pub is_covered_func_type : FuncType → Bool
 is_covered_func_type f = list_all is_covered_val_type f.params && list_all is_covered_val_type f.results
 
+-- a struct type whose fields are covered
 abbrev pub is_covered_struct_type : StructType → Bool
 is_covered_struct_type s = list_all is_covered_field_type s.fields
 
+-- an array type whose elements are covered
 abbrev pub is_covered_array_type : ArrayType → Bool
 is_covered_array_type a = is_covered_field_type a.0
 
+-- a function, struct or array type that is covered; no continuation is
 abbrev pub is_covered_composite_inner_type : CompositeInnerType → Bool
 is_covered_composite_inner_type (inner.Func f) = is_covered_func_type f
 is_covered_composite_inner_type (inner.Struct s) = is_covered_struct_type s
@@ -71,6 +79,7 @@ abbrev pub is_covered_composite_type : CompositeType → Bool
 is_covered_composite_type c =
     (not c.shared && (is_none c.descriptor && is_none c.describes)) && is_covered_composite_inner_type c.inner
 
+-- a subtype whose composite type is covered
 abbrev pub is_covered_sub_type : SubType → Bool
 is_covered_sub_type s = is_covered_composite_type s.composite_type
 

@@ -14,6 +14,7 @@ use Rattle.wasm_ops.specs.declared.entities.EntityType.TheVariants as entity
 
 -- ---- limits
 
+-- a flag as a number, 0 or 1
 abbrev pub bit : Bool → ℕ
 bit false = 0
 bit true = 1
@@ -40,21 +41,27 @@ InRangeLimits minimum maximum page = InRangeU64 minimum × (InRangeIfThere InRan
 
 -- ---- spellings, and numbers in range
 
+-- a table type: the type of its elements, and then its limits; a table has no page size
 abbrev pub table_type : TableType → List ℕ
 table_type t = ref_type t.element_type ++ limits t.shared t.table64 t.minimum t.maximum None
 
+-- the index in the type of its elements, if one is there, and its limits are in range
 abbrev pub InRangeTableType : TableType → Type 0
 InRangeTableType t = InRangeRefType t.element_type × InRangeLimits t.minimum t.maximum None
 
+-- a memory type: its limits, with the exponent of its page size
 abbrev pub memory_type : MemoryType → List ℕ
 memory_type m = limits m.shared m.memory64 m.minimum m.maximum m.page_size_log2
 
+-- its limits are in range
 abbrev pub InRangeMemoryType : MemoryType → Type 0
 InRangeMemoryType m = InRangeLimits m.minimum m.maximum m.page_size_log2
 
+-- a global type: the type of its value, and then whether it can be changed
 abbrev pub global_type : GlobalType → List ℕ
 global_type g = val_type g.val_type ++ mutability g.mutable ∷ []
 
+-- the index in the type of its value, if one is there, is in range
 abbrev pub InRangeGlobalType : GlobalType → Type 0
 InRangeGlobalType g = InRangeValType g.val_type
 
@@ -62,6 +69,7 @@ InRangeGlobalType g = InRangeValType g.val_type
 abbrev pub tag_type : TagType → List ℕ
 tag_type t = 0x00 ∷ unsigned t.func_type_idx
 
+-- the index of its type is in range
 abbrev pub InRangeTagType : TagType → Type 0
 InRangeTagType t = InRangeU32 t.func_type_idx
 
@@ -74,6 +82,7 @@ entity_type (entity.Memory m) = 0x02 ∷ memory_type m
 entity_type (entity.Global g) = 0x03 ∷ global_type g
 entity_type (entity.Tag t) = 0x04 ∷ tag_type t
 
+-- the numbers in the type of what is imported are in range
 abbrev pub InRangeEntityType : EntityType → Type 0
 InRangeEntityType (entity.Function index) = InRangeU32 index
 InRangeEntityType (entity.FunctionExact index) = InRangeU32 index
@@ -88,6 +97,7 @@ InRangeEntityType (entity.Tag t) = InRangeTagType t
 abbrev pub is_covered_table_type : TableType → Bool
 is_covered_table_type t = not t.shared && is_covered_ref_type t.element_type
 
+-- each memory
 abbrev pub is_covered_memory_type : MemoryType → Bool
 is_covered_memory_type m = true
 
@@ -95,9 +105,11 @@ is_covered_memory_type m = true
 abbrev pub is_covered_global_type : GlobalType → Bool
 is_covered_global_type g = not g.shared && is_covered_val_type g.val_type
 
+-- each tag
 abbrev pub is_covered_tag_type : TagType → Bool
 is_covered_tag_type t = true
 
+-- what is imported: a function that is not exact, or another item whose type is covered
 abbrev pub is_covered_entity_type : EntityType → Bool
 is_covered_entity_type (entity.Function index) = true
 is_covered_entity_type (entity.FunctionExact index) = false

@@ -15,6 +15,7 @@ abbrev pub ordering_byte : Ordering → ℕ
 ordering_byte SeqCst = 0x00
 ordering_byte AcqRel = 0x01
 
+-- the encoder covers the sequentially consistent ordering alone
 abbrev pub is_covered_ordering : Ordering → Bool
 is_covered_ordering SeqCst = true
 is_covered_ordering AcqRel = false
@@ -28,6 +29,7 @@ abbrev pub index_of : MemArgTarget → ℕ
 index_of (Memory index) = index
 index_of (Array index) = index
 
+-- a memory is covered, and an array is not
 abbrev pub is_covered_target : MemArgTarget → Bool
 is_covered_target (Memory index) = true
 is_covered_target (Array index) = false

@@ -58,6 +58,7 @@ Field Lanes = List ℕ
 Field Nullables = Bool × Bool
 Field Order = Ordering
 
+-- the bytes of an immediate
 abbrev pub field : (kind : Kind) → Field kind → List ℕ
 field Index n = unsigned n
 field Signed32 z = signed z
@@ -75,6 +76,7 @@ field Lanes ls = ls
 field Nullables p = (bit p.0 + 2 * bit p.1) ∷ []
 field Order o = ordering_byte o ∷ []
 
+-- the numbers of an immediate are in range; there are 16 lanes
 abbrev pub InRangeField : (kind : Kind) → Field kind → Type 0
 InRangeField Index n = InRangeU32 n
 InRangeField Signed32 z = InRangeS32 z
@@ -92,6 +94,7 @@ InRangeField Lanes ls = length ls ≡ 16
 InRangeField Nullables p = Unit {0}
 InRangeField Order o = Unit {0}
 
+-- whether the encoder covers an immediate
 abbrev pub is_covered_field : (kind : Kind) → Field kind → Bool
 is_covered_field Index n = true
 is_covered_field Signed32 z = true
@@ -114,14 +117,17 @@ abbrev pub Fields : List Kind → Type 0
 Fields [] = Unit {0}
 Fields (kind ∷ kinds) = Field kind × Fields kinds
 
+-- the bytes of some immediates, one after another
 abbrev pub fields : (kinds : List Kind) → Fields kinds → List ℕ
 fields [] x = []
 fields (kind ∷ kinds) x = field kind x.0 ++ fields kinds x.1
 
+-- each immediate is in range
 abbrev pub InRangeFields : (kinds : List Kind) → Fields kinds → Type 0
 InRangeFields [] x = Unit {0}
 InRangeFields (kind ∷ kinds) x = InRangeField kind x.0 × InRangeFields kinds x.1
 
+-- each immediate is covered
 abbrev pub is_covered_fields : (kinds : List Kind) → Fields kinds → Bool
 is_covered_fields [] x = true
 is_covered_fields (kind ∷ kinds) x = is_covered_field kind x.0 && is_covered_fields kinds x.1
@@ -131,6 +137,7 @@ pub record Instr : Type 0 where
   pub row : Row
   pub numbers : Fields row.kinds
 
+-- the bytes of an instruction: its opcode, and then its immediates
 abbrev pub instr : Instr → List ℕ
 instr i = opcode_bytes i.row.opcode ++ fields i.row.kinds i.numbers
 

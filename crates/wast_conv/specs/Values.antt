@@ -256,18 +256,23 @@ as_catch c = as_caught c.kind (number c.label)
 abbrev pub i8_bytes : List ℤ → List ℕ
 i8_bytes lanes = map (cast_unsigned w8) lanes
 
+-- of 16-bit integers
 abbrev pub i16_bytes : List ℤ → List ℕ
 i16_bytes lanes = flat_map (λ z. to_le_bytes w16 (cast_unsigned w16 z)) lanes
 
+-- of 32-bit integers
 abbrev pub i32_bytes : List ℤ → List ℕ
 i32_bytes lanes = flat_map (λ z. to_le_bytes w32 (cast_unsigned w32 z)) lanes
 
+-- of 64-bit integers
 abbrev pub i64_bytes : List ℤ → List ℕ
 i64_bytes lanes = flat_map (λ z. to_le_bytes w64 (cast_unsigned w64 z)) lanes
 
+-- of 32-bit floating-point numbers, by their bits
 abbrev pub f32_bytes : List F32 → List ℕ
 f32_bytes lanes = flat_map (λ x. to_le_bytes w32 x.bits) lanes
 
+-- of 64-bit floating-point numbers, by their bits
 abbrev pub f64_bytes : List F64 → List ℕ
 f64_bytes lanes = flat_map (λ x. to_le_bytes w64 x.bits) lanes
 

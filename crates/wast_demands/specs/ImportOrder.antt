@@ -63,6 +63,7 @@ abbrev pub unless_import : Option Span → Option Space → Option Space
 unless_import None s = s
 unless_import (Some place) s = None
 
+-- the space of the item that a field defines, of those that can be imported too; an import defines nothing
 abbrev pub defines : ModuleField → Option Space
 defines x = unless_import (import_place x) (defined_space x)
 

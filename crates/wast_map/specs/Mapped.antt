@@ -177,6 +177,7 @@ mapped_tag_type f (tag.Exception u) = tag.Exception (f.used OfItem u)
 abbrev pub mapped_table_arg : Indices → TableArg → TableArg
 mapped_table_arg f a = record { dst = f space.Table a.dst }
 
+-- the memory of an instruction that has one
 abbrev pub mapped_memory_arg : Indices → MemoryArg → MemoryArg
 mapped_memory_arg f a = record { mem = f space.Memory a.mem }
 
@@ -184,12 +185,15 @@ mapped_memory_arg f a = record { mem = f space.Memory a.mem }
 abbrev pub mapped_memory_init : Indices → MemoryInit → MemoryInit
 mapped_memory_init f a = record { segment = f space.Data a.segment; mem = f space.Memory a.mem }
 
+-- the memory that is copied from, and the one that is copied to
 abbrev pub mapped_memory_copy : Indices → MemoryCopy → MemoryCopy
 mapped_memory_copy f a = record { src = f space.Memory a.src; dst = f space.Memory a.dst }
 
+-- the table that is filled, and the element segment that it is filled from
 abbrev pub mapped_table_init : Indices → TableInit → TableInit
 mapped_table_init f a = record { table = f space.Table a.table; elem = f space.Elem a.elem }
 
+-- the table that is copied to, and the one that is copied from
 abbrev pub mapped_table_copy : Indices → TableCopy → TableCopy
 mapped_table_copy f a = record { dst = f space.Table a.dst; src = f space.Table a.src }
 
@@ -198,6 +202,7 @@ abbrev pub mapped_target : Indices → MemArgTarget → MemArgTarget
 mapped_target f (target.Memory i) = target.Memory (f space.Memory i)
 mapped_target f (target.Array i) = target.Array (f space.Ty i)
 
+-- a memory argument: what it reads or writes
 abbrev pub mapped_mem_arg : Indices → MemArg → MemArg
 mapped_mem_arg f m = record m { target = mapped_target f m.target }
 
@@ -220,6 +225,7 @@ mapped_caught f (caught.CatchRef e) = caught.CatchRef (f space.Tag e)
 mapped_caught f caught.CatchAll = caught.CatchAll
 mapped_caught f caught.CatchAllRef = caught.CatchAllRef
 
+-- a clause of `try_table`: what it catches, and where it goes
 abbrev pub mapped_catch : Change → Blocks → TryTableCatch → TryTableCatch
 mapped_catch f blocks c = record { kind = mapped_caught f.index c.kind; label = f.label blocks c.label }
 
@@ -240,6 +246,7 @@ abbrev pub mapped_handle : Change → Blocks → Handle → Handle
 mapped_handle f blocks (handle.OnLabel e l) = handle.OnLabel (f.index space.Tag e) (f.label blocks l)
 mapped_handle f blocks (handle.OnSwitch e) = handle.OnSwitch (f.index space.Tag e)
 
+-- the handlers of a resumption, each by itself
 abbrev pub mapped_handlers : Change → Blocks → ResumeTable → ResumeTable
 mapped_handlers f blocks t = record { handlers = map (mapped_handle f blocks) t.handlers }
 

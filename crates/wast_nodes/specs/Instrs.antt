@@ -26,6 +26,7 @@ abbrev pub turn_by : Option BlockType → Bool → Turn
 turn_by (Some b) closes = Opens (name_if (marked b.label))
 turn_by None closes = if closes then Closes else Stays
 
+-- what an instruction does to them, by its block and whether it closes one
 abbrev pub turn_of : Instruction → Turn
 turn_of i = turn_by (block_of i) (is_closer i)
 

@@ -22,6 +22,7 @@ abbrev pub needed_if : Bool → Signature → List Signature
 needed_if true s = s ∷ []
 needed_if false s = []
 
+-- the signature of a use that needs a type and has no index; none where it has one
 abbrev pub needed_without : Where → Option Index → Option FunctionType → List Signature
 needed_without w None inline = needed_if (needs_type w inline) (inline_signature inline)
 needed_without w (Some i) inline = []
