@@ -6,11 +6,11 @@ use Rattle.std.specs.List.{flat_map}
 use Rattle.wast_base.specs.Ids.{Name, Mark}
 use Rattle.wast_base.specs.Spaces.{name_if}
 use Rattle.wast_nodes.specs.Clauses.{suits}
-use Rattle.wast_nodes.specs.Sites.{Ask, Clause, Covered, Site, Asked, Declared, LocalAt, OfItem, asking, if_there, at_index, in_ref, in_val, in_id, in_type, in_type_use, in_use, in_expression, in_constant, in_local, declaring, param_marks, local_marks, body_here, in_func_kind, in_tag_type, in_item_kind, in_sig, in_import, uncovered, in_payload, in_table_kind, in_memory_kind, in_global_kind, in_elem_kind, in_data_kind, in_subsection, in_custom, in_field, in_module, asked}
+use Rattle.wast_nodes.specs.Sites.{Ask, Clause, Covered, Site, Asked, Declared, LocalAt, OfItem, asking, if_there, at_index, in_ref, in_val, in_id, in_type, in_type_use, in_use, in_expression, in_constant, in_local, declaring, param_marks, local_marks, body_here, in_func_kind, in_tag_type, in_item_kind, in_sig, in_shared_id, in_import, uncovered, in_payload, in_table_kind, in_memory_kind, in_global_kind, in_elem_kind, in_data_kind, in_subsection, in_custom, in_field, in_module, asked}
 use Rattle.wast_nodes.proofs.Asking.{asked_both}
 use Rattle.wast_map.specs.Mapped.{Each}
 use Rattle.wast_map.proofs.Ways.{each_first, each_rest}
-use Rattle.wast_alike.specs.Tree.{Index, FunctionType, TypeUse, Expression, Local, FuncKind, TagType, ItemKind, ImportItems, TableKind, MemoryKind, GlobalKind, ElemKind, ElemPayload, DataKind, Custom, Dylink0Subsection, ModuleField}
+use Rattle.wast_alike.specs.Tree.{Id, Index, FunctionType, TypeUse, Expression, Local, FuncKind, TagType, ItemKind, ImportItems, TableKind, MemoryKind, GlobalKind, ElemKind, ElemPayload, DataKind, Custom, Dylink0Subsection, ModuleField}
 use Rattle.wast_alike.specs.Tree.space
 use Rattle.wast_alike.specs.Tree.form
 use Rattle.wast_alike.specs.Tree.func
@@ -60,11 +60,16 @@ item_kind_fixed (kind.Memory t) = refl
 item_kind_fixed (kind.Global t) = fixed_form None (in_val t.ty) (Covered form.Shared (not t.shared)) (val_part.typed t.ty) refl
 item_kind_fixed (kind.Tag t) = tag_fixed t
 
+shared_fixed : {N : Type 0} (names : List N) (id : Option Id) → Fixed None (asking (in_shared_id names id ++ uncovered form.CompactImports))
+shared_fixed [] None = refl
+shared_fixed [] (Some id) = refl
+shared_fixed (name ∷ names) id = refl
+
 import_fixed : (i : ImportItems) → Fixed None (in_import i)
 import_fixed (import_items.Single source name sig) = item_kind_fixed sig.kind
 import_fixed (import_items.Group1 source items) =
     fixed_both None (flat_map (λ p. in_sig p.1) items) (asking (uncovered form.CompactImports)) (fixed_each None (λ p. in_sig p.1) (λ p. item_kind_fixed p.1.kind) items) refl
-import_fixed (import_items.Group2 source sig names) = fixed_both None (in_sig sig) (asking (uncovered form.CompactImports)) (item_kind_fixed sig.kind) refl
+import_fixed (import_items.Group2 source sig names) = fixed_both None (in_sig sig) (asking (in_shared_id names sig.id ++ uncovered form.CompactImports)) (item_kind_fixed sig.kind) (shared_fixed names sig.id)
 
 payload_fixed : (p : ElemPayload) → Fixed None (in_payload p)
 payload_fixed (payload.Indices is) = fixed_each None (at_index space.Func) (λ i. refl) is

@@ -7,12 +7,12 @@ use Rattle.std.proofs.lemmas.List.Elements.{All-nil, All-map}
 use Rattle.std.proofs.lemmas.Str.{is_utf8-from_IsUtf8}
 use lib.Utf8.{encode}
 use Rattle.wasm_ops.proofs.Everywhere.{all_each, all_one, all_both, all_tested, all_in_flat}
-use Rattle.wast_nodes.specs.Sites.{Site, asking, uncovered, in_rec, in_sig, in_import, in_table_type, in_global_type}
+use Rattle.wast_nodes.specs.Sites.{Site, asking, uncovered, in_id, in_rec, in_sig, in_shared_id, in_import, in_table_type, in_global_type}
 use Rattle.wasm_out.specs.NameSectionBytes.{NameSubsection}
 use Rattle.wasm_out.specs.Parts.{SectionKind, Types, Imports, Functions, Tables, Memories, Tags, Globals, Exports, Elements, Code, Data, Single, Entry, Listed, DataCount, InRangePart}
 use Rattle.wasm_out.specs.Readable.{is_covered_init, HasRowsInit, is_balanced_init, is_covered_entry, HasRows, is_balanced_entry, HasUtf8Name, IsReadable, IsReadablePart}
 use Rattle.wasm_out.specs.Reads.{Reads}
-use Rattle.wast_core.specs.Tree.{Index, Expression, FuncKind, Func, GlobalType, ImportItems, TableKind, Table, Memory, GlobalKind, Global, Tag, Rec, Export, Elem, Custom, ModuleField}
+use Rattle.wast_core.specs.Tree.{Id, Index, Expression, FuncKind, Func, GlobalType, ImportItems, TableKind, Table, Memory, GlobalKind, Global, Tag, Rec, Export, Elem, Custom, ModuleField}
 use Rattle.wast_core.specs.Tree as tree
 use Rattle.wast_core.specs.Tree.ty
 use Rattle.wast_core.specs.Tree.func
@@ -59,10 +59,15 @@ nothing_more k = All-nil (IsReadable k)
 group_fails : (ss : List Site) → are_entered (ss ++ asking (uncovered form.CompactImports)) ≡ true → ⊥
 group_fails ss e = let no = (both_lists is_entered_site ss (asking (uncovered form.CompactImports)) e).1 in cc
 
+shared_fails : {N : Type 0} (ss : List Site) (names : List N) (id : Option Id) → are_entered (ss ++ asking (in_shared_id names id ++ uncovered form.CompactImports)) ≡ true → ⊥
+shared_fails ss [] None e = group_fails ss e
+shared_fails ss [] (Some id) e = let no = (both_lists is_entered_site ss (asking (in_id id ++ uncovered form.CompactImports)) e).1 in cc
+shared_fails ss (name ∷ names) id e = group_fails ss e
+
 import_read : (i : ImportItems) → are_entered (in_import i) ≡ true → HasUtf8Items i → All (IsReadable Imports) (imported i ∷ [])
 import_read (import_items.Single source name sig) e h = plain Imports (imported (import_items.Single source name sig)) (kind_covered sig.kind e) tt refl h
 import_read (import_items.Group1 source items) e h = absurd (group_fails (flat_map (λ p. in_sig p.1) items) e)
-import_read (import_items.Group2 source sig names) e h = absurd (group_fails (in_sig sig) e)
+import_read (import_items.Group2 source sig names) e h = absurd (shared_fails (in_sig sig) names sig.id e)
 
 init_covered : (o : Option Expression) → is_encodable_init o ≡ true → is_covered_init (option_map meaning.as_expression o) ≡ true
 init_covered None e = refl

@@ -62,7 +62,8 @@ sigs_changed (import_items.Group1 source items) = pairs items
     pairs : (ps : List Named) → map sig_of (map stripped_item ps) ≡ map (mapped_sig stripping) (map sig_of ps)
     pairs [] = refl
     pairs (p ∷ ps) = ap (λ sigs. mapped_sig stripping p.1 ∷ sigs) (pairs ps)
-sigs_changed (import_items.Group2 source sig names) = copies names
+sigs_changed (import_items.Group2 source sig []) = refl
+sigs_changed (import_items.Group2 source sig (name ∷ names)) = copies (name ∷ names)
   where
     copies : (names : List (Bor (List ℕ))) → map (λ name. mapped_sig stripping sig) names ≡ map (mapped_sig stripping) (map (λ name. sig) names)
     copies [] = refl

@@ -18,10 +18,15 @@ use Rattle.wast_base.specs.Ids.{Mark, marked}
 use Rattle.wast_nodes.specs.Items.{Item, item, field_ids, fields_of, space_of_kind, items_of_type, item_of_sig, items_of_import, items_in, items}
 use Rattle.wast_nodes.specs.Imports.{defined_space}
 use Rattle.wast_nodes.specs.WrittenOut.{exports_nothing, is_written_func, is_written_table, is_written_global, is_written_field, is_written_out}
-use Rattle.wast_map.specs.Mapped.{Change, KeepsMarks, named_struct_field, named_inner, mapped_type, mapped_func_kind, mapped_table_kind, mapped_global_kind, mapped_item_kind, mapped_sig, mapped_import_items, mapped}
+use Rattle.wast_map.specs.Mapped.{Change, KeepsMarks, named_struct_field, named_inner, mapped_type, mapped_func_kind, mapped_table_kind, mapped_global_kind, mapped_item_kind, mapped_sig, mapped_shared_id, mapped_import_items, mapped}
 use Rattle.wast_map.specs.Named.{Naming, kept, renamed_mark, renamed_item, Names}
 use Rattle.wast_map.specs.Laws.{KeepsItems, NamesItems, all_mapped}
 use Rattle.wast_map.proofs.Kept.{mark_kept, items_kept, names_kept_by}
+
+-- where no id changes, neither does that of a signature that names share
+pub shared_id_stays : {N : Type 0} (f : Change) → ((o : Option Id) → f.id o ≡ o) → ((o : Option Id) → f.own o ≡ o) → (names : List N) (o : Option Id) → mapped_shared_id f names o ≡ o
+shared_id_stays f items owns [] o = owns o
+shared_id_stays f items owns (name ∷ names) o = items o
 
 module _ (f : Change) where
   func_alone : (u : TypeUse FunctionType) (k : FuncKind) → is_written_func (mapped_func_kind f u k) ≡ is_written_func k
@@ -95,7 +100,8 @@ module _ (n : Naming) (f : Change) (ids : NamesItems n f) (names : Names n f) wh
   import_named : (i : ImportItems) → items_of_import (mapped_import_items f i) ≡ map (renamed_item n) (items_of_import i)
   import_named (import_items.Single source name sig) = λ i. sig_named sig i ∷ []
   import_named (import_items.Group1 source items) = sigs_named items
-  import_named (import_items.Group2 source sig texts) = group_named (item_of_sig (mapped_sig f sig)) (item_of_sig sig) (sig_named sig) texts
+  import_named (import_items.Group2 source sig []) = refl
+  import_named (import_items.Group2 source sig (text ∷ texts)) = group_named (item_of_sig (mapped_sig f sig)) (item_of_sig sig) (sig_named sig) (text ∷ texts)
 
   item_named : (s : Space) (o : Option Id) → item s (f.id o) [] ∷ [] ≡ map (renamed_item n) (item s o [] ∷ [])
   item_named s o = ap (λ (m : Option Mark). record { space = s; id = m; fields = [] } ∷ []) (ids o)

@@ -32,7 +32,7 @@ use Rattle.wast_map.specs.Tree.custom
 use Rattle.wast_map.specs.Tree.dylink
 use Rattle.wast_nodes.specs.Clauses.{is_func_heap, hints_stand, stand_from, suits}
 use Rattle.wast_nodes.specs.Instrs.{turn_of, turns}
-use Rattle.wast_nodes.specs.Sites.{Here, start, OfItem, OfCall, OfBlock, Site, Asked, Used, Declared, LocalAt, FieldAt, LabelAt, Repeated, Begins, Ends, Clause, Covered, uncovered, after, after_all, asking, at_index, in_heap, in_block, in_caught, in_catch, in_try_table, in_br_table, in_ref, in_pair, in_cast, in_handle, in_handlers, in_target, in_mem_arg, in_select, in_indirect, in_instr, behind, in_instrs, in_expression, in_constant, in_local, local_marks, param_marks, declaring, body_here, in_func_kind, in_use, in_func, in_item_kind, in_sig, in_import, exported_space, in_payload, in_table_kind, in_memory_kind, in_global_kind, in_elem_kind, in_elem, in_data_kind, in_subsection, in_custom, in_field}
+use Rattle.wast_nodes.specs.Sites.{Here, start, OfItem, OfCall, OfBlock, Site, Asked, Used, Declared, LocalAt, FieldAt, LabelAt, Repeated, Begins, Ends, Clause, Covered, uncovered, after, after_all, asking, at_index, in_heap, in_block, in_caught, in_catch, in_try_table, in_br_table, in_ref, in_pair, in_cast, in_handle, in_handlers, in_target, in_mem_arg, in_select, in_indirect, in_instr, behind, in_instrs, in_expression, in_constant, in_local, local_marks, param_marks, declaring, body_here, in_func_kind, in_use, in_func, in_item_kind, in_sig, in_shared_id, in_import, exported_space, in_payload, in_table_kind, in_memory_kind, in_global_kind, in_elem_kind, in_elem, in_data_kind, in_subsection, in_custom, in_field}
 use Rattle.wast_map.specs.Mapped.{Change, same, KeepsMarks, Each, mapped_heap, mapped_ref, mapped_handle, mapped_handlers, mapped_block, mapped_caught, mapped_catch, mapped_try_table, mapped_br_table, mapped_target, mapped_mem_arg, mapped_select, mapped_indirect, mapped_instr, mapped_instrs, mapped_expression, mapped_constant, mapped_local, mapped_func_kind, mapped_func, mapped_item_kind, mapped_sig, mapped_import_items, mapped_payload, mapped_table_kind, mapped_global_kind, mapped_elem_kind, mapped_elem, mapped_data_kind, mapped}
 use Rattle.wast_map.specs.Named.{Naming, Names, renamed, renamed_mark, named_locals, named_here, named_site, NamedJoins, AreNamedJoint}
 use Rattle.wast_map.proofs.Ways.{In, At, Among, begins_at, each_first, each_rest, index_in, index_at, mark_in, label_at, asked_at, item_id_at, use_at, fixed_at, both_at, made_at, made_among, tested_at, option_at, list_at}
@@ -408,8 +408,11 @@ import_at : (i : ImportItems) → At in_import mapped_import_items i
 import_at (import_items.Single source name sig) = made_at (import_items.Single source name) (λ y. refl) (λ f y. refl) sig (sig_at sig)
 import_at (import_items.Group1 source items) =
     made_at (import_items.Group1 source) (λ y. refl) (λ f y. refl) items (tested_at items (asking (uncovered form.CompactImports)) (λ n f. refl) (list_at named_sig_at items))
-import_at (import_items.Group2 source sig names) =
-    made_at (λ (s : ItemSig). import_items.Group2 source s names) (λ y. refl) (λ f y. refl) sig (tested_at sig (asking (uncovered form.CompactImports)) (λ n f. refl) (sig_at sig))
+import_at (import_items.Group2 source sig []) =
+    made_at (λ (q : ItemKind × Option Id). import_items.Group2 source (record sig { id = q.1; kind = q.0 }) []) (λ y. refl) (λ f y. refl) (sig.kind, sig.id)
+    (both_at sig.kind sig.id (item_kind_at sig.kind) (asked_at sig.id (tested_at sig.id (uncovered form.CompactImports) (λ n f. refl) (mark_in sig.id))))
+import_at (import_items.Group2 source sig (name ∷ names)) =
+    made_at (λ (s : ItemSig). import_items.Group2 source s (name ∷ names)) (λ y. refl) (λ f y. refl) sig (tested_at sig (asking (uncovered form.CompactImports)) (λ n f. refl) (sig_at sig))
 
 payload_at : (p : ElemPayload) → At in_payload mapped_payload p
 payload_at (payload.Indices is) = made_at payload.Indices (λ y. refl) (λ f y. refl) is (list_at (index_at space.Func) is)

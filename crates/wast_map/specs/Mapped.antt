@@ -47,7 +47,8 @@ pub record Change : Type 0 where
   pub label : Blocks → Index → Index
   -- the id of an item
   pub id : Ids
-  -- any other id: of a parameter, a field of a struct or a local, a label of a block, and where a label is repeated
+  -- any other id: of a parameter, a field of a struct or a local, a label of a block, where a label is repeated, and of a
+  -- signature that an import shares among no names
   pub own : Ids
 
 -- the locals of a body whose function is changed
@@ -389,11 +390,16 @@ mapped_item_kind f (kind.Tag t) = kind.Tag (mapped_tag_type f t)
 abbrev pub mapped_sig : Change → ItemSig → ItemSig
 mapped_sig f s = record s { id = f.id s.id; kind = mapped_item_kind f s.kind }
 
+-- the id of a signature that names share: each item has it; where there is no name, it is the id of no item
+abbrev pub mapped_shared_id : {N : Type 0} → Change → List N → Option Id → Option Id
+mapped_shared_id f [] id = f.own id
+mapped_shared_id f (name ∷ names) id = f.id id
+
 -- what an import imports
 abbrev pub mapped_import_items : Change → ImportItems → ImportItems
 mapped_import_items f (import_items.Single source name sig) = import_items.Single source name (mapped_sig f sig)
 mapped_import_items f (import_items.Group1 source items) = import_items.Group1 source (map (λ p. (p.0, mapped_sig f p.1)) items)
-mapped_import_items f (import_items.Group2 source sig names) = import_items.Group2 source (mapped_sig f sig) names
+mapped_import_items f (import_items.Group2 source sig names) = import_items.Group2 source (record sig { id = mapped_shared_id f names sig.id; kind = mapped_item_kind f sig.kind }) names
 
 -- an import
 abbrev pub mapped_import : Change → Imports → Imports

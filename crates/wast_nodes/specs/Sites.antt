@@ -454,11 +454,17 @@ in_item_kind (kind.Tag t) = in_tag_type t
 abbrev pub in_sig : ItemSig → List Site
 in_sig sig = in_item_kind sig.kind
 
--- an import: each signature that is written, and whether it is of a group
+-- the id of a signature that names share: each item has it; where there is no name, no item does, and it is an id of which
+-- nothing is asked
+abbrev pub in_shared_id : {N : Type 0} → List N → Option Id → List Ask
+in_shared_id [] id = if_there in_id id
+in_shared_id (name ∷ names) id = []
+
+-- an import: each signature that is written, an id that no item has, and whether it is of a group
 abbrev pub in_import : ImportItems → List Site
 in_import (import_items.Single source name sig) = in_sig sig
 in_import (import_items.Group1 source items) = flat_map (λ p. in_sig p.1) items ++ asking (uncovered form.CompactImports)
-in_import (import_items.Group2 source sig items) = in_sig sig ++ asking (uncovered form.CompactImports)
+in_import (import_items.Group2 source sig names) = in_sig sig ++ asking (in_shared_id names sig.id ++ uncovered form.CompactImports)
 
 -- a constant expression stands alone, and closes as many blocks as it opens, none before it is open; its branch hints are not
 -- asked, since they are not written

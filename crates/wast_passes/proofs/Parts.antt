@@ -3,12 +3,13 @@ use Rattle.std.proofs.Common.{◌≡◌, ap, ◌∙◌, sym, subst, List, [], �
 use Rattle.std.specs.List.{flat_map}
 use Rattle.std.proofs.lemmas.Grind.{flat_map-append}
 use Rattle.wast_base.specs.Faults.{Cause, Told, told}
-use Rattle.wast_nodes.specs.Sites.{Ask, Wants, Site, Asked, if_there, in_index, at_index, at_label, in_id, in_ref, in_cast, asking}
+use Rattle.wast_nodes.specs.Sites.{Ask, Wants, Site, Asked, if_there, in_index, at_index, at_label, in_id, in_ref, in_cast, in_shared_id, uncovered, asking}
 use Rattle.wast_nodes.specs.Known.{Known}
 use Rattle.wast_base.specs.declared.faults.Error.{Error}
 use Rattle.wast_base.specs.Blocks.{Blocks}
 use Rattle.std.proofs.lemmas.List.{map-append}
 use Rattle.wast_passes.specs.Tree.{Span, Space, Id, Index, RefType}
+use Rattle.wast_base.specs.declared.faults.Form.{Form}
 use Rattle.wast_demands.specs.Demands.{Demand, first_unmet, Answers, ask_demand, ask_demands, site_demand, site_demands, open_counts_at, open_counts}
 use Rattle.wast_demands.specs.Scopes.{Scope}
 use Rattle.wast_passes.specs.Walking.{Walks}
@@ -48,6 +49,12 @@ pub id_met : (k : Known) (id : Option Id) → first_unmet (ask_demands k (if_the
 id_met k None = refl
 id_met k (Some id) = refl
 
+-- so is that of a signature that names share, where no item has it
+pub shared_id_met : {N : Type 0} (k : Known) (names : List N) (id : Option Id) (f : Form) → ask_demands k (in_shared_id names id ++ uncovered f) ≡ []
+shared_id_met k [] None f = refl
+shared_id_met k [] (Some id) f = refl
+shared_id_met k (name ∷ names) id f = refl
+
 -- what is asked of names alone
 pub asking_demands : (c : Scope) (asks : List Ask) → site_demands c (asking asks) ≡ ask_demands c.known asks
 asking_demands c [] = refl
@@ -62,9 +69,13 @@ pub optional_demands : (c : Scope) (s : Space) (o : Option Index) → site_deman
 optional_demands c s None = refl
 optional_demands c s (Some i) = refl
 
+-- what is asked behind it, and demands nothing
+pub all_but_asks : (c : Scope) (ss : List Site) (asks : List Ask) → ask_demands c.known asks ≡ [] → site_demands c (ss ++ asking asks) ≡ site_demands c ss
+all_but_asks c ss asks none = flat_map-append (site_demand c) ss (asking asks) ∙ (ap (λ ds. site_demands c ss ++ ds) (asking_demands c asks ∙ none) ∙ append-nil (site_demands c ss))
+
 -- whether what stands there is supported, or a clause holds, demands nothing
 pub all_but_last : (c : Scope) (ss : List Site) (last : Ask) → ask_demand c.known last ≡ [] → site_demands c (ss ++ Asked last ∷ []) ≡ site_demands c ss
-all_but_last c ss last none = flat_map-append (site_demand c) ss (Asked last ∷ []) ∙ (ap (λ ds. site_demands c ss ++ (ds ++ [])) none ∙ append-nil (site_demands c ss))
+all_but_last c ss last none = all_but_asks c ss (last ∷ []) (ap (λ ds. ds ++ []) none)
 
 -- and opens nothing
 pub all_counts_but_last : (ss : List Site) (last : Ask) → open_counts (ss ++ Asked last ∷ []) ≡ open_counts ss
@@ -99,11 +110,16 @@ walks_in K M make ds want new result walked = walks_as {L = K} {N = M} (λ l. l)
 pub walks_made_in : {T U : Type 0} (K M : Type 0) (make : T → U) (ds : List Demand) (want new : T) (result : Result (Unit {0}) Error) → Walks ⊥ ⊥ ds want new result → Walks K M ds (make want) (make new) result
 walks_made_in K M make ds want new result walked = walks_as {L = K} {N = M} (λ l. absurd l) (λ m. absurd m) ds ds want new (make want) (make new) result refl (ap make) walked
 
--- and where behind it something stands of which nothing is demanded
+-- and where behind it something is asked that demands nothing
+pub walks_before_asks : {T U : Type 0} (K M : Type 0) (c : Scope) (ss : List Site) (asks : List Ask) → ask_demands c.known asks ≡ [] → (make : T → U) (want new : T) (result : Result (Unit {0}) Error)
+    → Walks ⊥ ⊥ (site_demands c ss) want new result → Walks K M (site_demands c (ss ++ asking asks)) (make want) (make new) result
+walks_before_asks K M c ss asks none make want new result walked =
+    walks_as {L = K} {N = M} (λ l. absurd l) (λ m. absurd m) (site_demands c ss) (site_demands c (ss ++ asking asks)) want new (make want) (make new) result (ap first_unmet (sym (all_but_asks c ss asks none))) (ap make) walked
+
 pub walks_before : {T U : Type 0} (K M : Type 0) (c : Scope) (ss : List Site) (last : Ask) → ask_demand c.known last ≡ [] → (make : T → U) (want new : T) (result : Result (Unit {0}) Error)
     → Walks ⊥ ⊥ (site_demands c ss) want new result → Walks K M (site_demands c (ss ++ Asked last ∷ [])) (make want) (make new) result
 walks_before K M c ss last none make want new result walked =
-    walks_as {L = K} {N = M} (λ l. absurd l) (λ m. absurd m) (site_demands c ss) (site_demands c (ss ++ Asked last ∷ [])) want new (make want) (make new) result (ap first_unmet (sym (all_but_last c ss last none))) (ap make) walked
+    walks_before_asks K M c ss (last ∷ []) (ap (λ ds. ds ++ []) none) make want new result walked
 
 -- the label and the two types of a branch on a cast
 pub cast_sites : (blocks : Blocks) (l : Index) (to from : RefType) → in_cast blocks l to from ≡ at_label blocks l ++ (asking (in_ref to) ++ asking (in_ref from))

@@ -1,6 +1,7 @@
 -- What a visitor was told of parts that stand one after the other.
-use Rattle.std.proofs.Common.{◌≡◌, ℕ, ◌+◌, ◌<◌, List, [], ◌∷◌, ◌++◌, refl, sym, ap, ◌∙◌, subst, append-nil, length, get_or, take}
-use Rattle.std.specs.Prelude.{flat_map}
+use Rattle.std.proofs.Common.{◌≡◌, ℕ, ◌+◌, ◌<◌, true, false, List, [], ◌∷◌, ◌++◌, refl, sym, ap, ◌∙◌, subst, append-nil, length, get_or, take, arith}
+use Rattle.std.proofs.lemmas.Bool.Decides.{Decides-eqb}
+use Rattle.std.specs.Prelude.{◌==◌, flat_map}
 use Rattle.std.proofs.lemmas.Grind.{flat_map-append}
 use Rattle.std.proofs.lemmas.List.{take_more}
 use Rattle.std.specs.Prelude.{Option, Some, None, map}
@@ -11,7 +12,7 @@ use Rattle.wast_visits.specs.Tree.{Id, Index, BrTableIndices, TryTable, TryTable
 use Rattle.wast_visits.specs.Tree.form
 use Rattle.wast_visits.specs.Tree.handle
 use Rattle.wast_visits.specs.Tree.func
-use Rattle.wast_nodes.specs.Sites.{Ask, Wants, Within, Where, Site, Begins, Here, after_all, asking, at_index, if_there, in_id, in_index, in_use, in_ref, in_type_use, at_label, in_caught, in_catch, in_try_table, in_br_table, in_handle, in_handlers, uncovered, mark_asked, param_marks, in_constant, in_local, in_instr, in_instrs, in_expression, local_marks, declaring, body_here, in_func_kind, asked_in, asked}
+use Rattle.wast_nodes.specs.Sites.{Ask, Wants, Within, Where, Site, Begins, Here, after_all, asking, at_index, if_there, in_id, in_index, in_use, in_ref, in_type_use, at_label, in_caught, in_catch, in_try_table, in_br_table, in_handle, in_handlers, in_shared_id, uncovered, mark_asked, param_marks, in_constant, in_local, in_instr, in_instrs, in_expression, local_marks, declaring, body_here, in_func_kind, asked_in, asked}
 use Rattle.wast_visits.specs.Visits.{Tells, Visits}
 use Rattle.wast_nodes.proofs.Asking.{each_of_each, asked_asking, asked_both}
 use Rattle.wast_nodes.proofs.Behind.{instrs-append}
@@ -151,3 +152,12 @@ asked_behind sites asks = asked_both sites (asking asks) ∙ ap (λ more. asked 
 
 pub asked_list : {A : Type 0} (f : A → List Site) (xs : List A) (asks : List Ask) → asked (flat_map f xs ++ asking asks) ≡ flat_map (λ x. asked (f x)) xs ++ asks
 asked_list f xs asks = asked_behind (flat_map f xs) asks ∙ ap (λ more. more ++ asks) (asked_each f xs)
+
+-- The id of a signature that names share is asked where there is no name.
+pub shared_by_none : {N : Type 0} (names : List N) (id : Option Id) → (length names == 0) ≡ true → in_shared_id names id ≡ if_there in_id id
+shared_by_none [] id none = refl
+shared_by_none (name ∷ names) id none = let e : length (name ∷ names) ≡ 0 = (Decides-eqb (length (name ∷ names)) 0).0 none in absurd (omega arith)
+
+pub shared_by_some : {N : Type 0} (names : List N) (id : Option Id) → (length names == 0) ≡ false → in_shared_id names id ≡ []
+shared_by_some [] id some = absurd cc
+shared_by_some (name ∷ names) id some = refl

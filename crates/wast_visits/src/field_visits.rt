@@ -1,11 +1,12 @@
 //! What stands in fields other than types and functions, as reading walks tell it.
 #![tactic(auto, using(crate::proofs::Visiting::visits_both, crate::proofs::Visiting::visits_one, crate::proofs::Visiting::visits_none, wast_nodes::proofs::Asking::asked_asking, wast_nodes::proofs::Asking::asked_both, crate::proofs::Visiting::asked_use, crate::proofs::Visiting::asked_if, crate::proofs::Visiting::asked_index_if, crate::proofs::Visiting::asked_each, crate::proofs::Visiting::asked_indices))]
 
-ghost use Rattle.wast_nodes.specs.Sites.{in_index, in_table_type, in_global_type, in_tag_type, in_item_kind, in_sig, in_import, in_table_kind, in_memory_kind, in_global_kind, in_global, exported_space, in_elem_kind, in_payload, in_elem, in_data_kind, in_subsection, in_custom, asked};
+ghost use Rattle.wast_nodes.specs.Sites.{in_index, in_table_type, in_global_type, in_tag_type, in_item_kind, in_sig, in_shared_id, in_import, in_table_kind, in_memory_kind, in_global_kind, in_global, exported_space, in_elem_kind, in_payload, in_elem, in_data_kind, in_subsection, in_custom, asked};
+ghost use Rattle.wast_visits.specs.Visits.{Visits};
 
 use crate::clauses::{is_page_exponent, suits};
 use crate::visits::{Visit, Visitor, visit_index, visit_indices};
-use wast_base::{Form, Space};
+use wast_base::{Form, Id, Space};
 use wast_nodes::{
     Custom, DataKind, Dylink0Subsection, Elem, ElemKind, ElemPayload, Export, Global, GlobalKind,
     GlobalType, ImportItems, ItemKind, ItemSig, MemoryKind, TableKind, TableType, TagType,
@@ -83,11 +84,22 @@ impl Visit for ImportItems<'_> {
                 items.visit(visitor);
                 visitor.covered(Form::CompactImports, false);
             }
-            ImportItems::Group2 { sig, .. } => {
+            ImportItems::Group2 { sig, items, .. } => {
                 sig.visit(visitor);
+                visit_shared_id(items.as_slice(), &sig.id, visitor);
                 visitor.covered(Form::CompactImports, false);
             }
         }
+    }
+}
+
+/// Tells a visitor of the id of a signature that names share, where there is no name: then no item has it.
+#[tactic(auto, using(crate::proofs::Visiting::visits_none, crate::proofs::Visiting::shared_by_none, crate::proofs::Visiting::shared_by_some))]
+fn visit_shared_id<V: Visitor>(names: &[&str], id: &Option<Id<'_>>, visitor: &mut V)
+    ensures { Visits V.told visitor.old (in_shared_id names.now id.now) visitor.new }
+{
+    if names.is_empty() {
+        id.visit(visitor);
     }
 }
 

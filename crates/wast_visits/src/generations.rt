@@ -63,8 +63,8 @@ impl Visitor for Greatest {
 
 /// The greatest generation of an id in the fields, and 0 where no id is generated. It takes no memory.
 ///
-/// The ids are those of items, parameters, locals, labels and fields of structs, and those that stand for indices. A
-/// counter that begins above it gives ids that are new to the fields.
+/// The ids are those of items, parameters, locals, labels and fields of structs, those that stand for indices, and that of a
+/// signature that an import shares among no names. A counter that begins above it gives ids that are new to the fields.
 pub fn gensym_bound(fields: &[ModuleField<'_>]) -> u64
     ensures { result ≡ greatest_generation fields.now }
 {

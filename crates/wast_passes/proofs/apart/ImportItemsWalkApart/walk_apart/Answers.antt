@@ -1,11 +1,16 @@
-use Rattle.std.proofs.Common.{false, refl}
+use Rattle.std.proofs.Common.{false, refl, sym, subst, ◌++◌}
 use Rattle.std.specs.List.{flat_map}
-use Rattle.wast_nodes.specs.Sites.{Covered, in_sig}
+use Rattle.wast_nodes.specs.Sites.{Covered, asking, uncovered, in_sig, in_shared_id}
 use Rattle.wast_passes.specs.Tree.{ItemSig}
 use Rattle.wast_passes.specs.Tree.form
 use Rattle.wast_passes.specs.Tree.import_items
+use Rattle.wast_map.specs.Mapped.{mapped_item_kind, mapped_sig}
+use Rattle.wast_map.proofs.Alone.{shared_id_stays}
+use Rattle.wast_demands.specs.Demands.{site_demands}
+use Rattle.wast_demands.specs.Resolved.{numbering}
 use Rattle.wast_passes.specs.Resolvers.{scope_of}
-use Rattle.wast_passes.proofs.Parts.{walks_before}
+use Rattle.wast_passes.specs.Walking.{Walks}
+use Rattle.wast_passes.proofs.Parts.{walks_before, walks_before_asks, shared_id_met}
 use Rattle.wast_passes.proofs.apart.ImportItemsWalkApart.walk_apart.Goals as goal
 
 pub returns-in-Group1 : goal.returns-in-Group1
@@ -17,4 +22,11 @@ returns-in-Group1 c =
 pub returns-in-Group2 : goal.returns-in-Group2
 returns-in-Group2 c =
     let s = scope_of c.args.names.now in
-    rw c.in-Group2.is (walks_before ⊥ ⊥ s (in_sig c.in-Group2.sig) (Covered form.CompactImports false) refl (λ (sig : ItemSig). import_items.Group2 c.in-Group2.«module» sig c.in-Group2.items) _ c.walk_apart-in-Group2.new.self c.walk_apart-in-Group2.result c.walk_apart-in-Group2.ensures)
+    let sig = c.in-Group2.sig in
+    let names = c.in-Group2.items in
+    let f = numbering s in
+    let of_sig = λ (x : ItemSig). import_items.Group2 c.in-Group2.«module» x names in
+    let asks = in_shared_id names sig.id ++ uncovered form.CompactImports in
+    rw c.in-Group2.is (subst (λ id. Walks ⊥ ⊥ (site_demands s (in_sig sig ++ asking asks)) (of_sig (record sig { id = id; kind = mapped_item_kind f sig.kind })) (of_sig c.walk_apart-in-Group2.new.self) c.walk_apart-in-Group2.result)
+    (sym (shared_id_stays f (λ o. refl) (λ o. refl) names sig.id))
+    (walks_before_asks ⊥ ⊥ s (in_sig sig) asks (shared_id_met s.known names sig.id form.CompactImports) of_sig (mapped_sig f sig) c.walk_apart-in-Group2.new.self c.walk_apart-in-Group2.result c.walk_apart-in-Group2.ensures))

@@ -1,11 +1,12 @@
-use Rattle.std.proofs.Common.{ap, sym, ◌∙◌, subst}
+use Rattle.std.proofs.Common.{refl, ap, sym, ◌∙◌, ◌++◌, subst}
 use Rattle.std.proofs.lemmas.Result.{err_from_is_err_and}
 use Rattle.wast_base.specs.Filling.{RunsOut}
 use Rattle.wast_types.specs.Tree.form
 use Rattle.wast_types.specs.Tree.import_items
 use Rattle.wast_types.specs.Tree.{ItemSig}
-use Rattle.wast_nodes.specs.Sites.{in_sig, in_import, uncovered}
-use Rattle.wast_map.specs.Mapped.{mapped_import_items}
+use Rattle.wast_nodes.specs.Sites.{in_sig, in_shared_id, in_import, uncovered}
+use Rattle.wast_map.specs.Mapped.{mapped_item_kind, mapped_import_items}
+use Rattle.wast_map.proofs.Alone.{shared_id_stays}
 use Rattle.wast_types.specs.Binding.{next_after}
 use Rattle.wast_types.specs.Expanders.{index_of, with_more}
 use Rattle.wast_types.specs.Expanded.{binding}
@@ -34,14 +35,18 @@ returns-in_err-bind_each-in-Group1-clause-refusal c =
 
 pub returns-in_ok-bind-in-Group2-clause-bound : goal.returns-in_ok-bind-in-Group2-clause-bound
 returns-in_ok-bind-in-Group2-clause-bound c = λ more.
-    ap (λ (s : ItemSig). import_items.Group2 c.in-Group2.«module» s c.in-Group2.items) (c.in_ok-bind-in-Group2.ensures.bound more) ∙ sym (ap (mapped_import_items (binding (with_more (index_of c.bind-in-Group2.new.binder.cx) more))) c.in-Group2.is)
+    let f = binding (with_more (index_of c.bind-in-Group2.new.binder.cx) more) in
+    let sig = c.in-Group2.sig in
+    let of_sig = λ (s : ItemSig). import_items.Group2 c.in-Group2.«module» s c.in-Group2.items in
+    ap of_sig (c.in_ok-bind-in-Group2.ensures.bound more)
+    ∙ (ap (λ id. of_sig (record sig { id = id; kind = mapped_item_kind f sig.kind })) (sym (shared_id_stays f (λ o. refl) (λ o. refl) c.in-Group2.items sig.id)) ∙ sym (ap (mapped_import_items f) c.in-Group2.is))
 
 pub returns-in_ok-bind-in-Group2-clause-adds : goal.returns-in_ok-bind-in-Group2-clause-adds
 returns-in_ok-bind-in-Group2-clause-adds c =
-    adds_as (sym (ap (λ i. needed_in (in_import i)) c.in-Group2.is ∙ needed_besides (in_sig c.in-Group2.sig) (uncovered form.CompactImports))) c.in_ok-bind-in-Group2.ensures.adds
+    adds_as (sym (ap (λ i. needed_in (in_import i)) c.in-Group2.is ∙ needed_besides (in_sig c.in-Group2.sig) (in_shared_id c.in-Group2.items c.in-Group2.sig.id ++ uncovered form.CompactImports))) c.in_ok-bind-in-Group2.ensures.adds
 
 pub returns-in_err-bind-in-Group2-clause-refusal : goal.returns-in_err-bind-in-Group2-clause-refusal
 returns-in_err-bind-in-Group2-clause-refusal c =
     let p = err_from_is_err_and c.from_residual-in_err-bind-in-Group2.result c.from_residual-in_err-bind-in-Group2.ensures.1 in
     rw (p.1, p.2) (subst (λ ss. RunsOut (next_after c.args.binder.now ss) c.in_err-bind-in-Group2.field-0.0)
-    (sym (ap (λ i. needed_in (in_import i)) c.in-Group2.is ∙ needed_besides (in_sig c.in-Group2.sig) (uncovered form.CompactImports))) c.in_err-bind-in-Group2.ensures.refusal)
+    (sym (ap (λ i. needed_in (in_import i)) c.in-Group2.is ∙ needed_besides (in_sig c.in-Group2.sig) (in_shared_id c.in-Group2.items c.in-Group2.sig.id ++ uncovered form.CompactImports))) c.in_err-bind-in-Group2.ensures.refusal)
