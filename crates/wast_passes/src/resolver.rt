@@ -20,7 +20,7 @@ use crate::guesses::GuessedNames;
 use crate::matches::has_signature;
 use std::alloc::Global;
 use std::marker::Model;
-use wast_base::{Error, Fault, Id, Index, Space};
+use wast_base::{Error, Fault, Id, Index, Numbering, Space, denoted_number, number_index};
 use wast_nodes::{FunctionType, StructAccess, TypeUse};
 use wast_types::FuncKey;
 
@@ -176,25 +176,22 @@ impl<'a> Resolver<'a> {
         ensures refusal { IfErr result (AnswersFor (known_of self.now) space idx.old) }
         ensures index { idx.new ≡ numbered_at (known_of self.now) space idx.old }
     {
-        let id = match *idx {
-            Index::Num(number, _) => return Ok(number),
-            Index::Id(id) => id,
+        let names = NamesIn {
+            resolver: self,
+            space,
         };
-        let Some(number) = self.find(space, &id) else {
-            return Err(Error::new(id.span(), Fault::Unknown(space.word(), id.name())));
-        };
-        *idx = Index::Num(number, id.span());
-        Ok(number)
+        number_index(&names, idx, space.word())
     }
 
     /// The number that an index denotes in a space, if it denotes one.
     fn denoted(&self, space: Space, idx: &Index<'a>) -> Option<u32>
         ensures { result ≡ denoted ((known_of self.now).number space) idx.now }
     {
-        match idx {
-            Index::Num(number, _) => Some(*number),
-            Index::Id(id) => self.find(space, id),
-        }
+        let names = NamesIn {
+            resolver: self,
+            space,
+        };
+        denoted_number(&names, idx)
     }
 
     /// Whether two indices denote one type.
@@ -260,10 +257,7 @@ impl<'a> Resolver<'a> {
         let Some(names) = self.fields_of(owner) else {
             return Err(Error::new(id.span(), Fault::NoNamedFields(id.name(), owner)));
         };
-        let Some(number) = names.find(&id) else {
-            return Err(Error::new(id.span(), Fault::Unknown("field", id.name())));
-        };
-        *field = Index::Num(number, id.span());
+        number_index(names, field, "field")?;
         Ok(())
     }
 
@@ -327,5 +321,20 @@ impl<'a> Resolver<'a> {
         } else {
             &[]
         }
+    }
+}
+
+/// What ids denote in a space of a module.
+#[derive(Drop)]
+struct NamesIn<'r, 'a> {
+    resolver: &'r Resolver<'a>,
+    space: Space,
+}
+
+impl<'r, 'a> Numbering<'a> for NamesIn<'r, 'a> {
+    ghost numbers = { λ names. (known_of names.resolver.now).number names.space };
+
+    fn number_of(&self, id: &Id<'a>) -> Option<u32> {
+        self.resolver.find(self.space, id)
     }
 }
