@@ -5,7 +5,6 @@ use Rattle.std.specs.Option.{option_map, option_to_list}
 use Rattle.std.specs.Prelude.{All, nat_lt}
 use Rattle.std.proofs.lemmas.List.{length-map}
 use Rattle.std.proofs.lemmas.List.Elements.{All-nil, All-head}
-use Rattle.std.proofs.lemmas.List.Folds.{flat_map-map}
 use Rattle.wast_base.specs.declared.plain.BareOp.{BareOp}
 use Rattle.wast_base.specs.declared.plain.BareOp.TheVariants as bare
 use Rattle.wast_base.specs.declared.mem_ops.MemOp.{MemOp}
@@ -76,7 +75,7 @@ use Rattle.wasm_ops.specs.Sinks.{SinkRules, Writes}
 use Rattle.wasm_ops.specs.Spelling.{InRangeU32, vec, InRangeVec, heap_type, InRangeHeapType, val_type, InRangeValType}
 use Rattle.wasm_ops.specs.Table.{Kind, Index, Signed32, Signed64, Bits32, Bits64, Heap, Memarg, Block, Labels, Catches, Lane, Lanes, Nullables, Order, Field, field, InRangeField, kinds_of, table, Instr, InRangeInstr, is_covered_instr, HasRow, instr}
 use Rattle.wasm_ops.specs.VectorInstrs.{lanes_key}
-use Rattle.wasm_ops.proofs.Everywhere.{all_map, all_one, all_unmap}
+use Rattle.wasm_ops.proofs.Everywhere.{all_map, all_one}
 use Rattle.wasm_ops.proofs.Sinking.{puts_as, written_as}
 
 -- ---- rows
@@ -363,12 +362,6 @@ pub lists_covered : {X : Type 0} (types : X → List ValType) (o : Option X) →
 lists_covered types None h = refl
 lists_covered types (Some x) h = h
 
--- value types of another kind, written one after another
-pub types_spelled : {X : Type 0} (f : X → ValType) (xs : List X) → vec (λ x. val_type (f x)) xs ≡ vec val_type (map f xs)
-types_spelled f xs = rw (length-map xs f, flat_map-map val_type f xs) refl
-
+-- value types of another kind, in range
 pub types_in_range : {X : Type 0} (f : X → ValType) (xs : List X) → InRangeVec (λ x. InRangeValType (f x)) xs → InRangeVec InRangeValType (map f xs)
 types_in_range f xs h = (subst InRangeU32 (sym (length-map xs f)) h.0, all_map InRangeValType f xs h.1)
-
-pub types_were_in_range : {X : Type 0} (f : X → ValType) (xs : List X) → InRangeVec InRangeValType (map f xs) → InRangeVec (λ x. InRangeValType (f x)) xs
-types_were_in_range f xs h = (subst InRangeU32 (length-map xs f) h.0, all_unmap InRangeValType f xs h.1)

@@ -1,12 +1,11 @@
 -- One append after another, and what is cut back.
 use Rattle.std.proofs.Common.{◌≡◌, ◌≤◌, ◌<◌, ◌+◌, ◌-◌, ℕ, Bool, true, false, List, [], ◌∷◌, ◌++◌, Result, Ok, Err, is_err, refl, sym, ap, ◌∙◌, subst, inl, inr, arith, length, take, get_or, append-nil}
-use Rattle.std.specs.Prelude.{All, Option, Some, None, option_map}
+use Rattle.std.specs.Prelude.{All}
 use Rattle.std.specs.List.{flat_map, list_all}
 use Rattle.std.proofs.lemmas.Grind.{flat_map-append}
 use Rattle.std.proofs.lemmas.List.{take_more}
 use Rattle.std.proofs.lemmas.List.Concat.{flat_map-cons}
-use Rattle.std.proofs.lemmas.List.Elements.{All-nil, All-head, All-more}
-use Rattle.std.specs.Option.{option_to_list}
+use Rattle.std.proofs.lemmas.List.Elements.{All-head, All-more}
 use Rattle.wasm_ops.proofs.Everywhere.{all_one, flat_one}
 use Rattle.wast_base.specs.declared.faults.Error.{Error}
 use Rattle.wasm_ops.specs.declared.sink.Refusal.{Refusal}
@@ -106,11 +105,3 @@ pub one_written : {S A X : Type 0} (rules : SinkRules S) (spell : X → List ℕ
     → Writes rules (InRange x) a b (spell x) r → Writes rules (All InRange (x ∷ [])) a b (flat_map spell (x ∷ [])) r
 one_written rules spell InRange a b x r p =
     written_as rules (InRange x) (All InRange (x ∷ [])) a b (spell x) (flat_map spell (x ∷ [])) r (all_one InRange x) (All-head InRange x []) (sym (flat_one spell x)) p
-
--- what is there, as values of another type
-pub option_written : {S A X Y : Type 0} (rules : SinkRules S) (spell : Y → List ℕ) (InRange : Y → Type 0) (f : X → Y) (a b : S) (o : Option X) (r : Result A Refusal)
-    → Writes rules (All (λ x. InRange (f x)) (option_to_list o)) a b (flat_map (λ x. spell (f x)) (option_to_list o)) r → Writes rules (All InRange (option_to_list (option_map f o))) a b (flat_map spell (option_to_list (option_map f o))) r
-option_written rules spell InRange f a b None r p = written_as rules (All (λ x. InRange (f x)) []) (All InRange []) a b [] [] r (λ h. All-nil InRange) (λ h. All-nil (λ x. InRange (f x))) refl p
-option_written rules spell InRange f a b (Some x) r p =
-    written_as rules (All (λ x. InRange (f x)) (x ∷ [])) (All InRange (f x ∷ [])) a b (flat_map (λ x. spell (f x)) (x ∷ [])) (flat_map spell (f x ∷ [])) r
-    (λ h. all_one InRange (f x) (All-head (λ x. InRange (f x)) x [] h)) (λ h. all_one (λ x. InRange (f x)) x (All-head InRange (f x) [] h)) (flat_one (λ x. spell (f x)) x ∙ sym (flat_one spell (f x))) p

@@ -1,12 +1,12 @@
 -- What numbering the expanded list answers is what resolving the fields answers.
-use Rattle.std.proofs.Common.{◌≡◌, ℕ, ◌+◌, ◌<◌, ◌≤◌, ◌^◌, ◌⊎◌, List, None, inl, inr, sym, ap, ◌∙◌, subst, arith}
+use Rattle.std.proofs.Common.{◌≡◌, ℕ, ◌+◌, ◌<◌, ◌≤◌, ◌^◌, ◌⊎◌, List, None, inl, inr, sym, ap, ◌∙◌, subst}
 use Rattle.std.specs.Prelude.{⊤}
 use Rattle.wast_base.specs.Faults.{told, too_large, out_of_memory}
 use Rattle.wast_base.specs.declared.faults.Error.{Error}
 use Rattle.wast_base.specs.Filling.{RunsOut}
 use Rattle.wast_nodes.specs.Items.{items}
 use Rattle.wast_nodes.specs.Generations.{greatest_generation}
-use Rattle.wast_deinline.specs.Written.{written_out_from, references_wanted, CannotBeWritten}
+use Rattle.wast_deinline.specs.Written.{written_out_from, references_wanted}
 use Rattle.wast_types.specs.Expanded.{expanded, ids_wanted}
 use Rattle.wast_types.specs.Completed.{completed}
 use Rattle.wast_alike.specs.Tree.{ModuleField}
@@ -26,10 +26,6 @@ crowded_as xs ys counts clashes bodies h = elim h [ inl many ↦ inl (subst HasM
 -- The counter would run out, or too much is asked for: so it is told, whatever is unmet.
 out_of : (n : ℕ) (fields : List ModuleField) (too_much : Type 0) (e : Error) → (too_much → IsTooLarge n fields) → (e ≡ out_of_memory) ⊎ ((e ≡ too_large) × too_much) → IsUnresolved n fields e
 out_of n fields too_much e large h = elim h [ inl memory ↦ subst (IsUnresolved n fields) (sym memory) tt | inr much ↦ subst (IsUnresolved n fields) (sym much.0) (large much.1) ]
-
-pub unwritten_still : (n : ℕ) (fields : List ModuleField) (e : Error) → CannotBeWritten n fields e → IsUnresolved n fields e
-unwritten_still n fields e h =
-    elim h [ inl runs_out ↦ out_of n fields (2 ^ 64 ≤ n + references_wanted fields) e (λ m. inr (inl (omega (arith, m)))) runs_out | inr many ↦ out_of n fields _ e (λ m. inr (inr m)) many ]
 
 -- What is expanded after abbreviations are written out is the list in which nothing is left out.
 pub expands_all : (n : ℕ) (fields : List ModuleField) {m : ℕ} {xs ys zs : List ModuleField} → xs ≡ written_out_from n fields → m ≡ n + references_wanted fields → ys ≡ xs → zs ≡ expanded m ys → zs ≡ explicit_from n fields

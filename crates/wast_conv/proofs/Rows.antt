@@ -12,7 +12,6 @@ use Rattle.wast_conv.specs.Tree.form
 use Rattle.wast_conv.specs.Tree.space
 use Rattle.wast_conv.specs.Tree.instr as instruction
 use Rattle.wast_conv.specs.Encodable.{is_encodable_ask, is_encodable_site, encodable, is_encodable_instr, is_encodable_expression}
-use Rattle.wast_conv.specs.Values.{no_row}
 use Rattle.wast_conv.specs.Meaning as meaning
 use Rattle.wast_conv.proofs.EachPasses.{both_lists, each_has}
 use Rattle.wast_conv.proofs.Standing.{asking_passes, handlers_tell, ready_instrs}
@@ -56,11 +55,6 @@ instr_row (instruction.switch a) e = absurd (asks_fail (in_pair space.Ty a.type_
 instr_row (instruction.memory_discard a) e = absurd (asks_fail (in_index space.Memory a.mem) form.Beyond e)
 instr_row (instruction.Beyond name) e = absurd (asks_fail [] form.Beyond e)
 instr_row i e = refl
-
--- what is no row stands for nothing that the encoder takes
-pub no_row_fails : HasRow no_row → ⊥
-unfolding kinds_of table
-no_row_fails h = cc
 
 pub instrs_rows : (is : List Instruction) → list_all is_encodable_instr is ≡ true → All HasRow (map meaning.as_instr is)
 instrs_rows is h = All-map HasRow meaning.as_instr is (each_has is_encodable_instr (λ i. HasRow (meaning.as_instr i)) instr_row is h)

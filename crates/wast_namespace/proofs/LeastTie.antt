@@ -48,9 +48,6 @@ module _ {K : Type 0} where
     pub some : (p : ℕ) → r ≡ Some p → IsTie es p
     pub least : (q : ℕ) (t : IsTie es q) → t.at < n → (p : ℕ) × (r ≡ Some p) × (p ≤ q)
 
-  pub least_none : (es : List (K × ℕ)) → IsLeastTo es 0 None
-  least_none es = record { some = λ p e. absurd (cc e); least = λ q t lt. absurd (omega arith) }
-
   pub least_skip : (es : List (K × ℕ)) (n : ℕ) (r : Option ℕ) (d : K × ℕ) → (get_or es n d).0 ≢ (get_or es (suc n) d).0 → IsLeastTo es n r → IsLeastTo es (suc n) r
   least_skip es n r d other h = record {
     some = h.some;

@@ -13,9 +13,6 @@ pub record IsRankedTo (es : List (Id × ℕ)) (n : ℕ) : Type 0 where
   pub within : n ≤ length es + 1
   pub ranked : (k : ℕ) (d : Id × ℕ) → k + 1 < n → is_lt (pair_cmp key_cmp (entry_of (get_or es (k + 1) d)) (entry_of (get_or es k d))) ≡ false
 
-pub one_ranked : (es : List (Id × ℕ)) → IsRankedTo es 1
-one_ranked es = record { within = omega arith; ranked = λ k d lt. absurd (omega arith) }
-
 pub more_ranked : (es : List (Id × ℕ)) (n : ℕ) (d e : Id × ℕ) → 1 ≤ n → n < length es → is_lt (pair_cmp key_cmp (entry_of (get_or es n d)) (entry_of (get_or es (n - 1) e))) ≡ false → IsRankedTo es n → IsRankedTo es (n + 1)
 more_ranked es n d e some lt test h = record {
   within = omega (arith, lt);

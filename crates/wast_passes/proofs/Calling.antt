@@ -1,6 +1,5 @@
 -- Calls on the indices of parts that stand one after the other.
-use Rattle.std.proofs.Common.{◌≡◌, ℕ, zero, suc, List, [], ◌∷◌, ◌++◌, not, refl, sym, ap, ◌∙◌, subst, append-nil, flat_map, Result, Ok, Err, Option, Some, None}
-use Rattle.std.specs.List.{Contains}
+use Rattle.std.proofs.Common.{◌≡◌, ℕ, List, [], ◌∷◌, ◌++◌, not, refl, sym, ap, ◌∙◌, append-nil, flat_map, Result, Ok, Err, Option, Some, None}
 use Rattle.std.proofs.lemmas.List.Elements.{Contains-append_left, Contains-append_right}
 use native.Mathlib.Omega.{arith}
 use Rattle.wast_base.specs.declared.faults.Error.{Error}
@@ -42,14 +41,7 @@ module _ {C : Type 0} {called : C → Index → C → Index → Result ℕ Error
   past_id None h = h
   past_id (Some id) h = record { calls = h.calls }
 
-only_one : {X : Type 0} (x y : X) → Contains (x ∷ []) y → x ≡ y
-only_one x y (zero, lt, is) = is
-only_one x y (suc k, lt, is) = absurd (omega (arith, lt))
-
 module _ {C : Type 0} {needs : C → Index → Type 0} where
-  pub needs_of_one : {a : C} {s : Space} {i : Index} → needs a i → HasNeeds needs a (Wants s i ∷ [])
-  needs_of_one {a} {s} {i} h = record { each = λ j in_one. subst (needs a) (only_one i j in_one) h }
-
   pub needs_one : {a : C} (s : Space) {i : Index} → HasNeeds needs a (Wants s i ∷ []) → needs a i
   needs_one s {i} h = h.each i (0, omega arith, refl)
 

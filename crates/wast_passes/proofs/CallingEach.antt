@@ -1,9 +1,9 @@
 -- Calls on the indices of each part of a list, in its place.
-use Rattle.std.proofs.Common.{◌≡◌, ℕ, suc, ◌+◌, ◌<◌, ◌≤◌, List, [], ◌∷◌, ◌++◌, refl, sym, ap, ◌∙◌, subst, length, map, get_or, drop, take, arith, add-one, Result, Ok, Err}
+use Rattle.std.proofs.Common.{◌≡◌, ℕ, suc, ◌+◌, ◌<◌, List, [], ◌∷◌, ◌++◌, refl, sym, ap, ◌∙◌, subst, length, map, get_or, drop, take, arith, add-one, Result, Ok, Err}
 use Rattle.std.proofs.Math.ListN.{set, length-set}
 use Rattle.std.proofs.Math.Seq.{drop-cons, take-suc}
 use Rattle.std.specs.Prelude.{flat_map}
-use Rattle.std.proofs.lemmas.List.{append-nil, append_assoc, drop-drop, drop-set-lt, take_more_set, take-append-drop, take_all, map-append}
+use Rattle.std.proofs.lemmas.List.{append-nil, append_assoc, drop-drop, drop-set-lt, take_more_set, take-append-drop, map-append}
 use Rattle.std.proofs.lemmas.Grind.{flat_map-append}
 use Rattle.wast_base.specs.declared.faults.Error.{Error}
 use Rattle.wast_nodes.specs.Sites.{Ask}
@@ -85,12 +85,3 @@ module _ {C X : Type 0} {needs : C → Index → Type 0} {called : C → Index �
       let behind = drop (suc i) olds in
       ap (map w) (after_is y p lt) ∙ (map-append w (take i nows) (y ∷ behind) ∙ (ap (λ zs. zs ++ (w y ∷ map w behind)) p.rest ∙ (ap (λ z. map w (take i olds) ++ (z ∷ map w behind)) same
       ∙ (sym (map-append w (take i olds) (x ∷ behind)) ∙ sym (ap (map w) (before_is x p lt is))))))
-
-  -- all are called on
-  pub all_called : {a b : C} {olds nows : List X} {i : ℕ} → IsCalledOn needs called f w a olds b nows i → length olds ≤ i → CallsOn called a (flat_map f olds) b (flat_map f nows) (Ok (record {})) × (map w nows ≡ map w olds)
-  all_called {a = a} {b = b} {olds = olds} {nows = nows} {i = i} p le =
-      let old = take_all i olds le in
-      let now = take_all i nows (omega (arith, p.len, le)) in (
-        subst (λ zs. CallsOn called a (flat_map f zs) b (flat_map f nows) (Ok (record {}))) old (subst (λ zs. CallsOn called a (flat_map f (take i olds)) b (flat_map f zs) (Ok (record {}))) now p.calls),
-        ap (map w) (sym now) ∙ (p.rest ∙ ap (map w) old),
-      )

@@ -2,7 +2,7 @@
 use Rattle.std.proofs.Common.{◌≡◌, ℕ, zero, suc, ◌+◌, ◌<◌, ◌≤◌, Bool, true, false, List, [], ◌∷◌, ◌++◌, map, length, get_or, drop, length-append, length-drop, append_assoc, Option, Some, None, refl, sym, ap, ◌∙◌, subst, arith}
 use Rattle.std.specs.Prelude.{not, cond, codes, slice_index_or}
 use Rattle.std.proofs.Math.Seq.{get_or-append_seam, take-append_seam, drop-cons}
-use Rattle.std.proofs.lemmas.List.{map-append, length-map, get_or-map}
+use Rattle.std.proofs.lemmas.List.{map-append, length-map}
 use Rattle.wast_base.specs.Ids.{Name, Mark, marked}
 use Rattle.wast_base.specs.Faults.{Cause, Duplicate, Told, At}
 use Rattle.wast_base.specs.Spaces.{name_if, is_borne}
@@ -127,13 +127,6 @@ pub clash_told : (K M : Type 0) (c : Scope) (ms : List (Option Mark)) (at : ℕ)
     → Answers K M t (first_unmet (site_demands c (declaring [] ms)))
 clash_told K M c ms at m t first here is =
     subst (λ t. Answers K M t (first_unmet (site_demands c (declaring [] ms)))) (sym is) (first_name c ms at first ∙ ap said_of (sym here))
-
--- the first clash has a name
-pub clash_named : {T : Type 0} (ms : List (Option Mark)) (at : ℕ) → IsFirstClash (names ms) at → None ≡ slice_index_or ms at None → T
-clash_named ms at first none =
-    let lt : at < length ms = omega (arith, first.clash.within, length-map ms name_if) in
-    let e : None ≡ Some first.clash.name = ap name_if none ∙ (sym (get_or-map name_if ms at None None lt) ∙ first.clash.bears) in
-    absurd (cc e)
 
 -- the same parameters under another name
 pub params_answer : {T : Type 0} (c : Scope) (n : ℕ) (ps qs : List (Option Id × Option NameAnnotation × ValType)) (ls : List Local) (r : Result T Error) → ps ≡ qs

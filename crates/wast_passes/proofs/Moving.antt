@@ -1,12 +1,12 @@
 -- The open blocks along a body: which sites move them, and which labels the openers have.
-use Rattle.std.proofs.Common.{◌≡◌, List, [], ◌∷◌, ◌++◌, Option, Some, None, Result, Ok, Err, OnOk, Bool, true, false, refl, sym, ap, ◌∙◌}
+use Rattle.std.proofs.Common.{◌≡◌, List, [], ◌∷◌, ◌++◌, Option, Some, None, Result, Ok, Err, OnOk, Bool, true, refl, sym, ap, ◌∙◌}
 use Rattle.std.proofs.lemmas.List.{map-append}
 use Rattle.std.specs.List.{flat_map}
 use Rattle.wast_base.specs.Blocks.{Turn, Opens, Closes, Stays}
 use Rattle.wast_base.specs.declared.faults.Error.{Error}
 use Rattle.wast_base.specs.Ids.{Name, marked}
 use Rattle.wast_base.specs.Spaces.{name_if}
-use Rattle.wast_labels.specs.Gathered.{is_among, knows, with_opener, IsTable}
+use Rattle.wast_labels.specs.Gathered.{is_among, knows, IsTable}
 use Rattle.wast_labels.specs.Laws.{KnowsItsLabels}
 use Rattle.wast_labels.specs.OpenBlocks.{OpenBlocks}
 use Rattle.wast_labels.specs.Turns.{gathered}
@@ -54,14 +54,6 @@ br_table_moves s l t r =
 -- where nothing moves
 pub still_moves : {T : Type 0} (s : OpenBlocks) (l : Locals) (ss : List Site) (r : Result T Error) → after_all (here l s) ss ≡ here l s → OnOk r (s ≡ with_blocks s (after_all (here l s) ss))
 still_moves s l ss r stays = on_ok r (ap (with_blocks s) (sym stays))
-
--- one more instruction, of which the label is gathered
-pub gathered_one : (o : Option BlockType) (closes : Bool) (labels : List Name) (b : BlockType) → o ≡ Some b → gathered labels (turn_by o closes ∷ []) ≡ with_opener (name_if (marked b.label)) labels
-gathered_one o closes labels b is = ap (λ o. gathered labels (turn_by o closes ∷ [])) is
-
-pub gathered_none : (o : Option BlockType) (closes : Bool) (labels : List Name) → o ≡ None → gathered labels (turn_by o closes ∷ []) ≡ labels
-gathered_none o true labels is = ap (λ o. gathered labels (turn_by o true ∷ [])) is
-gathered_none o false labels is = ap (λ o. gathered labels (turn_by o false ∷ [])) is
 
 -- one more turn is gathered before the rest
 pub gathered_next : (labels : List Name) (t : Turn) (ts : List Turn) → gathered (gathered labels (t ∷ [])) ts ≡ gathered labels (t ∷ ts)

@@ -92,12 +92,6 @@ pub walks_asking : {T : Type 0} (c : Scope) (asks : List Ask) (want new : T) (re
 walks_asking c asks want new result walked =
     walks_as (λ l. l) (λ m. m) (ask_demands c.known asks) (site_demands c (asking asks)) want new want new result (ap first_unmet (sym (asking_demands c asks))) (λ h. h) walked
 
--- what is made of a part of which names alone are asked
-pub walks_made : {T U : Type 0} (c : Scope) (asks : List Ask) (make : T → U) (want new : T) (result : Result (Unit {0}) Error)
-    → Walks ⊥ ⊥ (ask_demands c.known asks) want new result → Walks ⊥ ⊥ (site_demands c (asking asks)) (make want) (make new) result
-walks_made c asks make want new result walked =
-    walks_as (λ l. l) (λ m. m) (ask_demands c.known asks) (site_demands c (asking asks)) want new (make want) (make new) result (ap first_unmet (sym (asking_demands c asks))) (ap make) walked
-
 -- more may be refused
 pub more_refused : {T : Type 0} (K M : Type 0) (ds : List Demand) (want new : T) (result : Result (Unit {0}) Error) → Walks ⊥ ⊥ ds want new result → Walks K M ds want new result
 more_refused K M ds want new result walked = walks_as {L = K} {N = M} (λ l. absurd l) (λ m. absurd m) ds ds want new want new result refl (λ h. h) walked

@@ -1,18 +1,16 @@
 -- No two fields of a struct have one name where what the items demand is met; and how many fields there are is counted of items.
 use Rattle.std.proofs.Common.{◌≡◌, ℕ, ◌≤◌, ◌^◌, ◌⊎◌, inl, inr, List, [], ◌∷◌, ◌++◌, None, length, map, get_or, drop, take, refl, sym, ap, ◌∙◌, arith, subst}
-use Rattle.std.specs.Prelude.{⊤, ◌+◌, ◌<◌, ◌||◌, Contains, Option, Some, is_some}
-use Rattle.std.specs.List.{flat_map, list_any}
+use Rattle.std.specs.Prelude.{⊤, ◌+◌, ◌<◌, Contains}
+use Rattle.std.specs.List.{flat_map}
 use Rattle.std.proofs.Common.{append_assoc}
 use Rattle.std.proofs.lemmas.List.{drop_more, take-append-drop}
 use Rattle.wast_base.specs.Faults.{Told, At, Nowhere, Memory, TooLarge, told}
 use Rattle.wast_base.specs.declared.faults.Error.{Error}
-use Rattle.wast_base.specs.Ids.{marked}
-use Rattle.wast_base.specs.Spaces.{name_if}
 use Rattle.std.proofs.lemmas.Grind.{flat_map-append}
 use Rattle.std.proofs.lemmas.List.{map-append}
 use Rattle.std.proofs.lemmas.List.Elements.{Contains-append_cases}
-use Rattle.wast_nodes.specs.Items.{Item, field_ids, items_of_type, items_in, items}
-use Rattle.wast_passes.specs.Tree.{Id, StructField, ModuleField}
+use Rattle.wast_nodes.specs.Items.{Item, items_of_type, items_in, items}
+use Rattle.wast_passes.specs.Tree.{ModuleField}
 use Rattle.wast_passes.specs.Gathers.{Stops}
 use Rattle.wast_passes.specs.Tree.ty
 use Rattle.wast_passes.specs.Tree.field
@@ -109,17 +107,6 @@ module _ {T : Type 0} (xs : List T) (i : ℕ) (x : T) (lt : i < length xs) (at :
 -- more may be refused
 pub refused_more : {M N : Type 0} (e : Error) → (M → N) → IsRefused M e → IsRefused N e
 refused_more e f h = answers_more (told e) None None (λ l. l) f (λ g k. k) h
-
--- whether one field or those behind it have an id
-id_named : (id : Option Id) → is_some (name_if (marked id)) ≡ is_some id
-id_named None = refl
-id_named (Some id) = refl
-
-pub some_named : (fs : List StructField) (i : ℕ) (f : StructField) → i < length fs → f ≡ get_or fs i f
-    → list_any is_some (map name_if (field_ids (drop i fs))) ≡ is_some f.id || list_any is_some (map name_if (field_ids (drop (i + 1) fs)))
-some_named fs i f lt is =
-    let rest = list_any is_some (map name_if (field_ids (drop (i + 1) fs))) in
-    ap (λ xs. list_any is_some (map name_if (field_ids xs))) (drop_more fs i f lt ∙ ap (λ x. x ∷ drop (i + 1) fs) (sym is)) ∙ ap (λ b. b || rest) (id_named f.id)
 
 -- why gathering stopped, as a refusal
 pub stops_refused : (t : Told) (b n m : ℕ) → n ≡ m → Stops t b n → Answers ⊤ (2 ^ 32 ≤ m) t None

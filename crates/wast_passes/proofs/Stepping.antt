@@ -61,9 +61,6 @@ pub record IsAlong (s t : OpenBlocks) (olds nows : List Instruction) (i : ℕ) :
   pub left : drop i nows ≡ drop i olds
   pub moved : (l : Locals) → t ≡ with_blocks s (reached (here l s) olds i)
 
-pub along_none : (s : OpenBlocks) (olds : List Instruction) → IsAlong s s olds olds 0
-along_none s olds = record { len = refl; left = refl; moved = λ l. refl }
-
 pub along_more : {s t u : OpenBlocks} {olds nows : List Instruction} {i : ℕ} {x : Instruction} (y : Instruction) → IsAlong s t olds nows i → i < length olds → x ≡ get_or nows i x
     → ((l : Locals) → u ≡ with_blocks t (after_all (here l t) (in_instr (here l t) x))) → IsAlong s u olds (set nows i y) (i + 1)
 along_more {s} {t} {u} {olds} {nows} {i} {x} y p lt is moves =

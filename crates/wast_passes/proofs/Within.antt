@@ -1,22 +1,21 @@
 -- Indices of what stands within a function: locals by the names of the function, and labels by the open blocks.
-use Rattle.std.proofs.Common.{◌≡◌, ℕ, List, [], ◌∷◌, ◌++◌, Option, Some, None, is_some, codes, Result, Ok, Err, refl, sym, ap, ◌∙◌, subst, append-nil}
+use Rattle.std.proofs.Common.{◌≡◌, ℕ, List, [], ◌∷◌, ◌++◌, Option, Some, None, is_some, codes, Result, Ok, Err, refl, sym, ap, ◌∙◌, append-nil}
 use Rattle.std.specs.FinMap.{get-empty}
 use Rattle.std.specs.Prelude.{⊤, ◌+◌, option_map}
 use Rattle.wast_base.specs.Blocks.{Blocks}
 use Rattle.wast_base.specs.declared.faults.Error.{Error}
-use Rattle.wast_base.specs.Faults.{Cause, Told, At, Nowhere, told}
+use Rattle.wast_base.specs.Faults.{told}
 use Rattle.wast_base.specs.Ids.{Name, Mark, name_of, mark_of, marked}
-use Rattle.wast_labels.specs.OpenBlocks.{denotes}
 use Rattle.wast_labels.specs.Asked.{number_among, wrong_label}
 use Rattle.wast_base.specs.FirstUnmet.{unknown}
 use Rattle.wast_base.specs.Order.{key_of, key_cmp}
 use Rattle.wast_namespace.specs.Namespaces.{empty_from}
 use Rattle.wast_base.specs.Outcomes.{Outcome}
-use Rattle.wast_passes.specs.Tree.{Span, Id, Index}
+use Rattle.wast_passes.specs.Tree.{Id, Index}
 use Rattle.wast_passes.specs.Tree.index
 use Rattle.wast_demands.specs.Scopes.{Scope, local_number}
 use Rattle.wast_demands.specs.Resolved.{numbered_by, numbered}
-use Rattle.wast_demands.specs.Demands.{first_unmet, known_index, site_demands, repeated_demand, Answers}
+use Rattle.wast_demands.specs.Demands.{first_unmet, known_index, site_demands, repeated_demand}
 use Rattle.wast_passes.specs.Locals.{LocalSpace, local_in, Numbers}
 use Rattle.wast_passes.specs.Walking.{Walks}
 use Rattle.wast_demands.proofs.Unmet.{answers_more}

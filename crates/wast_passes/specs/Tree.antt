@@ -1,40 +1,15 @@
 -- The types of the tree under one roof, as in wast_nodes: each type by its name, the variants of an enum behind a word.
-pub use Rattle.wast_base.specs.declared.ids.Span.{Span}
-pub use Rattle.wast_base.specs.declared.ids.Id.{Id}
-pub use Rattle.wast_base.specs.declared.ids.Index.{Index}
-pub use Rattle.wast_base.specs.declared.ids.Index.TheVariants as index
-pub use Rattle.wast_base.specs.declared.ids.NameAnnotation.{NameAnnotation}
-pub use Rattle.wast_base.specs.declared.spaces.Space.{Space}
-pub use Rattle.wast_base.specs.declared.spaces.Space.TheVariants as space
-pub use Rattle.wast_nodes.specs.declared.types.ValType.{ValType}
-pub use Rattle.wast_nodes.specs.declared.types.RefType.{RefType}
-pub use Rattle.wast_nodes.specs.declared.types.StructField.{StructField}
-pub use Rattle.wast_nodes.specs.declared.types.FunctionType.{FunctionType}
-pub use Rattle.wast_nodes.specs.declared.types.TypeUse.{TypeUse}
-pub use Rattle.wast_nodes.specs.declared.types.TypeDef.{TypeDef}
-pub use Rattle.wast_nodes.specs.declared.types.Type as ty
-pub use Rattle.wast_nodes.specs.declared.immediates.BlockType.{BlockType}
-pub use Rattle.wast_nodes.specs.declared.immediates.BrTableIndices.{BrTableIndices}
-pub use Rattle.wast_nodes.specs.declared.instrs.Instruction.{Instruction}
-pub use Rattle.wast_nodes.specs.declared.instrs.Instruction.TheVariants as instr
-pub use Rattle.wast_nodes.specs.declared.instrs.Expression.{Expression}
-pub use Rattle.wast_nodes.specs.declared.imports.ImportItems.TheVariants as import_items
-pub use Rattle.wast_nodes.specs.declared.imports.ItemSig.{ItemSig}
-pub use Rattle.wast_nodes.specs.declared.segments.Elem.{Elem}
-pub use Rattle.wast_nodes.specs.declared.segments.ElemKind.{ElemKind}
-pub use Rattle.wast_nodes.specs.declared.segments.ElemKind.TheVariants as elem
-pub use Rattle.wast_nodes.specs.declared.segments.ElemPayload.{ElemPayload}
-pub use Rattle.wast_nodes.specs.declared.segments.ElemPayload.TheVariants as payload
-pub use Rattle.wast_nodes.specs.declared.segments.DataKind.{DataKind}
-pub use Rattle.wast_nodes.specs.declared.segments.DataKind.TheVariants as data_kind
-pub use Rattle.wast_nodes.specs.declared.fields.TableKind.{TableKind}
-pub use Rattle.wast_nodes.specs.declared.fields.TableKind.TheVariants as table
-pub use Rattle.wast_nodes.specs.declared.fields.Global.{Global}
-pub use Rattle.wast_nodes.specs.declared.fields.Local.{Local}
-pub use Rattle.wast_nodes.specs.declared.fields.FuncKind.{FuncKind}
-pub use Rattle.wast_nodes.specs.declared.fields.FuncKind.TheVariants as func
-pub use Rattle.wast_nodes.specs.declared.fields.ModuleField.{ModuleField}
-pub use Rattle.wast_nodes.specs.declared.fields.ModuleField.TheVariants as field
-pub use Rattle.wast_base.specs.declared.faults.Form.TheVariants as form
-pub use Rattle.wast_nodes.specs.declared.continuations.Handle.{Handle}
-pub use Rattle.wast_nodes.specs.declared.continuations.Handle.TheVariants as handle
+pub use Rattle.wast_map.specs.Tree.{Span, Id, Index, NameAnnotation, Space, ValType, RefType, StructField, FunctionType, TypeUse, TypeDef, BlockType, BrTableIndices, Instruction, Expression, ItemSig, Elem, ElemKind, ElemPayload, DataKind, TableKind, Global, Local, FuncKind, ModuleField, Handle}
+pub use Rattle.wast_map.specs.Tree.index
+pub use Rattle.wast_map.specs.Tree.space
+pub use Rattle.wast_map.specs.Tree.ty
+pub use Rattle.wast_map.specs.Tree.instr
+pub use Rattle.wast_map.specs.Tree.import_items
+pub use Rattle.wast_map.specs.Tree.elem
+pub use Rattle.wast_map.specs.Tree.payload
+pub use Rattle.wast_map.specs.Tree.data_kind
+pub use Rattle.wast_map.specs.Tree.table
+pub use Rattle.wast_map.specs.Tree.func
+pub use Rattle.wast_map.specs.Tree.field
+pub use Rattle.wast_map.specs.Tree.form
+pub use Rattle.wast_map.specs.Tree.handle
