@@ -14,9 +14,9 @@ use Rattle.wast_map.specs.Mapped.{mapped_val, mapped_param, mapped_signature, ma
 use Rattle.wast_map.proofs.Laws.{stands}
 use Rattle.wast_types.specs.Signatures.{Signature, signature_of}
 use Rattle.wast_types.specs.NeedingUses.{needed_if, needed_without, needed_by_use, needed_at, needed_in, needed}
-use Rattle.wast_types.specs.Expanders.{LookUp, index_of}
-use Rattle.wast_types.specs.Expanded.{typed, bindings, bound_index, bound_inline, binding, expanded}
-use Rattle.wast_types.proofs.Staying.{binding_keeps, left_none, right_none}
+use Rattle.wast_types.specs.Expanders.{index_of}
+use Rattle.wast_types.specs.Expanded.{typed, bindings, expanded}
+use Rattle.wast_types.proofs.Staying.{left_none, right_none, says, fields_say}
 use Rattle.wast_types.proofs.HavingTypes.{uses_are_bound}
 use Rattle.wast_alike.specs.Tree.{Index, FunctionType, ModuleField}
 use Rattle.wast_demands.specs.Scopes.{Scope, scope}
@@ -32,42 +32,8 @@ none_needed : (b : Bool) (s : Signature) → needed_if (not b) s ≡ [] → b �
 none_needed true s h = refl
 none_needed false s h = absurd cc
 
--- the use of a block that says something; others
-abbrev said_by : Where → Option Index → Option FunctionType → Bool
-said_by OfItem i t = true
-said_by OfCall i t = true
-said_by OfBlock (Some i) t = true
-said_by OfBlock None (Some t) = true
-said_by OfBlock None None = false
-
-abbrev is_said : Site → Bool
-is_said (Used w u) = said_by w u.index u.inline
-is_said s = true
-
--- A use that is bound says something.
-use_said : (find : LookUp) (w : Where) (i : Option Index) (t : Option FunctionType) → said_by w (bound_index find w i t) (bound_inline w i t) ≡ true
-use_said find OfItem i t = refl
-use_said find OfCall i t = refl
-use_said find OfBlock (Some i) t = refl
-use_said find OfBlock None None = refl
-use_said find OfBlock None (Some t) = by_index (bound_index find OfBlock None (Some t))
-  where
-    by_index : (o : Option Index) → said_by OfBlock o (Some t) ≡ true
-    by_index None = refl
-    by_index (Some i) = refl
-
-site_said : (find : LookUp) (s : Site) → is_said (mapped_site (binding find) s) ≡ true
-site_said find (Used w u) = use_said find w u.index u.inline
-site_said find s = refl
-
-all_said : (find : LookUp) (ss : List Site) → list_all is_said (map (mapped_site (binding find)) ss) ≡ true
-all_said find [] = refl
-all_said find (s ∷ ss) = both_so (is_said (mapped_site (binding find) s)) (list_all is_said (map (mapped_site (binding find)) ss)) (site_said find s) (all_said find ss)
-
-expanded_said : (n : ℕ) (fields : List ModuleField) → list_all is_said (in_module (expanded n fields)) ≡ true
-expanded_said n fields =
-    let find : LookUp = index_of (bindings (typed n fields)) in
-    ap (list_all is_said) (stands (binding find) (binding_keeps find) (typed n fields)) ∙ all_said find (in_module (typed n fields))
+pub expanded_says : (n : ℕ) (fields : List ModuleField) → list_all says (in_module (expanded n fields)) ≡ true
+expanded_says n fields = fields_say (index_of (bindings (typed n fields))) (typed n fields)
 
 module _ (c : Scope) where
   short_still : (t : FunctionType) → is_short (mapped_signature (numbered_at c.known) t) ≡ is_short t
@@ -98,34 +64,34 @@ module _ (c : Scope) where
   has_fields : (xs : List ModuleField) → needed xs ≡ [] → needed (map (mapped (numbering c)) xs) ≡ []
   has_fields xs none = ap needed_in (stands (numbering c) (numbering_keeps c) xs) ∙ sites_have (in_module xs) none
 
-  still_said : (w : Where) (i : Option Index) (t : Option FunctionType) → said_by w i t ≡ true → is_said (Used w (resolved_use c.known w (record { index = i; inline = t }))) ≡ true
-  still_said OfItem i t h = refl
-  still_said OfCall i t h = refl
-  still_said OfBlock (Some i) t h = refl
-  still_said OfBlock None (Some t) h = refl
-  still_said OfBlock None None h = absurd (cc h)
+  use_says : (w : Where) (i : Option Index) (t : Option FunctionType) → says (Used w (record { index = i; inline = t })) ≡ true → says (Used w (resolved_use c.known w (record { index = i; inline = t }))) ≡ true
+  use_says OfItem i t h = refl
+  use_says OfCall i t h = refl
+  use_says OfBlock (Some i) t h = refl
+  use_says OfBlock None (Some t) h = refl
+  use_says OfBlock None None h = absurd (cc h)
 
-  site_stays : (s : Site) → is_said s ≡ true → is_said (mapped_site (numbering c) s) ≡ true
-  site_stays (Used w u) h = still_said w u.index u.inline h
-  site_stays s h = refl
+  site_says : (s : Site) → says s ≡ true → says (mapped_site (numbering c) s) ≡ true
+  site_says (Used w u) h = use_says w u.index u.inline h
+  site_says s h = refl
 
-  fields_say : (xs : List ModuleField) → list_all is_said (in_module xs) ≡ true → list_all is_said (in_module (map (mapped (numbering c)) xs)) ≡ true
-  fields_say xs h =
-      ap (list_all is_said) (stands (numbering c) (numbering_keeps c) xs)
-      ∙ (list_all-map is_said (mapped_site (numbering c)) (in_module xs) ∙ all_pass is_said (λ s. is_said (mapped_site (numbering c) s)) site_stays (in_module xs) h)
+  pub still_says : (xs : List ModuleField) → list_all says (in_module xs) ≡ true → list_all says (in_module (map (mapped (numbering c)) xs)) ≡ true
+  still_says xs h =
+      ap (list_all says) (stands (numbering c) (numbering_keeps c) xs)
+      ∙ (list_all-map says (mapped_site (numbering c)) (in_module xs) ∙ all_pass says (λ s. says (mapped_site (numbering c) s)) site_says (in_module xs) h)
 
 pub numbered_indexed : HasIndices
 numbered_indexed n fields = has_fields (scope (expanded n fields)) (expanded n fields) (uses_are_bound n fields)
 
 -- Where each index is a number, and no type use needs one, the list is resolved.
-use_enough : (w : Where) (i : Option Index) (t : Option FunctionType) → needed_without w i t ≡ [] → said_by w i t ≡ true → (is_some i || says_enough w t) ≡ true
+use_enough : (w : Where) (i : Option Index) (t : Option FunctionType) → needed_without w i t ≡ [] → says (Used w (record { index = i; inline = t })) ≡ true → (is_some i || says_enough w t) ≡ true
 use_enough w (Some i) t none said = refl
 use_enough OfItem None t none said = absurd cc
 use_enough OfCall None t none said = absurd cc
 use_enough OfBlock None None none said = absurd (cc said)
 use_enough OfBlock None (Some t) none said = none_needed (is_short t) (signature_of t) none
 
-site_resolved : (s : Site) → needed_at s ≡ [] → is_said s ≡ true → are_numbered (asked_in s) ≡ true → is_resolved_site s ≡ true
+site_resolved : (s : Site) → needed_at s ≡ [] → says s ≡ true → are_numbered (asked_in s) ≡ true → is_resolved_site s ≡ true
 site_resolved (Asked a) none said h = first_so (is_numbered a) true h
 site_resolved (Used w u) none said h = both_so (is_some u.index || says_enough w u.inline) (are_numbered (in_type_use u)) (use_enough w u.index u.inline none said) h
 site_resolved (LocalAt locals i) none said h = first_so (is_number i) true h
@@ -135,13 +101,13 @@ site_resolved (FieldAt owner i) none said h =
 site_resolved (LabelAt blocks i) none said h = first_so (is_number i) true h
 site_resolved s none said h = refl
 
-sites_resolved : (ss : List Site) → needed_in ss ≡ [] → list_all is_said ss ≡ true → are_numbered (asked ss) ≡ true → list_all is_resolved_site ss ≡ true
+sites_resolved : (ss : List Site) → needed_in ss ≡ [] → list_all says ss ≡ true → are_numbered (asked ss) ≡ true → list_all is_resolved_site ss ≡ true
 sites_resolved [] none said h = refl
 sites_resolved (s ∷ ss) none said h =
     both_so (is_resolved_site s) (list_all is_resolved_site ss)
-    (site_resolved s (left_none (needed_at s) (needed_in ss) none) (first_so (is_said s) (list_all is_said ss) said) (first_part is_numbered (asked_in s) (asked ss) h))
-    (sites_resolved ss (right_none (needed_at s) (needed_in ss) none) (second_so (is_said s) (list_all is_said ss) said) (second_part is_numbered (asked_in s) (asked ss) h))
+    (site_resolved s (left_none (needed_at s) (needed_in ss) none) (first_so (says s) (list_all says ss) said) (first_part is_numbered (asked_in s) (asked ss) h))
+    (sites_resolved ss (right_none (needed_at s) (needed_in ss) none) (second_so (says s) (list_all says ss) said) (second_part is_numbered (asked_in s) (asked ss) h))
 
 pub numbered_resolved : IsResolved
 numbered_resolved n fields above met =
-    sites_resolved (in_module (numbered n fields)) (numbered_indexed n fields) (fields_say (scope (expanded n fields)) (expanded n fields) (expanded_said n fields)) (all_are_numbers n fields above met)
+    sites_resolved (in_module (numbered n fields)) (numbered_indexed n fields) (still_says (scope (expanded n fields)) (expanded n fields) (expanded_says n fields)) (all_are_numbers n fields above met)

@@ -1,2 +1,4 @@
 pub mod Laws
+pub mod Rests
 pub mod Tree
+pub mod WorkedRests

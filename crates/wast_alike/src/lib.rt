@@ -3,5 +3,7 @@
 #![tactic(auto)]
 
 mod laws;
+mod rests;
 
 pub use laws::{early_law, label_law, resolved_laws};
+pub use rests::resting_laws;

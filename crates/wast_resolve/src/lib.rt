@@ -6,7 +6,7 @@ mod resolution;
 
 pub use early::early_fault;
 pub use resolution::{Names, discard_names, resolve};
-pub use wast_alike::{early_law, label_law, resolved_laws};
+pub use wast_alike::{early_law, label_law, resolved_laws, resting_laws};
 pub use wast_namespace::{Namespace, resolve_error};
 pub use wast_passes::{
     Ns, ResolveCoreType, Resolver, core_type_laws, resolve_heaptype, resolve_reftype,
@@ -15,7 +15,7 @@ pub use wast_passes::{
 
 /// Laws for callers to cite, which the root of the crate passes on too.
 pub mod laws {
-    pub use wast_alike::{early_law, label_law, resolved_laws};
+    pub use wast_alike::{early_law, label_law, resolved_laws, resting_laws};
     pub use wast_passes::core_type_laws;
 }
 

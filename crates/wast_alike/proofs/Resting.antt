@@ -1,0 +1,134 @@
+-- The demands of a numbered list are met where those of the list were.
+use Rattle.std.proofs.Common.{◌≡◌, ℕ, ◌+◌, Bool, true, false, cond, List, [], ◌∷◌, ◌++◌, map, Option, None, refl, sym, ap, ◌∙◌, append-nil}
+use Rattle.std.specs.Prelude.{if◌then◌else◌}
+use Rattle.std.specs.Option.{option_or}
+use Rattle.std.proofs.lemmas.Grind.{flat_map-append}
+use Rattle.wast_base.specs.declared.ids.Span.{Span}
+use Rattle.wast_base.specs.Ids.{Name}
+use Rattle.wast_nodes.specs.Items.{items, items_in, field_ids}
+use Rattle.wast_nodes.specs.Known.{Known, known}
+use Rattle.wast_nodes.specs.Sites.{in_module}
+use Rattle.wast_map.specs.Mapped.{mapped_site, mapped_struct_field, mapped_inner, mapped_type, mapped_func_kind, mapped_table_kind, mapped_global_kind, mapped}
+use Rattle.wast_map.proofs.Laws.{stands}
+use Rattle.std.proofs.lemmas.List.{map-append}
+use Rattle.wast_base.specs.Ids.{marked}
+use Rattle.wast_base.specs.Spaces.{name_if}
+use Rattle.wast_nodes.specs.Sites.{in_field}
+use Rattle.wast_map.proofs.Alone.{items_alone, defines_alone}
+use Rattle.wast_alike.specs.Tree.{Space, FunctionType, TypeUse, InnerTypeKind, StructField, FuncKind, TableKind, GlobalKind, ModuleField}
+use Rattle.wast_alike.specs.Tree.inner
+use Rattle.wast_alike.specs.Tree.ty
+use Rattle.wast_alike.specs.Tree.func
+use Rattle.wast_alike.specs.Tree.table
+use Rattle.wast_alike.specs.Tree.global
+use Rattle.wast_alike.specs.Tree.field
+use Rattle.wast_demands.specs.Scopes.{Function, Struct, Other, struct_shape, shape_of, shapes_in, shapes, Scope, scope}
+use Rattle.wast_demands.specs.ImportOrder.{func_place, table_place, global_place, import_place, unless_import, defines, nothing_defined}
+use Rattle.wast_demands.specs.Demands.{first_unmet, item_demands, site_demand, site_demands, name_demands, order_demands, demands}
+use Rattle.wast_demands.specs.Resolved.{numbered_at, numbering, resolved}
+use Rattle.wast_demands.proofs.Unmet.{met_parts}
+use Rattle.wast_demands.proofs.Numbering.{numbering_keeps}
+use Rattle.wast_demands.proofs.Orders.{orders_from, orders_are}
+use Rattle.wast_alike.specs.Rests.{starts, numbers}
+use Rattle.wast_alike.proofs.NumberedTypes.{met_both, numbered_shape, signature_still}
+use Rattle.wast_alike.proofs.NumberedSites.{rested, sites_rest}
+
+module _ (c : Scope) where
+  abbrev k : Known
+  k = c.known
+
+  -- the types of the numbered list
+  fields_still : (fs : List StructField) → field_ids (map (mapped_struct_field (numbered_at k)) fs) ≡ field_ids fs
+  fields_still [] = refl
+  fields_still (f ∷ fs) = ap (λ ids. marked f.id ∷ ids) (fields_still fs)
+
+  struct_by : (b : Bool) (number : Name → Option ℕ) → cond b (Struct number) Other ≡ numbered_shape k (cond b (Struct number) Other)
+  struct_by true number = refl
+  struct_by false number = refl
+
+  kind_still : (t : InnerTypeKind) → shape_of (mapped_inner (numbered_at k) t) ≡ numbered_shape k (shape_of t)
+  kind_still (inner.Func t) = ap Function (signature_still k t)
+  kind_still (inner.Struct t) = ap (λ ids. struct_shape (map name_if ids)) (fields_still t.fields) ∙ struct_by _ _
+  kind_still (inner.Array t) = refl
+  kind_still (inner.Cont t) = refl
+
+  types_still : (ts : List ty.«Type») → map (λ (t : ty.«Type»). shape_of t.def.kind) (map (mapped_type (numbering c)) ts) ≡ map (numbered_shape k) (map (λ (t : ty.«Type»). shape_of t.def.kind) ts)
+  types_still [] = refl
+  types_still (t ∷ ts) = λ i. kind_still t.def.kind i ∷ types_still ts i
+
+  in_still : (x : ModuleField) → shapes_in (mapped (numbering c) x) ≡ map (numbered_shape k) (shapes_in x)
+  in_still (field.Ty t) = ap (λ s. s ∷ []) (kind_still t.def.kind)
+  in_still (field.Rec r) = types_still r.types
+  in_still x = refl
+
+  shapes_still : (xs : List ModuleField) → shapes (map (mapped (numbering c)) xs) ≡ map (numbered_shape k) (shapes xs)
+  shapes_still [] = refl
+  shapes_still (x ∷ xs) = (λ i. in_still x i ++ shapes_still xs i) ∙ sym (map-append (numbered_shape k) (shapes_in x) (shapes xs))
+
+  -- the order of imports
+  func_kept : (span : Span) (u : TypeUse FunctionType) (f : FuncKind) → func_place span (mapped_func_kind (numbering c) u f) ≡ func_place span f
+  func_kept span u (func.Import source exact) = refl
+  func_kept span u (func.Inline locals e) = refl
+
+  table_kept : (span : Span) (t : TableKind) → table_place span (mapped_table_kind (numbering c) t) ≡ table_place span t
+  table_kept span (table.Import source ty) = refl
+  table_kept span (table.Normal ty init) = refl
+  table_kept span (table.Inline ty is64 shared elements) = refl
+
+  global_kept : (span : Span) (g : GlobalKind) → global_place span (mapped_global_kind (numbering c) g) ≡ global_place span g
+  global_kept span (global.Import source) = refl
+  global_kept span (global.Inline e) = refl
+
+  place_kept : (x : ModuleField) → import_place (mapped (numbering c) x) ≡ import_place x
+  place_kept (field.Func f) = func_kept f.span f.ty f.kind
+  place_kept (field.Table t) = table_kept t.span t.kind
+  place_kept (field.Global g) = global_kept g.span g.kind
+  place_kept (field.Ty t) = refl
+  place_kept x = refl
+
+  starts_order : (last : Option Space) (ks : List (ℕ × Span)) → orders_from last (starts (numbers ks)) ≡ []
+  starts_order last [] = refl
+  starts_order last (j ∷ ks) = starts_order last ks
+
+  orders_rest : (last : Option Space) (xs : List ModuleField) (ks : List (ℕ × Span)) → orders_from last (map (mapped (numbering c)) xs ++ starts (numbers ks)) ≡ orders_from last xs
+  orders_rest last [] ks = starts_order last ks
+  orders_rest last (x ∷ xs) ks =
+      (λ i. nothing_defined last (place_kept x i) ++ orders_from (option_or (unless_import (place_kept x i) (defines_alone (numbering c) x i)) last) (map (mapped (numbering c)) xs ++ starts (numbers ks)))
+      ∙ ap (λ ds. nothing_defined last (import_place x) ++ ds) (orders_rest (option_or (defines x) last) xs ks)
+
+starts_items : (ks : List (ℕ × Span)) → items (starts (numbers ks)) ≡ []
+starts_items [] = refl
+starts_items (j ∷ ks) = starts_items ks
+
+starts_shapes : (ks : List (ℕ × Span)) → shapes (starts (numbers ks)) ≡ []
+starts_shapes [] = refl
+starts_shapes (j ∷ ks) = starts_shapes ks
+
+starts_demand : (c : Scope) (ks : List (ℕ × Span)) → site_demands c (in_module (starts (numbers ks))) ≡ []
+starts_demand c [] = refl
+starts_demand c (j ∷ ks) = starts_demand c ks
+
+pub items_rest : (xs : List ModuleField) (ks : List (ℕ × Span)) → items (resolved xs ++ starts (numbers ks)) ≡ items xs
+items_rest xs ks =
+    flat_map-append items_in (resolved xs) (starts (numbers ks))
+    ∙ ((λ i. items_alone (numbering (scope xs)) (λ o. refl) (numbering_keeps (scope xs)) xs i ++ starts_items ks i) ∙ append-nil (items xs))
+
+pub scope_rests : (xs : List ModuleField) (ks : List (ℕ × Span)) → scope (resolved xs ++ starts (numbers ks)) ≡ rested (scope xs)
+scope_rests xs ks = λ i. record {
+  known = known (items_rest xs ks i);
+  types = (flat_map-append shapes_in (resolved xs) (starts (numbers ks)) ∙ ((λ j. shapes_still (scope xs) xs j ++ starts_shapes ks j) ∙ append-nil (map (numbered_shape (scope xs).known) (shapes xs)))) i;
+}
+
+pub sites_are : (xs : List ModuleField) (ks : List (ℕ × Span)) → in_module (resolved xs ++ starts (numbers ks)) ≡ map (mapped_site (numbering (scope xs))) (in_module xs) ++ in_module (starts (numbers ks))
+sites_are xs ks = flat_map-append in_field (resolved xs) (starts (numbers ks)) ∙ ap (λ ss. ss ++ in_module (starts (numbers ks))) (stands (numbering (scope xs)) (numbering_keeps (scope xs)) xs)
+
+pub rests_met : (xs : List ModuleField) (ks : List (ℕ × Span)) → first_unmet (demands xs) ≡ None → first_unmet (demands (resolved xs ++ starts (numbers ks))) ≡ None
+rests_met xs ks met =
+    let c = scope xs in
+    let p = met_parts (order_demands xs) (name_demands xs) met in
+    let q = met_parts (item_demands (items xs)) (site_demands c (in_module xs)) p.1 in
+    met_both (order_demands (resolved xs ++ starts (numbers ks))) (name_demands (resolved xs ++ starts (numbers ks))) (ap first_unmet (orders_are (resolved xs ++ starts (numbers ks)) ∙ (orders_rest c None xs ks ∙ sym (orders_are xs))) ∙ p.0)
+    (met_both (item_demands (items (resolved xs ++ starts (numbers ks)))) (site_demands (scope (resolved xs ++ starts (numbers ks))) (in_module (resolved xs ++ starts (numbers ks))))
+    (ap (λ its. first_unmet (item_demands its)) (items_rest xs ks) ∙ q.0)
+    (ap first_unmet ((λ i. site_demands (scope_rests xs ks i) (sites_are xs ks i)) ∙ flat_map-append (site_demand (rested c)) (map (mapped_site (numbering c)) (in_module xs)) (in_module (starts (numbers ks))))
+    ∙ met_both (site_demands (rested c) (map (mapped_site (numbering c)) (in_module xs))) (site_demands (rested c) (in_module (starts (numbers ks)))) (sites_rest c (in_module xs) q.1) (ap first_unmet (starts_demand (rested c) ks))))
