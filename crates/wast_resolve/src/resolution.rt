@@ -1,9 +1,8 @@
 //! What the ids of a resolved module denote.
 
-ghost use Rattle.std.specs.Prelude.{◌≡◌, ◌<◌, ◌≤◌, ◌+◌, [], None, IsTrue, IfOk, IfErr, OnOk};
+ghost use Rattle.std.specs.Prelude.{◌≡◌, ◌<◌, ◌≤◌, ◌+◌, [], None, IfOk, IfErr, OnOk};
 ghost use Rattle.wast_nodes.specs.Items.{items};
 ghost use Rattle.wast_nodes.specs.Known.{known};
-ghost use Rattle.wast_nodes.specs.WellFormed.{is_well_formed};
 ghost use Rattle.wast_nodes.specs.Generations.{greatest_generation};
 ghost use Rattle.wast_resolve.specs.Tree.space;
 ghost use Rattle.wast_demands.specs.Demands.{first_unmet, demands, IsUnresolved};
@@ -178,9 +177,8 @@ impl<'a> Names<'a> {
 /// It gives the fields in their order, each with the fields that stand for it once its exports, import, elements or data in
 /// place are written out, as [`deinline::run`] tells, and after them a type for each signature that a use without an index
 /// needs and no type has; and what the ids denote. A generated id is filled in where a field whose item is so referred to
-/// has none, then where a type has none, in the order of the fields, and is given to each type at the end. It needs well
-/// formed fields, as `well_formed` of `wast_tree` tells, and a counter above `gensym_bound` of `wast_tree`, and leaves it above
-/// the ids that it gives.
+/// has none, then where a type has none, in the order of the fields, and is given to each type at the end. It needs a counter
+/// above `gensym_bound` of `wast_tree`, and leaves it above the ids that it gives.
 ///
 /// The error is the first demand that is not met: E1 at an import, also one in place, that stands behind a function, table,
 /// memory, global or tag of the module; after that, in the order of the fields, E2 at the second bearer of an id in a space,
@@ -190,15 +188,39 @@ impl<'a> Names<'a> {
 /// E8 at a label at an `else` or an `end` that is not that of its block. It is E12 where memory was refused, and E10 only
 /// where some space has 2^32 or more items, where some struct has as many fields, where a function has as many parameters and
 /// locals or an expression as many open blocks (both only where no items clash), where as many bytes stand in place in a
-/// memory, or where the counter would pass the greatest `u64`. On an error the fields are dropped, and the counter stands
-/// where it stood or higher.
+/// memory, or where the counter would pass the greatest `u64`. On an error the fields are dropped, and the counter stays: no
+/// id of this call is left.
 pub fn resolve<'a>(
     alloc: Global,
     fields: Seq<ModuleField<'a>>,
     gensym: &mut Gensym,
 ) -> Result<(Seq<ModuleField<'a>>, Names<'a>), Error<'a>>
-    requires well_formed { IsTrue (is_well_formed fields) }
-    requires above { greatest_generation fields < gensym.old }
+    requires { greatest_generation fields < gensym.old }
+    ensures met { OnOk result (first_unmet (demands (explicit fields.entry)) ≡ None) }
+    ensures list { IfOk result (λ r. r.0 ≡ finished gensym.old fields.entry) }
+    ensures names { IfOk result (λ r. known_to r.1 ≡ known (items (explicit_from gensym.old fields.entry))) }
+    ensures refusal { IfErr result (IsUnresolved gensym.old fields.entry) }
+    ensures counter { OnOk result (gensym.new ≡ gensym.old + ids_filled fields.entry) }
+    ensures rising { gensym.old ≤ gensym.new }
+    ensures stays { IfErr result (λ e. gensym.new ≡ gensym.old) }
+{
+    let first = gensym.peek();
+    match resolve_from(alloc, fields, gensym) {
+        Ok(resolved) => Ok(resolved),
+        Err(e) => {
+            *gensym = Gensym::new(first);
+            Err(e)
+        }
+    }
+}
+
+/// The same, but that the counter may have risen where it answers an error.
+fn resolve_from<'a>(
+    alloc: Global,
+    fields: Seq<ModuleField<'a>>,
+    gensym: &mut Gensym,
+) -> Result<(Seq<ModuleField<'a>>, Names<'a>), Error<'a>>
+    requires { greatest_generation fields < gensym.old }
     ensures met { OnOk result (first_unmet (demands (explicit fields.entry)) ≡ None) }
     ensures list { IfOk result (λ r. r.0 ≡ finished gensym.old fields.entry) }
     ensures names { IfOk result (λ r. known_to r.1 ≡ known (items (explicit_from gensym.old fields.entry))) }

@@ -11,32 +11,32 @@ use Rattle.wast_demands.specs.Demands.{order_demands}
 use Rattle.wast_demands.specs.Resolved.{resolved}
 use Rattle.wast_alike.proofs.Explicit.{wants_as_many}
 use Rattle.wast_alike.proofs.Resolving.{expands_all, unordered_still, unexpanded_still, met_still, unnumbered_still}
-use Rattle.wast_resolve.proofs.resolution.resolve.Goals as goal
+use Rattle.wast_resolve.proofs.resolution.resolve_from.Goals as goal
 
 pub returns-in_err-fields-2-clause-refusal : goal.returns-in_err-fields-2-clause-refusal
 returns-in_err-fields-2-clause-refusal c =
     let p = err_from_is_err_and c.from_residual-in_err-fields-2.result c.from_residual-in_err-fields-2.ensures.1 in
     rw (p.1, p.2)
-    (unordered_still c.args.gensym.now c.args.fields c.requires.above c.in_err-fields-2.field-0.0
+    (unordered_still c.args.gensym.now c.args.fields c.requires c.in_err-fields-2.field-0.0
     (subst (λ (xs : List ModuleField). Answers ⊥ ⊥ (told c.in_err-fields-2.field-0.0) (first_unmet (order_demands xs))) c.in_ok-fields.ensures.list c.in_err-fields-2.ensures.refusal))
 
 pub returns-in_err-fields-3-clause-refusal : goal.returns-in_err-fields-3-clause-refusal
 returns-in_err-fields-3-clause-refusal c =
     let p = err_from_is_err_and c.from_residual-in_err-fields-3.result c.from_residual-in_err-fields-3.ensures.1 in
     rw (p.1, p.2)
-    (unexpanded_still c.args.gensym.now c.args.fields c.requires.above c.in_err-fields-3.field-0.0
+    (unexpanded_still c.args.gensym.now c.args.fields c.requires c.in_err-fields-3.field-0.0
     (subst (λ m. RunsOut m c.in_err-fields-3.field-0.0) (λ i. c.in_ok-fields.ensures.counted i + ids_wanted ((c.in_ok-fields-2.ensures.list ∙ c.in_ok-fields.ensures.list) i)) c.in_err-fields-3.ensures.refusal))
 
 pub returns-in_err-fields-4-clause-refusal : goal.returns-in_err-fields-4-clause-refusal
 returns-in_err-fields-4-clause-refusal c =
     let p = err_from_is_err_and c.from_residual-in_err-fields-4.result c.from_residual-in_err-fields-4.ensures.1 in
     rw (p.1, p.2)
-    (unnumbered_still c.args.gensym.now c.args.fields c.requires.above c.in_ok-fields-3.fields (expands_all c.args.gensym.now c.args.fields c.in_ok-fields.ensures.list c.in_ok-fields.ensures.counted c.in_ok-fields-2.ensures.list c.in_ok-fields-3.ensures.list)
+    (unnumbered_still c.args.gensym.now c.args.fields c.requires c.in_ok-fields-3.fields (expands_all c.args.gensym.now c.args.fields c.in_ok-fields.ensures.list c.in_ok-fields.ensures.counted c.in_ok-fields-2.ensures.list c.in_ok-fields-3.ensures.list)
     (ap (λ (xs : List ModuleField). first_unmet (order_demands xs)) (sym c.in_ok-fields.ensures.list) ∙ c.in_ok-fields-2.ensures.met) c.in_err-fields-4.field-0.0 c.in_err-fields-4.ensures.refusal)
 
 pub returns-clause-met : goal.returns-clause-met
 returns-clause-met c =
-    met_still c.args.gensym.now c.args.fields c.requires.above c.in_ok-fields-3.fields (expands_all c.args.gensym.now c.args.fields c.in_ok-fields.ensures.list c.in_ok-fields.ensures.counted c.in_ok-fields-2.ensures.list c.in_ok-fields-3.ensures.list)
+    met_still c.args.gensym.now c.args.fields c.requires c.in_ok-fields-3.fields (expands_all c.args.gensym.now c.args.fields c.in_ok-fields.ensures.list c.in_ok-fields.ensures.counted c.in_ok-fields-2.ensures.list c.in_ok-fields-3.ensures.list)
     (ap (λ (xs : List ModuleField). first_unmet (order_demands xs)) (sym c.in_ok-fields.ensures.list) ∙ c.in_ok-fields-2.ensures.met) c.in_ok-fields-4.ensures.met
 
 pub returns-clause-list : goal.returns-clause-list
