@@ -1,7 +1,8 @@
 -- What the definitions say of worked modules, computed.
 use Rattle.std.proofs.Common.{refl}
 use Rattle.wast_base.specs.Blocks.{stays_open}
-use Rattle.wast_tree.specs.Private.Examples.{SameIds, StandsInRow27, StandsInFilledMemory, StandsEverywhere, StandsInPlace, StandsInSegments, StandsInBlocks, KnownInRows, WellFormedRows, SettledIndices, UnsettledIndices, WellFormedFuncs, WellFormedHints, WellFormedTypes, WellFormedSegments, WellFormedEntities, WellFormedInPlace, WellFormedBlocks, IllFormedClauses, FirstIllFormed, WrittenOutFields, GenerationsOfRows, StandsInAccess, UncoveredForms}
+use Rattle.wast_tree.specs.Private.Instructions.{InstructionsAsk}
+use Rattle.wast_tree.specs.Private.Examples.{SameIds, StandsInRow27, StandsInFilledMemory, StandsEverywhere, StandsInPlace, StandsInSegments, StandsInBlocks, KnownInRows, WellFormedRows, SettledIndices, UnsettledIndices, WellFormedFuncs, WellFormedHints, WellFormedTypes, WellFormedSegments, WellFormedEntities, WellFormedInPlace, WellFormedBlocks, IllFormedClauses, FirstIllFormed, WrittenOutFields, GenerationsOfRows, StandsInAccess, StandsInSharedImports, UncoveredForms, FirstUncovered}
 
 pub same_ids : SameIds
 same_ids a b = (refl, refl, refl, refl, refl, refl, refl, refl)
@@ -71,16 +72,27 @@ ill_formed_clauses a = (refl, refl, refl, refl, refl, refl, refl, refl)
 
 pub first_is_ill_formed : FirstIllFormed
 unfolding stays_open lib.Count.ones
-first_is_ill_formed a = (refl, refl, refl, refl)
+first_is_ill_formed a = (refl, refl, refl, refl, refl, refl)
 
 pub written_out_fields : WrittenOutFields
 written_out_fields a b c d e f = (refl, refl, refl, refl, refl, refl, refl)
 
 pub generations_of_rows : GenerationsOfRows
-generations_of_rows a b c d e f = (refl, refl, refl, refl, refl, refl, refl)
+generations_of_rows a b c d e f = (refl, refl, refl, refl, refl, refl, refl, refl, refl, refl)
 
 pub stands_in_access : StandsInAccess
 stands_in_access a = refl
 
+pub stands_in_shared_imports : StandsInSharedImports
+stands_in_shared_imports a b = (refl, refl, refl, refl)
+
 pub uncovered_in_forms : UncoveredForms
 uncovered_in_forms a = (refl, refl, refl, refl, refl, refl, refl, refl, refl)
+
+pub first_is_uncovered : FirstUncovered
+first_is_uncovered = (refl, refl, refl, refl)
+
+pub instructions_ask : InstructionsAsk
+unfolding lib.Count.ones
+instructions_ask name c lanes =
+    (refl, refl, refl, refl, refl, refl, refl, refl, refl, refl, refl, refl, refl, refl, refl, refl, refl, refl, refl, refl, refl, refl, refl, refl, refl, refl, refl, refl, refl, refl, refl, refl, refl, refl, refl, refl, refl, refl, refl, refl, refl, refl, refl, refl, refl, refl, refl, refl, refl, refl, refl, refl, refl, refl, refl, refl, refl, refl, refl, refl, refl, refl, refl, refl, refl, refl, refl, refl, refl, refl, refl, refl, refl, refl, refl, refl, refl, refl, refl, refl, refl, refl, refl, refl, refl, refl, refl, refl, refl, refl, refl, refl, refl, refl, refl, refl, refl)

@@ -1,2 +1,3 @@
 -- What only contracts of private functions cite: a caller needs none of it.
 pub mod Examples
+pub mod Instructions

@@ -22,13 +22,18 @@ pub use Rattle.wast_base.specs.declared.plain.Plain.TheVariants as plain
 pub use Rattle.wast_nodes.specs.declared.immediates.BlockType.{BlockType}
 pub use Rattle.wast_nodes.specs.declared.immediates.TryTableCatchKind.TheVariants as caught
 pub use Rattle.wast_nodes.specs.declared.immediates.MemArgTarget.TheVariants as target
+pub use Rattle.wast_nodes.specs.declared.immediates.MemArg.{MemArg}
 pub use Rattle.wast_nodes.specs.declared.immediates.Ordering.TheVariants as ordering
+pub use Rattle.wast_nodes.specs.declared.continuations.ResumeTable.{ResumeTable}
+pub use Rattle.wast_nodes.specs.declared.continuations.Handle.TheVariants as handle
 pub use Rattle.wast_nodes.specs.declared.instrs.Instruction.{Instruction}
 pub use Rattle.wast_nodes.specs.declared.instrs.Instruction.TheVariants as instr
 pub use Rattle.wast_nodes.specs.declared.instrs.BranchHint.{BranchHint}
 pub use Rattle.wast_nodes.specs.declared.instrs.Expression.{Expression}
 pub use Rattle.wast_nodes.specs.declared.entities.TableType.{TableType}
 pub use Rattle.wast_nodes.specs.declared.entities.GlobalType.{GlobalType}
+pub use Rattle.wast_nodes.specs.declared.imports.ImportItems.TheVariants as import_items
+pub use Rattle.wast_nodes.specs.declared.imports.ItemKind.TheVariants as kind
 pub use Rattle.wast_nodes.specs.declared.segments.ElemKind.TheVariants as elem
 pub use Rattle.wast_nodes.specs.declared.segments.ElemPayload.{ElemPayload}
 pub use Rattle.wast_nodes.specs.declared.segments.ElemPayload.TheVariants as payload

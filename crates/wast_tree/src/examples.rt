@@ -1,6 +1,7 @@
 //! Worked modules, of which the definitions compute what they say.
 
-ghost use Rattle.wast_tree.specs.Private.Examples.{SameIds, StandsInRow27, StandsInFilledMemory, StandsEverywhere, StandsInPlace, StandsInSegments, StandsInBlocks, KnownInRows, WellFormedRows, SettledIndices, UnsettledIndices, WellFormedFuncs, WellFormedHints, WellFormedTypes, WellFormedSegments, WellFormedEntities, WellFormedInPlace, WellFormedBlocks, IllFormedClauses, FirstIllFormed, WrittenOutFields, GenerationsOfRows, StandsInAccess, UncoveredForms};
+ghost use Rattle.wast_tree.specs.Private.Examples.{SameIds, StandsInRow27, StandsInFilledMemory, StandsEverywhere, StandsInPlace, StandsInSegments, StandsInBlocks, KnownInRows, WellFormedRows, SettledIndices, UnsettledIndices, WellFormedFuncs, WellFormedHints, WellFormedTypes, WellFormedSegments, WellFormedEntities, WellFormedInPlace, WellFormedBlocks, IllFormedClauses, FirstIllFormed, WrittenOutFields, GenerationsOfRows, StandsInAccess, StandsInSharedImports, UncoveredForms, FirstUncovered};
+ghost use Rattle.wast_tree.specs.Private.Instructions.{InstructionsAsk};
 
 /// Which ids and indices are the same.
 #[tactic(auto, using(crate::proofs::Worked::same_ids))]
@@ -9,7 +10,7 @@ pub(crate) fn same_ids()
 {}
 
 /// What stands in small modules, in which order, and what they make known.
-#[tactic(auto, using(crate::proofs::Worked::stands_in_row27, crate::proofs::Worked::stands_in_filled_memory, crate::proofs::Worked::stands_everywhere, crate::proofs::Worked::stands_in_place, crate::proofs::Worked::stands_in_segments, crate::proofs::Worked::stands_in_blocks, crate::proofs::Worked::stands_in_access, crate::proofs::Worked::known_in_rows))]
+#[tactic(auto, using(crate::proofs::Worked::stands_in_row27, crate::proofs::Worked::stands_in_filled_memory, crate::proofs::Worked::stands_everywhere, crate::proofs::Worked::stands_in_place, crate::proofs::Worked::stands_in_segments, crate::proofs::Worked::stands_in_blocks, crate::proofs::Worked::stands_in_access, crate::proofs::Worked::stands_in_shared_imports, crate::proofs::Worked::known_in_rows))]
 pub(crate) fn occurrences()
     ensures row27 { StandsInRow27 }
     ensures filled_memory { StandsInFilledMemory }
@@ -18,7 +19,13 @@ pub(crate) fn occurrences()
     ensures segments { StandsInSegments }
     ensures blocks { StandsInBlocks }
     ensures access { StandsInAccess }
+    ensures shared_imports { StandsInSharedImports }
     ensures known { KnownInRows }
+{}
+
+/// What is asked in an instruction, of each kind.
+pub(crate) fn instructions()
+    ensures { InstructionsAsk }
 {}
 
 /// Which modules are well formed, and which are not.
@@ -54,8 +61,9 @@ pub(crate) fn generations()
     ensures { GenerationsOfRows }
 {}
 
-/// The forms in small modules that no encoder covers.
-#[tactic(auto, using(crate::proofs::Worked::uncovered_in_forms))]
+/// The forms in small modules that no encoder covers, and where the first stands.
+#[tactic(auto, using(crate::proofs::Worked::uncovered_in_forms, crate::proofs::Worked::first_is_uncovered))]
 pub(crate) fn uncovered()
-    ensures { UncoveredForms }
+    ensures forms { UncoveredForms }
+    ensures first { FirstUncovered }
 {}

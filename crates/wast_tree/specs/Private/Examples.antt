@@ -1,4 +1,5 @@
 -- What the definitions say of worked modules.
+use Rattle.std.specs.Borrow.{Bor}
 use Rattle.std.specs.Prelude.{◌≡◌, ℕ, pos, Bool, true, false, List, [], ◌∷◌, map, Option, Some, None, codes}
 use Rattle.wast_tree.specs.Tree.{Id, Index, Space, RefType, ValType, StructField, FunctionType, TypeUse, TypeDef, BlockType, Instruction, BranchHint, Expression, TableType, GlobalType, InlineImport, Func, ElemPayload, Form, ModuleField}
 use Rattle.wast_tree.specs.Tree.index
@@ -17,6 +18,8 @@ use Rattle.wast_tree.specs.Tree.caught
 use Rattle.wast_tree.specs.Tree.ordering
 use Rattle.wast_tree.specs.Tree.instr
 use Rattle.wast_tree.specs.Tree.func
+use Rattle.wast_tree.specs.Tree.import_items
+use Rattle.wast_tree.specs.Tree.kind
 use Rattle.wast_tree.specs.Tree.table
 use Rattle.wast_tree.specs.Tree.memory
 use Rattle.wast_tree.specs.Tree.global
@@ -30,6 +33,7 @@ use Rattle.wast_nodes.specs.Sites.{Wants, Unasked, Clause, Covered, Site, OfItem
 use Rattle.wast_nodes.specs.Known.{known}
 use Rattle.wast_nodes.specs.Uncovered.{uncovered_forms}
 use Rattle.wast_nodes.specs.WellFormed.{is_well_formed, ill_formed}
+use Rattle.wast_visits.specs.FirstUncovered.{first_uncovered}
 use Rattle.wast_visits.specs.IllFormed.{first_ill_formed}
 use Rattle.wast_nodes.specs.WrittenOut.{is_written_out}
 use Rattle.wast_nodes.specs.Generations.{generation_or_zero, generation_in, greatest_generation}
@@ -563,13 +567,20 @@ IllFormedClauses = (a : Address) →
     × (ill_formed (export_field a 0 (made_index 1) ∷ memory_in_place a (Some 64) ∷ global_as (plain_block ∷ []) ∷ []) ≡ Some 3)
     × (ill_formed (field.Func nameless_func ∷ memory_in_place a (Some 63) ∷ []) ≡ None)
 
--- The first clause that fails has the place of its index, of the index before it in its field, or of its field.
+-- a generated id as an index, which is written at a place
+abbrev pub made_index_at : ℕ → ℕ → Index
+made_index_at n place_of_it = index.Id (generated n (place place_of_it))
+
+-- The first clause that fails has the place of its index, of the index before it in its field, or of its field. A segment is
+-- asked before the table that it fills, and the memory that is read before the one that is written.
 abbrev pub FirstIllFormed : Type 0
 FirstIllFormed = (a : Address) →
     (first_ill_formed (field.Func nameless_func ∷ export_field a 50 (index.Id (generated 1 (place 57))) ∷ memory_in_place a (Some 64) ∷ []) ≡ Some (record { clause = 6; span = place 57 }))
     × (first_ill_formed (func_alone (func_of nothing_used (instr.call (by_number 0 25) ∷ misaligned ∷ instr.call (by_number 0 35) ∷ []))) ≡ Some (record { clause = 1; span = place 30 }))
     × (first_ill_formed (field.Func nameless_func ∷ global_as (plain_block ∷ []) ∷ field.Func nameless_func ∷ []) ≡ Some (record { clause = 5; span = place 1 }))
     × (first_ill_formed (field.Func nameless_func ∷ memory_in_place a (Some 63) ∷ []) ≡ None)
+    × (first_ill_formed (func_alone (func_of nothing_used (instr.table_init (record { table = made_index_at 1 40; elem = made_index_at 2 45 }) ∷ []))) ≡ Some (record { clause = 6; span = place 45 }))
+    × (first_ill_formed (func_alone (func_of nothing_used (instr.memory_copy (record { dst = made_index_at 1 40; src = made_index_at 2 45 }) ∷ []))) ≡ Some (record { clause = 6; span = place 45 }))
 
 -- Row 27 is written out; what stands in place is not.
 abbrev pub WrittenOutFields : Type 0
@@ -582,6 +593,26 @@ WrittenOutFields = (a b c d e f : Address) →
     × (is_written_out (table_in_place funcref false (payload.Indices []) ∷ []) ≡ false)
     × (is_written_out (memory_in_place a None ∷ []) ≡ false)
 
+-- `(import "m" (item ..) (global ..))`: an import of these names that share a signature with this id
+abbrev pub shared_import : Address → Option Id → List (Bor (List ℕ)) → ModuleField
+shared_import a id names =
+    field.Import (record {
+      span = place 1;
+      items = import_items.Group2 (text a (codes "m")) (record { span = place 9; id = id; name = None; kind = kind.Global (record plain_global_type { ty = ref_to (made_index 2) }) }) names;
+    })
+
+-- The id of a signature that names share is that of an item for each; where there is no name, it stands beside the items,
+-- behind what the signature asks.
+abbrev pub StandsInSharedImports : Type 0
+StandsInSharedImports = (a b : Address) →
+    (items (shared_import a (Some (made 5)) [] ∷ []) ≡ [])
+    × (in_module (shared_import a (Some (made 5)) [] ∷ [])
+    ≡ wanted space.Ty (made_index 2) ∷ unshared true ∷ Asked (Unasked (made_mark 5)) ∷ covers form.CompactImports false ∷ [])
+    × (items (shared_import a (Some (made 5)) (text b (codes "n") ∷ text b (codes "n") ∷ []) ∷ [])
+    ≡ record { space = space.Global; id = Some (made_mark 5); fields = [] } ∷ record { space = space.Global; id = Some (made_mark 5); fields = [] } ∷ [])
+    × (in_module (shared_import a (Some (made 5)) (text b (codes "n") ∷ text b (codes "n") ∷ []) ∷ [])
+    ≡ wanted space.Ty (made_index 2) ∷ unshared true ∷ covers form.CompactImports false ∷ [])
+
 -- The greatest generation is that of an item or of an id beside the items; a written id has 0. No id of a module is left
 -- out.
 abbrev pub GenerationsOfRows : Type 0
@@ -591,6 +622,9 @@ GenerationsOfRows = (a b c d e f : Address) →
     × (greatest_generation (export_field a 0 (made_index 7) ∷ field.Ty (plain_type (Some (made 3)) 0) ∷ []) ≡ 7)
     × (greatest_generation (field.Ty (plain_type (Some (made 7)) 0) ∷ export_field a 0 (made_index 3) ∷ []) ≡ 7)
     × (greatest_generation [] ≡ 0)
+    × (greatest_generation (shared_import a (Some (made 5)) [] ∷ []) ≡ 5)
+    × (greatest_generation (shared_import a (Some (made 5)) (text b (codes "n") ∷ []) ∷ []) ≡ 5)
+    × (greatest_generation (shared_import a None [] ∷ []) ≡ 2)
     × (map (λ x. generation_or_zero x.id) (items (everywhere_generated a)) ≡ 1 ∷ 14 ∷ 17 ∷ 6 ∷ [])
     × (map generation_in (asked (in_module (everywhere_generated a))) ≡ 3 ∷ 4 ∷ 0 ∷ 5 ∷ 0 ∷ 2 ∷ 12 ∷ 13 ∷ 0 ∷ 15 ∷ 16 ∷ 0 ∷ 18 ∷ 0 ∷ 9 ∷ 10 ∷ 19 ∷ 7 ∷ 8 ∷ 21 ∷ 22 ∷ 23 ∷ 20 ∷ 24 ∷ 25 ∷ 26 ∷ 27 ∷ 28 ∷ 29 ∷ 30 ∷ 31 ∷ 0 ∷ 11 ∷ [])
 
@@ -619,3 +653,11 @@ UncoveredForms = (a : Address) →
     × (uncovered_by (instr.atomic_fence None ∷ instr.atomic_fence (Some ordering.SeqCst) ∷ instr.atomic_fence (Some ordering.AcqRel) ∷ []) ≡ form.Ordering ∷ [])
     × (uncovered_by (instr.ref_null (heap.Exact (by_number 0 20)) ∷ instr.suspend (by_number 0 20) ∷ []) ≡ form.Descriptor ∷ form.StackSwitching ∷ [])
     × (uncovered_by (instr.Beyond (text a (codes "i64.add128")) ∷ []) ≡ form.Beyond ∷ [])
+
+-- The first of them has the place of its index, of the index before it in its field, or of its field.
+abbrev pub FirstUncovered : Type 0
+FirstUncovered =
+    (first_uncovered (field.Func nameless_func ∷ table_of (record plain_table_type { shared = true }) ∷ []) ≡ Some (record { form = form.Shared; span = place 1 }))
+    × (first_uncovered (func_alone (func_of nothing_used (instr.call (by_number 0 25) ∷ instr.atomic_fence (Some ordering.AcqRel) ∷ instr.suspend (by_number 0 35) ∷ []))) ≡ Some (record { form = form.Ordering; span = place 25 }))
+    × (first_uncovered (func_alone (func_of nothing_used (instr.call (by_number 0 25) ∷ instr.suspend (by_number 0 35) ∷ []))) ≡ Some (record { form = form.StackSwitching; span = place 35 }))
+    × (first_uncovered (func_alone (func_of nothing_used (instr.call (by_number 0 25) ∷ []))) ≡ None)
