@@ -56,6 +56,7 @@ fn is_too_large<'a>(rt: &impl Abort, alloc: Global, module: Module<'a>, first: u
     let mut gensym = Gensym::new(first);
     let answer = EncodeOptions::new().encode_module(alloc, &mut module, &mut gensym);
     assert!(rt; answer.err() == Some(Error::refusal(Fault::TooLarge)));
+    assert!(rt; gensym.peek() == first);
     module
 }
 

@@ -205,6 +205,7 @@ fn resolving_keeps_a_refusal(rt: HostRuntime) {
             let first = refusal(&rt, alloc, &mut module, &mut gensym, begin);
             let again = refusal(&rt, alloc, &mut module, &mut gensym, END);
             assert!(rt; again == first, "row {n}");
+            assert!(rt; first.is_none() || gensym.peek() == 1, "row {n}");
             let is_kept = matches!(&module.kind, ModuleKind::Refused(_));
             assert!(rt; is_kept == first.is_some(), "row {n}");
             let options = EncodeOptions::new();

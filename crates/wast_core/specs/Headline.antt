@@ -1,5 +1,5 @@
 -- What resolving and encoding a module answer, and what they leave.
-use Rattle.std.specs.Prelude.{◌≡◌, ℕ, ◌+◌, ◌≤◌, List, [], Option, Some, None, Result, Ok, Err, ◌⊎◌}
+use Rattle.std.specs.Prelude.{◌≡◌, ℕ, ◌+◌, List, [], Option, Some, None, Result, Ok, Err, ◌⊎◌}
 use Rattle.std.specs.List.{flat_map}
 use Rattle.std.specs.Borrow.{Bor}
 use Rattle.std.specs.Global.{Vec}
@@ -36,11 +36,11 @@ ResolvesKind n (kind.Binary pieces) (Err e) new = ⊥
 ResolvesKind n (kind.Refused e) (Ok names) new = ⊥
 ResolvesKind n (kind.Refused e) (Err d) new = (d ≡ e) × (new ≡ kind.Refused e)
 
--- How far the counter rises: where fields are resolved by as many ids as are filled in; where they are refused it may rise, and never falls; else it stays.
+-- How far the counter rises: where fields are resolved by as many ids as are filled in; else it stays, where they are refused too.
 abbrev pub Counts : ModuleKind → ModuleKind → ℕ → ℕ → Type 0
 Counts (kind.Text fields) (kind.Text resolved) before after = after ≡ before + ids_filled fields
 Counts (kind.Text fields) (kind.Binary pieces) before after = ⊥
-Counts (kind.Text fields) (kind.Refused e) before after = before ≤ after
+Counts (kind.Text fields) (kind.Refused e) before after = after ≡ before
 Counts (kind.Binary pieces) new before after = after ≡ before
 Counts (kind.Refused e) new before after = after ≡ before
 

@@ -1,6 +1,6 @@
 //! The encoder.
 
-ghost use Rattle.std.specs.Prelude.{◌≡◌, All, IfOk, IfErr, IsTrue};
+ghost use Rattle.std.specs.Prelude.{◌≡◌, ⊤, All, IfOk, IfErr, IsTrue};
 ghost use Rattle.wast_base.specs.Faults.{out_of_memory};
 ghost use Rattle.wasm_out.specs.Built.{IsRefused};
 ghost use Rattle.wasm_out.specs.Reads.{Reads};
@@ -107,10 +107,18 @@ fn encode_resolved<'a>(alloc: Global, module: &Module<'a>) -> Result<Vec<u8>, Er
 #[derive(Clone, Copy, Debug)]
 pub struct EncodeOptions {}
 
-impl EncodeOptions {
-    /// The one way to encode.
-    pub fn new() -> Self {
+impl Default for EncodeOptions {
+    ghost is_default = { λ options. ⊤ };
+
+    fn default() -> Self {
         EncodeOptions {}
+    }
+}
+
+impl EncodeOptions {
+    /// The one way to encode, as `default` gives it.
+    pub fn new() -> Self {
+        EncodeOptions::default()
     }
 
     /// Resolves the module, and gives its bytes (binary format, modules).

@@ -1,6 +1,8 @@
 //! Modules of the text format.
 
-ghost use Rattle.std.specs.Prelude.{◌≡◌, ◌<◌, ◌≤◌, is_none, OnOk, IsTrue};
+ghost use Rattle.std.specs.Prelude.{◌≡◌, ◌<◌, ◌≤◌, Some, None, is_none, OnOk, IsTrue};
+ghost use Rattle.wast_base.specs.Ids.{start};
+ghost use Rattle.wast_core.specs.declared.module.ModuleKind.TheVariants as module_kind;
 ghost use Rattle.wast_core.specs.Modules.{is_well_formed, is_well_formed_kind, ill_formed, generation_bound, bound_of_kind, IsReady};
 ghost use Rattle.wast_core.specs.Headline.{Resolves, ResolvesKind, Counts};
 ghost use Rattle.wast_core.specs.Writing.{IsAtRest};
@@ -63,6 +65,35 @@ pub struct Module<'a> {
 }
 
 impl<'a> Module<'a> {
+    /// A module of these fields, at the start of the text, without an id and a name annotation (text format, modules).
+    ///
+    /// It takes no memory, and is ready to be resolved where the fields are.
+    pub fn new(fields: Seq<ModuleField<'a>>) -> Self
+        ensures { result ≡ record { span = start; id = None; name = None; kind = module_kind.Text fields.entry } }
+    {
+        Module {
+            span: Span::default(),
+            id: None,
+            name: None,
+            kind: ModuleKind::Text(fields),
+        }
+    }
+
+    /// The module with a name annotation (text format, custom annotations). It takes no memory.
+    pub fn named(self, name: &'a str) -> Self
+        ensures { result ≡ record self.entry { name = Some (record { name = name.entry }) } }
+    {
+        let name = Some(NameAnnotation { name });
+        Module { name, ..self }
+    }
+
+    /// The module at a place, that of its keyword. It takes no memory.
+    pub fn at(self, span: Span) -> Self
+        ensures { result ≡ record self.entry { span = span } }
+    {
+        Module { span, ..self }
+    }
+
     /// Whether the module can be resolved and encoded. It takes no memory.
     ///
     /// It can, where no clause of "well formed" fails, as [`Module::ill_formed`] tells.
@@ -126,9 +157,9 @@ impl<'a> Module<'a> {
     /// of a function have one id, and E8 where a label at an `else` or `end` is not that of its block; E10 only where a
     /// space has 2^32 items or more, a struct as many fields, a function as many parameters and locals, an expression as
     /// many open blocks, a memory as many bytes in place, or the counter would pass the greatest u64, E12 where memory is
-    /// refused. The module keeps a refusal, and answers it from then on; the counter then stands where it stood or higher.
-    /// A binary module stays as it is, and binds no names; for it, and for a refused module, the counter stays. Span, id
-    /// and name stay.
+    /// refused. The module keeps a refusal, and answers it from then on; the counter then stays, so that no module uses
+    /// another's up. A binary module stays as it is, and binds no names; for it, and for a refused module, the counter
+    /// stays too. Span, id and name stay.
     ///
     /// A module that is not refused is at rest afterwards (clause `at_rest`): it is what
     /// [`EncodeOptions::put_module`](crate::EncodeOptions::put_module) needs, and where `uncovered` of `wast_tree` finds no
