@@ -2,7 +2,7 @@
 
 ghost use Rattle.std.specs.Prelude.{◌≡◌, [], ◌∷◌, ◌++◌, true, false, IfOk, IfErr};
 ghost use Rattle.wast_base.specs.Faults.{out_of_memory};
-ghost use Rattle.wast_makers.specs.Makers.{Makes, opener};
+ghost use Rattle.wast_makers.specs.Makers.{Makes, MayPut, MayMake, opener};
 ghost use Rattle.wast_makers.specs.Tree.bytes;
 ghost use Rattle.wast_makers.specs.Tree.instr;
 
@@ -47,8 +47,8 @@ impl BlockKind {
 /// code that makes a tree has no error to pass on, and nothing to drop.
 ///
 /// Contracts see whether memory was refused. Each call but [`Maker::new`], [`Maker::is_refused`] and [`Maker::finish`] may
-/// take memory for the list that it makes; where that is refused, the list lacks what was to be put there, and `finish`
-/// answers E12.
+/// take memory for the list that it makes. Where that is refused, a list that was to be added to stays as it was, one that was
+/// to be made is empty, and `finish` answers E12.
 #[derive(Drop)]
 pub struct Maker {
     alloc: Global,
@@ -86,7 +86,8 @@ impl Maker {
 
     /// Puts a field at the end of a list (text format, modules).
     pub fn push_field<'a>(&mut self, fields: &mut Seq<ModuleField<'a>>, field: ModuleField<'a>)
-        ensures { Makes self.old self.new (fields.new ≡ fields.old ++ field.entry ∷ []) }
+        ensures made { Makes self.old self.new (fields.new ≡ fields.old ++ field.entry ∷ []) }
+        ensures lacks { MayPut self.new fields.old fields.new field.entry }
     {
         if push_field(fields, field).is_err() {
             self.refused = true;
@@ -99,7 +100,8 @@ impl Maker {
         instrs: &mut Seq<Instruction<'a>>,
         instruction: Instruction<'a>,
     )
-        ensures { Makes self.old self.new (instrs.new ≡ instrs.old ++ instruction.entry ∷ []) }
+        ensures made { Makes self.old self.new (instrs.new ≡ instrs.old ++ instruction.entry ∷ []) }
+        ensures lacks { MayPut self.new instrs.old instrs.new instruction.entry }
     {
         if push_instruction(instrs, instruction).is_err() {
             self.refused = true;
@@ -113,7 +115,8 @@ impl Maker {
         kind: BlockKind,
         block: BlockType<'a>,
     )
-        ensures { Makes self.old self.new (instrs.new ≡ instrs.old ++ opener kind block.entry ∷ []) }
+        ensures made { Makes self.old self.new (instrs.new ≡ instrs.old ++ opener kind block.entry ∷ []) }
+        ensures lacks { MayPut self.new instrs.old instrs.new (opener kind block.entry) }
     {
         match boxed_block(self.alloc, block) {
             Ok(block) => self.push_instruction(instrs, kind.opener(block)),
@@ -128,7 +131,8 @@ impl Maker {
         block: BlockType<'a>,
         catches: Seq<TryTableCatch<'a>>,
     )
-        ensures { Makes self.old self.new (instrs.new ≡ instrs.old ++ instr.try_table (record { block = block.entry; catches = catches.entry }) ∷ []) }
+        ensures made { Makes self.old self.new (instrs.new ≡ instrs.old ++ instr.try_table (record { block = block.entry; catches = catches.entry }) ∷ []) }
+        ensures lacks { MayPut self.new instrs.old instrs.new (instr.try_table (record { block = block.entry; catches = catches.entry })) }
     {
         match boxed_block(self.alloc, block) {
             Ok(block) => self.push_instruction(
@@ -141,14 +145,16 @@ impl Maker {
 
     /// The clauses of `try_table` (text format, control instructions).
     pub fn catches<'a>(&mut self, catches: &[TryTableCatch<'a>]) -> Seq<TryTableCatch<'a>>
-        ensures { Makes self.old self.new (result ≡ catches.now) }
+        ensures made { Makes self.old self.new (result ≡ catches.now) }
+        ensures lacks { MayMake self.new catches.now result }
     {
         copied(self, catches)
     }
 
     /// Puts a type at the end of those of a group (text format, recursive types).
     pub fn push_type<'a>(&mut self, types: &mut Seq<Type<'a>>, ty: Type<'a>)
-        ensures { Makes self.old self.new (types.new ≡ types.old ++ ty.entry ∷ []) }
+        ensures made { Makes self.old self.new (types.new ≡ types.old ++ ty.entry ∷ []) }
+        ensures lacks { MayPut self.new types.old types.new ty.entry }
     {
         if push_type(types, ty).is_err() {
             self.refused = true;
@@ -161,7 +167,8 @@ impl Maker {
         exprs: &mut Seq<Expression<'a>>,
         expression: Expression<'a>,
     )
-        ensures { Makes self.old self.new (exprs.new ≡ exprs.old ++ expression.entry ∷ []) }
+        ensures made { Makes self.old self.new (exprs.new ≡ exprs.old ++ expression.entry ∷ []) }
+        ensures lacks { MayPut self.new exprs.old exprs.new expression.entry }
     {
         if push_expression(exprs, expression).is_err() {
             self.refused = true;
@@ -170,7 +177,8 @@ impl Maker {
 
     /// Puts a piece at the end of the bytes of a data segment (text format, data segments).
     pub fn push_data<'a>(&mut self, pieces: &mut Seq<DataVal<'a>>, piece: DataVal<'a>)
-        ensures { Makes self.old self.new (pieces.new ≡ pieces.old ++ piece.entry ∷ []) }
+        ensures made { Makes self.old self.new (pieces.new ≡ pieces.old ++ piece.entry ∷ []) }
+        ensures lacks { MayPut self.new pieces.old pieces.new piece.entry }
     {
         if push_data(pieces, piece).is_err() {
             self.refused = true;
@@ -179,7 +187,9 @@ impl Maker {
 
     /// An expression of one instruction, without branch hints (text format, expressions).
     pub fn one_instruction<'a>(&mut self, instruction: Instruction<'a>) -> Expression<'a>
-        ensures { Makes self.old self.new (result ≡ record { instrs = instruction.entry ∷ []; branch_hints = [] }) }
+        ensures made { Makes self.old self.new (result ≡ record { instrs = instruction.entry ∷ []; branch_hints = [] }) }
+        ensures lacks { MayPut self.new [] result.instrs instruction.entry }
+        ensures hints { result.branch_hints ≡ [] }
     {
         let mut instrs = Seq::new(self.alloc);
         self.push_instruction(&mut instrs, instruction);
@@ -188,7 +198,8 @@ impl Maker {
 
     /// Branch hints, each with the number of its instruction and its value (text format, custom annotations).
     pub fn hints(&mut self, hints: &[BranchHint]) -> Seq<BranchHint>
-        ensures { Makes self.old self.new (result ≡ hints.now) }
+        ensures made { Makes self.old self.new (result ≡ hints.now) }
+        ensures lacks { MayMake self.new hints.now result }
     {
         copied(self, hints)
     }
@@ -200,7 +211,9 @@ impl Maker {
         params: &[(Option<Id<'a>>, Option<NameAnnotation<'a>>, ValType<'a>)],
         results: &[ValType<'a>],
     ) -> FunctionType<'a>
-        ensures { Makes self.old self.new (result ≡ record { params = params.now; results = results.now }) }
+        ensures made { Makes self.old self.new (result ≡ record { params = params.now; results = results.now }) }
+        ensures lacks_params { MayMake self.new params.now result.params }
+        ensures lacks_results { MayMake self.new results.now result.results }
     {
         let params = self.params(params);
         FunctionType::new(params, self.values(results))
@@ -208,7 +221,8 @@ impl Maker {
 
     /// Types of values, as the results of a function (text format, composite types).
     pub fn values<'a>(&mut self, values: &[ValType<'a>]) -> Seq<ValType<'a>>
-        ensures { Makes self.old self.new (result ≡ values.now) }
+        ensures made { Makes self.old self.new (result ≡ values.now) }
+        ensures lacks { MayMake self.new values.now result }
     {
         copied(self, values)
     }
@@ -218,42 +232,48 @@ impl Maker {
         &mut self,
         params: &[(Option<Id<'a>>, Option<NameAnnotation<'a>>, ValType<'a>)],
     ) -> Seq<(Option<Id<'a>>, Option<NameAnnotation<'a>>, ValType<'a>)>
-        ensures { Makes self.old self.new (result ≡ params.now) }
+        ensures made { Makes self.old self.new (result ≡ params.now) }
+        ensures lacks { MayMake self.new params.now result }
     {
         copied(self, params)
     }
 
     /// Locals of a function (text format, functions).
     pub fn locals<'a>(&mut self, locals: &[Local<'a>]) -> Seq<Local<'a>>
-        ensures { Makes self.old self.new (result ≡ locals.now) }
+        ensures made { Makes self.old self.new (result ≡ locals.now) }
+        ensures lacks { MayMake self.new locals.now result }
     {
         copied(self, locals)
     }
 
     /// Fields of a struct (text format, composite types).
     pub fn struct_fields<'a>(&mut self, fields: &[StructField<'a>]) -> Seq<StructField<'a>>
-        ensures { Makes self.old self.new (result ≡ fields.now) }
+        ensures made { Makes self.old self.new (result ≡ fields.now) }
+        ensures lacks { MayMake self.new fields.now result }
     {
         copied(self, fields)
     }
 
     /// Indices, as the parents of a type or the functions of an element segment (text format, indices).
     pub fn indices<'a>(&mut self, indices: &[Index<'a>]) -> Seq<Index<'a>>
-        ensures { Makes self.old self.new (result ≡ indices.now) }
+        ensures made { Makes self.old self.new (result ≡ indices.now) }
+        ensures lacks { MayMake self.new indices.now result }
     {
         copied(self, indices)
     }
 
     /// Names, as those under which a field is exported in place (text format, exports).
     pub fn names<'a>(&mut self, names: &[&'a str]) -> Seq<&'a str>
-        ensures { Makes self.old self.new (result ≡ names.now) }
+        ensures made { Makes self.old self.new (result ≡ names.now) }
+        ensures lacks { MayMake self.new names.now result }
     {
         copied(self, names)
     }
 
     /// The names under which a field is exported in place (text format, exports).
     pub fn exports<'a>(&mut self, names: &[&'a str]) -> InlineExport<'a>
-        ensures { Makes self.old self.new (result ≡ record { names = names.now }) }
+        ensures made { Makes self.old self.new (result ≡ record { names = names.now }) }
+        ensures lacks { MayMake self.new names.now result.names }
     {
         InlineExport {
             names: self.names(names),
@@ -262,7 +282,8 @@ impl Maker {
 
     /// The bytes of one string, as those of a data segment (text format, data segments).
     pub fn string<'a>(&mut self, string: &'a [u8]) -> Seq<DataVal<'a>>
-        ensures { Makes self.old self.new (result ≡ bytes.String string.entry ∷ []) }
+        ensures made { Makes self.old self.new (result ≡ bytes.String string.entry ∷ []) }
+        ensures lacks { MayPut self.new [] result (bytes.String string.entry) }
     {
         let mut pieces = Seq::new(self.alloc);
         self.push_data(&mut pieces, DataVal::String(string));
@@ -271,14 +292,16 @@ impl Maker {
 
     /// The bytes of a custom section, in pieces (text format, custom annotations).
     pub fn pieces<'a>(&mut self, pieces: &[&'a [u8]]) -> Seq<&'a [u8]>
-        ensures { Makes self.old self.new (result ≡ pieces.now) }
+        ensures made { Makes self.old self.new (result ≡ pieces.now) }
+        ensures lacks { MayMake self.new pieces.now result }
     {
         copied(self, pieces)
     }
 
     /// Values of a field of `producers`: the name and the version of each (tool conventions, producers section).
     pub fn versions<'a>(&mut self, versions: &[(&'a str, &'a str)]) -> Seq<(&'a str, &'a str)>
-        ensures { Makes self.old self.new (result ≡ versions.now) }
+        ensures made { Makes self.old self.new (result ≡ versions.now) }
+        ensures lacks { MayMake self.new versions.now result }
     {
         copied(self, versions)
     }
@@ -290,7 +313,8 @@ impl Maker {
         name: &'a str,
         versions: Seq<(&'a str, &'a str)>,
     )
-        ensures { Makes self.old self.new (fields.new ≡ fields.old ++ (name.entry, versions.entry) ∷ []) }
+        ensures made { Makes self.old self.new (fields.new ≡ fields.old ++ (name.entry, versions.entry) ∷ []) }
+        ensures lacks { MayPut self.new fields.old fields.new (name.entry, versions.entry) }
     {
         if fields.push((name, versions)).is_err() {
             self.refused = true;
@@ -303,7 +327,8 @@ impl Maker {
         subsections: &mut Seq<Dylink0Subsection<'a>>,
         subsection: Dylink0Subsection<'a>,
     )
-        ensures { Makes self.old self.new (subsections.new ≡ subsections.old ++ subsection.entry ∷ []) }
+        ensures made { Makes self.old self.new (subsections.new ≡ subsections.old ++ subsection.entry ∷ []) }
+        ensures lacks { MayPut self.new subsections.old subsections.new subsection.entry }
     {
         if push_subsection(subsections, subsection).is_err() {
             self.refused = true;
@@ -312,7 +337,8 @@ impl Maker {
 
     /// Names of exports with their flags (tool conventions, dynamic linking).
     pub fn export_flags<'a>(&mut self, flags: &[(&'a str, u32)]) -> Seq<(&'a str, u32)>
-        ensures { Makes self.old self.new (result ≡ flags.now) }
+        ensures made { Makes self.old self.new (result ≡ flags.now) }
+        ensures lacks { MayMake self.new flags.now result }
     {
         copied(self, flags)
     }
@@ -322,7 +348,8 @@ impl Maker {
         &mut self,
         flags: &[(&'a str, &'a str, u32)],
     ) -> Seq<(&'a str, &'a str, u32)>
-        ensures { Makes self.old self.new (result ≡ flags.now) }
+        ensures made { Makes self.old self.new (result ≡ flags.now) }
+        ensures lacks { MayMake self.new flags.now result }
     {
         copied(self, flags)
     }
@@ -345,7 +372,8 @@ impl Maker {
 
 /// A list of the same elements.
 fn copied<T: Copy + Drop>(maker: &mut Maker, items: &[T]) -> Seq<T>
-    ensures { Makes maker.old maker.new (result ≡ items.now) }
+    ensures made { Makes maker.old maker.new (result ≡ items.now) }
+    ensures lacks { MayMake maker.new items.now result }
 {
     let mut list = Vec::new(maker.alloc);
     if list.extend_from_slice(items).is_err() {
