@@ -12,6 +12,7 @@ pub mod ExpandedItems
 pub mod ExpandedTypes
 pub mod ExpandedUses
 pub mod Explicit
+pub mod Extending
 pub mod FoundMatches
 pub mod FoundTypes
 pub mod FreeNames
@@ -24,7 +25,14 @@ pub mod NumberedSites
 pub mod NumberedTypes
 pub mod OfExpanded
 pub mod OrderKept
+pub mod OtherNames
 pub mod OwnLocals
+pub mod Renamed
+pub mod RenamedDemands
+pub mod RenamedNumbers
+pub mod RenamedShapes
+pub mod RenamedTypes
+pub mod RenamedWrittenOut
 pub mod Resolving
 pub mod Rested
 pub mod Resting
@@ -37,7 +45,9 @@ pub mod StartsBehind
 pub mod StartsFinished
 pub mod StartsKept
 pub mod Still
+pub mod ToldNames
 pub mod Turned
+pub mod WorkedNames
 pub mod WrittenAlike
 pub mod WrittenItems
 pub mod WrittenLooks

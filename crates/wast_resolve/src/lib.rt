@@ -8,7 +8,7 @@ mod resolution;
 pub use early::early_fault;
 pub use laws::borne_law;
 pub use resolution::{Names, discard_names, resolve};
-pub use wast_alike::{early_law, label_law, resolved_laws, resting_laws};
+pub use wast_alike::{early_law, label_law, naming_laws, resolved_laws, resting_laws};
 pub use wast_namespace::{Namespace, resolve_error};
 pub use wast_passes::{
     Ns, ResolveCoreType, Resolver, core_type_laws, resolve_heaptype, resolve_reftype,
