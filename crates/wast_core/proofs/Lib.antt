@@ -22,3 +22,6 @@ pub mod Pointing
 pub mod Sizes
 pub mod Measuring
 pub mod WrittenBehind
+pub mod Swapped
+pub mod AtRest
+pub mod StartsComputed

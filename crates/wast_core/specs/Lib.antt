@@ -6,6 +6,7 @@ pub mod Headline
 pub mod Hints
 pub mod HintPlaces
 pub mod Laws
+pub mod AtRest
 pub mod Meaning
 pub mod Modules
 pub mod Utf8Names
@@ -16,6 +17,7 @@ pub mod WorkedCounts
 pub mod WorkedBlocks
 pub mod WorkedHints
 pub mod WorkedCustoms
+pub mod WorkedStarts
 pub mod Tree
 pub mod Wats
 pub mod Writing

@@ -7,6 +7,7 @@ ghost use Rattle.wast_core.specs.WorkedCounts.{CountedData, CountedNone, Uncount
 ghost use Rattle.wast_core.specs.WorkedHints.{Row11, Row54};
 ghost use Rattle.wast_core.specs.WorkedBlocks.{Row28, Row55, Row56};
 ghost use Rattle.wast_core.specs.WorkedCustoms.{OwnNames, Row29, Row51, Row52, Row53};
+ghost use Rattle.wast_core.specs.WorkedStarts as started;
 
 /// The modules of the rows 1 and 27 are bounded and read from their bytes; an implied type is written without a
 /// name, also beside a group; a written number stays; a name annotation stands before an id; an item without a name
@@ -71,4 +72,13 @@ pub(crate) fn worked_customs()
 pub(crate) fn worked_hints()
     ensures row11 { Row11 }
     ensures row54 { Row54 }
+{}
+
+/// A start field that is put last has its section behind the exports, and the resolved list with the number of its function
+/// means the same.
+#[tactic(auto, using(crate::proofs::StartsComputed::row9, crate::proofs::StartsComputed::row48))]
+pub(crate) fn worked_starts()
+    ensures row27 { started.Row27 }
+    ensures row9 { started.Row9 }
+    ensures row48 { started.Row48 }
 {}

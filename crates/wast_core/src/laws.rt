@@ -6,6 +6,7 @@ ghost use Rattle.wasm_out.specs.Reads.{Reads};
 ghost use Rattle.wast_core.specs.HintPlaces.{HintsPointAtInstructions};
 ghost use Rattle.wast_core.specs.Laws.{MeansWhatIsWritten, TooLargeIsUnbounded, CustomsStandOnce};
 
+pub use crate::rests::at_rest;
 use wasm_out::reading_laws;
 use wast_resolve::resolved_laws;
 

@@ -10,6 +10,7 @@ mod hints;
 mod items;
 pub mod laws;
 mod module;
+mod rests;
 mod sections;
 mod slots;
 mod spelled;
@@ -17,7 +18,7 @@ mod utf8_names;
 mod wat;
 
 pub use encode::EncodeOptions;
-pub use laws::{bounded_law, customs_law, hint_places, meaning_law, one_meaning};
+pub use laws::{at_rest, bounded_law, customs_law, hint_places, meaning_law, one_meaning};
 pub use module::{Module, ModuleKind, discard_module};
 pub use spelled::Encode;
 pub use wast_conv::{FuncSectionTy, RecOrType, SectionItem, conv};

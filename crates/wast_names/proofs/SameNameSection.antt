@@ -44,6 +44,15 @@ module _ (f : ModuleField → ModuleField) (keeps : KeepsNames f) where
   pub same_subsections : (name : Option (List ℕ)) (xs : List ModuleField) → name_subsections name (map f xs) ≡ name_subsections name xs
   same_subsections name xs = ap (λ g. module_name name ++ flat_map g name_maps) (fun_ext (same_map xs))
 
+-- Two lists whose items have the same names, and within which the same lists stand, have the same subsections.
+module _ (xs ys : List ModuleField) (items : (s : Space) → flat_map (names_given s) xs ≡ flat_map (names_given s) ys) (lists : (w : Within) → flat_map (lists_within (types_of xs) w) xs ≡ flat_map (lists_within (types_of ys) w) ys) where
+  map_alike : (m : NameMap) → map_names xs m ≡ map_names ys m
+  map_alike (map_of.Items s) = ap (λ names. direct (named_of s) (named_from 0 names)) (items s)
+  map_alike (map_of.Within w) = ap (λ lists. indirect (named_within w) (named_from 0 lists)) (lists w)
+
+  pub subsections_alike : (name : Option (List ℕ)) → name_subsections name xs ≡ name_subsections name ys
+  subsections_alike name = ap (λ g. module_name name ++ flat_map g name_maps) (fun_ext map_alike)
+
 -- how many parameters the type at an index has
 abbrev pub arity_in : ty.«Type» → Option ℕ
 arity_in t = arity t.def.kind
