@@ -7,7 +7,7 @@ ghost use Rattle.wast_core.specs.Modules.{IsReady};
 
 use std::alloc::Global;
 use std::io;
-use wast_core::{EncodeOptions, Module, discard_module};
+use wast_core::{EncodeOptions, Module, ModuleKind, discard_module};
 use wast_tree::Instruction::{
     Mem, Plain, end_, global_get, i32_const, local_get, local_tee, throw,
 };
@@ -118,7 +118,13 @@ fn made<'a>(
     alloc: Global,
     start: &'a str,
 ) -> Result<Option<(Index<'a>, Index<'a>, Vec<u8>)>, Error<'a>> {
-    let mut module = Module::new(fields(alloc, start)?).at(at(1));
+    let kind = ModuleKind::Text(fields(alloc, start)?);
+    let mut module = Module {
+        span: at(1),
+        id: None,
+        name: None,
+        kind,
+    };
     let mut gensym = Gensym::new(1);
     let is_ready = module.well_formed() && module.gensym_bound() < gensym.peek();
     let answer = match is_ready {

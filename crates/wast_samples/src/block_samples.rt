@@ -3,7 +3,8 @@
 ghost use Rattle.std.specs.Prelude.{◌≡◌};
 ghost use Rattle.wast_samples.specs.SampledForms.{plain_func};
 
-use crate::samples::{at, id, one, two};
+use crate::samples::{at, one, two};
+use crate::ways::Way;
 use std::alloc::Global;
 use wast_base::{BareOp, Id, Index, Plain, Seq};
 use wast_makers::{BlockKind, Maker};
@@ -62,10 +63,10 @@ fn abstract_ref<'a>(nullable: bool, ty: AbstractHeapType) -> RefType<'a> {
 }
 
 /// `(tag $e)` at the beginning of a module.
-fn tag_e<'a>(alloc: Global) -> ModuleField<'a> {
+fn tag_e<'a>(alloc: Global, way: Way) -> ModuleField<'a> {
     ModuleField::Tag(Tag {
         span: at(9),
-        id: Some(id("e", 13)),
+        id: Some(way.id("re", 13)),
         name: None,
         exports: InlineExport::none(alloc),
         ty: TagType::Exception(TypeUse::none()),
@@ -74,27 +75,39 @@ fn tag_e<'a>(alloc: Global) -> ModuleField<'a> {
 }
 
 /// `(module (tag $e) (func block $h try_table (catch $e $h) end end))`
-pub(crate) fn caught_exception<'a>(alloc: Global, maker: &mut Maker) -> Seq<ModuleField<'a>> {
+pub(crate) fn caught_exception<'a>(
+    alloc: Global,
+    maker: &mut Maker,
+    way: Way,
+) -> Seq<ModuleField<'a>> {
     let catch = TryTableCatch {
-        kind: TryTableCatchKind::Catch(Index::Id(id("e", 49))),
-        label: Index::Id(id("h", 52)),
+        kind: TryTableCatchKind::Catch(Index::Id(way.id("re", 49))),
+        label: Index::Id(way.id("rh", 52)),
     };
     let catches = maker.catches(&[catch]);
     let mut instrs = Seq::new(alloc);
-    open(maker, &mut instrs, id("h", 29));
+    open(maker, &mut instrs, way.id("rh", 29));
     maker.push_try_table(&mut instrs, labelled(None), catches);
     close(maker, &mut instrs);
     close(maker, &mut instrs);
     let func = func_of(alloc, 18, instrs);
-    two(alloc, maker, tag_e(alloc), func)
+    two(alloc, maker, tag_e(alloc, way), func)
 }
 
 /// `(module (func try $a try delegate $a end))`
-pub(crate) fn delegated_exception<'a>(alloc: Global, maker: &mut Maker) -> Seq<ModuleField<'a>> {
+pub(crate) fn delegated_exception<'a>(
+    alloc: Global,
+    maker: &mut Maker,
+    way: Way,
+) -> Seq<ModuleField<'a>> {
     let mut instrs = Seq::new(alloc);
-    maker.push_block(&mut instrs, BlockKind::Try, labelled(Some(id("a", 18))));
+    maker.push_block(
+        &mut instrs,
+        BlockKind::Try,
+        labelled(Some(way.id("ra", 18))),
+    );
     maker.push_block(&mut instrs, BlockKind::Try, labelled(None));
-    let outer = Index::Id(id("a", 34));
+    let outer = Index::Id(way.id("ra", 34));
     maker.push_instruction(&mut instrs, Instruction::delegate(outer));
     close(maker, &mut instrs);
     let func = func_of(alloc, 9, instrs);
@@ -102,29 +115,41 @@ pub(crate) fn delegated_exception<'a>(alloc: Global, maker: &mut Maker) -> Seq<M
 }
 
 /// `(module (func block $l end $m))`
-pub(crate) fn end_of_another_label<'a>(alloc: Global, maker: &mut Maker) -> Seq<ModuleField<'a>> {
+pub(crate) fn end_of_another_label<'a>(
+    alloc: Global,
+    maker: &mut Maker,
+    way: Way,
+) -> Seq<ModuleField<'a>> {
     let mut instrs = Seq::new(alloc);
-    open(maker, &mut instrs, id("l", 20));
-    maker.push_instruction(&mut instrs, Instruction::end_(Some(id("m", 27))));
+    open(maker, &mut instrs, way.id("rl", 20));
+    maker.push_instruction(&mut instrs, Instruction::end_(Some(way.id("rm", 27))));
     let func = func_of(alloc, 9, instrs);
     one(alloc, maker, func)
 }
 
 /// `(module (func end $m))`
-pub(crate) fn end_of_no_block<'a>(alloc: Global, maker: &mut Maker) -> Seq<ModuleField<'a>> {
+pub(crate) fn end_of_no_block<'a>(
+    alloc: Global,
+    maker: &mut Maker,
+    way: Way,
+) -> Seq<ModuleField<'a>> {
     let mut instrs = Seq::new(alloc);
-    maker.push_instruction(&mut instrs, Instruction::end_(Some(id("m", 18))));
+    maker.push_instruction(&mut instrs, Instruction::end_(Some(way.id("rm", 18))));
     let func = func_of(alloc, 9, instrs);
     one(alloc, maker, func)
 }
 
 /// `(module (func block $a block $b br $a br $b end end))`
-pub(crate) fn branches_out_of_two<'a>(alloc: Global, maker: &mut Maker) -> Seq<ModuleField<'a>> {
+pub(crate) fn branches_out_of_two<'a>(
+    alloc: Global,
+    maker: &mut Maker,
+    way: Way,
+) -> Seq<ModuleField<'a>> {
     let mut instrs = Seq::new(alloc);
-    open(maker, &mut instrs, id("a", 20));
-    open(maker, &mut instrs, id("b", 29));
-    branch(maker, &mut instrs, id("a", 35));
-    branch(maker, &mut instrs, id("b", 41));
+    open(maker, &mut instrs, way.id("ra", 20));
+    open(maker, &mut instrs, way.id("rb", 29));
+    branch(maker, &mut instrs, way.id("ra", 35));
+    branch(maker, &mut instrs, way.id("rb", 41));
     close(maker, &mut instrs);
     close(maker, &mut instrs);
     let func = func_of(alloc, 9, instrs);
@@ -151,24 +176,32 @@ pub(crate) fn block_of_two_results<'a>(alloc: Global, maker: &mut Maker) -> Seq<
 }
 
 /// `(module (func block $a block $a br $a end br $a end))`
-pub(crate) fn label_within_its_like<'a>(alloc: Global, maker: &mut Maker) -> Seq<ModuleField<'a>> {
+pub(crate) fn label_within_its_like<'a>(
+    alloc: Global,
+    maker: &mut Maker,
+    way: Way,
+) -> Seq<ModuleField<'a>> {
     let mut instrs = Seq::new(alloc);
-    open(maker, &mut instrs, id("a", 20));
-    open(maker, &mut instrs, id("a", 29));
-    branch(maker, &mut instrs, id("a", 35));
+    open(maker, &mut instrs, way.id("ra", 20));
+    open(maker, &mut instrs, way.id("ra", 29));
+    branch(maker, &mut instrs, way.id("ra", 35));
     close(maker, &mut instrs);
-    branch(maker, &mut instrs, id("a", 45));
+    branch(maker, &mut instrs, way.id("ra", 45));
     close(maker, &mut instrs);
     let func = func_of(alloc, 9, instrs);
     one(alloc, maker, func)
 }
 
 /// `(module (func end block $l br $l end))`
-pub(crate) fn block_behind_an_end<'a>(alloc: Global, maker: &mut Maker) -> Seq<ModuleField<'a>> {
+pub(crate) fn block_behind_an_end<'a>(
+    alloc: Global,
+    maker: &mut Maker,
+    way: Way,
+) -> Seq<ModuleField<'a>> {
     let mut instrs = Seq::new(alloc);
     close(maker, &mut instrs);
-    open(maker, &mut instrs, id("l", 24));
-    branch(maker, &mut instrs, id("l", 30));
+    open(maker, &mut instrs, way.id("rl", 24));
+    branch(maker, &mut instrs, way.id("rl", 30));
     close(maker, &mut instrs);
     let func = func_of(alloc, 9, instrs);
     one(alloc, maker, func)

@@ -7,7 +7,8 @@ ghost use Rattle.wast_nodes.specs.declared.customs.Custom.TheVariants as custom;
 ghost use Rattle.wast_nodes.specs.declared.fields.ModuleField.TheVariants as field;
 ghost use Rattle.wast_samples.specs.SampledForms.{HoldsAlone};
 
-use crate::samples::{at, func, id, one, two};
+use crate::samples::{at, func, one, two};
+use crate::ways::Way;
 use std::alloc::Global;
 use wast_base::Seq;
 use wast_makers::Maker;
@@ -38,8 +39,12 @@ fn piece<'a>(maker: &mut Maker, bytes: &'a [u8]) -> Seq<&'a [u8]> {
 }
 
 /// `(module (func $f) (@custom "name"))`
-pub(crate) fn custom_called_name<'a>(alloc: Global, maker: &mut Maker) -> Seq<ModuleField<'a>> {
-    let f = func(alloc, Some(id("f", 14)), 9, TypeUse::none());
+pub(crate) fn custom_called_name<'a>(
+    alloc: Global,
+    maker: &mut Maker,
+    way: Way,
+) -> Seq<ModuleField<'a>> {
+    let f = func(alloc, Some(way.id("rf", 14)), 9, TypeUse::none());
     let custom = raw(19, CustomPlace::AfterLast, "name", Seq::new(alloc));
     two(alloc, maker, f, custom)
 }

@@ -4,8 +4,9 @@ ghost use Rattle.std.specs.Prelude.{◌≡◌, None};
 ghost use Rattle.wast_nodes.specs.declared.imports.ImportItems.TheVariants as import_items;
 ghost use Rattle.wast_nodes.specs.declared.fields.ModuleField.TheVariants as field;
 
-use crate::samples::{at, func, id, one, three, two};
+use crate::samples::{at, func, one, three, two};
 use crate::type_samples::taking;
+use crate::ways::Way;
 use std::alloc::Global;
 use wast_base::{Id, Index, Seq};
 use wast_makers::Maker;
@@ -101,13 +102,14 @@ pub(crate) fn import_after_a_function<'a>(
 pub(crate) fn unknown_start_before_a_clash<'a>(
     alloc: Global,
     maker: &mut Maker,
+    way: Way,
 ) -> Seq<ModuleField<'a>> {
     three(
         alloc,
         maker,
-        ModuleField::Start(Index::Id(id("x", 15))),
-        func(alloc, Some(id("a", 25)), 20, TypeUse::none()),
-        func(alloc, Some(id("a", 35)), 30, TypeUse::none()),
+        ModuleField::Start(Index::Id(way.id("rx", 15))),
+        func(alloc, Some(way.id("ra", 25)), 20, TypeUse::none()),
+        func(alloc, Some(way.id("ra", 35)), 30, TypeUse::none()),
     )
 }
 
@@ -125,14 +127,18 @@ pub(crate) fn import_after_a_tag<'a>(alloc: Global, maker: &mut Maker) -> Seq<Mo
 }
 
 /// `(module (import "m" "f" (func $f (param i32))) (start $f))`
-pub(crate) fn started_import<'a>(alloc: Global, maker: &mut Maker) -> Seq<ModuleField<'a>> {
+pub(crate) fn started_import<'a>(
+    alloc: Global,
+    maker: &mut Maker,
+    way: Way,
+) -> Seq<ModuleField<'a>> {
     let ty = taking(alloc, maker, None, ValType::I32);
     let kind = ItemKind::Func(TypeUse::inline(ty));
     two(
         alloc,
         maker,
-        import(9, "m", "f", 25, Some(id("f", 30)), kind),
-        ModuleField::Start(Index::Id(id("f", 54))),
+        import(9, "m", "f", 25, Some(way.id("rf", 30)), kind),
+        ModuleField::Start(Index::Id(way.id("rf", 54))),
     )
 }
 
@@ -151,10 +157,10 @@ pub(crate) fn three_imports<'a>(alloc: Global, maker: &mut Maker) -> Seq<ModuleF
 }
 
 /// `(global $g (mut i64) (i64.const -1))`
-fn global_of_minus_one<'a>(alloc: Global, maker: &mut Maker) -> ModuleField<'a> {
+fn global_of_minus_one<'a>(alloc: Global, maker: &mut Maker, way: Way) -> ModuleField<'a> {
     let value = maker.one_instruction(Instruction::i64_const(-1));
     let ty = GlobalType::new(ValType::I64, true);
-    let id = Some(id("g", 27));
+    let id = Some(way.id("rg", 27));
     ModuleField::Global(wast_nodes::Global::new(alloc, at(20), id, ty, value))
 }
 
@@ -168,8 +174,12 @@ fn data_at_eight<'a>(alloc: Global, maker: &mut Maker) -> ModuleField<'a> {
 }
 
 /// `(module (memory 1) (global $g (mut i64) (i64.const -1)) (data "x") (data (i32.const 8) "yz"))`
-pub(crate) fn memory_with_data<'a>(alloc: Global, maker: &mut Maker) -> Seq<ModuleField<'a>> {
-    let global = global_of_minus_one(alloc, maker);
+pub(crate) fn memory_with_data<'a>(
+    alloc: Global,
+    maker: &mut Maker,
+    way: Way,
+) -> Seq<ModuleField<'a>> {
+    let global = global_of_minus_one(alloc, maker, way);
     let passive = data(alloc, maker, 57, DataKind::Passive, b"x");
     let active = data_at_eight(alloc, maker);
     let memory = memory(alloc, 9, MemoryType::new(Limits::new(1, None)));

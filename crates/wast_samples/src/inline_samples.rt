@@ -1,6 +1,7 @@
 //! The fields of the worked rows about exports, imports, elements and data in place.
 
-use crate::samples::{at, func, id, one, two};
+use crate::samples::{at, func, one, two};
+use crate::ways::Way;
 use std::alloc::Global;
 use wast_base::{Index, NameAnnotation, Seq};
 use wast_makers::Maker;
@@ -67,8 +68,12 @@ pub(crate) fn memory_with_bytes<'a>(alloc: Global, maker: &mut Maker) -> Seq<Mod
 }
 
 /// `(module (func $f) (table funcref (elem $f)))`
-pub(crate) fn table_of_a_function<'a>(alloc: Global, maker: &mut Maker) -> Seq<ModuleField<'a>> {
-    let elements = maker.indices(&[Index::Id(id("f", 39))]);
+pub(crate) fn table_of_a_function<'a>(
+    alloc: Global,
+    maker: &mut Maker,
+    way: Way,
+) -> Seq<ModuleField<'a>> {
+    let elements = maker.indices(&[Index::Id(way.id("rf", 39))]);
     let table = ModuleField::Table(Table {
         span: at(19),
         id: None,
@@ -81,7 +86,7 @@ pub(crate) fn table_of_a_function<'a>(alloc: Global, maker: &mut Maker) -> Seq<M
             payload: ElemPayload::Indices(elements),
         },
     });
-    let function = func(alloc, Some(id("f", 14)), 9, TypeUse::none());
+    let function = func(alloc, Some(way.id("rf", 14)), 9, TypeUse::none());
     two(alloc, maker, function, table)
 }
 

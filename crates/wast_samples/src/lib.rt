@@ -15,6 +15,7 @@ mod instr_samples;
 mod samples;
 mod struct_samples;
 mod type_samples;
+mod ways;
 
 pub use form_samples::form_fields;
-pub use samples::sample_fields;
+pub use samples::{sample_fields, twin_fields};

@@ -6,6 +6,7 @@ ghost use Rattle.wast_makers.specs.Makers.{Makes};
 ghost use Rattle.wast_nodes.specs.WorkedModules.{plain_def};
 ghost use Rattle.wast_samples.specs.RowNumbers.{well_formed_rows, ill_formed_rows, is_among, is_row};
 
+use crate::ways::Way;
 use crate::{
     block_samples, custom_samples, field_samples, hint_samples, ill_formed_samples, inline_samples,
     instr_samples, struct_samples, type_samples,
@@ -116,39 +117,39 @@ fn one_function<'a>(
 }
 
 /// `(module (type $t (func)) (func $f (type $t) call $f) (export "a" (func $f)))`
-fn exported_call<'a>(alloc: Global, maker: &mut Maker) -> Seq<ModuleField<'a>> {
+fn exported_call<'a>(alloc: Global, maker: &mut Maker, way: Way) -> Seq<ModuleField<'a>> {
     let mut instrs = Seq::new(alloc);
-    maker.push_instruction(&mut instrs, Instruction::call(Index::Id(id("f", 49))));
-    let ty = TypeUse::of(Index::Id(id("t", 40)));
-    let f = Some(id("f", 31));
+    maker.push_instruction(&mut instrs, Instruction::call(Index::Id(way.id("rf", 49))));
+    let ty = TypeUse::of(Index::Id(way.id("rt", 40)));
+    let f = Some(way.id("rf", 31));
     three(
         alloc,
         maker,
-        ModuleField::Ty(empty_type(alloc, Some(id("t", 14)), 9)),
+        ModuleField::Ty(empty_type(alloc, Some(way.id("rt", 14)), 9)),
         ModuleField::Func(Func::new(alloc, at(26), f, ty, Seq::new(alloc), instrs)),
-        export(id("f", 71), 54),
+        export(way.id("rf", 71), 54),
     )
 }
 
 /// `(module (type $t (func)) (export "a" (func $g)) (func $f (type $t)))`
-fn unknown_export<'a>(alloc: Global, maker: &mut Maker) -> Seq<ModuleField<'a>> {
-    let ty = TypeUse::of(Index::Id(id("t", 63)));
+fn unknown_export<'a>(alloc: Global, maker: &mut Maker, way: Way) -> Seq<ModuleField<'a>> {
+    let ty = TypeUse::of(Index::Id(way.id("rt", 63)));
     three(
         alloc,
         maker,
-        ModuleField::Ty(empty_type(alloc, Some(id("t", 14)), 9)),
-        export(id("g", 43), 26),
-        func(alloc, Some(id("f", 54)), 49, ty),
+        ModuleField::Ty(empty_type(alloc, Some(way.id("rt", 14)), 9)),
+        export(way.id("rg", 43), 26),
+        func(alloc, Some(way.id("rf", 54)), 49, ty),
     )
 }
 
 /// `(module (type $t (func)) (type $t (func)))`
-fn same_type_twice<'a>(alloc: Global, maker: &mut Maker) -> Seq<ModuleField<'a>> {
+fn same_type_twice<'a>(alloc: Global, maker: &mut Maker, way: Way) -> Seq<ModuleField<'a>> {
     two(
         alloc,
         maker,
-        ModuleField::Ty(empty_type(alloc, Some(id("t", 14)), 9)),
-        ModuleField::Ty(empty_type(alloc, Some(id("t", 31)), 26)),
+        ModuleField::Ty(empty_type(alloc, Some(way.id("rt", 14)), 9)),
+        ModuleField::Ty(empty_type(alloc, Some(way.id("rt", 31)), 26)),
     )
 }
 
@@ -185,13 +186,13 @@ fn open_type<'a>(alloc: Global, id: Option<Id<'a>>, offset: usize) -> ModuleFiel
 }
 
 /// `(module (type $a (sub (func))) (type (sub final $a (func))))`
-fn type_below_another<'a>(alloc: Global, maker: &mut Maker) -> Seq<ModuleField<'a>> {
-    let parents = maker.indices(&[Index::Id(id("a", 48))]);
+fn type_below_another<'a>(alloc: Global, maker: &mut Maker, way: Way) -> Seq<ModuleField<'a>> {
+    let parents = maker.indices(&[Index::Id(way.id("ra", 48))]);
     let below = Type::new(at(32), None, sub_type(alloc, parents, true));
     two(
         alloc,
         maker,
-        open_type(alloc, Some(id("a", 14)), 9),
+        open_type(alloc, Some(way.id("ra", 14)), 9),
         ModuleField::Ty(below),
     )
 }
@@ -207,48 +208,53 @@ fn function_of_an_open_type<'a>(alloc: Global, maker: &mut Maker) -> Seq<ModuleF
 }
 
 /// The fields of the module of a worked row that is well formed, where there is such a row.
-fn well_formed_row<'a>(alloc: Global, maker: &mut Maker, n: u32) -> Option<Seq<ModuleField<'a>>>
+fn well_formed_row<'a>(
+    alloc: Global,
+    maker: &mut Maker,
+    n: u32,
+    way: Way,
+) -> Option<Seq<ModuleField<'a>>>
     ensures { is_some result ≡ is_among well_formed_rows n }
 {
     match n {
         1 => Some(Seq::new(alloc)),
         2 => Some(one_function(alloc, maker, None, TypeUse::none())),
-        3 => Some(one_function(alloc, maker, Some(id("f", 14)), TypeUse::none())),
+        3 => Some(one_function(alloc, maker, Some(way.id("rf", 14)), TypeUse::none())),
         4 => Some(inline_samples::exported_function(alloc, maker)),
         5 => Some(inline_samples::memory_with_bytes(alloc, maker)),
-        6 => Some(inline_samples::table_of_a_function(alloc, maker)),
-        7 => Some(type_samples::type_written_later(alloc, maker)),
+        6 => Some(inline_samples::table_of_a_function(alloc, maker, way)),
+        7 => Some(type_samples::type_written_later(alloc, maker, way)),
         8 => Some(group_and_function(alloc, maker)),
-        9 => Some(block_samples::caught_exception(alloc, maker)),
-        10 => Some(block_samples::delegated_exception(alloc, maker)),
+        9 => Some(block_samples::caught_exception(alloc, maker, way)),
+        10 => Some(block_samples::delegated_exception(alloc, maker, way)),
         11 => Some(hint_samples::likely_branch(alloc, maker)),
         12 => Some(field_samples::import_after_a_function(alloc, maker)),
-        13 => Some(field_samples::unknown_start_before_a_clash(alloc, maker)),
-        14 => Some(type_samples::results_for_parameters(alloc, maker)),
-        15 => Some(block_samples::end_of_another_label(alloc, maker)),
-        16 => Some(struct_samples::field_of_an_empty_struct(alloc, maker)),
-        17 => Some(type_samples::local_named_as_a_parameter(alloc, maker)),
-        18 => Some(custom_samples::custom_called_name(alloc, maker)),
+        13 => Some(field_samples::unknown_start_before_a_clash(alloc, maker, way)),
+        14 => Some(type_samples::results_for_parameters(alloc, maker, way)),
+        15 => Some(block_samples::end_of_another_label(alloc, maker, way)),
+        16 => Some(struct_samples::field_of_an_empty_struct(alloc, maker, way)),
+        17 => Some(type_samples::local_named_as_a_parameter(alloc, maker, way)),
+        18 => Some(custom_samples::custom_called_name(alloc, maker, way)),
         19 => Some(instr_samples::wide_sum(alloc, maker)),
         21 => Some(field_samples::import_after_a_tag(alloc, maker)),
         22 => Some(type_samples::index_of_no_type(alloc, maker)),
         23 => Some(type_samples::function_of_a_struct(alloc, maker)),
         24 => Some(one_function(alloc, maker, None, TypeUse::of(Index::Num(5, at(20))))),
-        25 => Some(block_samples::end_of_no_block(alloc, maker)),
-        26 => Some(struct_samples::unknown_field(alloc, maker)),
-        27 => Some(exported_call(alloc, maker)),
-        28 => Some(block_samples::branches_out_of_two(alloc, maker)),
+        25 => Some(block_samples::end_of_no_block(alloc, maker, way)),
+        26 => Some(struct_samples::unknown_field(alloc, maker, way)),
+        27 => Some(exported_call(alloc, maker, way)),
+        28 => Some(block_samples::branches_out_of_two(alloc, maker, way)),
         29 => Some(custom_samples::custom_before_start(alloc, maker)),
-        30 => Some(field_samples::started_import(alloc, maker)),
-        31 => Some(unknown_export(alloc, maker)),
-        32 => Some(same_type_twice(alloc, maker)),
+        30 => Some(field_samples::started_import(alloc, maker, way)),
+        31 => Some(unknown_export(alloc, maker, way)),
+        32 => Some(same_type_twice(alloc, maker, way)),
         33 => Some(function_with_locals(alloc, maker)),
-        34 => Some(type_samples::struct_with_a_named_field(alloc, maker)),
-        35 => Some(type_samples::local_behind_a_parameter(alloc, maker)),
-        36 => Some(type_below_another(alloc, maker)),
+        34 => Some(type_samples::struct_with_a_named_field(alloc, maker, way)),
+        35 => Some(type_samples::local_behind_a_parameter(alloc, maker, way)),
+        36 => Some(type_below_another(alloc, maker, way)),
         37 => Some(function_of_an_open_type(alloc, maker)),
         38 => Some(field_samples::three_imports(alloc, maker)),
-        39 => Some(field_samples::memory_with_data(alloc, maker)),
+        39 => Some(field_samples::memory_with_data(alloc, maker, way)),
         40 => Some(field_samples::table_with_elements(alloc, maker)),
         41 => Some(field_samples::wide_shared_memory(alloc, maker)),
         42 => Some(inline_samples::imported_memory(alloc, maker)),
@@ -257,17 +263,17 @@ fn well_formed_row<'a>(alloc: Global, maker: &mut Maker, n: u32) -> Option<Seq<M
         45 => Some(instr_samples::memory_filled_by_a_segment(alloc, maker)),
         46 => Some(block_samples::block_of_two_results(alloc, maker)),
         47 => Some(instr_samples::load_of_another_memory(alloc, maker)),
-        48 => Some(struct_samples::field_of_a_null(alloc, maker)),
+        48 => Some(struct_samples::field_of_a_null(alloc, maker, way)),
         49 => Some(instr_samples::relaxed_swizzle(alloc, maker)),
         50 => Some(block_samples::cast_out_of_a_block(alloc, maker)),
         51 => Some(custom_samples::two_customs(alloc, maker)),
         52 => Some(custom_samples::one_producer(alloc, maker)),
         53 => Some(custom_samples::memory_info(alloc, maker)),
         54 => Some(hint_samples::unlikely_if(alloc, maker)),
-        55 => Some(block_samples::label_within_its_like(alloc, maker)),
-        56 => Some(block_samples::block_behind_an_end(alloc, maker)),
+        55 => Some(block_samples::label_within_its_like(alloc, maker, way)),
+        56 => Some(block_samples::block_behind_an_end(alloc, maker, way)),
         57 => Some(block_samples::global_of_a_block(alloc, maker)),
-        65 => Some(type_samples::name_and_number_of_a_type(alloc, maker)),
+        65 => Some(type_samples::name_and_number_of_a_type(alloc, maker, way)),
         _ => None,
     }
 }
@@ -289,12 +295,33 @@ fn ill_formed_row<'a>(alloc: Global, maker: &mut Maker, n: u32) -> Option<Seq<Mo
 }
 
 /// The fields of the module of a worked row, where there is such a row.
-fn fields_of_row<'a>(alloc: Global, maker: &mut Maker, n: u32) -> Option<Seq<ModuleField<'a>>>
+fn fields_of_row<'a>(
+    alloc: Global,
+    maker: &mut Maker,
+    n: u32,
+    way: Way,
+) -> Option<Seq<ModuleField<'a>>>
     ensures { is_some result ≡ is_row n }
 {
-    match well_formed_row(alloc, maker, n) {
+    match well_formed_row(alloc, maker, n, way) {
         Some(fields) => Some(fields),
         None => ill_formed_row(alloc, maker, n),
+    }
+}
+
+/// The fields of the module of a worked row, or out of memory, with its ids written in this way.
+fn made_fields<'a>(
+    alloc: Global,
+    n: u32,
+    way: Way,
+) -> Option<Result<Seq<ModuleField<'a>>, Error<'a>>>
+    ensures there { is_some result ≡ is_row n }
+    ensures refusal { IfSome result (λ made. IfErr made (λ e. e ≡ out_of_memory)) }
+{
+    let mut maker = Maker::new(alloc);
+    match fields_of_row(alloc, &mut maker, n, way) {
+        Some(fields) => Some(maker.finish(fields)),
+        None => None,
     }
 }
 
@@ -306,9 +333,16 @@ pub fn sample_fields<'a>(alloc: Global, n: u32) -> Option<Result<Seq<ModuleField
     ensures there { is_some result ≡ is_row n }
     ensures refusal { IfSome result (λ made. IfErr made (λ e. e ≡ out_of_memory)) }
 {
-    let mut maker = Maker::new(alloc);
-    match fields_of_row(alloc, &mut maker, n) {
-        Some(fields) => Some(maker.finish(fields)),
-        None => None,
-    }
+    made_fields(alloc, n, Way::Plain)
+}
+
+/// The fields of the twin of a worked row, or out of memory; `None` where there is no such row.
+///
+/// They are those of [`sample_fields`] with an `r` before the name of each id. Places, name annotations, and the texts of
+/// exports, imports and custom sections are the same.
+pub fn twin_fields<'a>(alloc: Global, n: u32) -> Option<Result<Seq<ModuleField<'a>>, Error<'a>>>
+    ensures there { is_some result ≡ is_row n }
+    ensures refusal { IfSome result (λ made. IfErr made (λ e. e ≡ out_of_memory)) }
+{
+    made_fields(alloc, n, Way::Twin)
 }

@@ -1,8 +1,9 @@
 //! The fields of the worked rows about fields of structs.
 
 use crate::block_samples::{func_of, plain};
-use crate::samples::{at, id, two};
+use crate::samples::{at, two};
 use crate::type_samples::struct_type;
+use crate::ways::Way;
 use std::alloc::Global;
 use wast_base::{BareOp, Id, Index, Seq};
 use wast_makers::Maker;
@@ -36,9 +37,15 @@ fn function_of_a_get<'a>(
     offset: usize,
     owner: usize,
     field: usize,
+    way: Way,
 ) -> ModuleField<'a> {
     let mut instrs = Seq::new(alloc);
-    get(maker, &mut instrs, Index::Num(0, at(owner)), id("x", field));
+    get(
+        maker,
+        &mut instrs,
+        Index::Num(0, at(owner)),
+        way.id("rx", field),
+    );
     func_of(alloc, offset, instrs)
 }
 
@@ -46,28 +53,42 @@ fn function_of_a_get<'a>(
 pub(crate) fn field_of_an_empty_struct<'a>(
     alloc: Global,
     maker: &mut Maker,
+    way: Way,
 ) -> Seq<ModuleField<'a>> {
     let empty = struct_type(alloc, None, 9, Seq::new(alloc));
-    let get = function_of_a_get(alloc, maker, 25, 41, 43);
+    let get = function_of_a_get(alloc, maker, 25, 41, 43, way);
     two(alloc, maker, empty, get)
 }
 
 /// `(module (type (struct (field $y i32))) (func struct.get 0 $x))`
-pub(crate) fn unknown_field<'a>(alloc: Global, maker: &mut Maker) -> Seq<ModuleField<'a>> {
-    let fields = maker.struct_fields(&[i32_field(id("y", 29))]);
+pub(crate) fn unknown_field<'a>(
+    alloc: Global,
+    maker: &mut Maker,
+    way: Way,
+) -> Seq<ModuleField<'a>> {
+    let fields = maker.struct_fields(&[i32_field(way.id("ry", 29))]);
     let written = struct_type(alloc, None, 9, fields);
-    let get = function_of_a_get(alloc, maker, 40, 56, 58);
+    let get = function_of_a_get(alloc, maker, 40, 56, 58, way);
     two(alloc, maker, written, get)
 }
 
 /// `(module (type $s (struct (field $y i32))) (func ref.null $s struct.get $s $y drop))`
-pub(crate) fn field_of_a_null<'a>(alloc: Global, maker: &mut Maker) -> Seq<ModuleField<'a>> {
-    let fields = maker.struct_fields(&[i32_field(id("y", 32))]);
-    let written = struct_type(alloc, Some(id("s", 14)), 9, fields);
-    let heap = HeapType::Concrete(Index::Id(id("s", 57)));
+pub(crate) fn field_of_a_null<'a>(
+    alloc: Global,
+    maker: &mut Maker,
+    way: Way,
+) -> Seq<ModuleField<'a>> {
+    let fields = maker.struct_fields(&[i32_field(way.id("ry", 32))]);
+    let written = struct_type(alloc, Some(way.id("rs", 14)), 9, fields);
+    let heap = HeapType::Concrete(Index::Id(way.id("rs", 57)));
     let mut instrs = Seq::new(alloc);
     maker.push_instruction(&mut instrs, Instruction::ref_null(heap));
-    get(maker, &mut instrs, Index::Id(id("s", 71)), id("y", 74));
+    get(
+        maker,
+        &mut instrs,
+        Index::Id(way.id("rs", 71)),
+        way.id("ry", 74),
+    );
     plain(maker, &mut instrs, BareOp::drop);
     let func = func_of(alloc, 43, instrs);
     two(alloc, maker, written, func)

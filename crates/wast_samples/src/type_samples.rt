@@ -1,6 +1,7 @@
 //! The fields of the worked rows about types and type uses.
 
-use crate::samples::{at, empty_type, func, id, one, three, two};
+use crate::samples::{at, empty_type, func, one, three, two};
+use crate::ways::Way;
 use std::alloc::Global;
 use wast_base::{BareOp, Id, Index, Plain, Seq};
 use wast_makers::Maker;
@@ -61,7 +62,11 @@ fn both<'a>(index: Index<'a>, inline: FunctionType<'a>) -> TypeUse<'a, FunctionT
 }
 
 /// `(module (func (result i32 i64) unreachable) (type $t (func (result i32 i64))))`
-pub(crate) fn type_written_later<'a>(alloc: Global, maker: &mut Maker) -> Seq<ModuleField<'a>> {
+pub(crate) fn type_written_later<'a>(
+    alloc: Global,
+    maker: &mut Maker,
+    way: Way,
+) -> Seq<ModuleField<'a>> {
     let types = [ValType::I32, ValType::I64];
     let mut instrs = Seq::new(alloc);
     let unreachable = Instruction::Plain(Plain::Bare(BareOp::unreachable));
@@ -69,19 +74,23 @@ pub(crate) fn type_written_later<'a>(alloc: Global, maker: &mut Maker) -> Seq<Mo
     let ty = TypeUse::inline(giving(alloc, maker, &types));
     let func = Func::new(alloc, at(9), None, ty, Seq::new(alloc), instrs);
     let results = giving(alloc, maker, &types);
-    let written = function_type(alloc, Some(id("t", 50)), 45, results);
+    let written = function_type(alloc, Some(way.id("rt", 50)), 45, results);
     two(alloc, maker, ModuleField::Func(func), written)
 }
 
 /// `(module (type $t (func (param i32))) (func (type $t) (result i32)))`
-pub(crate) fn results_for_parameters<'a>(alloc: Global, maker: &mut Maker) -> Seq<ModuleField<'a>> {
+pub(crate) fn results_for_parameters<'a>(
+    alloc: Global,
+    maker: &mut Maker,
+    way: Way,
+) -> Seq<ModuleField<'a>> {
     let written = taking(alloc, maker, None, ValType::I32);
     let inline = giving(alloc, maker, &[ValType::I32]);
     two(
         alloc,
         maker,
-        function_type(alloc, Some(id("t", 14)), 9, written),
-        func(alloc, None, 38, both(Index::Id(id("t", 49)), inline)),
+        function_type(alloc, Some(way.id("rt", 14)), 9, written),
+        func(alloc, None, 38, both(Index::Id(way.id("rt", 49)), inline)),
     )
 }
 
@@ -89,10 +98,11 @@ pub(crate) fn results_for_parameters<'a>(alloc: Global, maker: &mut Maker) -> Se
 pub(crate) fn local_named_as_a_parameter<'a>(
     alloc: Global,
     maker: &mut Maker,
+    way: Way,
 ) -> Seq<ModuleField<'a>> {
-    let ty = TypeUse::inline(taking(alloc, maker, Some(id("a", 21)), ValType::I32));
+    let ty = TypeUse::inline(taking(alloc, maker, Some(way.id("ra", 21)), ValType::I32));
     let locals = maker.locals(&[Local {
-        id: Some(id("a", 36)),
+        id: Some(way.id("ra", 36)),
         name: None,
         ty: ValType::I32,
     }]);
@@ -127,9 +137,10 @@ pub(crate) fn function_of_a_struct<'a>(alloc: Global, maker: &mut Maker) -> Seq<
 pub(crate) fn struct_with_a_named_field<'a>(
     alloc: Global,
     maker: &mut Maker,
+    way: Way,
 ) -> Seq<ModuleField<'a>> {
     let fields = maker.struct_fields(&[StructField {
-        id: Some(id("y", 32)),
+        id: Some(way.id("ry", 32)),
         name: None,
         mutable: true,
         ty: StorageType::Val(ValType::I32),
@@ -137,7 +148,7 @@ pub(crate) fn struct_with_a_named_field<'a>(
     one(
         alloc,
         maker,
-        struct_type(alloc, Some(id("s", 14)), 9, fields),
+        struct_type(alloc, Some(way.id("rs", 14)), 9, fields),
     )
 }
 
@@ -145,10 +156,11 @@ pub(crate) fn struct_with_a_named_field<'a>(
 pub(crate) fn local_behind_a_parameter<'a>(
     alloc: Global,
     maker: &mut Maker,
+    way: Way,
 ) -> Seq<ModuleField<'a>> {
-    let written = taking(alloc, maker, Some(id("p", 27)), ValType::I32);
+    let written = taking(alloc, maker, Some(way.id("rp", 27)), ValType::I32);
     let locals = maker.locals(&[Local {
-        id: Some(id("l", 59)),
+        id: Some(way.id("rl", 59)),
         name: None,
         ty: ValType::I64,
     }]);
@@ -174,13 +186,14 @@ fn reference(index: Index<'_>) -> ValType<'_> {
 pub(crate) fn name_and_number_of_a_type<'a>(
     alloc: Global,
     maker: &mut Maker,
+    way: Way,
 ) -> Seq<ModuleField<'a>> {
-    let by_id = taking(alloc, maker, None, reference(Index::Id(id("a", 49))));
+    let by_id = taking(alloc, maker, None, reference(Index::Id(way.id("ra", 49))));
     let by_number = taking(alloc, maker, None, reference(Index::Num(0, at(74))));
     three(
         alloc,
         maker,
-        ModuleField::Ty(empty_type(alloc, Some(id("a", 14)), 9)),
+        ModuleField::Ty(empty_type(alloc, Some(way.id("ra", 14)), 9)),
         function_type(alloc, None, 26, by_id),
         func(alloc, None, 57, TypeUse::inline(by_number)),
     )
