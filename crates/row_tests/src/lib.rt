@@ -41,4 +41,6 @@ mod runs;
 #[cfg(test)]
 mod streams;
 #[cfg(test)]
+mod twins;
+#[cfg(test)]
 mod uncovered;

@@ -12,4 +12,4 @@ mod samples;
 pub use errors::RunError;
 pub use forms::form_sample;
 pub use runs::run;
-pub use samples::sample;
+pub use samples::{sample, twin};

@@ -1,0 +1,91 @@
+//! The twin of each well formed row has the same answer, names aside; and encoding again changes no answer.
+
+ghost use Rattle.std.specs.Prelude.{◌≡◌, IsTrue};
+ghost use Rattle.wast_core.specs.Modules.{is_well_formed, generation_bound};
+
+use crate::made::{ready, row};
+use crate::refused::is_row;
+use std::alloc::Global;
+use std::process::Abort;
+use wast_core::{EncodeOptions, Module, discard_module};
+use wast_rows::twin;
+use wast_tree::{Error, Gensym};
+
+/// The twin of a row.
+fn twin_of<'a>(rt: &impl Abort, alloc: Global, n: u32) -> Module<'a>
+    ensures well_formed { IsTrue (is_well_formed result) }
+    ensures bound { generation_bound result ≡ 0 }
+{
+    let made = twin(alloc, n).expect(rt, "there is such a row");
+    ready(rt, made.expect(rt, "memory"))
+}
+
+/// What encoding the module answers, the second time too.
+fn encoded_twice<'a>(
+    rt: &impl Abort,
+    alloc: Global,
+    mut module: Module<'a>,
+) -> Result<Vec<u8>, Error<'a>>
+    requires well_formed { IsTrue (is_well_formed «module») }
+    requires bound { generation_bound «module» ≡ 0 }
+{
+    let mut gensym = Gensym::new(1);
+    let first = EncodeOptions::new().encode_module(alloc, &mut module, &mut gensym);
+    let second = EncodeOptions::new().encode_module(alloc, &mut module, &mut gensym);
+    discard_module(module);
+    match (&first, &second) {
+        (Ok(first), Ok(second)) => assert!(rt; first.as_slice() == second.as_slice()),
+        (Err(first), Err(second)) => assert!(rt; first == second),
+        _ => assert!(rt; false),
+    }
+    first
+}
+
+/// The bytes before the last section that is called `name`, and all of them where there is none. In rows such a section is
+/// shorter than 128 bytes.
+fn before_names(mut bytes: Vec<u8>) -> Vec<u8> {
+    let mut end = bytes.len();
+    for i in 0..bytes.len() {
+        if bytes.as_slice()[i..].starts_with(b"\x04name") {
+            end = i.saturating_sub(2);
+        }
+    }
+    bytes.truncate(end);
+    bytes
+}
+
+/// The twin of the row has the same fault, or the same bytes before the names.
+fn has_a_twin(rt: &impl Abort, alloc: Global, n: u32) {
+    let plain = encoded_twice(rt, alloc, row(rt, alloc, n));
+    let twin = encoded_twice(rt, alloc, twin_of(rt, alloc, n));
+    match (plain, twin) {
+        (Ok(plain), Ok(twin)) => {
+            let (plain, twin) = (before_names(plain), before_names(twin));
+            assert!(rt; plain.as_slice() == twin.as_slice(), "row {n}");
+        }
+        (Err(plain), Err(twin)) => {
+            assert!(rt; plain.number() == twin.number(), "row {n}");
+            assert!(rt; plain.span() == twin.span(), "row {n}");
+        }
+        _ => assert!(rt; false, "row {n}"),
+    }
+}
+
+#[test]
+fn twins_answer_alike(rt: HostRuntime) {
+    let alloc = rt.alloc();
+    for n in 1..66 {
+        if is_row(n) {
+            has_a_twin(&rt, alloc, n);
+        }
+    }
+}
+
+// Names are renamed: the name section of row 27 tells the longer ones.
+#[test]
+fn a_twin_has_longer_names(rt: HostRuntime) {
+    let alloc = rt.alloc();
+    let plain = encoded_twice(&rt, alloc, row(&rt, alloc, 27)).expect(&rt, "bytes");
+    let twin = encoded_twice(&rt, alloc, twin_of(&rt, alloc, 27)).expect(&rt, "bytes");
+    assert!(rt; plain.len() == 52 && twin.len() == 54);
+}
