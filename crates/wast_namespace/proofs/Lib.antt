@@ -1,6 +1,7 @@
 pub mod Basics
 pub mod Called
 pub mod FilledSpaces
+mod Firsts
 pub mod Gathered
 pub mod LeastTie
 pub mod Numbered

@@ -32,7 +32,7 @@ module _ {K : Type 0} {R : K → K → Ordering} (o : IsTotalOrder R) (exact : C
   pub pairs_total : IsTotalOrder (pair_cmp R)
   pairs_total = then_total (on_total (λ (e : K × ℕ). e.0) o) (on_total (λ (e : K × ℕ). e.1) nat_cmp_total)
 
-  abbrev Up : K × ℕ → K × ℕ → Type 0
+  abbrev pub Up : K × ℕ → K × ℕ → Type 0
   Up a b = (R a.0 b.0 ≡ Less) ⊎ ((a.0 ≡ b.0) × (a.1 < b.1))
 
   split_by : (a b : K × ℕ) (r : Ordering) → R b.0 a.0 ≡ r → is_lt (ordering_then r (nat_cmp b.1 a.1)) ≡ false → a.1 ≢ b.1 → Up a b
@@ -60,7 +60,7 @@ module _ {K : Type 0} {R : K → K → Ordering} (o : IsTotalOrder R) (exact : C
         not_same (get_or (map f es) i d.1) (get_or (map f es) j d.1) (apart_from_distinct eqb (map f es) i j d.1 ds lt (omega (arith, within, length-map es f)))
         (get_or-map f es i d d.1 (omega arith) ∙ e ∙ sym (get_or-map f es j d d.1 within))
 
-    rises : (i j : ℕ) (d : K × ℕ) → i < j → j < length es → Up (get_or es i d) (get_or es j d)
+    pub rises : (i j : ℕ) (d : K × ℕ) → i < j → j < length es → Up (get_or es i d) (get_or es j d)
     rises i j d lt within =
         split (get_or es i d) (get_or es j d) (sorted_far pair_lt (ranks_by pairs_total (λ (e : K × ℕ). e)) es sorted i j d (omega arith) within) (apart i j d lt within)
 

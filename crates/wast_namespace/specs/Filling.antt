@@ -1,7 +1,7 @@
 -- A name space that is filled with all items of a space at once, by the names that the items bear.
-use Rattle.std.specs.Prelude.{◌≡◌, ℕ, zero, suc, ◌-◌, ◌<◌, ◌≤◌, true, cond, nat_lt, List, [], ◌∷◌, length, map, take, Option, Some, None, option_map, slice_index_or, Result, Ok, Err}
+use Rattle.std.specs.Prelude.{◌≡◌, ℕ, zero, suc, ◌-◌, ◌<◌, ◌≤◌, true, cond, if◌then◌else◌, nat_lt, List, [], ◌∷◌, length, map, take, Option, Some, None, option_map, slice_index_or, Result, Ok, Err}
 use Rattle.std.specs.declared.cmp.Ordering.{Ordering}
-use Rattle.std.specs.Ordering.{nat_cmp, ordering_then, is_lt}
+use Rattle.std.specs.Ordering.{nat_cmp, ordering_then, is_lt, is_eq}
 use Rattle.std.specs.List.Sorted.{IsSortedBy}
 use Rattle.wast_base.specs.declared.ids.Id.{Id}
 use Rattle.wast_base.specs.Ids.{Name, name_of}
@@ -97,3 +97,17 @@ HasFirstClash names (Some p) = IsFirstClash names p
 abbrev pub IsTried : List (Option Name) → NameSpace → Option ℕ → Type 0
 IsTried names s None = IsFilled names s
 IsTried names s (Some p) = IsFirstClash names p
+
+-- pairs without those that have the key of the one before them
+abbrev pub others_behind : {K : Type 0} → (K → K → Ordering) → K × ℕ → List (K × ℕ) → List (K × ℕ)
+others_behind R last [] = []
+others_behind R last (e ∷ es) = if is_eq (R last.0 e.0) then others_behind R e es else (e ∷ others_behind R e es)
+
+-- the first pair of each key, where pairs of one key are neighbours
+abbrev pub first_of_each : {K : Type 0} → (K → K → Ordering) → List (K × ℕ) → List (K × ℕ)
+first_of_each R [] = []
+first_of_each R (e ∷ es) = e ∷ others_behind R e es
+
+-- each name denotes the first position that bears it, also where several do
+abbrev pub Denotes : List (Option Name) → NameSpace → Type 0
+Denotes names s = (q : Name) → number_in s q ≡ position_of q names

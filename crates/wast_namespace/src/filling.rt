@@ -4,7 +4,8 @@ ghost use Rattle.std.specs.Prelude.{◌≡◌, ◌+◌, ◌<◌, ◌≤◌, ◌^
 ghost use Rattle.wast_base.specs.Ids.{Name, marked};
 ghost use Rattle.wast_base.specs.Spaces.{name_if};
 ghost use Rattle.wast_namespace.specs.Places.{entries_of};
-ghost use Rattle.wast_namespace.specs.Filling.{ArePositions, names_from, IsFirstTie, HasFirstClash, FillsSpace, least_of};
+ghost use Rattle.wast_namespace.specs.Filling.{ArePositions, names_from, IsFirstTie, HasFirstClash, FillsSpace, Denotes, first_of_each, least_of};
+ghost use Rattle.wast_base.specs.Order.{key_cmp};
 
 use crate::namespace::Namespace;
 use crate::sorting::in_order;
@@ -85,6 +86,39 @@ impl<'a> Gathering<'a> {
         }
         Ok(Ok(Namespace::from_sorted(pairs, count)))
     }
+
+    /// The name space of the items, where a name denotes the first item that bears it.
+    ///
+    /// It takes memory where there are more than 20 ids, to sort them, and gives that back; and for the names.
+    pub fn known(self, alloc: Global) -> Result<Namespace<'a>, AllocError>
+        ensures names { IfOk result (Denotes self.entry) }
+        ensures count { IfOk result (λ s. s.count ≡ length self.entry) }
+    {
+        let Gathering { pairs, count } = self;
+        let pairs = in_order(alloc, pairs)?;
+        let firsts = first_of_each(alloc, &pairs)?;
+        Ok(Namespace::from_sorted(firsts, count))
+    }
+}
+
+/// The first pair of each name, where pairs of one name are neighbours.
+fn first_of_each<'a>(
+    alloc: Global,
+    pairs: &[(Id<'a>, u32)],
+) -> Result<Vec<(Id<'a>, u32)>, AllocError>
+    ensures { IfOk result (λ firsts. entries_of firsts.items ≡ first_of_each key_cmp (entries_of pairs.now)) }
+{
+    let mut firsts = Vec::with_capacity(alloc, pairs.len())?;
+    if pairs.is_empty() {
+        return Ok(firsts);
+    }
+    firsts.push(pairs[0])?;
+    'each: for t in 1..pairs.len() {
+        if !compare_names(&pairs[t - 1].0, &pairs[t].0).is_eq() {
+            firsts.push(pairs[t])?;
+        }
+    }
+    Ok(firsts)
 }
 
 /// The least number of a pair that has the name of the one before it.

@@ -22,6 +22,16 @@ fn each_call_gets_its_memory(rt: HostRuntime) {
     assert!(rt; space.pairs().len() == 3);
 }
 
+#[test]
+fn of_several_items_of_one_name_the_first_is_known(rt: HostRuntime) {
+    let (a, b) = (written("a"), written("b"));
+    let ids = [a, b, a, b, b];
+    let known = gathered(&rt, rt.alloc(), &ids).known(rt.alloc());
+    let space: Namespace<'_> = known.expect(&rt, "memory");
+    assert!(rt; space.find(&a) == Some(1) && space.find(&b) == Some(3));
+    assert!(rt; space.pairs().len() == 2);
+}
+
 /// A generated id.
 fn generated<'a>(rt: &impl Abort, generation: u64) -> Id<'a> {
     assert!(rt; generation > 0);
