@@ -13,8 +13,8 @@ use Rattle.wast_map.specs.Laws.{all_mapped}
 use Rattle.wast_types.specs.Signatures.{Signature}
 use Rattle.wast_types.specs.ImpliedTypes.{implied}
 use Rattle.wast_types.specs.TypeSpace.{index_for, type_ids, index_by_id, index_by_id_at}
-use Rattle.wast_types.specs.Expanders.{LookUp, index_of}
-use Rattle.wast_types.specs.Expanded.{start_of_text, lacks_id, with_type_id, unnamed_type, implied_types, typed, bindings, bound_field, expanded}
+use Rattle.wast_types.specs.Expanders.{LookUp}
+use Rattle.wast_types.specs.Expanded.{start_of_text, lacks_id, with_type_id, unnamed_type, implied_types, typed, found_for, bound_field, expanded}
 use Rattle.wast_types.specs.Completed.{completed}
 use Rattle.wast_types.specs.Positioned.{position_for, positioned}
 use Rattle.wast_types.proofs.AtItsIndex.{takes_the_type_at_its_index}
@@ -95,7 +95,7 @@ module _ (c d : Scope) (n : ℕ) (alike : (q : Name) (s : Space) → generation_
 
 module _ (n : ℕ) (fields : List ModuleField) (above : greatest_generation fields < n) (met : first_unmet (demands (completed fields)) ≡ None) where
   abbrev made : LookUp
-  made = index_of (bindings (typed n fields))
+  made = found_for fields n
 
   abbrev new : Scope
   new = scope (expanded n fields)

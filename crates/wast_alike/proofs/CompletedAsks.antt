@@ -7,16 +7,23 @@ use Rattle.std.proofs.Math.Bool.{and-true}
 use Rattle.std.proofs.lemmas.Bool.{lt-ltb}
 use Rattle.std.proofs.lemmas.List.Folds.{list_all-append, list_all-map}
 use Rattle.std.proofs.lemmas.Grind.{flat_map-append}
-use Rattle.wast_nodes.specs.Sites.{Ask, Covered, Where, Site, Used, if_there, in_index, in_id, in_val, in_param, in_signature, in_field, in_module, asking, asked_in, asked}
+use Rattle.wast_nodes.specs.Sites.{Ask, Wants, Covered, Where, Site, Used, if_there, in_index, in_id, in_heap, in_val, in_param, in_signature, in_field, in_module, asking, asked_in, asked}
 use Rattle.wast_nodes.specs.Generations.{generation_in, greatest_asked}
 use Rattle.wast_nodes.proofs.Asking.{asked_both, asked_asking}
 use Rattle.wast_types.specs.Signatures.{Signature, type_of_param, signature_of}
 use Rattle.wast_types.specs.NeedingUses.{inline_signature, needs_type, needed_if, needed_without, needed_at, needed_in}
+use Rattle.wast_base.specs.Ids.{name_of, place_of}
+use Rattle.wast_base.specs.Denoted.{numbered_by, numbered}
+use Rattle.wast_map.specs.Mapped.{mapped_heap}
+use Rattle.wast_types.specs.Numbers.{TypeNames, type_names, in_numbers, numbered_val}
 use Rattle.wast_types.specs.ImpliedTypes.{implied}
 use Rattle.wast_types.specs.Expanded.{nameless, unnamed_type}
 use Rattle.wast_types.specs.Completed.{completed}
 use Rattle.wast_deinline.proofs.Below.{each_below, greatest_below}
-use Rattle.wast_alike.specs.Tree.{Id, Index, NameAnnotation, ValType, FunctionType, ModuleField}
+use Rattle.wast_alike.specs.Tree.{Id, Index, Span, NameAnnotation, HeapType, ValType, FunctionType, ModuleField}
+use Rattle.wast_alike.specs.Tree.index
+use Rattle.wast_alike.specs.Tree.heap
+use Rattle.wast_alike.specs.Tree.value
 use Rattle.wast_alike.specs.Tree.space
 use Rattle.wast_alike.specs.Tree.form
 use Rattle.wast_alike.proofs.ImpliedSignatures.{both_so, all_pass, all_parts, values_pass, all_implied}
@@ -76,7 +83,7 @@ module _ (ok : Ask → Bool) where
       all_parts (values_pass value_passes) needed_at ss ∙ all_pass (λ s. pass (asked_in s)) (λ s. all_pass_in (needed_at s)) site_needs ss (sym (all_parts ok asked_in ss) ∙ h)
 
   -- and of what types without names ask, which are not shared
-  module _ (unshared : ok (Covered form.Shared true) ≡ true) where
+  module _ (unshared : ok (Covered form.Shared true) ≡ true) (numbers : (m : ℕ) (p : Span) → ok (Wants space.Ty (index.Num m p)) ≡ true) where
     unnamed_passes : (t : FunctionType) → pass (in_signature t ++ Covered form.Shared true ∷ []) ≡ (list_all param_passes t.params && list_all value_passes t.results)
     unnamed_passes t =
         list_all-append ok (in_signature t) (Covered form.Shared true ∷ []) ∙ (ap (λ b. pass (in_signature t) && (b && true)) unshared ∙ (and-true (pass (in_signature t)) ∙ signature_passes t))
@@ -91,12 +98,36 @@ module _ (ok : Ask → Bool) where
         ∙ (list_all-append ok one rest
         ∙ (ap (λ b. b && pass rest) (unnamed_passes t ∙ ap (λ b. b && list_all value_passes s.1) (list_all-map param_passes nameless s.0)) ∙ ap (λ b. values_pass value_passes s && b) (unnamed_pass ss)))
 
+    -- an index that becomes a number still passes
+    index_passes : (k : TypeNames) (i : Index) → ok (Wants space.Ty i) ≡ true → ok (Wants space.Ty (numbered k i)) ≡ true
+    index_passes k (index.Num m p) h = h
+    index_passes k (index.Id id) h = by (k (name_of id))
+      where
+        by : (o : Option ℕ) → ok (Wants space.Ty (numbered_by o id)) ≡ true
+        by None = h
+        by (Some m) = numbers m (place_of id)
+
+    heap_passes : (k : TypeNames) (t : HeapType) → pass (in_heap t) ≡ true → pass (in_heap (mapped_heap (in_numbers k) t)) ≡ true
+    heap_passes k (heap.Abstract shared t) h = h
+    heap_passes k (heap.Concrete i) h = both_so (ok (Wants space.Ty (numbered k i))) true (index_passes k i (first_so (ok (Wants space.Ty i)) true h)) refl
+    heap_passes k (heap.Exact i) h =
+        let rest = ok (Covered form.Descriptor false) && true in
+        both_so (ok (Wants space.Ty (numbered k i))) rest (index_passes k i (first_so (ok (Wants space.Ty i)) rest h)) (second_so (ok (Wants space.Ty i)) rest h)
+
+    numbered_passes : (k : TypeNames) (v : ValType) → value_passes v ≡ true → value_passes (numbered_val k v) ≡ true
+    numbered_passes k (value.Ref r) h = heap_passes k r.heap h
+    numbered_passes k value.I32 h = h
+    numbered_passes k value.I64 h = h
+    numbered_passes k value.F32 h = h
+    numbered_passes k value.F64 h = h
+    numbered_passes k value.V128 h = h
+
     pub completed_pass : (fields : List ModuleField) → pass (asked (in_module fields)) ≡ true → pass (asked (in_module (completed fields))) ≡ true
     completed_pass fields h =
         let new = map unnamed_type (implied fields) in
         ap pass (ap asked (flat_map-append in_field fields new) ∙ asked_both (in_module fields) (in_module new))
         ∙ (list_all-append ok (asked (in_module fields)) (asked (in_module new))
-        ∙ both_so (pass (asked (in_module fields))) (pass (asked (in_module new))) h (unnamed_pass (implied fields) ∙ all_implied value_passes fields (sites_need (in_module fields) h)))
+        ∙ both_so (pass (asked (in_module fields))) (pass (asked (in_module new))) h (unnamed_pass (implied fields) ∙ all_implied value_passes fields (numbered_passes (type_names fields)) (sites_need (in_module fields) h)))
 
 -- So no generation is new among them.
 module _ (n : ℕ) where
@@ -106,4 +137,4 @@ module _ (n : ℕ) where
   pub completed_below : (fields : List ModuleField) → greatest_asked (asked (in_module fields)) < n → greatest_asked (asked (in_module (completed fields))) < n
   completed_below fields lt =
       let some : 0 < n = omega (arith, lt) in
-      greatest_below n generation_in (asked (in_module (completed fields))) some (completed_pass is_below (lt-ltb 0 n some) fields (each_below n generation_in (asked (in_module fields)) lt))
+      greatest_below n generation_in (asked (in_module (completed fields))) some (completed_pass is_below (lt-ltb 0 n some) (λ m p. lt-ltb 0 n some) fields (each_below n generation_in (asked (in_module fields)) lt))

@@ -8,8 +8,8 @@ use Rattle.wast_nodes.specs.Known.{Known, known}
 use Rattle.wast_nodes.specs.Sites.{Ask, Wants, asked, in_module}
 use Rattle.wast_nodes.specs.Generations.{generation_in, greatest_item, greatest_asked, greatest_generation}
 use Rattle.wast_nodes.specs.WellFormed.{is_kept, are_kept, is_well_formed}
-use Rattle.wast_types.specs.Expanders.{LookUp, index_of}
-use Rattle.wast_types.specs.Expanded.{typed, bindings, expanded, ids_wanted}
+use Rattle.wast_types.specs.Expanders.{LookUp}
+use Rattle.wast_types.specs.Expanded.{typed, found_for, expanded, ids_wanted}
 use Rattle.wast_types.specs.Completed.{completed}
 use Rattle.wast_deinline.proofs.Below.{each_below}
 use Rattle.wast_alike.specs.Tree.{Index, Space, ModuleField}
@@ -35,7 +35,7 @@ module _ (n : ℕ) (fields : List ModuleField) where
   types = typed n fields
 
   abbrev find : LookUp
-  find = index_of (bindings types)
+  find = found_for fields n
 
   abbrev new : Known
   new = known (items (expanded n fields))
@@ -79,7 +79,7 @@ module _ (n : ℕ) (fields : List ModuleField) where
     pub same_uses : first_unmet (item_demands (items (expanded n fields))) ≡ None
         → first_unmet (site_demands new_scope (in_module (expanded n fields))) ≡ first_unmet (site_demands (scope (completed fields)) (in_module (completed fields)))
     same_uses free =
-        uses_met n fields free
+        uses_met n fields old_items_below free
         ∙ ap first_unmet
         (old_uses n (expanded n fields) (completed fields) (same_shapes n fields) (λ s q lt. expanded_position n fields old_items_below q s lt) (each_below n generation_in (asked (in_module (completed fields))) old_asks_below))
 
@@ -91,7 +91,7 @@ module _ (n : ℕ) (fields : List ModuleField) where
     still_kept : is_well_formed fields ≡ true → is_well_formed (expanded n fields) ≡ true
     still_kept h =
         let old = known (items fields) in
-        uses_kept ∙ (all_kept_alike n new old (λ s q lt. known_alike s q lt ∙ completed_borne q s fields) (asked (in_module (completed fields))) old_asks_below ∙ completed_pass (is_kept old) refl fields h)
+        uses_kept ∙ (all_kept_alike n new old (λ s q lt. known_alike s q lt ∙ completed_borne q s fields) (asked (in_module (completed fields))) old_asks_below ∙ completed_pass (is_kept old) refl (λ m p. refl) fields h)
 
     pub still_under : greatest_generation (expanded n fields) < n + ids_wanted fields
     still_under =

@@ -9,8 +9,9 @@ use Rattle.wast_map.specs.Mapped.{Change, KeepsMarks, mapped_site, mapped_func_k
 use Rattle.wast_map.proofs.Fields.{field_at}
 use Rattle.wast_map.proofs.Kept.{stands_at}
 use Rattle.wast_types.specs.Signatures.{empty_signature, same_signature}
-use Rattle.wast_types.specs.Expanders.{LookUp, index_of}
-use Rattle.wast_types.specs.Expanded.{with_type_id, typed, bindings, bound_index, binding, bound_field, expanded}
+use Rattle.wast_types.specs.Numbers.{TypeNames, type_names, numbered_signature}
+use Rattle.wast_types.specs.Expanders.{LookUp}
+use Rattle.wast_types.specs.Expanded.{with_type_id, found_for, bound_index, binding, bound_field, expanded}
 use Rattle.wast_types.specs.Completed.{completed}
 use Rattle.wast_types.proofs.Staying.{binding_keeps}
 use Rattle.wast_alike.specs.Tree.{ValType, Index, FunctionType, ModuleField}
@@ -34,18 +35,18 @@ pub still_open : (f : Change) → KeepsMarks f → (x : ModuleField) → open_co
 still_open f keeps x = ap open_counts (stands_at x (field_at x) f keeps) ∙ all_open f (in_field x)
 
 -- A type that has the empty signature has no parameters.
-no_params : (vs : List ValType) (rs : List ValType) → same_signature empty_signature (vs, rs) ≡ true → length vs ≡ 0
-no_params [] rs h = refl
-no_params (v ∷ vs) rs h = absurd (cc h)
+no_params : (k : TypeNames) (vs : List ValType) (rs : List ValType) → same_signature empty_signature (numbered_signature k (vs, rs)) ≡ true → length vs ≡ 0
+no_params k [] rs h = refl
+no_params k (v ∷ vs) rs h = absurd (cc h)
 
-none_unsaid : (c : Scope) (i : Index) → HasSignature c empty_signature i → unsaid_params c (Some i) None ≡ 0
-none_unsaid c i h =
+none_unsaid : (k : TypeNames) (c : Scope) (i : Index) → HasSignature k c empty_signature i → unsaid_params c (Some i) None ≡ 0
+none_unsaid k c i h =
     ap (λ j. params_of (type_at c.types (denoted (c.known.number space.Ty) j))) h.is
-    ∙ (ap (λ o. params_of (type_at c.types o)) h.denotes ∙ (ap params_of h.stands ∙ no_params h.found.0 h.found.1 h.same))
+    ∙ (ap (λ o. params_of (type_at c.types o)) h.denotes ∙ (ap params_of h.stands ∙ no_params k h.found.0 h.found.1 h.same))
 
 module _ (n : ℕ) (fields : List ModuleField) (free : first_unmet (item_demands (items (expanded n fields))) ≡ None) where
   abbrev find : LookUp
-  find = index_of (bindings (typed n fields))
+  find = found_for fields n
 
   abbrev new : Scope
   new = scope (expanded n fields)
@@ -57,7 +58,7 @@ module _ (n : ℕ) (fields : List ModuleField) (free : first_unmet (item_demands
     where
       by_found : (o : Option Index) → find empty_signature ≡ o → unsaid_params new o None ≡ 0
       by_found None e = refl
-      by_found (Some i) e = none_unsaid new i (what_is_found n fields free empty_signature i e)
+      by_found (Some i) e = none_unsaid (type_names fields) new i (what_is_found n fields free empty_signature i e)
 
   bound_body : (x : ModuleField) → body_counts_in new (bound_field find x) ≡ body_counts_in new x
   bound_body (field.Func f) =

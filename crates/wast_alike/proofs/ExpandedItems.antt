@@ -13,8 +13,8 @@ use Rattle.wast_map.proofs.Alone.{items_alone}
 use Rattle.wast_types.specs.Signatures.{Signature}
 use Rattle.wast_types.specs.ImpliedTypes.{implied}
 use Rattle.wast_base.specs.Filling.{one_if, given_if, filled, wanted}
-use Rattle.wast_types.specs.Expanders.{LookUp, index_of}
-use Rattle.wast_types.specs.Expanded.{lacks_id, with_type_id, start_of_text, unnamed_type, implied_types, typed, bindings, binding, bound_field, expanded, ids_wanted}
+use Rattle.wast_types.specs.Expanders.{LookUp}
+use Rattle.wast_types.specs.Expanded.{lacks_id, with_type_id, start_of_text, unnamed_type, implied_types, typed, found_for, binding, bound_field, expanded, ids_wanted}
 use Rattle.wast_types.specs.Completed.{completed}
 use Rattle.wast_types.proofs.Staying.{binding_keeps}
 use Rattle.wast_alike.specs.Tree.{Id, Span, Space, StructField, ModuleField}
@@ -96,7 +96,7 @@ pub bound_items : (find : LookUp) (xs : List ModuleField) → items (map (bound_
 bound_items find xs = items_alone (binding find) (λ o. refl) (binding_keeps find) xs
 
 pub new_items : (n : ℕ) (fields : List ModuleField) → items (expanded n fields) ≡ news n (changes fields)
-new_items n fields = bound_items (index_of (bindings (typed n fields))) (typed n fields) ∙ typed_items n fields
+new_items n fields = bound_items (found_for fields n) (typed n fields) ∙ typed_items n fields
 
 -- Implied types bear no ids.
 none_implied : (ss : List Signature) → greatest_item (olds (map implied_change ss)) ≡ 0

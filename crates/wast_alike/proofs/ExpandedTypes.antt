@@ -6,8 +6,8 @@ use Rattle.wast_map.proofs.Types.{type_at, rec_at}
 use Rattle.wast_types.specs.Signatures.{Signature}
 use Rattle.wast_types.specs.ImpliedTypes.{implied}
 use Rattle.wast_base.specs.Filling.{one_if, given_if, filled, wanted}
-use Rattle.wast_types.specs.Expanders.{LookUp, index_of}
-use Rattle.wast_types.specs.Expanded.{lacks_id, with_type_id, unnamed_type, implied_types, typed, bindings, bound_field, expanded}
+use Rattle.wast_types.specs.Expanders.{LookUp}
+use Rattle.wast_types.specs.Expanded.{lacks_id, with_type_id, unnamed_type, implied_types, typed, found_for, bound_field, expanded}
 use Rattle.wast_types.specs.Completed.{completed}
 use Rattle.wast_alike.specs.Tree.{Rec, ModuleField}
 use Rattle.wast_alike.specs.Tree.ty
@@ -33,10 +33,10 @@ module _ {A : Type 0} (f : ModuleField → List A) where
     each_implied n [] = refl
     each_implied n (s ∷ ss) = ap (λ ys. ys ++ flat_map f (implied_types (n + 1) ss)) (given n (unnamed_type s)) ∙ ap (λ ys. f (unnamed_type s) ++ ys) (each_implied (n + 1) ss)
 
-    pub all_stay : (n : ℕ) (fields : List ModuleField) → ((x : ModuleField) → f (bound_field (index_of (bindings (typed n fields))) x) ≡ f x) → flat_map f (expanded n fields) ≡ flat_map f (completed fields)
+    pub all_stay : (n : ℕ) (fields : List ModuleField) → ((x : ModuleField) → f (bound_field (found_for fields n) x) ≡ f x) → flat_map f (expanded n fields) ≡ flat_map f (completed fields)
     all_stay n fields bound =
         let m : ℕ = n + wanted lacks_id fields in
-        each_bound (index_of (bindings (typed n fields))) bound (typed n fields)
+        each_bound (found_for fields n) bound (typed n fields)
         ∙ (flat_map-append f (filled lacks_id with_type_id n fields) (implied_types m (implied fields))
         ∙ (ap (λ ys. ys ++ flat_map f (implied_types m (implied fields))) (each_filled n fields)
         ∙ (ap (λ ys. flat_map f fields ++ ys) (each_implied m (implied fields)) ∙ sym (flat_map-append f fields (map unnamed_type (implied fields))))))
@@ -55,4 +55,4 @@ pub bound_shapes : (find : LookUp) (xs : List ModuleField) → shapes (map (boun
 bound_shapes find xs = each_bound shapes_in find (bound_types find) xs
 
 pub same_shapes : (n : ℕ) (fields : List ModuleField) → shapes (expanded n fields) ≡ shapes (completed fields)
-same_shapes n fields = all_stay shapes_in given_types n fields (bound_types (index_of (bindings (typed n fields))))
+same_shapes n fields = all_stay shapes_in given_types n fields (bound_types (found_for fields n))

@@ -1,6 +1,6 @@
 -- Where no items clash, uses of an expanded list demand what they demand in the completed one: each index that is filled in is
 -- known, and an inline type matches it once its names are known.
-use Rattle.std.proofs.Common.{◌≡◌, ℕ, Bool, true, false, List, [], ◌∷◌, ◌++◌, map, append-nil, Option, Some, None, refl, sym, ap, ◌∙◌, subst}
+use Rattle.std.proofs.Common.{◌≡◌, ℕ, ◌<◌, Bool, true, false, List, [], ◌∷◌, ◌++◌, map, append-nil, Option, Some, None, refl, sym, ap, ◌∙◌, subst}
 use Rattle.std.specs.Prelude.{codes}
 use Rattle.std.specs.Option.{option_or}
 use Rattle.wast_base.specs.Ids.{mark_of}
@@ -11,10 +11,12 @@ use Rattle.wast_nodes.specs.Known.{Known, known}
 use Rattle.wast_nodes.specs.Sites.{Ask, Wants, Where, OfItem, OfCall, OfBlock, Locals, Site, Asked, Used, LocalAt, if_there, in_index, in_signature, in_module}
 use Rattle.wast_map.specs.Mapped.{mapped_locals, mapped_site}
 use Rattle.wast_map.proofs.Laws.{stands}
+use Rattle.wast_nodes.specs.Generations.{greatest_item}
 use Rattle.wast_types.specs.Signatures.{Signature, signature_of}
+use Rattle.wast_types.specs.Numbers.{type_names, numbered_signature}
 use Rattle.wast_types.specs.NeedingUses.{inline_signature, needs_type}
-use Rattle.wast_types.specs.Expanders.{LookUp, index_of}
-use Rattle.wast_types.specs.Expanded.{typed, bindings, bound_if, bound_index, bound_inline, binding, expanded}
+use Rattle.wast_types.specs.Expanders.{LookUp}
+use Rattle.wast_types.specs.Expanded.{typed, found_for, bound_if, bound_index, bound_inline, binding, expanded}
 use Rattle.wast_types.specs.Completed.{completed}
 use Rattle.wast_types.proofs.Staying.{binding_keeps}
 use Rattle.wast_alike.specs.Tree.{Index, Span, FunctionType, ModuleField}
@@ -23,6 +25,7 @@ use Rattle.wast_demands.specs.Scopes.{Scope, scope}
 use Rattle.wast_demands.specs.Demands.{Demand, first_unmet, unknown, ask_demand, ask_demands, item_demands, match_demands, match_if, site_demand, site_demands}
 use Rattle.wast_demands.proofs.Unmet.{first_unmet-or}
 use Rattle.wast_alike.proofs.ExpandedItems.{bound_items}
+use Rattle.wast_alike.proofs.ContinuedNames.{names_continue}
 use Rattle.wast_alike.proofs.FoundMatches.{what_is_found, it_matches}
 use Rattle.wast_alike.proofs.ExpandedAsks.{bound_ask, typed_asks}
 use Rattle.wast_alike.proofs.FoundTypes.{IsTypeOf, found}
@@ -33,7 +36,7 @@ module _ (n : ℕ) (fields : List ModuleField) where
   types = typed n fields
 
   abbrev find : LookUp
-  find = index_of (bindings types)
+  find = found_for fields n
 
   abbrev new : Known
   new = known (items (expanded n fields))
@@ -43,14 +46,14 @@ module _ (n : ℕ) (fields : List ModuleField) where
 
   -- What a signature is bound to is a known type.
   pub found_known : (s : Signature) (i : Index) → find s ≡ Some i → IsTypeOf (items (expanded n fields)) i
-  found_known s i e = subst (λ xs. IsTypeOf xs i) (sym (bound_items find types)) (found types s i e)
+  found_known s i e = subst (λ xs. IsTypeOf xs i) (sym (bound_items find types)) (found (type_names fields) types (numbered_signature (type_names fields) s) i e)
 
   found_met : (i : Index) → IsTypeOf (items (expanded n fields)) i → (asks : List Ask) → first_unmet (ask_demands new (Wants space.Ty i ∷ asks)) ≡ first_unmet (ask_demands new asks)
   found_met i h asks =
       ap (λ j. first_unmet (ask_demands new (Wants space.Ty j ∷ asks))) h.is
       ∙ ap (λ b. first_unmet (unknown (word_of space.Ty) (mark_of h.id) b ++ ask_demands new asks)) h.borne
 
-  module _ (free : first_unmet (item_demands (items (expanded n fields))) ≡ None) where
+  module _ (above : greatest_item (items fields) < n) (free : first_unmet (item_demands (items (expanded n fields))) ≡ None) where
     nothing_more : (o p : Option (Cause × Span)) → (o ≡ None → p ≡ None) → option_or o p ≡ option_or o None
     nothing_more None p h = h refl
     nothing_more (Some f) p h = refl
@@ -66,7 +69,7 @@ module _ (n : ℕ) (fields : List ModuleField) where
         let known : first_unmet (ask_demands new (Wants space.Ty i ∷ asked)) ≡ first_unmet (ask_demands new asked) = found_met i (found_known (signature_of t) i e) asked in
         first_unmet-or (ask_demands new (Wants space.Ty i ∷ asked)) matched
         ∙ (ap (λ o. option_or o (first_unmet matched)) known
-        ∙ (nothing_more (first_unmet (ask_demands new asked)) (first_unmet matched) (λ met. it_matches new_scope t i (what_is_found n fields free (signature_of t) i e) met)
+        ∙ (nothing_more (first_unmet (ask_demands new asked)) (first_unmet matched) (λ met. it_matches (type_names fields) new_scope (names_continue n fields above) t i (what_is_found n fields free (signature_of t) i e) met)
         ∙ sym (first_unmet-or (ask_demands new asked) [])))
 
     index_met : (w : Where) (i : Option Index) (inline : Option FunctionType) → first_unmet (use_demanded (bound_index find w i inline) inline) ≡ first_unmet (use_demanded i inline)

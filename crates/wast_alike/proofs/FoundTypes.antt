@@ -7,13 +7,14 @@ use Rattle.wast_nodes.specs.Items.{Item, fields_of, item, items_in, items}
 use Rattle.wast_nodes.specs.Known.{names_in}
 use Rattle.wast_nodes.specs.Generations.{greatest_item}
 use Rattle.wast_nodes.proofs.Bearing.{borne_among, borne_by_both}
-use Rattle.wast_types.specs.Signatures.{Signature, signature_of, same_signature}
+use Rattle.wast_types.specs.Signatures.{Signature, same_signature}
+use Rattle.wast_types.specs.Numbers.{TypeNames}
+use Rattle.wast_types.specs.EligibleTypes.{taken_by}
 use Rattle.wast_types.specs.Expanders.{index_of}
 use Rattle.wast_types.specs.Expanded.{binding_of, bindings}
-use Rattle.wast_alike.specs.Tree.{Id, Index, StructField, InnerTypeKind, ModuleField}
+use Rattle.wast_alike.specs.Tree.{Id, Index, StructField, ModuleField}
 use Rattle.wast_alike.specs.Tree.index
 use Rattle.wast_alike.specs.Tree.space
-use Rattle.wast_alike.specs.Tree.inner
 use Rattle.wast_alike.specs.Tree.field
 use Rattle.wast_base.proofs.Names.{same_name_itself}
 
@@ -48,16 +49,16 @@ here xs id fields i is = record {
   below = omega arith;
 }
 
-pub found : (xs : List ModuleField) (s : Signature) (i : Index) → index_of (bindings xs) s ≡ Some i → IsTypeOf (items xs) i
-found [] s i h = absurd (cc h)
-found (field.Ty t ∷ xs) s i h = by_kind t.def.kind t.id (found xs s i) h
+pub found : (k : TypeNames) (xs : List ModuleField) (s : Signature) (i : Index) → index_of (bindings k xs) s ≡ Some i → IsTypeOf (items xs) i
+found k [] s i h = absurd (cc h)
+found k (field.Ty t ∷ xs) s i h = by_taken (taken_by k t.def) t.id (fields_of t.def.kind) (found k xs s i) h
   where
-    by_test : (b : Bool) (id : Id) → (index_of (bindings xs) s ≡ Some i → IsTypeOf (items xs) i) → cond b (Some (index.Id id)) (index_of (bindings xs) s) ≡ Some i → IsTypeOf (item space.Ty (Some id) [] ∷ items xs) i
-    by_test true id f h = here (items xs) id [] i (cc h)
-    by_test false id f h = later (item space.Ty (Some id) []) (items xs) i (f h)
+    by_test : (b : Bool) (id : Id) (fs : List StructField) → (index_of (bindings k xs) s ≡ Some i → IsTypeOf (items xs) i) → cond b (Some (index.Id id)) (index_of (bindings k xs) s) ≡ Some i → IsTypeOf (item space.Ty (Some id) fs ∷ items xs) i
+    by_test true id fs f h = here (items xs) id fs i (cc h)
+    by_test false id fs f h = later (item space.Ty (Some id) fs) (items xs) i (f h)
 
-    by_kind : (k : InnerTypeKind) (id : Option Id) → (index_of (bindings xs) s ≡ Some i → IsTypeOf (items xs) i) → index_of (binding_of k id ++ bindings xs) s ≡ Some i → IsTypeOf (item space.Ty id (fields_of k) ∷ items xs) i
-    by_kind (inner.Func k) None f h = later (item space.Ty None []) (items xs) i (f h)
-    by_kind (inner.Func k) (Some id) f h = by_test (same_signature s (signature_of k)) id f h
-    by_kind k id f h = later (item space.Ty id (fields_of k)) (items xs) i (f h)
-found (x ∷ xs) s i h = later_all (items_in x) (items xs) i (found xs s i h)
+    by_taken : (o : Option Signature) (id : Option Id) (fs : List StructField) → (index_of (bindings k xs) s ≡ Some i → IsTypeOf (items xs) i) → index_of (binding_of o id ++ bindings k xs) s ≡ Some i → IsTypeOf (item space.Ty id fs ∷ items xs) i
+    by_taken None id fs f h = later (item space.Ty id fs) (items xs) i (f h)
+    by_taken (Some t) None fs f h = later (item space.Ty None fs) (items xs) i (f h)
+    by_taken (Some t) (Some id) fs f h = by_test (same_signature s t) id fs f h
+found k (x ∷ xs) s i h = later_all (items_in x) (items xs) i (found k xs s i h)

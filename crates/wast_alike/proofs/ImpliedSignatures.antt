@@ -1,11 +1,12 @@
 -- What passes of each value type of the signatures that uses need passes of those of the implied types.
-use Rattle.std.proofs.Common.{◌≡◌, Bool, true, false, cond, ◌||◌, ◌&&◌, List, [], ◌∷◌, refl, ap, ◌∙◌}
+use Rattle.std.proofs.Common.{◌≡◌, Bool, true, false, cond, ◌||◌, ◌&&◌, List, [], ◌∷◌, map, refl, ap, ◌∙◌}
 use Rattle.std.specs.Cmp.{first_so, second_so}
 use Rattle.std.specs.List.{flat_map, list_all}
-use Rattle.std.proofs.lemmas.List.Folds.{list_all-append}
+use Rattle.std.proofs.lemmas.List.Folds.{list_all-append, list_all-map}
 use Rattle.wast_types.specs.Signatures.{Signature, same_signature}
 use Rattle.wast_types.specs.NeedingUses.{needed}
-use Rattle.wast_types.specs.ImpliedTypes.{written_signatures, is_among, first_new, implied}
+use Rattle.wast_types.specs.Numbers.{TypeNames, type_names, numbered_val, numbered_signature}
+use Rattle.wast_types.specs.ImpliedTypes.{eligible_signatures, needed_numbers, is_among, first_new, implied}
 use Rattle.wast_alike.specs.Tree.{ValType, ModuleField}
 
 pub both_so : (a b : Bool) → a ≡ true → b ≡ true → (a && b) ≡ true
@@ -36,5 +37,16 @@ all_new p known (s ∷ ss) h =
 abbrev pub values_pass : (ValType → Bool) → Signature → Bool
 values_pass p s = list_all p s.0 && list_all p s.1
 
-pub all_implied : (p : ValType → Bool) (fields : List ModuleField) → list_all (values_pass p) (needed fields) ≡ true → list_all (values_pass p) (implied fields) ≡ true
-all_implied p fields h = all_new (values_pass p) (is_among (written_signatures fields)) (needed fields) h
+-- the same of signatures in numbers, where what passes does so as a number
+all_numbered : (p : ValType → Bool) (k : TypeNames) → ((v : ValType) → p v ≡ true → p (numbered_val k v) ≡ true) → (ss : List Signature) → list_all (values_pass p) ss ≡ true → list_all (values_pass p) (map (numbered_signature k) ss) ≡ true
+all_numbered p k one ss h = list_all-map (values_pass p) (numbered_signature k) ss ∙ all_pass (values_pass p) (λ s. values_pass p (numbered_signature k s)) each ss h
+  where
+    each : (s : Signature) → values_pass p s ≡ true → values_pass p (numbered_signature k s) ≡ true
+    each s h =
+        both_so (list_all p (map (numbered_val k) s.0)) (list_all p (map (numbered_val k) s.1))
+        (list_all-map p (numbered_val k) s.0 ∙ all_pass p (λ v. p (numbered_val k v)) one s.0 (first_so (list_all p s.0) (list_all p s.1) h))
+        (list_all-map p (numbered_val k) s.1 ∙ all_pass p (λ v. p (numbered_val k v)) one s.1 (second_so (list_all p s.0) (list_all p s.1) h))
+
+pub all_implied : (p : ValType → Bool) (fields : List ModuleField) → ((v : ValType) → p v ≡ true → p (numbered_val (type_names fields) v) ≡ true)
+    → list_all (values_pass p) (needed fields) ≡ true → list_all (values_pass p) (implied fields) ≡ true
+all_implied p fields one h = all_new (values_pass p) (is_among (eligible_signatures fields)) (needed_numbers fields) (all_numbered p (type_names fields) one (needed fields) h)

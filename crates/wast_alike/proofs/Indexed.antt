@@ -14,8 +14,7 @@ use Rattle.wast_map.specs.Mapped.{mapped_val, mapped_param, mapped_signature, ma
 use Rattle.wast_map.proofs.Laws.{stands}
 use Rattle.wast_types.specs.Signatures.{Signature, signature_of}
 use Rattle.wast_types.specs.NeedingUses.{needed_if, needed_without, needed_by_use, needed_at, needed_in, needed}
-use Rattle.wast_types.specs.Expanders.{index_of}
-use Rattle.wast_types.specs.Expanded.{typed, bindings, expanded}
+use Rattle.wast_types.specs.Expanded.{typed, found_for, expanded}
 use Rattle.wast_types.proofs.Staying.{left_none, right_none, says, fields_say}
 use Rattle.wast_types.proofs.HavingTypes.{uses_are_bound}
 use Rattle.wast_alike.specs.Tree.{Index, FunctionType, ModuleField}
@@ -33,7 +32,7 @@ none_needed true s h = refl
 none_needed false s h = absurd cc
 
 pub expanded_says : (n : ℕ) (fields : List ModuleField) → list_all says (in_module (expanded n fields)) ≡ true
-expanded_says n fields = fields_say (index_of (bindings (typed n fields))) (typed n fields)
+expanded_says n fields = fields_say (found_for fields n) (typed n fields)
 
 module _ (c : Scope) where
   short_still : (t : FunctionType) → is_short (mapped_signature (numbered_at c.known) t) ≡ is_short t

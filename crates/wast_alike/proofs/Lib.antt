@@ -5,6 +5,7 @@ pub mod ByPosition
 pub mod Changes
 pub mod CompletedAsks
 pub mod Composed
+pub mod ContinuedNames
 pub mod EarlyDemands
 pub mod ExpandedAsks
 pub mod ExpandedBodies

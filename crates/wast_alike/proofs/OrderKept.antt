@@ -5,9 +5,9 @@ use Rattle.wast_map.specs.Mapped.{mapped_func_kind, mapped_table_kind, mapped_gl
 use Rattle.wast_map.proofs.Alone.{defines_alone}
 use Rattle.wast_types.specs.Signatures.{Signature}
 use Rattle.wast_types.specs.ImpliedTypes.{implied}
-use Rattle.wast_types.specs.Expanders.{LookUp, index_of}
+use Rattle.wast_types.specs.Expanders.{LookUp}
 use Rattle.wast_base.specs.Filling.{given_if, one_if, filled, wanted}
-use Rattle.wast_types.specs.Expanded.{lacks_id, with_type_id, unnamed_type, implied_types, typed, bindings, binding, bound_field, expanded}
+use Rattle.wast_types.specs.Expanded.{lacks_id, with_type_id, unnamed_type, implied_types, typed, found_for, binding, bound_field, expanded}
 use Rattle.wast_types.specs.Completed.{completed}
 use Rattle.wast_alike.specs.Tree.{Space, Span, FuncKind, TableKind, GlobalKind, FunctionType, TypeUse, ModuleField}
 use Rattle.wast_alike.specs.Tree.func
@@ -86,6 +86,6 @@ pub expanded_orders : (n : ℕ) (fields : List ModuleField) → order_demands (e
 expanded_orders n fields =
     let m : ℕ = n + wanted lacks_id fields in
     orders_are (expanded n fields)
-    ∙ (bound_orders (index_of (bindings (typed n fields))) None (typed n fields)
+    ∙ (bound_orders (found_for fields n) None (typed n fields)
     ∙ (behind (implied_types m (implied fields)) (λ o. none_implied m o (implied fields)) None (filled lacks_id with_type_id n fields)
     ∙ (filled_orders n None fields ∙ (sym (orders_are fields) ∙ sym (completed_orders fields)))))

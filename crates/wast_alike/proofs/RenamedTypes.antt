@@ -1,31 +1,35 @@
 -- With other names uses imply the same types, at the same positions.
-use Rattle.std.specs.Prelude.{if◌then◌else◌, nat_lt, ◌==◌}
+use Rattle.std.specs.Prelude.{if◌then◌else◌, is_none, nat_lt, ◌==◌}
 use Rattle.std.specs.List.{position, position_or_len, flat_map}
 use Rattle.std.proofs.Common.{◌≡◌, ℕ, ◌+◌, Bool, true, false, not, cond, ◌||◌, ◌&&◌, length, List, [], ◌∷◌, ◌++◌, map, Option, Some, None, option_map, refl, sym, ap, ◌∙◌}
 use Rattle.std.proofs.lemmas.List.{length-map, map-append}
-use Rattle.wast_base.specs.Ids.{same_index}
-use Rattle.wast_nodes.specs.Sites.{Ask, Wants, Within, Unasked, Clause, Covered, Where, OfItem, OfCall, OfBlock, Site, Asked, Used, Declared, LocalAt, FieldAt, LabelAt, Repeated, Begins, Ends, in_module}
+use Rattle.wast_base.specs.Ids.{Name, same_index}
+use Rattle.wast_nodes.specs.Sites.{if_there, Ask, Wants, Within, Unasked, Clause, Covered, Where, OfItem, OfCall, OfBlock, Site, Asked, Used, Declared, LocalAt, FieldAt, LabelAt, Repeated, Begins, Ends, in_module}
 use Rattle.wast_nodes.specs.Types.{is_short}
-use Rattle.wast_map.specs.Mapped.{Ids, Change, JoinsAsk, Joins, named_param, named_inner, mapped_val, mapped_type, mapped}
+use Rattle.wast_map.specs.Mapped.{Ids, Change, JoinsAsk, Joins, named_param, named_inner, named_def, mapped_val, mapped_type, mapped}
 use Rattle.wast_map.specs.Named.{NamedJoins, named_site}
 use Rattle.wast_map.proofs.Laws.{stands_named, joins_named, joins, each_so}
 use Rattle.wast_types.specs.Signatures.{Signature, same_signature}
 use Rattle.wast_types.specs.NeedingUses.{inline_signature, needs_type, needed_if, needed_without, needed_at, needed_in, needed}
-use Rattle.wast_types.specs.ImpliedTypes.{written_kind, written_in, written_signatures, is_among, first_new, implied}
-use Rattle.wast_types.specs.TypeSpace.{taken_kind, types_in, type_space, has_signature, index_for}
+use Rattle.wast_types.specs.EligibleTypes.{is_final, has_no, is_eligible, kind_signature, taken_by}
+use Rattle.wast_types.specs.ImpliedTypes.{eligible_in, eligible_signatures, needed_numbers, is_among, first_new, implied}
+use Rattle.wast_types.specs.Numbers.{TypeNames, type_names, in_numbers, numbered_signature}
+use Rattle.wast_types.specs.TypeSpace.{types_in, type_space, has_signature, index_for}
 use Rattle.wast_types.specs.Expanders.{LookUp}
 use Rattle.wast_types.specs.Expanded.{nameless, unnamed_type, start_of_text, bound_if, bound_index, bound_inline, bound_use, binding, bound_field}
 use Rattle.wast_types.specs.Completed.{completed}
 use Rattle.wast_types.specs.Positioned.{position_for, positioned}
 use Rattle.wast_types.proofs.Staying.{binding_keeps}
-use Rattle.wast_alike.specs.Tree.{Id, Index, NameAnnotation, ValType, FunctionType, InnerTypeKind, ModuleField}
+use Rattle.wast_alike.specs.Tree.{Id, Index, NameAnnotation, ValType, FunctionType, InnerTypeKind, TypeDef, ModuleField}
 use Rattle.wast_alike.specs.Tree.index
+use Rattle.wast_alike.specs.Tree.space
 use Rattle.wast_alike.specs.Tree.inner
 use Rattle.wast_alike.specs.Tree.ty
 use Rattle.wast_alike.specs.Tree.field
 use Rattle.wast_alike.specs.Renaming.{Renaming, IsRenaming, renamed_index, renamed_type, renamed_use, renaming, renamed_fields}
 use Rattle.wast_alike.proofs.OtherNames.{signatures_same, signature_changed, names, index_same}
-use Rattle.wast_alike.proofs.RenamedShapes.{renamed_signature}
+use Rattle.wast_alike.proofs.RenamedNumbers.{number_same, values_same}
+use Rattle.wast_alike.proofs.RenamedShapes.{renamed_signature, numbers_are}
 
 -- a position in a list whose items are changed, where they pass the changed test as they passed the other
 place_like : {A B : Type 0} (p : A → Bool) (q : B → Bool) (f : A → B) → ((x : A) → q (f x) ≡ p x) → (xs : List A) → position_or_len q (map f xs) ≡ position_or_len p xs
@@ -87,20 +91,67 @@ module _ (r : Renaming) (is : IsRenaming r) where
   all_needed : (xs : List ModuleField) → needed (renamed_fields r xs) ≡ map told (needed xs)
   all_needed xs = ap needed_in (stands_named r.name (renaming r) (names r is) xs) ∙ sites_told (in_module xs)
 
-  -- What is written.
-  kind_told : (k : InnerTypeKind) → written_kind (named_inner given (λ t. renamed_index r) k) ≡ map told (written_kind k)
-  kind_told (inner.Func t) = ap (λ s. s ∷ []) (signature_changed given (λ t. renamed_index r) t)
-  kind_told (inner.Struct t) = refl
-  kind_told (inner.Array t) = refl
-  kind_told (inner.Cont t) = refl
+  -- In the numbers of the written types.
+  numbers_same : (xs : List ModuleField) (q : Name) → type_names (renamed_fields r xs) (r.name q) ≡ type_names xs q
+  numbers_same xs q = numbers_are r is xs space.Ty q
 
-  written_told : (x : ModuleField) → written_in (mapped (renaming r) x) ≡ map told (written_in x)
-  written_told (field.Ty t) = kind_told t.def.kind
-  written_told x = refl
+  module _ (k l : TypeNames) (numbers : (q : Name) → l (r.name q) ≡ k q) where
+    numbered_told : (s : Signature) → numbered_signature l (told s) ≡ told (numbered_signature k s)
+    numbered_told s = λ i. (values_same r is (in_numbers k) (in_numbers l) (λ t. number_same r is k l numbers) s.0 i, values_same r is (in_numbers k) (in_numbers l) (λ t. number_same r is k l numbers) s.1 i)
 
-  all_written : (xs : List ModuleField) → written_signatures (renamed_fields r xs) ≡ map told (written_signatures xs)
-  all_written [] = refl
-  all_written (x ∷ xs) = (λ i. written_told x i ++ all_written xs i) ∙ sym (map-append told (written_in x) (written_signatures xs))
+    each_numbered : (ss : List Signature) → map (numbered_signature l) (map told ss) ≡ map told (map (numbered_signature k) ss)
+    each_numbered [] = refl
+    each_numbered (s ∷ ss) = λ i. numbered_told s i ∷ each_numbered ss i
+
+    none_told : (is : List Index) → has_no (map (renamed_index r) is) ≡ has_no is
+    none_told [] = refl
+    none_told (i ∷ is) = refl
+
+    is_none_told : (o : Option Index) → is_none (option_map (renamed_index r) o) ≡ is_none o
+    is_none_told None = refl
+    is_none_told (Some i) = refl
+
+    eligible_told : (d : TypeDef) → is_eligible (named_def given (λ t. renamed_index r) d) ≡ is_eligible d
+    eligible_told d = λ i. is_final d.final_type && (not d.shared && (none_told d.parents i && (is_none_told d.descriptor i && is_none_told d.describes i)))
+
+    kind_told : (t : InnerTypeKind) → kind_signature (named_inner given (λ t. renamed_index r) t) ≡ option_map told (kind_signature t)
+    kind_told (inner.Func t) = ap Some (signature_changed given (λ t. renamed_index r) t)
+    kind_told (inner.Struct t) = refl
+    kind_told (inner.Array t) = refl
+    kind_told (inner.Cont t) = refl
+
+    some_told : (o : Option Signature) → option_map (numbered_signature l) (option_map told o) ≡ option_map told (option_map (numbered_signature k) o)
+    some_told None = refl
+    some_told (Some s) = ap Some (numbered_told s)
+
+    if_taken : (b : Bool) (o : Option Signature) → (if b then option_map told o else None) ≡ option_map told (if b then o else None)
+    if_taken true o = refl
+    if_taken false o = refl
+
+    taken_told : (d : TypeDef) → taken_by l (named_def given (λ t. renamed_index r) d) ≡ option_map told (taken_by k d)
+    taken_told d =
+        (λ i. if eligible_told d i then (ap (option_map (numbered_signature l)) (kind_told d.kind) ∙ some_told (kind_signature d.kind)) i else None)
+        ∙ if_taken (is_eligible d) (option_map (numbered_signature k) (kind_signature d.kind))
+
+    list_told : (o : Option Signature) → if_there (λ (s : Signature). s ∷ []) (option_map told o) ≡ map told (if_there (λ (s : Signature). s ∷ []) o)
+    list_told None = refl
+    list_told (Some s) = refl
+
+    eligible_in_told : (x : ModuleField) → eligible_in l (mapped (renaming r) x) ≡ map told (eligible_in k x)
+    eligible_in_told (field.Ty t) = ap (if_there (λ (s : Signature). s ∷ [])) (taken_told t.def) ∙ list_told (taken_by k t.def)
+    eligible_in_told x = refl
+
+    all_eligible : (xs : List ModuleField) → flat_map (eligible_in l) (renamed_fields r xs) ≡ map told (flat_map (eligible_in k) xs)
+    all_eligible [] = refl
+    all_eligible (x ∷ xs) = (λ i. eligible_in_told x i ++ all_eligible xs i) ∙ sym (map-append told (eligible_in k x) (flat_map (eligible_in k) xs))
+
+  eligible_signatures_told : (xs : List ModuleField) → eligible_signatures (renamed_fields r xs) ≡ map told (eligible_signatures xs)
+  eligible_signatures_told xs = all_eligible (type_names xs) (type_names (renamed_fields r xs)) (numbers_same xs) xs
+
+  needed_numbers_told : (xs : List ModuleField) → needed_numbers (renamed_fields r xs) ≡ map told (needed_numbers xs)
+  needed_numbers_told xs =
+      ap (map (numbered_signature (type_names (renamed_fields r xs)))) (all_needed xs)
+      ∙ each_numbered (type_names xs) (type_names (renamed_fields r xs)) (numbers_same xs) (needed xs)
 
   among_told : (ts : List Signature) (s : Signature) → is_among (map told ts) (told s) ≡ is_among ts s
   among_told [] s = refl
@@ -118,8 +169,8 @@ module _ (r : Renaming) (is : IsRenaming r) where
 
   pub all_implied : (xs : List ModuleField) → implied (renamed_fields r xs) ≡ map told (implied xs)
   all_implied xs =
-      (λ i. first_new (is_among (all_written xs i)) (all_needed xs i))
-      ∙ new_told (is_among (written_signatures xs)) (is_among (map told (written_signatures xs))) (among_told (written_signatures xs)) (needed xs)
+      (λ i. first_new (is_among (eligible_signatures_told xs i)) (needed_numbers_told xs i))
+      ∙ new_told (is_among (eligible_signatures xs)) (is_among (map told (eligible_signatures xs))) (among_told (eligible_signatures xs)) (needed_numbers xs)
 
   -- The implied types.
   params_told : (vs : List ValType) → map nameless (map (mapped_val (λ t. renamed_index r)) vs) ≡ map (named_param given (λ t. renamed_index r)) (map nameless vs)
@@ -139,12 +190,6 @@ module _ (r : Renaming) (is : IsRenaming r) where
   same_completed xs = (λ i. renamed_fields r xs ++ (ap (map unnamed_type) (all_implied xs) ∙ types_told (implied xs)) i) ∙ sym (map-append (mapped (renaming r)) xs (map unnamed_type (implied xs)))
 
   -- Positions.
-  taken_told : (k : InnerTypeKind) → taken_kind (named_inner given (λ t. renamed_index r) k) ≡ option_map told (taken_kind k)
-  taken_told (inner.Func t) = ap Some (signature_changed given (λ t. renamed_index r) t)
-  taken_told (inner.Struct t) = refl
-  taken_told (inner.Array t) = refl
-  taken_told (inner.Cont t) = refl
-
   abbrev no_signature : Option Signature
   no_signature = None
 
@@ -152,28 +197,34 @@ module _ (r : Renaming) (is : IsRenaming r) where
   members_told [] = refl
   members_told (t ∷ ts) = ap (λ os. None ∷ os) (members_told ts)
 
-  in_told : (x : ModuleField) → types_in (mapped (renaming r) x) ≡ map (option_map told) (types_in x)
-  in_told (field.Ty t) = ap (λ o. o ∷ []) (taken_told t.def.kind)
-  in_told (field.Rec g) = members_told g.types
-  in_told x = refl
+  module _ (k l : TypeNames) (numbers : (q : Name) → l (r.name q) ≡ k q) where
+    in_told : (x : ModuleField) → types_in l (mapped (renaming r) x) ≡ map (option_map told) (types_in k x)
+    in_told (field.Ty t) = ap (λ o. o ∷ []) (taken_told k l numbers t.def)
+    in_told (field.Rec g) = members_told g.types
+    in_told x = refl
 
-  all_in : (xs : List ModuleField) → flat_map types_in (renamed_fields r xs) ≡ map (option_map told) (flat_map types_in xs)
-  all_in [] = refl
-  all_in (x ∷ xs) = (λ i. in_told x i ++ all_in xs i) ∙ sym (map-append (option_map told) (types_in x) (flat_map types_in xs))
+    all_in : (xs : List ModuleField) → flat_map (types_in l) (renamed_fields r xs) ≡ map (option_map told) (flat_map (types_in k) xs)
+    all_in [] = refl
+    all_in (x ∷ xs) = (λ i. in_told x i ++ all_in xs i) ∙ sym (map-append (option_map told) (types_in k x) (flat_map (types_in k) xs))
 
   somes_told : (ss : List Signature) → map Some (map told ss) ≡ map (option_map told) (map Some ss)
   somes_told [] = refl
   somes_told (s ∷ ss) = ap (λ os. Some (told s) ∷ os) (somes_told ss)
 
   space_told : (xs : List ModuleField) → type_space (renamed_fields r xs) ≡ map (option_map told) (type_space xs)
-  space_told xs = (λ i. all_in xs i ++ (ap (map Some) (all_implied xs) ∙ somes_told (implied xs)) i) ∙ sym (map-append (option_map told) (flat_map types_in xs) (map Some (implied xs)))
+  space_told xs =
+      (λ i. all_in (type_names xs) (type_names (renamed_fields r xs)) (numbers_same xs) xs i ++ (ap (map Some) (all_implied xs) ∙ somes_told (implied xs)) i)
+      ∙ sym (map-append (option_map told) (flat_map (types_in (type_names xs)) xs) (map Some (implied xs)))
 
   has_told : (s : Signature) (o : Option Signature) → has_signature (told s) (option_map told o) ≡ has_signature s o
   has_told s None = refl
   has_told s (Some t) = told_same s t
 
   pub index_told : (xs : List ModuleField) (s : Signature) → index_for (renamed_fields r xs) (told s) ≡ index_for xs s
-  index_told xs s = ap (position (has_signature (told s))) (space_told xs) ∙ position_like (has_signature s) (has_signature (told s)) (option_map told) (has_told s) (type_space xs)
+  index_told xs s =
+      let own = numbered_signature (type_names xs) s in
+      (λ i. position (has_signature (numbered_told (type_names xs) (type_names (renamed_fields r xs)) (numbers_same xs) s i)) (space_told xs i))
+      ∙ position_like (has_signature own) (has_signature (told own)) (option_map told) (has_told own) (type_space xs)
 
   -- Each use with its position.
   module _ (find other : LookUp) (finds : (s : Signature) → other (told s) ≡ option_map (renamed_index r) (find s)) where

@@ -1,17 +1,21 @@
 -- What numbering the expanded list answers is what resolving the fields answers.
-use Rattle.std.proofs.Common.{◌≡◌, ℕ, ◌+◌, ◌<◌, ◌≤◌, ◌^◌, ◌⊎◌, List, None, inl, inr, sym, ap, ◌∙◌, subst}
+use Rattle.std.proofs.Common.{◌≡◌, ℕ, ◌+◌, ◌<◌, ◌≤◌, ◌^◌, ◌⊎◌, List, map, length, length-append, None, inl, inr, refl, sym, ap, ◌∙◌, subst, arith}
 use Rattle.std.specs.Prelude.{⊤}
 use Rattle.wast_base.specs.Faults.{told, too_large, out_of_memory}
 use Rattle.wast_base.specs.declared.faults.Error.{Error}
-use Rattle.wast_base.specs.Filling.{RunsOut}
+use Rattle.std.proofs.lemmas.List.Elements.{Contains-append_left}
 use Rattle.wast_nodes.specs.Items.{items}
+use Rattle.wast_nodes.specs.Known.{names_in}
 use Rattle.wast_nodes.specs.Generations.{greatest_generation}
 use Rattle.wast_deinline.specs.Written.{written_out_from, references_wanted}
-use Rattle.wast_types.specs.Expanded.{expanded, ids_wanted}
+use Rattle.wast_types.specs.ImpliedTypes.{implied}
+use Rattle.wast_types.specs.Expanded.{unnamed_type, expanded, ids_wanted, HasManyTypes, StopsExpanding}
+use Rattle.wast_types.proofs.TypeItems.{fields_join}
 use Rattle.wast_types.specs.Completed.{completed}
 use Rattle.wast_alike.specs.Tree.{ModuleField}
+use Rattle.wast_alike.specs.Tree.space
 use Rattle.wast_demands.specs.Explicit.{explicit, explicit_from}
-use Rattle.wast_demands.specs.Demands.{first_unmet, Answers, item_demands, order_demands, name_demands, demands, item_counts, body_counts, HasMany, IsCrowded, IsTooLarge, IsUnnumbered, IsUnresolved}
+use Rattle.wast_demands.specs.Demands.{first_unmet, Answers, item_demands, order_demands, name_demands, demands, space_counts, field_counts, item_counts, body_counts, HasMany, IsCrowded, IsTooLarge, IsUnnumbered, IsUnresolved}
 use Rattle.wast_alike.proofs.Composed.{same_names, same_counts, same_bodies, same_clashes}
 use Rattle.wast_alike.proofs.Explicit.{next, wants_as_many, still_above, unmet_alike}
 use Rattle.wast_alike.proofs.OrderKept.{completed_orders}
@@ -55,8 +59,18 @@ module _ (n : ℕ) (fields : List ModuleField) (above : greatest_generation fiel
       (answers_first (told e) (order_demands (completed rest)) (name_demands (completed rest)) (λ l. absurd l) (λ m. absurd m)
       (subst (λ ds. Answers ⊥ ⊥ (told e) (first_unmet ds)) (sym (completed_orders rest)) h))
 
-  pub unexpanded_still : (e : Error) → RunsOut (next n fields + ids_wanted rest) e → IsUnresolved n fields e
-  unexpanded_still e h = out_of n fields (2 ^ 64 ≤ next n fields + ids_wanted rest) e (λ m. large_alike (inr m)) h
+  -- The types of what is written out are among those of the completed list.
+  many_types : HasManyTypes rest → IsTooLarge n fields
+  many_types many =
+      let new = map unnamed_type (implied rest) in
+      let all = items (completed rest) in
+      let longer : length (names_in space.Ty all) ≡ length (names_in space.Ty (items rest)) + length (names_in space.Ty (items new)) =
+      ap length (fields_join rest new) ∙ length-append (names_in space.Ty (items rest)) (names_in space.Ty (items new)) in
+      let count : ℕ = length (names_in space.Ty all) in
+      crowded_alike (inl (count, (Contains-append_left (space_counts all) (field_counts all) count (7, omega arith, refl), omega (arith, many, longer))))
+
+  pub unexpanded_still : (e : Error) → StopsExpanding (next n fields) rest e → IsUnresolved n fields e
+  unexpanded_still e h = elim h [ inl counter ↦ out_of n fields (2 ^ 64 ≤ next n fields + ids_wanted rest) e (λ m. large_alike (inr m)) counter | inr many ↦ out_of n fields (HasManyTypes rest) e many_types (inr many) ]
 
   -- xs is the expanded list
   module _ (xs : List ModuleField) (expands : xs ≡ explicit_from n fields) where

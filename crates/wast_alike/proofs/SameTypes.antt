@@ -1,16 +1,19 @@
--- Signatures that are equal as they are written are equal once each index is what it denotes, where each denotes something; and
--- what denotes the same by two modules is equal by both.
+-- Signatures that are equal in the numbers of the written types are equal once each index is what it denotes, where each denotes
+-- something; and what denotes the same by two modules is equal by both.
 use Rattle.std.proofs.Common.{◌≡◌, ℕ, Bool, true, ◌&&◌, cond, List, [], ◌∷◌, map, Option, Some, None, is_some, refl, sym, ap, ◌∙◌, false}
 use Rattle.std.specs.Bool.{beq}
 use Rattle.std.specs.Cmp.{first_so, second_so}
 use Rattle.std.specs.List.{flat_map, list_all}
 use Rattle.std.proofs.lemmas.Bool.{eq-eqb}
 use Rattle.std.proofs.lemmas.Grind.{flat_map-append}
-use Rattle.wast_base.specs.Ids.{name_of, same_index}
+use Rattle.wast_base.specs.Ids.{Name, name_of, same_index}
+use Rattle.wast_base.specs.Denoted.{numbered_by, numbered}
 use Rattle.wast_base.specs.Faults.{Cause}
 use Rattle.wast_nodes.specs.Known.{Known}
 use Rattle.wast_nodes.specs.Sites.{Ask, Wants, Covered, if_there, in_index, in_id, in_heap, in_val, in_param, in_signature}
-use Rattle.wast_types.specs.Signatures.{Signature, type_of_param, signature_of, same_heap_by, same_value_by, same_values_by, same_signature_by}
+use Rattle.wast_map.specs.Mapped.{mapped_heap, mapped_val}
+use Rattle.wast_types.specs.Signatures.{Signature, type_of_param, signature_of, same_heap_by, same_value_by, same_values_by, same_signature_by, same_signature}
+use Rattle.wast_types.specs.Numbers.{TypeNames, in_numbers, numbered_signature}
 use Rattle.wast_alike.specs.Tree.{Id, Index, Span, NameAnnotation, HeapType, ValType, FunctionType}
 use Rattle.wast_alike.specs.Tree.index
 use Rattle.wast_alike.specs.Tree.space
@@ -24,21 +27,41 @@ use Rattle.wast_demands.proofs.Unmet.{met_parts}
 use Rattle.wast_alike.proofs.CompletedAsks.{pass, value_passes}
 use Rattle.wast_alike.proofs.ImpliedSignatures.{both_so, values_pass}
 
--- Where the ids of the one are known.
-module _ (k : Known) where
+-- what names of written types denote is what they denote by all types
+abbrev pub Continues : TypeNames → Known → Type 0
+Continues k l = (q : Name) (p : ℕ) → k q ≡ Some p → l.number space.Ty q ≡ Some p
+
+-- Where each index of the one denotes something.
+module _ (k : TypeNames) (l : Known) (continues : Continues k l) where
   same_some : (o : Option ℕ) (f : Cause × Span) → cond (is_some o) None (Some f) ≡ None → same_number o o ≡ true
   same_some None f met = absurd (cc met)
   same_some (Some n) f met = eq-eqb n n refl
 
-  index_denotes : (i j : Index) → same_index i j ≡ true → first_unmet (ask_demands k (in_index space.Ty i)) ≡ None → same_type k i j ≡ true
-  index_denotes (index.Num m p) (index.Num n q) h met = h
-  index_denotes (index.Id a) (index.Id b) h met =
-      let same : name_of a ≡ name_of b = same_name_equal (name_of a) (name_of b) h in
-      ap (λ r. same_number (k.number space.Ty (name_of a)) (k.number space.Ty r)) (sym same) ∙ same_some (k.number space.Ty (name_of a)) _ met
-  index_denotes (index.Num m p) (index.Id b) h met = cc
-  index_denotes (index.Id a) (index.Num n q) h met = cc
+  -- an id that denotes a written type denotes that by all types
+  numbers : (m : ℕ) (id : Id) (p : Span) (o : Option ℕ) → k (name_of id) ≡ o → same_index (index.Num m p) (numbered_by o id) ≡ true → same_number (Some m) (l.number space.Ty (name_of id)) ≡ true
+  numbers m id p None e h = absurd (cc h)
+  numbers m id p (Some n) e h = ap (same_number (Some m)) (continues (name_of id) n e) ∙ h
 
-  heap_denotes : (a b : HeapType) → same_heap_by same_index a b ≡ true → first_unmet (ask_demands k (in_heap a)) ≡ None → same_heap_by (same_type k) a b ≡ true
+  numbered_ids : (m : ℕ) (id : Id) (q : Span) (o : Option ℕ) → k (name_of id) ≡ o → same_index (numbered_by o id) (index.Num m q) ≡ true → same_number (l.number space.Ty (name_of id)) (Some m) ≡ true
+  numbered_ids m id q None e h = absurd (cc h)
+  numbered_ids m id q (Some n) e h = ap (λ o. same_number o (Some m)) (continues (name_of id) n e) ∙ h
+
+  ids_denote : (a b : Id) (o p : Option ℕ) → k (name_of a) ≡ o → k (name_of b) ≡ p → same_index (numbered_by o a) (numbered_by p b) ≡ true → first_unmet (ask_demands l (in_index space.Ty (index.Id a))) ≡ None
+      → same_number (l.number space.Ty (name_of a)) (l.number space.Ty (name_of b)) ≡ true
+  ids_denote a b (Some m) (Some n) e f h met = (λ i. same_number (continues (name_of a) m e i) (continues (name_of b) n f i)) ∙ h
+  ids_denote a b (Some m) None e f h met = absurd (cc h)
+  ids_denote a b None (Some n) e f h met = absurd (cc h)
+  ids_denote a b None None e f h met =
+      let same : name_of a ≡ name_of b = same_name_equal (name_of a) (name_of b) h in
+      ap (λ r. same_number (l.number space.Ty (name_of a)) (l.number space.Ty r)) (sym same) ∙ same_some (l.number space.Ty (name_of a)) _ met
+
+  index_denotes : (i j : Index) → same_index (numbered k i) (numbered k j) ≡ true → first_unmet (ask_demands l (in_index space.Ty i)) ≡ None → same_type l i j ≡ true
+  index_denotes (index.Num m p) (index.Num n q) h met = h
+  index_denotes (index.Num m p) (index.Id b) h met = numbers m b p (k (name_of b)) refl h
+  index_denotes (index.Id a) (index.Num n q) h met = numbered_ids n a q (k (name_of a)) refl h
+  index_denotes (index.Id a) (index.Id b) h met = ids_denote a b (k (name_of a)) (k (name_of b)) refl refl h met
+
+  heap_denotes : (a b : HeapType) → same_heap_by same_index (mapped_heap (in_numbers k) a) (mapped_heap (in_numbers k) b) ≡ true → first_unmet (ask_demands l (in_heap a)) ≡ None → same_heap_by (same_type l) a b ≡ true
   heap_denotes (heap.Abstract s a) (heap.Abstract t b) h met = h
   heap_denotes (heap.Concrete i) (heap.Concrete j) h met = index_denotes i j h met
   heap_denotes (heap.Abstract s a) (heap.Concrete j) h met = h
@@ -49,39 +72,80 @@ module _ (k : Known) where
   heap_denotes (heap.Concrete i) (heap.Exact j) h met = h
   heap_denotes (heap.Exact i) (heap.Concrete j) h met = h
 
-  value_denotes : (v w : ValType) → same_value_by same_index v w ≡ true → first_unmet (ask_demands k (in_val v)) ≡ None → same_value_by (same_type k) v w ≡ true
-  value_denotes (value.Ref r) (value.Ref q) h met =
-      both_so (beq r.nullable q.nullable) (same_heap_by (same_type k) r.heap q.heap) (first_so (beq r.nullable q.nullable) (same_heap_by same_index r.heap q.heap) h)
-      (heap_denotes r.heap q.heap (second_so (beq r.nullable q.nullable) (same_heap_by same_index r.heap q.heap) h) met)
-  value_denotes v w h met = h
+  abbrev told : ValType → ValType
+  told v = mapped_val (in_numbers k) v
 
-  values_denote : {A : Type 0} (f : A → ValType) (asks : A → List Ask) → ((a : A) → first_unmet (ask_demands k (asks a)) ≡ None → first_unmet (ask_demands k (in_val (f a))) ≡ None)
-      → (vs : List A) (ws : List ValType) → same_values_by same_index (map f vs) ws ≡ true → first_unmet (ask_demands k (flat_map asks vs)) ≡ None → same_values_by (same_type k) (map f vs) ws ≡ true
-  values_denote f asks each [] ws h met = h
-  values_denote f asks each (a ∷ vs) [] h met = h
+  value_denotes : (v w : ValType) → same_value_by same_index (told v) (told w) ≡ true → first_unmet (ask_demands l (in_val v)) ≡ None → same_value_by (same_type l) v w ≡ true
+  value_denotes (value.Ref r) (value.Ref q) h met =
+      let heaps = same_heap_by same_index (mapped_heap (in_numbers k) r.heap) (mapped_heap (in_numbers k) q.heap) in
+      both_so (beq r.nullable q.nullable) (same_heap_by (same_type l) r.heap q.heap) (first_so (beq r.nullable q.nullable) heaps h) (heap_denotes r.heap q.heap (second_so (beq r.nullable q.nullable) heaps h) met)
+  value_denotes value.I32 value.I32 h met = h
+  value_denotes value.I32 value.I64 h met = h
+  value_denotes value.I32 value.F32 h met = h
+  value_denotes value.I32 value.F64 h met = h
+  value_denotes value.I32 value.V128 h met = h
+  value_denotes value.I32 (value.Ref q) h met = h
+  value_denotes value.I64 value.I32 h met = h
+  value_denotes value.I64 value.I64 h met = h
+  value_denotes value.I64 value.F32 h met = h
+  value_denotes value.I64 value.F64 h met = h
+  value_denotes value.I64 value.V128 h met = h
+  value_denotes value.I64 (value.Ref q) h met = h
+  value_denotes value.F32 value.I32 h met = h
+  value_denotes value.F32 value.I64 h met = h
+  value_denotes value.F32 value.F32 h met = h
+  value_denotes value.F32 value.F64 h met = h
+  value_denotes value.F32 value.V128 h met = h
+  value_denotes value.F32 (value.Ref q) h met = h
+  value_denotes value.F64 value.I32 h met = h
+  value_denotes value.F64 value.I64 h met = h
+  value_denotes value.F64 value.F32 h met = h
+  value_denotes value.F64 value.F64 h met = h
+  value_denotes value.F64 value.V128 h met = h
+  value_denotes value.F64 (value.Ref q) h met = h
+  value_denotes value.V128 value.I32 h met = h
+  value_denotes value.V128 value.I64 h met = h
+  value_denotes value.V128 value.F32 h met = h
+  value_denotes value.V128 value.F64 h met = h
+  value_denotes value.V128 value.V128 h met = h
+  value_denotes value.V128 (value.Ref q) h met = h
+  value_denotes (value.Ref r) value.I32 h met = h
+  value_denotes (value.Ref r) value.I64 h met = h
+  value_denotes (value.Ref r) value.F32 h met = h
+  value_denotes (value.Ref r) value.F64 h met = h
+  value_denotes (value.Ref r) value.V128 h met = h
+
+  values_denote : {A : Type 0} (f : A → ValType) (asks : A → List Ask) → ((a : A) → first_unmet (ask_demands l (asks a)) ≡ None → first_unmet (ask_demands l (in_val (f a))) ≡ None)
+      → (vs : List A) (ws : List ValType) → same_values_by same_index (map told (map f vs)) (map told ws) ≡ true → first_unmet (ask_demands l (flat_map asks vs)) ≡ None → same_values_by (same_type l) (map f vs) ws ≡ true
+  values_denote f asks each [] [] h met = refl
+  values_denote f asks each [] (w ∷ ws) h met = absurd (cc h)
+  values_denote f asks each (a ∷ vs) [] h met = absurd (cc h)
   values_denote f asks each (a ∷ vs) (w ∷ ws) h met =
-      let one = same_value_by same_index (f a) w in
-      let rest = same_values_by same_index (map f vs) ws in
-      let parts = met_parts (ask_demands k (asks a)) (ask_demands k (flat_map asks vs)) (ap first_unmet (sym (flat_map-append (ask_demand k) (asks a) (flat_map asks vs))) ∙ met) in
-      both_so (same_value_by (same_type k) (f a) w) (same_values_by (same_type k) (map f vs) ws) (value_denotes (f a) w (first_so one rest h) (each a parts.0))
+      let one = same_value_by same_index (told (f a)) (told w) in
+      let rest = same_values_by same_index (map told (map f vs)) (map told ws) in
+      let parts = met_parts (ask_demands l (asks a)) (ask_demands l (flat_map asks vs)) (ap first_unmet (sym (flat_map-append (ask_demand l) (asks a) (flat_map asks vs))) ∙ met) in
+      both_so (same_value_by (same_type l) (f a) w) (same_values_by (same_type l) (map f vs) ws) (value_denotes (f a) w (first_so one rest h) (each a parts.0))
       (values_denote f asks each vs ws (second_so one rest h) parts.1)
 
-  param_met : (p : Option Id × Option NameAnnotation × ValType) → first_unmet (ask_demands k (in_param p)) ≡ None → first_unmet (ask_demands k (in_val p.2)) ≡ None
+  param_met : (p : Option Id × Option NameAnnotation × ValType) → first_unmet (ask_demands l (in_param p)) ≡ None → first_unmet (ask_demands l (in_val p.2)) ≡ None
   param_met p met =
-      (met_parts (ask_demands k (if_there in_id p.0)) (ask_demands k (in_val p.2)) (ap first_unmet (sym (flat_map-append (ask_demand k) (if_there in_id p.0) (in_val p.2))) ∙ met)).1
+      (met_parts (ask_demands l (if_there in_id p.0)) (ask_demands l (in_val p.2)) (ap first_unmet (sym (flat_map-append (ask_demand l) (if_there in_id p.0) (in_val p.2))) ∙ met)).1
 
   map_same : (vs : List ValType) → map (λ v. v) vs ≡ vs
   map_same [] = refl
   map_same (v ∷ vs) = ap (λ ws. v ∷ ws) (map_same vs)
 
-  pub signature_denotes : (t : FunctionType) (s : Signature) → same_signature_by same_index (signature_of t) s ≡ true → first_unmet (ask_demands k (in_signature t)) ≡ None → matches k t s ≡ true
-  signature_denotes t s h met =
-      let params = same_values_by same_index (map type_of_param t.params) s.0 in
-      let results = same_values_by same_index t.results s.1 in
-      let parts = met_parts (ask_demands k (flat_map in_param t.params)) (ask_demands k (flat_map in_val t.results)) (ap first_unmet (sym (flat_map-append (ask_demand k) (flat_map in_param t.params) (flat_map in_val t.results))) ∙ met) in
-      both_so (same_values_by (same_type k) (map type_of_param t.params) s.0) (same_values_by (same_type k) t.results s.1) (values_denote type_of_param in_param param_met t.params s.0 (first_so params results h) parts.0)
-      (ap (λ vs. same_values_by (same_type k) vs s.1) (sym (map_same t.results))
-      ∙ values_denote (λ v. v) in_val (λ v m. m) t.results s.1 (ap (λ vs. same_values_by same_index vs s.1) (map_same t.results) ∙ second_so params results h) parts.1)
+-- so an inline type matches a signature that is equal to it in numbers
+pub numbers_match : (k : TypeNames) (l : Known) → Continues k l → (t : FunctionType) (s : Signature)
+    → same_signature (numbered_signature k (signature_of t)) (numbered_signature k s) ≡ true → first_unmet (ask_demands l (in_signature t)) ≡ None → matches l t s ≡ true
+numbers_match k l continues t s h met =
+    let params = same_values_by same_index (map (told k l continues) (map type_of_param t.params)) (map (told k l continues) s.0) in
+    let results = same_values_by same_index (map (told k l continues) t.results) (map (told k l continues) s.1) in
+    let parts = met_parts (ask_demands l (flat_map in_param t.params)) (ask_demands l (flat_map in_val t.results)) (ap first_unmet (sym (flat_map-append (ask_demand l) (flat_map in_param t.params) (flat_map in_val t.results))) ∙ met) in
+    both_so (same_values_by (same_type l) (map type_of_param t.params) s.0) (same_values_by (same_type l) t.results s.1)
+    (values_denote k l continues type_of_param in_param (param_met k l continues) t.params s.0 (first_so params results h) parts.0)
+    (ap (λ vs. same_values_by (same_type l) vs s.1) (sym (map_same k l continues t.results))
+    ∙ values_denote k l continues (λ v. v) in_val (λ v m. m) t.results s.1 (ap (λ vs. same_values_by same_index (map (told k l continues) vs) (map (told k l continues) s.1)) (map_same k l continues t.results) ∙ second_so params results h) parts.1)
 
 -- Where both denote the same for what passes a test.
 module _ (ok : Ask → Bool) (same same2 : Index → Index → Bool)

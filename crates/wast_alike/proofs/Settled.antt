@@ -1,42 +1,36 @@
 -- A list in which nothing is left to be written out, bound or given an id stays as it is.
-use Rattle.std.proofs.Common.{◌≡◌, ℕ, ◌+◌, Bool, true, false, List, [], ◌∷◌, ◌++◌, map, length, append-nil, refl, ap, ◌∙◌, arith}
+use Rattle.std.proofs.Common.{◌≡◌, ℕ, ◌+◌, true, List, [], ◌++◌, map, length, append-nil, ap, ◌∙◌, arith}
 use Rattle.std.specs.List.{list_all}
-use Rattle.wast_base.specs.Filling.{one_if, given_if, filled, wanted}
+use Rattle.wast_base.specs.Filling.{filled, wanted}
 use Rattle.wast_nodes.specs.Sites.{in_module}
 use Rattle.wast_nodes.specs.WrittenOut.{is_written_out}
 use Rattle.wast_deinline.specs.Written.{references_wanted, written_out}
 use Rattle.wast_deinline.proofs.Staying.{wants_no_reference, stays_written, stays_by_position}
 use Rattle.wast_types.specs.Signatures.{Signature}
 use Rattle.wast_types.specs.NeedingUses.{needed}
-use Rattle.wast_types.specs.ImpliedTypes.{written_signatures, is_among, first_new, implied}
-use Rattle.wast_types.specs.Expanders.{LookUp, index_of}
-use Rattle.wast_types.specs.Expanded.{lacks_id, with_type_id, unnamed_type, implied_types, typed, bindings, bound_field, expanded, ids_wanted}
+use Rattle.wast_types.specs.Numbers.{type_names, numbered_signature}
+use Rattle.wast_types.specs.ImpliedTypes.{eligible_signatures, is_among, first_new, implied}
+use Rattle.wast_types.specs.Expanders.{LookUp}
+use Rattle.wast_types.specs.Expanded.{lacks_id, with_type_id, unnamed_type, implied_types, typed, found_for, bound_field, expanded, ids_wanted}
 use Rattle.wast_types.specs.Completed.{completed}
 use Rattle.wast_types.specs.Positioned.{position_for, positioned}
+use Rattle.wast_types.proofs.AtRest.{filled_none}
 use Rattle.wast_types.proofs.Staying.{says, fields_stay}
 use Rattle.wast_alike.specs.Tree.{ModuleField}
 use Rattle.wast_demands.specs.Explicit.{explicit, explicit_from, by_positions, ids_filled}
 
-filled_none : (m : ℕ) (xs : List ModuleField) → wanted lacks_id xs ≡ 0 → filled lacks_id with_type_id m xs ≡ xs
-filled_none m [] h = refl
-filled_none m (x ∷ xs) h = none_case (lacks_id x) h (λ k. filled_none (m + one_if (lacks_id x)) xs k)
-  where
-    none_case : (b : Bool) → one_if b + wanted lacks_id xs ≡ 0 → (wanted lacks_id xs ≡ 0 → filled lacks_id with_type_id (m + one_if b) xs ≡ xs) → given_if b with_type_id m x ∷ filled lacks_id with_type_id (m + one_if b) xs ≡ x ∷ xs
-    none_case true h f = absurd (omega (arith, h))
-    none_case false h f = ap (λ ys. x ∷ ys) (f (omega (arith, h)))
-
 module _ (xs : List ModuleField) (none : needed xs ≡ []) (ids : wanted lacks_id xs ≡ 0) (say : list_all says (in_module xs) ≡ true) (out : is_written_out xs ≡ true) where
   implied_none : implied xs ≡ []
-  implied_none = ap (first_new (is_among (written_signatures xs))) none
+  implied_none = ap (λ ss. first_new (is_among (eligible_signatures xs)) (map (numbered_signature (type_names xs)) ss)) none
 
   typed_is : (m : ℕ) → typed m xs ≡ xs
   typed_is m =
       ap (λ (ss : List Signature). filled lacks_id with_type_id m xs ++ implied_types (m + wanted lacks_id xs) ss) implied_none
-      ∙ (append-nil (filled lacks_id with_type_id m xs) ∙ filled_none m xs ids)
+      ∙ (append-nil (filled lacks_id with_type_id m xs) ∙ filled_none lacks_id with_type_id m xs ids)
 
   expanded_is : (m : ℕ) → expanded m xs ≡ xs
   expanded_is m =
-      let find : LookUp = index_of (bindings (typed m xs)) in
+      let find : LookUp = found_for xs m in
       ap (map (bound_field find)) (typed_is m) ∙ fields_stay find xs none say
 
   completed_is : completed xs ≡ xs

@@ -17,9 +17,10 @@ use Rattle.wast_deinline.specs.Referring.{by_id, wants_id, with_item_id}
 use Rattle.wast_deinline.specs.Written.{referable, written_out_from, references_wanted}
 use Rattle.wast_types.specs.Signatures.{Signature}
 use Rattle.wast_types.specs.NeedingUses.{needed_at, needed_in, needed}
-use Rattle.wast_types.specs.ImpliedTypes.{written_in, is_among, first_new, implied}
+use Rattle.wast_types.specs.Numbers.{type_names, numbered_signature}
+use Rattle.wast_types.specs.ImpliedTypes.{eligible_in, eligible_signatures, is_among, first_new, implied}
 use Rattle.wast_types.specs.Expanders.{LookUp, index_of}
-use Rattle.wast_types.specs.Expanded.{lacks_id, with_type_id, def_of, start_of_text, implied_type, implied_types, typed, bindings_in, bindings, bound_field, expanded}
+use Rattle.wast_types.specs.Expanded.{lacks_id, with_type_id, def_of, start_of_text, implied_type, implied_types, typed, bindings_in, bindings, found_for, bound_field, expanded}
 use Rattle.wast_alike.specs.Tree.{Span, Index, Space, ModuleField}
 use Rattle.wast_alike.specs.Tree.index
 use Rattle.wast_alike.specs.Tree.space
@@ -97,8 +98,15 @@ module _ (is : List Index) where
       ap needed_in (flat_map-append in_field xs (starts is))
       ∙ (flat_map-append needed_at (in_module xs) (in_module (starts is)) ∙ (ap (λ ss. needed xs ++ ss) starts_need ∙ append-nil (needed xs)))
 
+  -- They are no types, and are taken by no use.
+  names_behind : (xs : List ModuleField) → type_names (xs ++ starts is) ≡ type_names xs
+  names_behind xs = ap (λ its. (known its).number space.Ty) (behind_all items_in (λ i. refl) is xs)
+
+  eligible_behind : (xs : List ModuleField) → eligible_signatures (xs ++ starts is) ≡ eligible_signatures xs
+  eligible_behind xs = ap (λ k. flat_map (eligible_in k) (xs ++ starts is)) (names_behind xs) ∙ behind_all (eligible_in (type_names xs)) (λ i. refl) is xs
+
   implied_behind : (xs : List ModuleField) → implied (xs ++ starts is) ≡ implied xs
-  implied_behind xs = λ t. first_new (is_among (behind_all written_in (λ i. refl) is xs t)) (needed_behind xs t)
+  implied_behind xs = λ t. first_new (is_among (eligible_behind xs t)) (map (numbered_signature (names_behind xs t)) (needed_behind xs t))
 
 -- An expanded list is its own fields and the types that are implied, each use bound.
 module _ (m : ℕ) (xs : List ModuleField) where
@@ -109,7 +117,7 @@ module _ (m : ℕ) (xs : List ModuleField) where
   more_types = implied_types (m + wanted lacks_id xs) (implied xs)
 
   abbrev pub find : LookUp
-  find = index_of (bindings (typed m xs))
+  find = found_for xs m
 
   abbrev pub own_fields : List ModuleField
   own_fields = map (bound_field find) with_ids
@@ -126,8 +134,11 @@ module _ (m : ℕ) (xs : List ModuleField) where
         (λ t. filled_behind lacks_id with_type_id (λ i. refl) m xs is t ++ implied_types (m + wanted_behind lacks_id with_type_id (λ i. refl) xs is t) (implied_behind is xs t))
         ∙ append_assoc with_ids (starts is) more_types
 
-    same_find : index_of (bindings (typed m (xs ++ starts is))) ≡ find
-    same_find = ap (λ ys. index_of (bindings ys)) typed_behind ∙ ap index_of (among bindings_in (λ i. refl) is with_ids more_types)
+    bound_behind : bindings (type_names (xs ++ starts is)) (typed m (xs ++ starts is)) ≡ bindings (type_names xs) (typed m xs)
+    bound_behind = (λ t. bindings (names_behind is xs t) (typed_behind t)) ∙ among (bindings_in (type_names xs)) (λ i. refl) is with_ids more_types
+
+    same_find : found_for (xs ++ starts is) m ≡ find
+    same_find = λ t s. index_of (bound_behind t) (numbered_signature (names_behind is xs t) s)
 
     starts_bound : map (bound_field find) (starts is) ≡ starts is
     starts_bound = each is

@@ -35,7 +35,7 @@ module _ (n : ℕ) (fields : List ModuleField) (above : greatest_generation fiel
   asks_below : pass (is_below n) (asked (in_module old)) ≡ true
   asks_below =
       let some : is_below n (Covered form.Shared true) ≡ true = lt-ltb 0 n (omega (arith, above)) in
-      completed_pass (is_below n) some (written_out fields) (written_out_pass (is_below n) (λ c. some) (λ s m p. some) fields (each_below n generation_in (asked (in_module fields)) (omega (arith, above))))
+      completed_pass (is_below n) some (λ m p. some) (written_out fields) (written_out_pass (is_below n) (λ c. some) (λ s m p. some) fields (each_below n generation_in (asked (in_module fields)) (omega (arith, above))))
 
   same_uses : first_unmet (item_demands (items new)) ≡ None → first_unmet (site_demands (scope new) (in_module new)) ≡ first_unmet (site_demands (scope old) (in_module old))
   same_uses free =

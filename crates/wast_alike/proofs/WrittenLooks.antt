@@ -5,7 +5,8 @@ use Rattle.std.proofs.Common.{◌≡◌, ℕ, ◌+◌, Bool, List, [], ◌∷◌
 use Rattle.std.specs.List.{flat_map, position}
 use Rattle.std.specs.Option.{option_or}
 use Rattle.std.proofs.lemmas.List.{map-append}
-use Rattle.wast_base.specs.Ids.{generated}
+use Rattle.wast_base.specs.Ids.{Name, generated}
+use Rattle.wast_base.specs.Spaces.{position_of}
 use Rattle.wast_nodes.specs.Items.{Item, items_in}
 use Rattle.wast_nodes.specs.Sites.{in_field}
 use Rattle.wast_nodes.proofs.Asking.{each_of_each}
@@ -13,11 +14,12 @@ use Rattle.wast_base.specs.Filling.{one_if, wanted}
 use Rattle.wast_deinline.specs.Referring.{wants_id}
 use Rattle.wast_deinline.specs.Written.{written_out_from, written_out}
 use Rattle.wast_types.specs.Signatures.{Signature}
+use Rattle.wast_types.specs.Numbers.{TypeNames, type_names, numbered_signature}
+use Rattle.wast_types.proofs.TypeItems.{names_by, names_of_types}
 use Rattle.wast_types.specs.NeedingUses.{needed_at, needed_in, needed}
-use Rattle.wast_types.specs.ImpliedTypes.{written_in, is_among, first_new, implied}
+use Rattle.wast_types.specs.ImpliedTypes.{eligible_in, is_among, first_new, implied}
 use Rattle.wast_types.specs.ImpliedTypes as implied_types
-use Rattle.wast_types.specs.TypeSpace.{types_in, type_space, has_signature}
-use Rattle.wast_types.specs.Expanders.{LookUp}
+use Rattle.wast_types.specs.TypeSpace.{types_in, type_space, has_signature, ids_in}
 use Rattle.wast_types.specs.Expanded.{start_of_text, lacks_id, unnamed_type, ids_wanted}
 use Rattle.wast_types.specs.Completed.{completed}
 use Rattle.wast_types.specs.Positioned.{position_for}
@@ -38,8 +40,9 @@ functions_in x = []
 -- what is read of a field beside the id of its item and what it refers to
 pub record Look : Type 0 where
   pub needs : List Signature
-  pub writes : List Signature
-  pub types : List (Option Signature)
+  pub ids : List (Option Id)
+  pub writes : TypeNames → List Signature
+  pub types : TypeNames → List (Option Signature)
   pub shapes : List Shape
   pub functions : List (TypeUse FunctionType × ℕ)
   pub opens : List ℕ
@@ -50,8 +53,9 @@ pub record Look : Type 0 where
 abbrev pub look : ModuleField → Look
 look x = record {
   needs = needed_in (in_field x);
-  writes = written_in x;
-  types = types_in x;
+  ids = ids_in x;
+  writes = λ k. eligible_in k x;
+  types = λ k. types_in k x;
   shapes = shapes_in x;
   functions = functions_in x;
   opens = open_counts (in_field x);
@@ -124,15 +128,24 @@ module _ {xs ys : List ModuleField} (h : LookAlike xs ys) where
   alike_needed : needed xs ≡ needed ys
   alike_needed = each_of_each in_field needed_at xs ∙ (alike (λ l. l.needs) ∙ sym (each_of_each in_field needed_at ys))
 
+  -- the names of the written types denote the same
+  alike_names : type_names xs ≡ type_names ys
+  alike_names =
+      ap {B = TypeNames} (λ (names : List (Option Name)) (q : Name). position_of q names) (names_of_types xs ∙ (ap names_by (alike (λ l. l.ids)) ∙ sym (names_of_types ys)))
+
   pub alike_implied : implied xs ≡ implied ys
   alike_implied =
-      ap (λ (ss : List Signature). first_new (is_among ss) (needed xs)) (alike (λ l. l.writes)) ∙ ap (λ (ss : List Signature). first_new (is_among (implied_types.written_signatures ys)) ss) alike_needed
+      ap (λ (k : TypeNames). first_new (is_among (flat_map (eligible_in k) xs)) (map (numbered_signature k) (needed xs))) alike_names
+      ∙ (ap (λ (ss : List Signature). first_new (is_among ss) (map (numbered_signature (type_names ys)) (needed xs))) (alike (λ l. l.writes (type_names ys)))
+      ∙ ap (λ (ss : List Signature). first_new (is_among (implied_types.eligible_signatures ys)) (map (numbered_signature (type_names ys)) ss)) alike_needed)
 
   alike_type_space : type_space xs ≡ type_space ys
-  alike_type_space = ap (λ ts. ts ++ map Some (implied xs)) (alike (λ l. l.types)) ∙ ap (λ (ss : List Signature). flat_map types_in ys ++ map Some ss) alike_implied
+  alike_type_space =
+      ap (λ (k : TypeNames). flat_map (types_in k) xs ++ map Some (implied xs)) alike_names
+      ∙ (ap (λ ts. ts ++ map Some (implied xs)) (alike (λ l. l.types (type_names ys))) ∙ ap (λ (ss : List Signature). flat_map (types_in (type_names ys)) ys ++ map Some ss) alike_implied)
 
   pub alike_positions : position_for xs ≡ position_for ys
-  alike_positions = ap {B = LookUp} (λ (types : List (Option Signature)) (s : Signature). option_map (λ p. index.Num p start_of_text) (position (has_signature s) types)) alike_type_space
+  alike_positions i s = option_map (λ p. index.Num p start_of_text) (position (has_signature (numbered_signature (alike_names i) s)) (alike_type_space i))
 
   pub alike_orders : order_demands xs ≡ order_demands ys
   alike_orders = orders_are xs ∙ (orders_by_looks None xs ∙ (ap (orders_of None) h.looks ∙ (sym (orders_by_looks None ys) ∙ sym (orders_are ys))))

@@ -1,5 +1,5 @@
 -- The types of the tree under one roof, as in wast_nodes: each type by its name, the variants of an enum behind a word.
-pub use Rattle.wast_map.specs.Tree.{Span, Id, Index, NameAnnotation, Space, ValType, RefType, HeapType, StructField, FunctionType, TypeUse, InnerTypeKind, Rec, BrTableIndices, TryTable, TryTableCatch, MemArg, MemArgTarget, Instruction, Expression, TagType, ImportItems, ItemSig, ItemKind, ElemKind, ElemPayload, DataKind, DataVal, Table, TableKind, Memory, MemoryKind, Global, GlobalKind, Tag, TagKind, Local, FuncKind, Func, ExportKind, ModuleField, Handle, ResumeTable, Custom, Dylink0Subsection}
+pub use Rattle.wast_map.specs.Tree.{Span, Id, Index, NameAnnotation, Space, ValType, RefType, HeapType, StructField, FunctionType, TypeUse, InnerTypeKind, TypeDef, Rec, BrTableIndices, TryTable, TryTableCatch, MemArg, MemArgTarget, Instruction, Expression, TagType, ImportItems, ItemSig, ItemKind, ElemKind, ElemPayload, DataKind, DataVal, Table, TableKind, Memory, MemoryKind, Global, GlobalKind, Tag, TagKind, Local, FuncKind, Func, ExportKind, ModuleField, Handle, ResumeTable, Custom, Dylink0Subsection}
 pub use Rattle.wast_map.specs.Tree.index
 pub use Rattle.wast_map.specs.Tree.space
 pub use Rattle.wast_map.specs.Tree.value

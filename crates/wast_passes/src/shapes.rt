@@ -17,7 +17,7 @@ use std::alloc::Global;
 use std::slice;
 use wast_base::Error;
 use wast_nodes::{FunctionType, InnerTypeKind, ModuleField, StructField, Type};
-use wast_types::TypeReference;
+use wast_types::{Expander, TypeReference};
 
 /// What the ids of the fields of a struct denote; no two are the same.
 ///
@@ -46,12 +46,13 @@ fn struct_shape<'a>(alloc: Global, fields: &[StructField<'a>]) -> Result<TypeSha
     Ok(TypeShape::of_struct(names))
 }
 
-/// What is read of a function type.
+/// What is read of a function type, as it is written.
 fn func_shape<'a>(alloc: Global, ty: &FunctionType<'a>) -> Result<TypeShape<'a>, Error<'a>>
     ensures shape { IfOk result (λ t. read_shape t ≡ Function (signature_of ty.now)) }
     ensures refusal { IfErr result (λ e. e ≡ out_of_memory) }
 {
-    let key = ty.key(alloc)?;
+    let cx = Expander::new(alloc);
+    let key = ty.key(alloc, &cx)?;
     Ok(TypeShape::of_func(key))
 }
 

@@ -1,12 +1,12 @@
-//! Keys of signatures, by the traits alone.
+//! Keys of signatures, by the traits alone, and types that uses take.
 
 use std::alloc::Global;
 use std::hash::{DefaultHasher, Hash, Hasher};
 use std::process::Abort;
-use wast_expand::{Expander, FuncKey, TypeKey, TypeReference};
+use wast_expand::{Expander, FuncKey, TypeKey, TypeReference, types};
 use wast_tree::{
-    FunctionType, Id, Index, InnerTypeKind, Seq, Span, Type, ValType, discard_function_type,
-    discard_type,
+    FunctionType, Gensym, Id, Index, InnerTypeKind, ModuleField, Seq, Span, Tag, Type, TypeDef,
+    TypeUse, ValType, discard_fields, discard_function_type, discard_type, push_field,
 };
 
 fn at(offset: usize) -> Span {
@@ -14,7 +14,7 @@ fn at(offset: usize) -> Span {
 }
 
 /// A list of value types.
-fn types<'a>(rt: &impl Abort, alloc: Global, types: &[ValType<'a>]) -> Seq<ValType<'a>> {
+fn list_of<'a>(rt: &impl Abort, alloc: Global, types: &[ValType<'a>]) -> Seq<ValType<'a>> {
     let mut list = Seq::new(alloc);
     for ty in types {
         list.push(*ty).expect(rt, "memory");
@@ -28,7 +28,7 @@ fn key<'a>(
     params: &[ValType<'a>],
     results: &[ValType<'a>],
 ) -> FuncKey<'a> {
-    FuncKey(types(rt, alloc, params), types(rt, alloc, results))
+    FuncKey(list_of(rt, alloc, params), list_of(rt, alloc, results))
 }
 
 /// A function type whose first parameter is called `$p`.
@@ -46,7 +46,7 @@ fn signature(
     }
     FunctionType {
         params: list,
-        results: types(rt, alloc, results),
+        results: list_of(rt, alloc, results),
     }
 }
 
@@ -72,8 +72,8 @@ fn keys_of<'a, T: TypeReference<'a> + Drop>(
 ) -> (T::Key, T::Key) {
     let mut cx = Expander::new(alloc);
     ty.expand(&mut cx).expect(rt, "memory");
-    let empty = T::empty(alloc).key(alloc).expect(rt, "memory");
-    (ty.key(alloc).expect(rt, "memory"), empty)
+    let empty = T::empty(alloc).key(alloc, &cx).expect(rt, "memory");
+    (ty.key(alloc, &cx).expect(rt, "memory"), empty)
 }
 
 /// What a key is bound to, before and after it is bound to one index and then to another.
@@ -108,7 +108,8 @@ fn the_type_of_a_key_has_its_signature(rt: HostRuntime) {
     let def = found.to_def(alloc, at(3), true).expect(&rt, "memory");
     assert!(rt; def.shared && def.final_type.is_none());
     let again = function_in(&def.kind).expect(&rt, "a function type");
-    assert!(rt; again.key(alloc).expect(&rt, "memory") == found);
+    let cx = Expander::new(alloc);
+    assert!(rt; again.key(alloc, &cx).expect(&rt, "memory") == found);
     discard_type(Type::new(at(3), None, def));
 }
 
@@ -138,4 +139,36 @@ fn the_first_index_of_a_key_stays(rt: HostRuntime) {
     assert!(rt; bound_to(&rt, alloc, &first, &mut cx, [one, two]) == [None, Some(one), Some(one)]);
     assert!(rt; bound_to(&rt, alloc, &second, &mut cx, [two, one]) == [None, Some(two), Some(two)]);
     assert!(rt; first.lookup(&cx) == Some(one));
+}
+
+/// `(func)`, and what else is said of it.
+fn empty_def<'a>(alloc: Global, shared: bool, descriptor: Option<Index<'a>>) -> TypeDef<'a> {
+    let mut def = TypeDef::new(alloc, InnerTypeKind::Func(FunctionType::empty(alloc)));
+    def.shared = shared;
+    def.descriptor = descriptor;
+    def
+}
+
+/// How many fields there are once this type and a tag of the type `(func)` are expanded: a type more where the tag does not
+/// take this one.
+fn count_expanded<'a>(rt: &impl Abort, alloc: Global, def: TypeDef<'a>) -> usize {
+    let mut fields = Seq::new(alloc);
+    let ty = ModuleField::Ty(Type::new(at(9), None, def));
+    push_field(&mut fields, ty).expect(rt, "memory");
+    let of_tag = TypeUse::inline(FunctionType::empty(alloc));
+    let tag = ModuleField::Tag(Tag::new(alloc, at(30), None, of_tag));
+    push_field(&mut fields, tag).expect(rt, "memory");
+    let expanded = types::expand(alloc, fields, &mut Gensym::new(1)).expect(rt, "memory");
+    let count = expanded.len();
+    discard_fields(expanded);
+    count
+}
+
+#[test]
+fn shared_types_and_those_with_descriptors_are_not_taken(rt: HostRuntime) {
+    let alloc = rt.alloc();
+    let described = Some(Index::Num(1, at(20)));
+    assert!(rt; count_expanded(&rt, alloc, empty_def(alloc, false, None)) == 2);
+    assert!(rt; count_expanded(&rt, alloc, empty_def(alloc, true, None)) == 3);
+    assert!(rt; count_expanded(&rt, alloc, empty_def(alloc, false, described)) == 3);
 }

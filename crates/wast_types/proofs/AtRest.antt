@@ -5,47 +5,54 @@ use Rattle.std.proofs.lemmas.List.Concat.{flat_map-append}
 use Rattle.wast_types.specs.Tree.{ValType, ModuleField}
 use Rattle.wast_types.specs.Tree.field
 use Rattle.wast_types.specs.Signatures.{Signature}
-use Rattle.wast_types.specs.ImpliedTypes.{written_signatures, is_among, first_new, implied}
+use Rattle.wast_types.specs.Numbers.{TypeNames, type_names, numbered_signature}
+use Rattle.wast_types.specs.ImpliedTypes.{eligible_signatures, is_among, first_new, implied}
 use Rattle.wast_types.specs.TypeSpace.{types_in, type_space}
 use Rattle.wast_base.specs.Filling.{one_if, given_if, filled, wanted}
-use Rattle.wast_types.specs.Expanders.{LookUp, index_of}
-use Rattle.wast_types.specs.Expanded.{lacks_id, with_type_id, implied_types, typed, bindings, bound_field, expanded}
+use Rattle.wast_types.specs.Expanders.{LookUp}
+use Rattle.wast_types.specs.Expanded.{lacks_id, with_type_id, implied_types, typed, found_for, bound_field, expanded}
 use Rattle.wast_types.specs.Laws.{TypesAreTheSpace, StaysExpanded, WantsNoMore}
 use Rattle.wast_types.proofs.Adding.{types_again}
 use Rattle.wast_types.proofs.Staying.{fields_stay, fields_say, ty_stays, rec_stays}
 use Rattle.wast_types.proofs.HavingTypes.{uses_are_bound}
+use Rattle.wast_types.proofs.NumberedTypes.{implied_are_numbered}
 
 -- Ids and bound uses change no type.
-types_given : (b : Bool) (n : ℕ) (x : ModuleField) → types_in (given_if b with_type_id n x) ≡ types_in x
-types_given false n x = refl
-types_given true n (field.Ty t) = refl
-types_given true n x = refl
+module _ (k : TypeNames) where
+  types_given : (b : Bool) (n : ℕ) (x : ModuleField) → types_in k (given_if b with_type_id n x) ≡ types_in k x
+  types_given false n x = refl
+  types_given true n (field.Ty t) = refl
+  types_given true n x = refl
 
-types_filled : (n : ℕ) (xs : List ModuleField) → flat_map types_in (filled lacks_id with_type_id n xs) ≡ flat_map types_in xs
-types_filled n [] = refl
-types_filled n (x ∷ xs) = ap (λ ts. ts ++ flat_map types_in (filled lacks_id with_type_id (n + one_if (lacks_id x)) xs)) (types_given (lacks_id x) n x) ∙ ap (λ ts. types_in x ++ ts) (types_filled (n + one_if (lacks_id x)) xs)
+  types_filled : (n : ℕ) (xs : List ModuleField) → flat_map (types_in k) (filled lacks_id with_type_id n xs) ≡ flat_map (types_in k) xs
+  types_filled n [] = refl
+  types_filled n (x ∷ xs) =
+      ap (λ ts. ts ++ flat_map (types_in k) (filled lacks_id with_type_id (n + one_if (lacks_id x)) xs)) (types_given (lacks_id x) n x) ∙ ap (λ ts. types_in k x ++ ts) (types_filled (n + one_if (lacks_id x)) xs)
 
-types_bound_in : (find : LookUp) (x : ModuleField) → types_in (bound_field find x) ≡ types_in x
-types_bound_in find (field.Ty t) = ap types_in (ty_stays find t)
-types_bound_in find (field.Rec r) = ap types_in (rec_stays find r)
-types_bound_in find x = refl
+  types_bound_in : (find : LookUp) (x : ModuleField) → types_in k (bound_field find x) ≡ types_in k x
+  types_bound_in find (field.Ty t) = ap (types_in k) (ty_stays find t)
+  types_bound_in find (field.Rec r) = ap (types_in k) (rec_stays find r)
+  types_bound_in find x = refl
 
-types_bound : (find : LookUp) (xs : List ModuleField) → flat_map types_in (map (bound_field find) xs) ≡ flat_map types_in xs
-types_bound find [] = refl
-types_bound find (x ∷ xs) = ap (λ ts. ts ++ flat_map types_in (map (bound_field find) xs)) (types_bound_in find x) ∙ ap (λ ts. types_in x ++ ts) (types_bound find xs)
+  types_bound : (find : LookUp) (xs : List ModuleField) → flat_map (types_in k) (map (bound_field find) xs) ≡ flat_map (types_in k) xs
+  types_bound find [] = refl
+  types_bound find (x ∷ xs) = ap (λ ts. ts ++ flat_map (types_in k) (map (bound_field find) xs)) (types_bound_in find x) ∙ ap (λ ts. types_in k x ++ ts) (types_bound find xs)
 
-types_implied : (n : ℕ) (ss : List Signature) → flat_map types_in (implied_types n ss) ≡ map Some ss
-types_implied n [] = refl
-types_implied n (s ∷ ss) = ap (λ (vs : List ValType). Some (vs, s.1) ∷ flat_map types_in (implied_types (n + 1) ss)) (types_again s.0) ∙ ap (λ ts. Some s ∷ ts) (types_implied (n + 1) ss)
+  types_implied : (n : ℕ) (ss : List Signature) → flat_map (types_in k) (implied_types n ss) ≡ map Some (map (numbered_signature k) ss)
+  types_implied n [] = refl
+  types_implied n (s ∷ ss) =
+      ap (λ (vs : List ValType). Some (numbered_signature k (vs, s.1)) ∷ flat_map (types_in k) (implied_types (n + 1) ss)) (types_again s.0) ∙ ap (λ ts. Some (numbered_signature k s) ∷ ts) (types_implied (n + 1) ss)
 
-pub types_typed : (n : ℕ) (fields : List ModuleField) → flat_map types_in (typed n fields) ≡ type_space fields
+pub types_typed : (n : ℕ) (fields : List ModuleField) → flat_map (types_in (type_names fields)) (typed n fields) ≡ type_space fields
 types_typed n fields =
+    let k : TypeNames = type_names fields in
     let m : ℕ = n + wanted lacks_id fields in
-    flat_map-append types_in (filled lacks_id with_type_id n fields) (implied_types m (implied fields))
-    ∙ (ap (λ ts. ts ++ flat_map types_in (implied_types m (implied fields))) (types_filled n fields) ∙ ap (λ ts. flat_map types_in fields ++ ts) (types_implied m (implied fields)))
+    flat_map-append (types_in k) (filled lacks_id with_type_id n fields) (implied_types m (implied fields))
+    ∙ (ap (λ ts. ts ++ flat_map (types_in k) (implied_types m (implied fields))) (types_filled k n fields)
+    ∙ ap (λ ts. flat_map (types_in k) fields ++ ts) (types_implied k m (implied fields) ∙ ap (map Some) (implied_are_numbered fields)))
 
 pub types_are_the_space : TypesAreTheSpace
-types_are_the_space n fields = types_bound (index_of (bindings (typed n fields))) (typed n fields) ∙ types_typed n fields
+types_are_the_space n fields = types_bound (type_names fields) (found_for fields n) (typed n fields) ∙ types_typed n fields
 
 -- Each type has its id.
 lacks_given : (x : ModuleField) (b : Bool) (n : ℕ) → b ≡ lacks_id x → lacks_id (given_if b with_type_id n x) ≡ false
@@ -67,9 +74,9 @@ wanted_bound find [] = refl
 wanted_bound find (x ∷ xs) = ap (λ b. one_if b + wanted lacks_id (map (bound_field find) xs)) (lacks_bound find x) ∙ ap (λ k. one_if (lacks_id x) + k) (wanted_bound find xs)
 
 none_lacks : (n : ℕ) (fields : List ModuleField) → wanted lacks_id (expanded n fields) ≡ 0
-none_lacks n fields = wanted_bound (index_of (bindings (typed n fields))) (typed n fields) ∙ none_lacks_after n (n + wanted lacks_id fields) (implied fields) fields
+none_lacks n fields = wanted_bound (found_for fields n) (typed n fields) ∙ none_lacks_after n (n + wanted lacks_id fields) (implied fields) fields
 
-filled_none : {A : Type 0} (wants : A → Bool) (give : ℕ → A → A) (m : ℕ) (xs : List A) → wanted wants xs ≡ 0 → filled wants give m xs ≡ xs
+pub filled_none : {A : Type 0} (wants : A → Bool) (give : ℕ → A → A) (m : ℕ) (xs : List A) → wanted wants xs ≡ 0 → filled wants give m xs ≡ xs
 filled_none {A} wants give m [] h = refl
 filled_none {A} wants give m (x ∷ xs) h = none_case (wants x) x xs h (λ k. filled_none wants give (m + one_if (wants x)) xs k)
   where
@@ -79,7 +86,7 @@ filled_none {A} wants give m (x ∷ xs) h = none_case (wants x) x xs h (λ k. fi
 
 -- Nothing is implied.
 implied_none : (n : ℕ) (fields : List ModuleField) → implied (expanded n fields) ≡ []
-implied_none n fields = ap (first_new (is_among (written_signatures (expanded n fields)))) (uses_are_bound n fields)
+implied_none n fields = ap (λ ss. first_new (is_among (eligible_signatures (expanded n fields))) (map (numbered_signature (type_names (expanded n fields))) ss)) (uses_are_bound n fields)
 
 pub wants_no_more : WantsNoMore
 wants_no_more n fields = ap (λ ss. wanted lacks_id (expanded n fields) + length ss) (implied_none n fields) ∙ ap (λ k. k + 0) (none_lacks n fields)
@@ -92,5 +99,5 @@ typed_again m n fields =
 pub stays_expanded : StaysExpanded
 stays_expanded m n fields =
     let xs : List ModuleField = expanded n fields in
-    let find : LookUp = index_of (bindings (typed m xs)) in
-    ap (map (bound_field find)) (typed_again m n fields) ∙ fields_stay find xs (uses_are_bound n fields) (fields_say (index_of (bindings (typed n fields))) (typed n fields))
+    let find : LookUp = found_for xs m in
+    ap (map (bound_field find)) (typed_again m n fields) ∙ fields_stay find xs (uses_are_bound n fields) (fields_say (found_for fields n) (typed n fields))

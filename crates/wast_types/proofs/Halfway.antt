@@ -8,9 +8,8 @@ use Rattle.std.proofs.lemmas.Grind.{flat_map-append}
 use Rattle.wast_base.specs.declared.faults.Error.{Error}
 use Rattle.wast_types.specs.Signatures.{Signature}
 use Rattle.wast_base.specs.Filling.{RunsOut}
-use Rattle.wast_types.specs.Expanders.{BoundSignatures, LookUp, index_of, with_more}
-use Rattle.wast_types.specs.Expanded.{bindings}
-use Rattle.wast_types.specs.Binding.{new_types, next_after, AddsTypes}
+use Rattle.wast_types.specs.Expanders.{BoundSignatures, LookUp, found_in}
+use Rattle.wast_types.specs.Binding.{new_bindings, next_after, AddsTypes}
 use Rattle.wast_types.specs.declared.binder.Binder.{Binder}
 use Rattle.wast_types.proofs.Adding.{less_runs_out, adds_none, adds_both, count_then, more_then, first_after}
 
@@ -19,7 +18,7 @@ pub record IsHalfway {X : Type 0} (needed : X → List Signature) (bound : LookU
   pub len : length nows ≡ length olds
   pub left : drop i nows ≡ drop i olds
   pub adds : AddsTypes a b (flat_map needed (take i olds))
-  pub become : (more : BoundSignatures) → take i nows ≡ map (bound (with_more (index_of b.cx) more)) (take i olds)
+  pub become : (more : BoundSignatures) → take i nows ≡ map (bound (found_in b.cx more)) (take i olds)
 
 module _ {X : Type 0} {needed : X → List Signature} {bound : LookUp → X → X} {olds nows : List X} {i : ℕ} {a b : Binder} (h : IsHalfway needed bound olds nows i a b) where
   same_item : (d : X) → i < length nows → drop i olds ≡ get_or nows i d ∷ drop (suc i) olds
@@ -48,7 +47,7 @@ module _ {X : Type 0} {needed : X → List Signature} {bound : LookUp → X → 
         ∙ (ap (λ zs. flat_map needed (take i olds) ++ flat_map needed zs) rest ∙ sym (append_assoc (flat_map needed (take i olds)) (needed x) (flat_map needed (drop (suc i) olds)))))
 
     -- one part more
-    pub goes_on : {y : X} {c : Binder} → AddsTypes b c (needed x) → ((more : BoundSignatures) → y ≡ bound (with_more (index_of c.cx) more) x) → IsHalfway needed bound olds (set nows i y) (i + 1) a c
+    pub goes_on : {y : X} {c : Binder} → AddsTypes b c (needed x) → ((more : BoundSignatures) → y ≡ bound (found_in c.cx more) x) → IsHalfway needed bound olds (set nows i y) (i + 1) a c
     goes_on {y} {c} k new =
         let lt2 : i < length nows = omega (arith, h.len) in
         record {
@@ -56,8 +55,8 @@ module _ {X : Type 0} {needed : X → List Signature} {bound : LookUp → X → 
           left = drop-set-lt (i + 1) nows i y (omega arith) ∙ rw (← drop-drop 1 i nows, ← drop-drop 1 i olds) (ap (drop 1) h.left);
           adds = subst (λ ss. AddsTypes a c ss) (sym needed_more) (adds_both h.adds k);
           become = λ more.
-              let find : LookUp = with_more (index_of c.cx) more in
-              let before : take i nows ≡ map (bound find) (take i olds) = h.become (bindings (new_types b (needed x)) ++ more) ∙ ap (λ (f : LookUp). map (bound f) (take i olds)) (sym (more_then k more)) in
+              let find : LookUp = found_in c.cx more in
+              let before : take i nows ≡ map (bound find) (take i olds) = h.become (new_bindings b (needed x) ++ more) ∙ ap (λ (f : LookUp). map (bound f) (take i olds)) (sym (more_then k more)) in
               take_more_set nows i y lt2 ∙ (ap (λ zs. zs ++ y ∷ []) before ∙ (ap (λ z. map (bound find) (take i olds) ++ z ∷ []) (new more) ∙ (sym (map-append (bound find) (take i olds) (x ∷ [])) ∙ ap (map (bound find)) (sym more_taken))));
         }
 

@@ -4,20 +4,23 @@ use mathlib.Core.Path.{fun_ext}
 use Rattle.std.proofs.Math.Bool.{or_assoc}
 use Rattle.std.specs.List.{list_all, list_any}
 use Rattle.std.proofs.lemmas.List.Concat.{flat_map-append}
+use Rattle.std.proofs.lemmas.List.Folds.{list_all-map}
 use Rattle.wast_nodes.specs.Sites.{in_field, in_module}
 use Rattle.wast_types.specs.Tree.{ModuleField}
 use Rattle.wast_types.specs.Signatures.{Signature, same_signature}
 use Rattle.wast_types.specs.SignatureLaws.{signatures_equiv}
 use Rattle.wast_types.specs.NeedingUses.{needed_in, needed}
-use Rattle.wast_types.specs.ImpliedTypes.{written_signatures, is_among, first_new, implied, are_distinct}
+use Rattle.wast_types.specs.Numbers.{TypeNames, type_names, numbered_signature}
+use Rattle.wast_types.specs.ImpliedTypes.{eligible_signatures, needed_numbers, is_among, first_new, implied, are_distinct}
 use Rattle.wast_base.specs.Filling.{filled, wanted}
 use Rattle.wast_types.specs.Expanders.{index_of}
-use Rattle.wast_types.specs.Expanded.{lacks_id, with_type_id, implied_type, implied_types, typed, bindings_in, bindings}
+use Rattle.wast_types.specs.Expanded.{lacks_id, with_type_id, implied_type, implied_types, typed, bindings_in, bindings, found_for}
 use Rattle.wast_types.specs.Laws.{UsesAreBound, ImpliedAreNew, ImpliedAreDistinct}
 use Rattle.wast_types.proofs.Adding.{lookup-append, known_after}
 use Rattle.wast_types.proofs.Needing.{needed_both, ty_none, made_type}
 use Rattle.wast_types.proofs.Staying.{fields_bound}
-use Rattle.wast_types.proofs.Expanding.{needed_filled, written_known}
+use Rattle.wast_types.proofs.Expanding.{needed_filled, eligible_known}
+use Rattle.wast_types.proofs.NumberedTypes.{implied_are_numbered}
 
 -- Each signature is known, or new once.
 known_or_new : (known : Signature → Bool) (ss : List Signature) → list_all (λ t. known t || is_among (first_new known ss) t) ss ≡ true
@@ -55,7 +58,7 @@ none_known known (s ∷ ss) = new_case (known s) known s ss refl (none_known kno
     new_case false known s ss k p q = ap (λ b. b || list_any known (first_new (λ t. known t || same_signature t s) ss)) k ∙ q
 
 pub implied_are_new : ImpliedAreNew
-implied_are_new fields = none_known (is_among (written_signatures fields)) (needed fields)
+implied_are_new fields = none_known (is_among (eligible_signatures fields)) (needed_numbers fields)
 
 -- each is new once
 any_second : (p q : Signature → Bool) (ss : List Signature) → list_any (λ t. p t || q t) ss ≡ false → list_any q ss ≡ false
@@ -80,16 +83,17 @@ all_distinct known (s ∷ ss) =
     new_case false known s ss p q r = ap (λ b. not b && are_distinct (first_new (λ t. known t || same_signature t s) ss)) q ∙ r
 
 pub implied_are_distinct : ImpliedAreDistinct
-implied_are_distinct fields = all_distinct (is_among (written_signatures fields)) (needed fields)
+implied_are_distinct fields = all_distinct (is_among (eligible_signatures fields)) (needed_numbers fields)
 
 -- what is found among all types
-known_typed : (n : ℕ) (fields : List ModuleField) (s : Signature) → is_some (index_of (bindings (typed n fields)) s) ≡ (is_among (written_signatures fields) s || is_among (implied fields) s)
+known_typed : (n : ℕ) (fields : List ModuleField) (s : Signature) → is_some (index_of (bindings (type_names fields) (typed n fields)) s) ≡ (is_among (eligible_signatures fields) s || is_among (implied fields) s)
 known_typed n fields s =
+    let k : TypeNames = type_names fields in
     let named : List ModuleField = filled lacks_id with_type_id n fields in
     let m : ℕ = n + wanted lacks_id fields in
-    ap (λ bs. is_some (index_of bs s)) (flat_map-append bindings_in named (implied_types m (implied fields)))
-    ∙ (ap is_some (lookup-append (same_signature s) (bindings named) (bindings (implied_types m (implied fields))))
-    ∙ (known_after (index_of (bindings named)) m (implied fields) s ∙ ap (λ b. b || is_among (implied fields) s) (written_known n fields s)))
+    ap (λ bs. is_some (index_of bs s)) (flat_map-append (bindings_in k) named (implied_types m (implied fields)))
+    ∙ (ap is_some (lookup-append (same_signature s) (bindings k named) (bindings k (implied_types m (implied fields))))
+    ∙ (known_after (index_of (bindings k named)) k m (implied fields) (implied_are_numbered fields) s ∙ ap (λ b. b || is_among (implied fields) s) (eligible_known k n fields s)))
 
 needed_implied : (n : ℕ) (ss : List Signature) → needed (implied_types n ss) ≡ []
 needed_implied n [] = refl
@@ -103,10 +107,11 @@ needed_typed n fields =
     ∙ (ap (λ ss. ss ++ needed new) (needed_filled n fields)
     ∙ (ap (λ ss. needed fields ++ ss) (needed_implied (n + wanted lacks_id fields) (implied fields)) ∙ append-nil (needed fields))))
 
-all_found : (n : ℕ) (fields : List ModuleField) → list_all (λ s. is_some (index_of (bindings (typed n fields)) s)) (needed (typed n fields)) ≡ true
+all_found : (n : ℕ) (fields : List ModuleField) → list_all (λ s. is_some (found_for fields n s)) (needed (typed n fields)) ≡ true
 all_found n fields =
-    ap (list_all (λ s. is_some (index_of (bindings (typed n fields)) s))) (needed_typed n fields)
-    ∙ (ap (λ (f : Signature → Bool). list_all f (needed fields)) (fun_ext (known_typed n fields)) ∙ known_or_new (is_among (written_signatures fields)) (needed fields))
+    ap (list_all (λ s. is_some (found_for fields n s))) (needed_typed n fields)
+    ∙ (sym (list_all-map (λ s. is_some (index_of (bindings (type_names fields) (typed n fields)) s)) (numbered_signature (type_names fields)) (needed fields))
+    ∙ (ap (λ (f : Signature → Bool). list_all f (needed_numbers fields)) (fun_ext (known_typed n fields)) ∙ known_or_new (is_among (eligible_signatures fields)) (needed_numbers fields)))
 
 pub uses_are_bound : UsesAreBound
-uses_are_bound n fields = fields_bound (index_of (bindings (typed n fields))) (typed n fields) (all_found n fields)
+uses_are_bound n fields = fields_bound (found_for fields n) (typed n fields) (all_found n fields)

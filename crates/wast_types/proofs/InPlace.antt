@@ -8,8 +8,7 @@ use Rattle.wast_types.specs.Signatures.{Signature}
 use Rattle.wast_types.specs.ImpliedTypes.{implied}
 use Rattle.wast_base.specs.Filling.{one_if, given_if, filled, wanted}
 use Rattle.wast_map.proofs.Alone.{written_alone}
-use Rattle.wast_types.specs.Expanders.{index_of}
-use Rattle.wast_types.specs.Expanded.{lacks_id, with_type_id, implied_types, typed, bindings, binding}
+use Rattle.wast_types.specs.Expanded.{lacks_id, with_type_id, implied_types, typed, found_for, binding}
 use Rattle.wast_types.specs.Laws.{StaysWrittenOut}
 
 written_given : (b : Bool) (n : ℕ) (x : ModuleField) → is_written_field (given_if b with_type_id n x) ≡ is_written_field x
@@ -35,6 +34,6 @@ pub stays_written_out : StaysWrittenOut
 stays_written_out n fields =
     let m : ℕ = n + wanted lacks_id fields in
     let named : List ModuleField = filled lacks_id with_type_id n fields in
-    written_alone (binding (index_of (bindings (typed n fields)))) (typed n fields)
+    written_alone (binding (found_for fields n)) (typed n fields)
     ∙ (list_all-append is_written_field named (implied_types m (implied fields))
     ∙ (ap (λ b. is_written_out named && b) (written_implied m (implied fields)) ∙ (and_true (is_written_out named) ∙ written_filled n fields)))

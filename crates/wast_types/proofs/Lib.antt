@@ -1,4 +1,6 @@
 pub mod Needing
+pub mod NumberedTypes
+pub mod TypeItems
 pub mod InConstants
 pub mod Staying
 pub mod Bound

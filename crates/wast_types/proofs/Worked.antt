@@ -1,6 +1,6 @@
 -- What the definitions say of worked modules, computed.
 use Rattle.std.proofs.Common.{refl}
-use Rattle.wast_types.specs.WorkedExpansions.{SameSignatures, OrderedSignatures, DistinctSignatures, SameReferences, Row2, Row7, Row8, Row23, Row37, Several, AfterStruct, ByIdAndNumber, FirstOfTwo, UsesInOrder, IndirectCalls}
+use Rattle.wast_types.specs.WorkedExpansions.{SameSignatures, OrderedSignatures, DistinctSignatures, SameReferences, Row2, Row7, Row8, Row23, Row37, EligibleTypes, Several, AfterStruct, ByIdAndNumber, Row65, UnknownIds, FirstOfTwo, UsesInOrder, IndirectCalls}
 
 pub same_signatures : SameSignatures
 same_signatures = (refl, refl, refl, refl, refl)
@@ -29,6 +29,9 @@ row23 = (refl, refl, refl, refl, refl, refl)
 pub row37 : Row37
 row37 = (refl, refl, refl)
 
+pub eligible_types : EligibleTypes
+eligible_types = ((refl, refl), (refl, refl), (refl, refl), (refl, refl), (refl, refl), (refl, refl))
+
 pub several : Several
 several a = (refl, refl, refl, refl, refl, refl, refl, refl)
 
@@ -36,7 +39,13 @@ pub after_struct : AfterStruct
 after_struct = (refl, refl, refl, refl)
 
 pub by_id_and_number : ByIdAndNumber
-by_id_and_number a b c = (refl, refl, refl, refl, refl)
+by_id_and_number a b c = (refl, refl, refl, refl, refl, refl)
+
+pub row65 : Row65
+row65 a b = (refl, refl, refl)
+
+pub unknown_ids : UnknownIds
+unknown_ids a b c = (refl, refl, refl, refl)
 
 pub first_of_two : FirstOfTwo
 first_of_two a b = (refl, refl)

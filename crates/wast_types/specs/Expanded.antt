@@ -1,8 +1,9 @@
 -- The list of fields in which each type that is a field of its own has an id, and each type use that needs a type an index
 -- (text format, type uses: abbreviations).
-use Rattle.std.specs.Prelude.{ℕ, ◌+◌, is_none, length, Bool, true, false, List, [], ◌∷◌, ◌++◌, map, flat_map, Option, Some, None}
-use Rattle.wast_types.specs.Tree.{Span, Id, Index, NameAnnotation, ValType, FunctionType, TypeUse, InnerTypeKind, TypeDef, ModuleField}
+use Rattle.std.specs.Prelude.{◌≡◌, ℕ, ◌+◌, ◌≤◌, ◌^◌, ◌⊎◌, is_none, length, Bool, true, false, List, [], ◌∷◌, ◌++◌, map, flat_map, Option, Some, None}
+use Rattle.wast_types.specs.Tree.{Span, Id, Index, NameAnnotation, ValType, FunctionType, TypeUse, TypeDef, ModuleField}
 use Rattle.wast_types.specs.Tree.index
+use Rattle.wast_types.specs.Tree.space
 use Rattle.wast_types.specs.Tree.inner
 use Rattle.wast_types.specs.Tree.ty
 use Rattle.wast_types.specs.Tree.field
@@ -10,10 +11,16 @@ use Rattle.wast_base.specs.Ids.{generated}
 use Rattle.wast_nodes.specs.Sites.{Where, OfItem, OfCall, OfBlock, if_there}
 use Rattle.wast_nodes.specs.Types.{lone_type}
 use Rattle.wast_map.specs.Mapped.{Change, mapped}
-use Rattle.wast_types.specs.Signatures.{Signature, signature_of}
+use Rattle.wast_types.specs.Signatures.{Signature}
 use Rattle.wast_types.specs.NeedingUses.{inline_signature, needs_type}
+use Rattle.wast_types.specs.Numbers.{TypeNames, type_names, numbered_signature}
+use Rattle.wast_types.specs.EligibleTypes.{taken_by}
 use Rattle.wast_types.specs.ImpliedTypes.{implied}
-use Rattle.wast_base.specs.Filling.{filled, wanted}
+use Rattle.wast_base.specs.declared.faults.Error.{Error}
+use Rattle.wast_base.specs.Faults.{too_large}
+use Rattle.wast_base.specs.Filling.{filled, wanted, RunsOut}
+use Rattle.wast_nodes.specs.Items.{items}
+use Rattle.wast_nodes.specs.Known.{names_in}
 use Rattle.wast_types.specs.Expanders.{BoundSignatures, LookUp, index_of}
 
 -- A type that has no id wants one, but no member of a group.
@@ -66,21 +73,23 @@ implied_types n (s ∷ ss) = implied_type n s ∷ implied_types (n + 1) ss
 abbrev pub typed : ℕ → List ModuleField → List ModuleField
 typed n fields = filled lacks_id with_type_id n fields ++ implied_types (n + wanted lacks_id fields) (implied fields)
 
--- the function types, by their ids
-abbrev pub binding_of : InnerTypeKind → Option Id → BoundSignatures
-binding_of (inner.Func t) None = []
-binding_of (inner.Func t) (Some id) = (signature_of t, index.Id id) ∷ []
-binding_of (inner.Struct t) id = []
-binding_of (inner.Array t) id = []
-binding_of (inner.Cont t) id = []
+-- what a use takes, bound to the id of its type
+abbrev pub binding_of : Option Signature → Option Id → BoundSignatures
+binding_of None id = []
+binding_of (Some s) None = []
+binding_of (Some s) (Some id) = (s, index.Id id) ∷ []
 
--- what a field binds: a function type of its own, to its id
-abbrev pub bindings_in : ModuleField → BoundSignatures
-bindings_in x = if_there (λ (t : ty.«Type»). binding_of t.def.kind t.id) (lone_type x)
+-- what a field binds: what a use takes of a type of its own, to its id
+abbrev pub bindings_in : TypeNames → ModuleField → BoundSignatures
+bindings_in k x = if_there (λ (t : ty.«Type»). binding_of (taken_by k t.def) t.id) (lone_type x)
 
 -- what all fields bind
-abbrev pub bindings : List ModuleField → BoundSignatures
-bindings fields = flat_map bindings_in fields
+abbrev pub bindings : TypeNames → List ModuleField → BoundSignatures
+bindings k fields = flat_map (bindings_in k) fields
+
+-- what a signature is bound to, in the numbers of the written types
+abbrev pub found_for : List ModuleField → ℕ → LookUp
+found_for fields n s = index_of (bindings (type_names fields) (typed n fields)) (numbered_signature (type_names fields) s)
 
 -- what is bound, where a type is needed
 abbrev pub bound_if : Bool → Option Index → Option Index
@@ -118,8 +127,16 @@ bound_field find x = mapped (binding find) x
 
 -- The list that expansion gives, from a counter.
 abbrev pub expanded : ℕ → List ModuleField → List ModuleField
-expanded n fields = map (bound_field (index_of (bindings (typed n fields)))) (typed n fields)
+expanded n fields = map (bound_field (found_for fields n)) (typed n fields)
 
 -- how many ids it takes
 abbrev pub ids_wanted : List ModuleField → ℕ
 ids_wanted fields = wanted lacks_id fields + length (implied fields)
+
+-- There are 2^32 written types or more, members of groups included.
+abbrev pub HasManyTypes : List ModuleField → Type 0
+HasManyTypes fields = 2 ^ 32 ≤ length (names_in space.Ty (items fields))
+
+-- Why expansion stops, from a counter: the ids run out, or memory is refused; or there are too many types to be numbered.
+abbrev pub StopsExpanding : ℕ → List ModuleField → Error → Type 0
+StopsExpanding n fields e = RunsOut (n + ids_wanted fields) e ⊎ ((e ≡ too_large) × HasManyTypes fields)

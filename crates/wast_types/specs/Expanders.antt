@@ -1,9 +1,11 @@
--- What signatures are bound to. An `Expander` is seen as such a list, in any order.
-use Rattle.std.specs.Prelude.{◌≡◌, List, Option, Some}
+-- What signatures are bound to. An `Expander` is seen as such a list, in any order, with what names of types denote.
+use Rattle.std.specs.Prelude.{◌≡◌, List, [], Option, Some}
 use Rattle.std.specs.Option.{option_or}
 use Rattle.std.specs.Map.{lookup}
 use Rattle.wast_types.specs.Tree.{Index}
+use Rattle.wast_namespace.specs.Namespaces.{NameSpace, empty_from, number_in}
 use Rattle.wast_types.specs.Signatures.{Signature, same_signature}
+use Rattle.wast_types.specs.Numbers.{TypeNames, numbered_signature}
 
 -- signatures, each with the index of a type
 abbrev pub BoundSignatures : Type 0
@@ -28,3 +30,20 @@ Extends old new more = (s : Signature) → index_of new s ≡ with_more (index_o
 -- what is bound stays so
 abbrev pub Keeps : BoundSignatures → BoundSignatures → Type 0
 Keeps old new = (s : Signature) (i : Index) → index_of old s ≡ Some i → index_of new s ≡ Some i
+
+-- what signatures are bound to, and what names of types denote
+pub record Bound : Type 0 where
+  pub names : NameSpace
+  pub bound : BoundSignatures
+
+-- Nothing is bound, and no type has a name.
+abbrev pub nothing_bound : Bound
+nothing_bound = record { names = empty_from 0; bound = [] }
+
+-- what names of types denote
+abbrev pub numbers_in : Bound → TypeNames
+numbers_in cx name = number_in cx.names name
+
+-- what is found of a signature, in the numbers of the written types, where more is bound
+abbrev pub found_in : Bound → BoundSignatures → LookUp
+found_in cx more s = with_more (index_of cx.bound) more (numbered_signature (numbers_in cx) s)

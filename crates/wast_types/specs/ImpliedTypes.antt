@@ -1,28 +1,26 @@
 -- The types that no text defines, but that type uses need (text format, type uses: abbreviations).
-use Rattle.std.specs.Prelude.{Bool, true, not, ◌&&◌, ◌||◌, if◌then◌else◌, List, [], ◌∷◌, flat_map}
+use Rattle.std.specs.Prelude.{Bool, true, not, ◌&&◌, ◌||◌, if◌then◌else◌, List, [], ◌∷◌, map, flat_map}
 use Rattle.std.specs.List.{list_any}
-use Rattle.wast_types.specs.Tree.{InnerTypeKind, ModuleField}
-use Rattle.wast_types.specs.Tree.inner
+use Rattle.wast_types.specs.Tree.{ModuleField}
 use Rattle.wast_types.specs.Tree.ty
 use Rattle.wast_nodes.specs.Sites.{if_there}
 use Rattle.wast_nodes.specs.Types.{lone_type}
-use Rattle.wast_types.specs.Signatures.{Signature, signature_of, same_signature}
+use Rattle.wast_types.specs.Signatures.{Signature, same_signature}
 use Rattle.wast_types.specs.NeedingUses.{needed}
+use Rattle.wast_types.specs.Numbers.{TypeNames, type_names, numbered_signature}
+use Rattle.wast_types.specs.EligibleTypes.{taken_by}
 
--- the signature of a type, where it is a function type
-abbrev pub written_kind : InnerTypeKind → List Signature
-written_kind (inner.Func t) = signature_of t ∷ []
-written_kind (inner.Struct t) = []
-written_kind (inner.Array t) = []
-written_kind (inner.Cont t) = []
+-- what a use may take of a field: a member of a group is no field of its own
+abbrev pub eligible_in : TypeNames → ModuleField → List Signature
+eligible_in k x = if_there (λ (t : ty.«Type»). if_there (λ s. s ∷ []) (taken_by k t.def)) (lone_type x)
 
--- a member of a group is no field of its own
-abbrev pub written_in : ModuleField → List Signature
-written_in x = if_there (λ (t : ty.«Type»). written_kind t.def.kind) (lone_type x)
+-- the signatures of the eligible types, in the numbers of the written types
+abbrev pub eligible_signatures : List ModuleField → List Signature
+eligible_signatures fields = flat_map (eligible_in (type_names fields)) fields
 
--- the signatures of the function types that are fields of their own
-abbrev pub written_signatures : List ModuleField → List Signature
-written_signatures fields = flat_map written_in fields
+-- what uses need, in these numbers
+abbrev pub needed_numbers : List ModuleField → List Signature
+needed_numbers fields = map (numbered_signature (type_names fields)) (needed fields)
 
 -- whether one of these is the signature
 abbrev pub is_among : List Signature → Signature → Bool
@@ -33,9 +31,9 @@ abbrev pub first_new : (Signature → Bool) → List Signature → List Signatur
 first_new known [] = []
 first_new known (s ∷ ss) = if known s then first_new known ss else (s ∷ first_new (λ t. known t || same_signature t s) ss)
 
--- The signatures of the implied types: needed, and not written.
+-- The signatures of the implied types: needed, and of no eligible type.
 abbrev pub implied : List ModuleField → List Signature
-implied fields = first_new (is_among (written_signatures fields)) (needed fields)
+implied fields = first_new (is_among (eligible_signatures fields)) (needed_numbers fields)
 
 -- whether none has the signature of one before it
 abbrev pub are_distinct : List Signature → Bool

@@ -1,14 +1,14 @@
 -- What holds of each list that is expanded (text format, type uses: abbreviations).
-use Rattle.std.specs.Prelude.{◌≡◌, ℕ, false, List, [], flat_map, IsTrue}
+use Rattle.std.specs.Prelude.{◌≡◌, ℕ, false, List, [], map, flat_map, IsTrue}
 use Rattle.std.specs.List.{list_any}
 use Rattle.wast_nodes.specs.WrittenOut.{is_written_out}
 use Rattle.wast_types.specs.Tree.{ModuleField}
 use Rattle.wast_types.specs.Signatures.{Signature}
 use Rattle.wast_types.specs.NeedingUses.{needed}
-use Rattle.wast_types.specs.ImpliedTypes.{written_signatures, is_among, implied, are_distinct}
+use Rattle.wast_types.specs.Numbers.{type_names, numbered_signature}
+use Rattle.wast_types.specs.ImpliedTypes.{eligible_signatures, is_among, implied, are_distinct}
 use Rattle.wast_types.specs.TypeSpace.{types_in, type_space, index_for, type_ids, index_by_id_at}
-use Rattle.wast_types.specs.Expanders.{index_of}
-use Rattle.wast_types.specs.Expanded.{typed, bindings, expanded, ids_wanted}
+use Rattle.wast_types.specs.Expanded.{typed, found_for, expanded, ids_wanted}
 
 -- Each use that needs a type has an index.
 abbrev pub UsesAreBound : Type 0
@@ -16,15 +16,19 @@ UsesAreBound = (n : ℕ) (fields : List ModuleField) → needed (expanded n fiel
 
 -- The types that stand in the expanded list are those of the type space, in its order.
 abbrev pub TypesAreTheSpace : Type 0
-TypesAreTheSpace = (n : ℕ) (fields : List ModuleField) → flat_map types_in (expanded n fields) ≡ type_space fields
+TypesAreTheSpace = (n : ℕ) (fields : List ModuleField) → flat_map (types_in (type_names fields)) (expanded n fields) ≡ type_space fields
 
 -- A signature is bound to the id of the type at its index in the type space.
 abbrev pub TakesTheTypeAtItsIndex : Type 0
-TakesTheTypeAtItsIndex = (n : ℕ) (fields : List ModuleField) (s : Signature) → index_of (bindings (typed n fields)) s ≡ index_by_id_at (index_for fields s) (type_ids (typed n fields))
+TakesTheTypeAtItsIndex = (n : ℕ) (fields : List ModuleField) (s : Signature) → found_for fields n s ≡ index_by_id_at (index_for fields s) (type_ids (typed n fields))
 
--- No implied type has the signature of a written one.
+-- The signatures of implied types are in the numbers of the written types.
+abbrev pub ImpliedAreNumbered : Type 0
+ImpliedAreNumbered = (fields : List ModuleField) → map (numbered_signature (type_names fields)) (implied fields) ≡ implied fields
+
+-- No implied type has the signature of an eligible one.
 abbrev pub ImpliedAreNew : Type 0
-ImpliedAreNew = (fields : List ModuleField) → list_any (is_among (written_signatures fields)) (implied fields) ≡ false
+ImpliedAreNew = (fields : List ModuleField) → list_any (is_among (eligible_signatures fields)) (implied fields) ≡ false
 
 -- No implied type has the signature of another implied type.
 abbrev pub ImpliedAreDistinct : Type 0

@@ -4,8 +4,11 @@ pub mod Signatures
 pub mod SignatureLaws
 pub mod SignatureOrder
 pub mod NeedingUses
+pub mod Numbers
+pub mod EligibleTypes
 pub mod ImpliedTypes
 pub mod TypeSpace
+pub mod TypeItems
 pub mod Expanders
 pub mod Hashed
 pub mod Expanded

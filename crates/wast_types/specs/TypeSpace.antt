@@ -1,38 +1,32 @@
 -- The type space: the written types, and then the implied ones (text format: indices, type uses).
 use Rattle.std.specs.Prelude.{ℕ, Bool, false, List, [], ◌∷◌, ◌++◌, map, flat_map, Option, Some, None, position, slice_get}
-use Rattle.wast_types.specs.Tree.{Id, Index, InnerTypeKind, ModuleField}
+use Rattle.wast_types.specs.Tree.{Id, Index, ModuleField}
 use Rattle.wast_types.specs.Tree.index
-use Rattle.wast_types.specs.Tree.inner
 use Rattle.wast_types.specs.Tree.ty
 use Rattle.wast_types.specs.Tree.field
 use Rattle.wast_nodes.specs.Types.{types_of}
-use Rattle.wast_types.specs.Signatures.{Signature, signature_of, same_signature}
+use Rattle.wast_types.specs.Signatures.{Signature, same_signature}
+use Rattle.wast_types.specs.Numbers.{TypeNames, type_names, numbered_signature}
+use Rattle.wast_types.specs.EligibleTypes.{taken_by}
 use Rattle.wast_types.specs.ImpliedTypes.{implied}
 
--- the signature of a type, where it is a function type; of a field of its own it is what a use may take
-abbrev pub taken_kind : InnerTypeKind → Option Signature
-taken_kind (inner.Func t) = Some (signature_of t)
-taken_kind (inner.Struct t) = None
-taken_kind (inner.Array t) = None
-taken_kind (inner.Cont t) = None
+-- what a use takes of each type of a field; the members of a group stand one by one, and none takes them
+abbrev pub types_in : TypeNames → ModuleField → List (Option Signature)
+types_in k (field.Ty t) = taken_by k t.def ∷ []
+types_in k x = map (λ t. None) (types_of x)
 
--- the members of a group stand one by one, and no use takes them
-abbrev pub types_in : ModuleField → List (Option Signature)
-types_in (field.Ty t) = taken_kind t.def.kind ∷ []
-types_in x = map (λ t. None) (types_of x)
-
--- the signatures of all types, by their positions
+-- what a use takes of each type, by their positions
 abbrev pub type_space : List ModuleField → List (Option Signature)
-type_space fields = flat_map types_in fields ++ map Some (implied fields)
+type_space fields = flat_map (types_in (type_names fields)) fields ++ map Some (implied fields)
 
 -- whether a type is one of functions with this signature
 abbrev pub has_signature : Signature → Option Signature → Bool
 has_signature s None = false
 has_signature s (Some t) = same_signature s t
 
--- the index of the type of a use that needs one: the least that has its signature
+-- the index of the type of a use that needs one: the least that has its signature, in the numbers of the written types
 abbrev pub index_for : List ModuleField → Signature → Option ℕ
-index_for fields s = position (has_signature s) (type_space fields)
+index_for fields s = position (has_signature (numbered_signature (type_names fields) s)) (type_space fields)
 
 -- the id that stands at an index of a list of types
 abbrev pub ids_in : ModuleField → List (Option Id)

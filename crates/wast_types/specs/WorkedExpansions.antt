@@ -1,7 +1,7 @@
 -- What the definitions say of worked modules (text format, type uses: abbreviations). Texts of names may lie anywhere.
 use Rattle.std.specs.Prelude.{◌≡◌, ℕ, ◌+◌, true, false, List, [], ◌∷◌, ◌++◌, map, Bool, Option, Some, None, codes}
 use Rattle.std.specs.declared.cmp.Ordering.TheVariants.{Less, Equal, Greater}
-use Rattle.wast_types.specs.Tree.{Id, Index, AbstractHeapType, ValType, FunctionType, Expression, ModuleField}
+use Rattle.wast_types.specs.Tree.{Id, Index, AbstractHeapType, ValType, FunctionType, TypeDef, Expression, ModuleField}
 use Rattle.wast_types.specs.Tree.index
 use Rattle.wast_types.specs.Tree.abstract
 use Rattle.wast_types.specs.Tree.heap
@@ -20,7 +20,7 @@ use Rattle.wast_nodes.specs.WorkedModules.{Address, text, place, id_at, by_id, b
 use Rattle.wast_types.specs.Signatures.{Signature, empty_signature, same_value, same_signature}
 use Rattle.wast_types.specs.SignatureOrder.{signature_cmp}
 use Rattle.wast_types.specs.NeedingUses.{needed}
-use Rattle.wast_types.specs.ImpliedTypes.{implied, are_distinct}
+use Rattle.wast_types.specs.ImpliedTypes.{needed_numbers, implied, are_distinct}
 use Rattle.wast_types.specs.TypeSpace.{index_for}
 use Rattle.wast_types.specs.Expanded.{unnamed_type, implied_type, implied_types, expanded, ids_wanted}
 use Rattle.wast_types.specs.Completed.{completed}
@@ -162,15 +162,34 @@ Row23 =
     × (ids_wanted (row23_with None) ≡ 1)
     × (expanded 5 (row23_with None) ≡ row23_with (Some (generated 5 (place 9))))
 
--- `(module (type (sub (func))) (func))`: an open type is taken.
+-- `(module (type (sub (func))) (func))`: an open type is not taken.
+abbrev pub lone_with : TypeDef → Option Id → Option Index → List ModuleField
+lone_with def id type = field.Ty (record (plain_type id 8) { def = def }) ∷ func_at 28 type None ∷ []
+
 abbrev pub row37_with : Option Id → Option Index → List ModuleField
-row37_with id type = field.Ty (record (plain_type id 8) { def = record plain_def { final_type = Some false } }) ∷ func_at 28 type None ∷ []
+row37_with id type = lone_with (record plain_def { final_type = Some false }) id type
 
 abbrev pub Row37 : Type 0
 Row37 =
-    (implied (row37_with None None) ≡ [])
-    × (index_for (row37_with None None) empty_signature ≡ Some 0)
-    × (expanded 5 (row37_with None None) ≡ row37_with (Some (generated 5 (place 9))) (Some (index.Id (generated 5 (place 9)))))
+    (implied (row37_with None None) ≡ empty_signature ∷ [])
+    × (index_for (row37_with None None) empty_signature ≡ Some 1)
+    × (expanded 5 (row37_with None None) ≡ row37_with (Some (generated 5 (place 9))) (Some (by_made 6)) ++ implied_type 6 empty_signature ∷ [])
+
+-- A type that says that it is final is taken; none with parents is, nor a shared one, nor one with a descriptor or describes.
+abbrev pub IsTaken : TypeDef → Type 0
+IsTaken def = (implied (lone_with def None None) ≡ []) × (index_for (lone_with def None None) empty_signature ≡ Some 0)
+
+abbrev pub IsLeft : TypeDef → Type 0
+IsLeft def = (implied (lone_with def None None) ≡ empty_signature ∷ []) × (index_for (lone_with def None None) empty_signature ≡ Some 1)
+
+abbrev pub EligibleTypes : Type 0
+EligibleTypes =
+    IsTaken plain_def
+    × IsTaken (record plain_def { final_type = Some true })
+    × IsLeft (record plain_def { final_type = Some true; parents = by_number 1 20 ∷ [] })
+    × IsLeft (record plain_def { shared = true })
+    × IsLeft (record plain_def { descriptor = Some (by_number 1 20) })
+    × IsLeft (record plain_def { describes = Some (by_number 1 20) })
 
 -- `(module (func (param $p i32)) (func (result i32)) (type (func)) (func (param i32)))`: a type for each signature, in the
 -- order of first use and behind those that are written; names of parameters do not count.
@@ -210,27 +229,54 @@ AfterStruct =
     × (expanded 5 (after_struct_with None None None)
     ≡ after_struct_with (Some (generated 5 (place 9))) (Some (generated 6 (place 25))) (Some (index.Id (generated 6 (place 25)))))
 
--- `(module (type $t (func)) (func (param (ref $t))) (func (param (ref 0))))`: an id and a number differ, and each has a type.
+-- `(module (type $t (func)) (func (param (ref $t))) (func (param (ref 0))))`: the id and the number of one type are one, and
+-- one type is implied for both, with the number at the place of the id.
 abbrev pub takes_ref : Index → FunctionType
 takes_ref i = function_type (ref_to i ∷ []) []
 
-abbrev pub by_id_and_number_with : (a b : Address) → Option Index → Option Index → List ModuleField
-by_id_and_number_with a b first second =
+abbrev pub by_id_and_number_with : (a b : Address) → Option Index → List ModuleField
+by_id_and_number_with a b type =
     type_at (Some (id_at a (codes "t") 14)) 8 (function_type [] [])
-    ∷ func_at 25 first (Some (takes_ref (by_id b (codes "t") 43))) ∷ func_at 49 second (Some (takes_ref (by_number 0 67))) ∷ []
+    ∷ func_at 25 type (Some (takes_ref (by_id b (codes "t") 43))) ∷ func_at 49 type (Some (takes_ref (by_number 0 67))) ∷ []
 
 abbrev pub by_ref : Index → Signature
 by_ref i = (ref_to i ∷ [], [])
 
 abbrev pub ByIdAndNumber : Type 0
 ByIdAndNumber = (a b c : Address) →
-    (implied (by_id_and_number_with a b None None) ≡ by_ref (by_id b (codes "t") 43) ∷ by_ref (by_number 0 67) ∷ [])
-    × (index_for (by_id_and_number_with a b None None) (by_ref (by_id c (codes "t") 90)) ≡ Some 1)
-    × (index_for (by_id_and_number_with a b None None) (by_ref (by_number 0 90)) ≡ Some 2)
-    × (ids_wanted (by_id_and_number_with a b None None) ≡ 2)
-    × (expanded 5 (by_id_and_number_with a b None None)
-    ≡ by_id_and_number_with a b (Some (by_made 5)) (Some (by_made 6))
-    ++ (implied_type 5 (by_ref (by_id b (codes "t") 43)) ∷ implied_type 6 (by_ref (by_number 0 67)) ∷ []))
+    (needed_numbers (by_id_and_number_with a b None) ≡ by_ref (by_number 0 43) ∷ by_ref (by_number 0 67) ∷ [])
+    × (implied (by_id_and_number_with a b None) ≡ by_ref (by_number 0 43) ∷ [])
+    × (index_for (by_id_and_number_with a b None) (by_ref (by_id c (codes "t") 90)) ≡ Some 1)
+    × (index_for (by_id_and_number_with a b None) (by_ref (by_number 0 90)) ≡ Some 1)
+    × (ids_wanted (by_id_and_number_with a b None) ≡ 1)
+    × (expanded 5 (by_id_and_number_with a b None) ≡ by_id_and_number_with a b (Some (by_made 5)) ++ implied_type 5 (by_ref (by_number 0 43)) ∷ [])
+
+-- `(module (type $a (func)) (type (func (param (ref $a)))) (func (param (ref 0))))`: a type with the id is taken for the number.
+abbrev pub row65_with : (a b : Address) → Option Id → Option Index → List ModuleField
+row65_with a b id type =
+    type_at (Some (id_at a (codes "a") 14)) 8 (function_type [] [])
+    ∷ type_at id 25 (takes_ref (by_id b (codes "a") 49)) ∷ func_at 56 type (Some (takes_ref (by_number 0 74))) ∷ []
+
+abbrev pub Row65 : Type 0
+Row65 = (a b : Address) →
+    (implied (row65_with a b None None) ≡ [])
+    × (index_for (row65_with a b None None) (by_ref (by_number 0 74)) ≡ Some 1)
+    × (expanded 5 (row65_with a b None None) ≡ row65_with a b (Some (generated 5 (place 26))) (Some (index.Id (generated 5 (place 26)))))
+
+-- `(module (func (param (ref $u))) (func (param (ref $u))) (func (param (ref $v))))`: ids that denote nothing stay, and each is
+-- equal to itself alone.
+abbrev pub unknown_with : (a b c : Address) → Option Index → Option Index → List ModuleField
+unknown_with a b c first second =
+    func_at 8 first (Some (takes_ref (by_id a (codes "u") 26)))
+    ∷ func_at 32 first (Some (takes_ref (by_id b (codes "u") 50))) ∷ func_at 56 second (Some (takes_ref (by_id c (codes "v") 74))) ∷ []
+
+abbrev pub UnknownIds : Type 0
+UnknownIds = (a b c : Address) →
+    (implied (unknown_with a b c None None) ≡ by_ref (by_id a (codes "u") 26) ∷ by_ref (by_id c (codes "v") 74) ∷ [])
+    × (index_for (unknown_with a b c None None) (by_ref (by_id b (codes "u") 50)) ≡ Some 0)
+    × (index_for (unknown_with a b c None None) (by_ref (by_number 0 50)) ≡ None)
+    × (expanded 5 (unknown_with a b c None None)
+    ≡ unknown_with a b c (Some (by_made 5)) (Some (by_made 6)) ++ (implied_type 5 (by_ref (by_id a (codes "u") 26)) ∷ implied_type 6 (by_ref (by_id c (codes "v") 74)) ∷ []))
 
 -- `(module (type $a (func)) (type $b (func)) (func))`: the first type of the signature is taken.
 abbrev pub twice_with : Address → Address → Option Index → List ModuleField

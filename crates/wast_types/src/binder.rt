@@ -1,18 +1,21 @@
 //! What is handed down while type uses are bound: types are made for the signatures that none has.
 
 ghost use Rattle.std.specs.Prelude.{◌≡◌, ◌≤◌, ◌+◌, ◌++◌, ◌∷◌, [], Some, IfOk, IfErr, OnOk};
+ghost use Rattle.wast_base.specs.Faults.{out_of_memory};
 ghost use Rattle.wast_base.specs.Filling.{RunsOut};
 ghost use Rattle.wast_base.specs.Ids.{generated};
 ghost use Rattle.wast_types.specs.Tree.index;
-ghost use Rattle.wast_types.specs.Expanders.{index_of, Extends};
+ghost use Rattle.wast_types.specs.Numbers.{numbered_signature};
+ghost use Rattle.wast_types.specs.NeedingUses.{inline_signature};
+ghost use Rattle.wast_types.specs.Expanders.{numbers_in, index_of, Extends};
 ghost use Rattle.wast_types.specs.Expanded.{start_of_text, implied_type};
 ghost use Rattle.wast_types.specs.Binding.{next_after, AddsTypes};
 
 use crate::expanders::Expander;
-use crate::keys::{FuncKey, TypeKey};
+use crate::keys::{FuncKey, TypeKey, TypeReference};
 use std::alloc::Global;
 use wast_base::{Error, Gensym, Index, Seq, Span};
-use wast_nodes::{ModuleField, Type, push_field};
+use wast_nodes::{FunctionType, ModuleField, Type, push_field};
 
 /// What binding changes beside the tree.
 pub(crate) struct Binder<'a> {
@@ -25,13 +28,18 @@ pub(crate) struct Binder<'a> {
 }
 
 impl<'a> Binder<'a> {
-    /// The index of the first type with the key: a new one where no type has it.
-    pub(crate) fn key_to_idx(&mut self, key: FuncKey<'a>) -> Result<Index<'a>, Error<'a>>
-        ensures index { IfOk result (λ i. index_of self.new.cx key.entry ≡ Some i) }
-        ensures adds { OnOk result (AddsTypes self.old self.new (key.entry ∷ [])) }
-        ensures refusal { IfErr result (RunsOut (next_after self.old (key.entry ∷ []))) }
+    /// The index of the first type that a use with this inline type takes: a new one where it takes none.
+    pub(crate) fn inline_to_idx(
+        &mut self,
+        inline: &Option<FunctionType<'a>>,
+    ) -> Result<Index<'a>, Error<'a>>
+        ensures index { IfOk result (λ i. index_of self.new.cx.bound
+            (numbered_signature (numbers_in self.new.cx) (inline_signature inline.now)) ≡ Some i) }
+        ensures adds { OnOk result (AddsTypes self.old self.new (inline_signature inline.now ∷ [])) }
+        ensures refusal { IfErr result (RunsOut (next_after self.old (inline_signature inline.now ∷ []))) }
         ensures rising { self.old.gensym ≤ self.new.gensym }
     {
+        let key = inline_key(self.alloc, inline, &self.cx)?;
         match self.cx.get(&key) {
             Some(index) => Ok(index),
             None => {
@@ -44,7 +52,8 @@ impl<'a> Binder<'a> {
     /// A type of its own for a key.
     fn add_type(&mut self, key: FuncKey<'a>) -> Result<Index<'a>, Error<'a>>
         ensures index { IfOk result (λ i. i ≡ index.Id (generated self.old.gensym start_of_text)) }
-        ensures types { OnOk result (Extends self.old.cx self.new.cx
+        ensures names { self.new.cx.names ≡ self.old.cx.names }
+        ensures types { OnOk result (Extends self.old.cx.bound self.new.cx.bound
             ((key.entry, index.Id (generated self.old.gensym start_of_text)) ∷ [])) }
         ensures implied { OnOk result (self.new.implied ≡ self.old.implied ++ implied_type self.old.gensym key.entry ∷ []) }
         ensures counted { OnOk result (self.new.gensym ≡ self.old.gensym + 1) }
@@ -60,5 +69,20 @@ impl<'a> Binder<'a> {
         )?;
         self.cx.put(key, Index::Id(id))?;
         Ok(Index::Id(id))
+    }
+}
+
+/// The key of an inline type; that of `(func)` where there is none.
+fn inline_key<'a>(
+    alloc: Global,
+    inline: &Option<FunctionType<'a>>,
+    cx: &Expander<'a>,
+) -> Result<FuncKey<'a>, Error<'a>>
+    ensures ok { IfOk result (λ key. key ≡ numbered_signature (numbers_in cx.now) (inline_signature inline.now)) }
+    ensures refusal { IfErr result (λ e. e ≡ out_of_memory) }
+{
+    match inline {
+        Some(ty) => ty.key(alloc, cx),
+        None => Ok(FuncKey(Seq::new(alloc), Seq::new(alloc))),
     }
 }

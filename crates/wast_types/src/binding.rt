@@ -1,20 +1,19 @@
 //! Type uses are bound in their place.
 
 ghost use Rattle.std.specs.Prelude.{◌≡◌, ◌≤◌, [], Some, List, map, flat_map, IfOk, IfErr, OnOk};
-ghost use Rattle.wast_base.specs.Faults.{out_of_memory};
 ghost use Rattle.wast_types.specs.Tree.index;
 ghost use Rattle.wast_types.specs.Signatures.{Signature};
 ghost use Rattle.wast_nodes.specs.Sites.{OfItem, OfBlock, start, in_block, in_try_table, in_instr, in_indirect, in_constant, in_func_kind, in_use, in_func, in_tag_type, in_item_kind, in_sig, in_import, in_field};
 ghost use Rattle.wast_nodes.specs.Types.{is_short};
 ghost use Rattle.wast_map.specs.Mapped.{mapped_block, mapped_try_table, mapped_indirect, mapped_instr, mapped_constant, mapped_func_kind, mapped_func, mapped_tag_type, mapped_item_kind, mapped_sig, mapped_import_items, mapped_import, mapped_tag};
-ghost use Rattle.wast_types.specs.NeedingUses.{needed_in, inline_signature};
+ghost use Rattle.wast_types.specs.NeedingUses.{needed_in};
 ghost use Rattle.wast_base.specs.Filling.{RunsOut};
-ghost use Rattle.wast_types.specs.Expanders.{BoundSignatures, LookUp, index_of, with_more};
+ghost use Rattle.wast_types.specs.Expanders.{BoundSignatures, LookUp, found_in};
 ghost use Rattle.wast_types.specs.Expanded.{bound_inline, bound_use, binding, bound_field};
 ghost use Rattle.wast_types.specs.Binding.{no_use, wants_type, next_after, AddsTypes};
 
 use crate::binder::Binder;
-use crate::keys::{FuncKey, TypeReference};
+use crate::keys::TypeReference;
 use std::alloc::Global;
 use wast_base::{Error, Seq};
 use wast_nodes::{
@@ -34,7 +33,7 @@ pub(crate) trait Bind<'a> {
     /// Binds each use in it that has no index.
     fn bind(&mut self, binder: &mut Binder<'a>) -> Result<(), Error<'a>>
         ensures bound { OnOk result ((more : BoundSignatures) →
-            self.new ≡ bound (with_more (index_of binder.new.cx) more) self.old) }
+            self.new ≡ bound (found_in binder.new.cx more) self.old) }
         ensures adds { OnOk result (AddsTypes binder.old binder.new (needed self.old)) }
         ensures refusal { IfErr result (RunsOut (next_after binder.old (needed self.old))) }
         ensures rising { binder.old.gensym ≤ binder.new.gensym };
@@ -46,7 +45,7 @@ pub(crate) fn bind_each<'a, T: Bind<'a>>(
     binder: &mut Binder<'a>,
 ) -> Result<(), Error<'a>>
     ensures bound { OnOk result ((more : BoundSignatures) →
-        parts.new ≡ map (T.bound (with_more (index_of binder.new.cx) more)) parts.old) }
+        parts.new ≡ map (T.bound (found_in binder.new.cx more)) parts.old) }
     ensures adds { OnOk result (AddsTypes binder.old binder.new (flat_map T.needed parts.old)) }
     ensures refusal { IfErr result (RunsOut (next_after binder.old (flat_map T.needed parts.old))) }
     ensures rising { binder.old.gensym ≤ binder.new.gensym }
@@ -456,25 +455,10 @@ impl<'a> Bind<'a> for TypeUse<'a, FunctionType<'a>> {
         match self.index {
             Some(_) => Ok(()),
             None => {
-                let key = inline_key(binder.alloc, &self.inline)?;
-                let index = binder.key_to_idx(key)?;
+                let index = binder.inline_to_idx(&self.inline)?;
                 self.index = Some(index);
                 Ok(())
             }
         }
-    }
-}
-
-/// The key of an inline type; that of `(func)` where there is none.
-fn inline_key<'a>(
-    alloc: Global,
-    inline: &Option<FunctionType<'a>>,
-) -> Result<FuncKey<'a>, Error<'a>>
-    ensures ok { IfOk result (λ key. key ≡ inline_signature inline.now) }
-    ensures refusal { IfErr result (λ e. e ≡ out_of_memory) }
-{
-    match inline {
-        Some(ty) => ty.key(alloc),
-        None => Ok(FuncKey(Seq::new(alloc), Seq::new(alloc))),
     }
 }

@@ -1,6 +1,6 @@
 //! Worked modules, of which the definitions compute what they say.
 
-ghost use Rattle.wast_types.specs.WorkedExpansions.{SameSignatures, OrderedSignatures, DistinctSignatures, SameReferences, Row2, Row7, Row8, Row23, Row37, Several, AfterStruct, ByIdAndNumber, FirstOfTwo, UsesInOrder, IndirectCalls};
+ghost use Rattle.wast_types.specs.WorkedExpansions.{SameSignatures, OrderedSignatures, DistinctSignatures, SameReferences, Row2, Row7, Row8, Row23, Row37, EligibleTypes, Several, AfterStruct, ByIdAndNumber, Row65, UnknownIds, FirstOfTwo, UsesInOrder, IndirectCalls};
 
 /// Which signatures are equal as they are written.
 #[tactic(auto, using(crate::proofs::Worked::same_signatures))]
@@ -50,10 +50,16 @@ pub(crate) fn row23()
     ensures { Row23 }
 {}
 
-/// An open type is taken.
+/// An open type is not taken.
 #[tactic(auto, using(crate::proofs::Worked::row37))]
 pub(crate) fn row37()
     ensures { Row37 }
+{}
+
+/// Which types are taken.
+#[tactic(auto, using(crate::proofs::Worked::eligible_types))]
+pub(crate) fn eligible_types()
+    ensures { EligibleTypes }
 {}
 
 /// Several uses, of which two have one signature.
@@ -68,10 +74,22 @@ pub(crate) fn after_struct()
     ensures { AfterStruct }
 {}
 
-/// The id and the number of one type: two signatures.
+/// The id and the number of one type: one signature.
 #[tactic(auto, using(crate::proofs::Worked::by_id_and_number))]
 pub(crate) fn by_id_and_number()
     ensures { ByIdAndNumber }
+{}
+
+/// A number where a type has an id: the type is taken.
+#[tactic(auto, using(crate::proofs::Worked::row65))]
+pub(crate) fn row65()
+    ensures { Row65 }
+{}
+
+/// Ids that denote nothing.
+#[tactic(auto, using(crate::proofs::Worked::unknown_ids))]
+pub(crate) fn unknown_ids()
+    ensures { UnknownIds }
 {}
 
 /// Of two equal types the first is taken.

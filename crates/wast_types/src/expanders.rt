@@ -2,7 +2,8 @@
 
 ghost use Rattle.std.specs.Prelude.{◌≡◌, [], ◌∷◌, OnOk, OnErr, IfOk, IfErr, IfSome, IfNone, IsSome};
 ghost use Rattle.wast_base.specs.Faults.{out_of_memory};
-ghost use Rattle.wast_types.specs.Expanders.{BoundSignatures, index_of, Extends};
+ghost use Rattle.wast_base.specs.Denoted.{numbered};
+ghost use Rattle.wast_types.specs.Expanders.{nothing_bound, numbers_in, index_of, Extends};
 ghost use Rattle.wast_types.specs.Hashed.{hash_of, with_hash, bindings_of, ArePlaced, BindsFirst};
 
 use crate::keys::FuncKey;
@@ -11,10 +12,13 @@ use std::collections::BTreeMap;
 use std::hash::{FoldHasher, Hash, Hasher};
 use std::marker::Model;
 use wast_base::{Error, Index};
+use wast_namespace::Namespace;
 
-/// The types that signatures are bound to. Contracts see signatures with indices, no two signatures equal, in any order.
+/// The types that signatures are bound to, and the numbers of the written types that have names. Contracts see signatures
+/// with indices, no two signatures equal, in any order, beside a name space.
 #[derive(Drop)]
 pub struct Expander<'a> {
+    names: Namespace<'a>,
     // by each hash, the first key that has it
     firsts: BTreeMap<u64, (FuncKey<'a>, Index<'a>)>,
     // the keys whose hash the first one has
@@ -22,29 +26,54 @@ pub struct Expander<'a> {
 }
 
 impl<'a> Model for Expander<'a> {
-    ghost Value = { BoundSignatures };
+    ghost use Rattle.std.specs.Coded.{codes};
+    ghost use Rattle.wast_namespace.specs.Namespaces.{coded_space};
+    ghost use Rattle.wast_types.specs.Expanders.{Bound};
+    ghost use Rattle.wast_types.specs.Hashed.{bindings_of, ArePlaced};
 
-    ghost view = { λ cx. bindings_of cx.firsts.entries cx.others.entries };
+    ghost Value = { Bound };
+
+    ghost coded = { Prim.hlevel (codes, coded_space) };
+
+    ghost view = { λ cx. record { names = cx.names; bound = bindings_of cx.firsts.entries cx.others.entries } };
 
     ghost invariant = { λ cx. ArePlaced cx.firsts.entries cx.others.entries };
 }
 
 impl<'a> Expander<'a> {
-    /// Binds nothing. It takes no memory; `alloc` is what [`TypeKey::insert`](crate::TypeKey::insert) will ask.
-    #[tactic(auto, using(crate::proofs::Placed::none_placed))]
+    /// Binds nothing, and knows no names of types. It takes no memory; `alloc` is what
+    /// [`TypeKey::insert`](crate::TypeKey::insert) will ask.
     pub fn new(alloc: Global) -> Self
-        ensures { result ≡ [] }
+        ensures { result ≡ nothing_bound }
+    {
+        Expander::with_names(alloc, Namespace::new(alloc))
+    }
+
+    /// Binds nothing, and knows these names of types.
+    #[tactic(auto, using(crate::proofs::Placed::none_placed))]
+    pub(crate) fn with_names(alloc: Global, names: Namespace<'a>) -> Self
+        ensures { result ≡ record { names = names.entry; bound = [] } }
     {
         Expander {
+            names,
             firsts: BTreeMap::new(alloc),
             others: BTreeMap::new(alloc),
         }
     }
 
+    /// An index with the number of the written type that it denotes; another id stays.
+    pub(crate) fn number(&self, index: Index<'a>) -> Index<'a>
+        ensures { result ≡ numbered (numbers_in self.now) index.entry }
+    {
+        let mut index = index;
+        self.names.try_resolve(&mut index);
+        index
+    }
+
     /// The index that a key is bound to.
     #[tactic(auto, using(crate::proofs::Bound::found_in_order, crate::proofs::Placed::found_at_hash, crate::proofs::Placed::found_beside, crate::proofs::Placed::found_else))]
     pub(crate) fn get(&self, key: &FuncKey<'a>) -> Option<Index<'a>>
-        ensures { result ≡ index_of self.now key.now }
+        ensures { result ≡ index_of self.now.bound key.now }
     {
         match self.firsts.get(&hash_of(key)) {
             Some(first) if first.0 == *key => Some(first.1),
@@ -54,7 +83,8 @@ impl<'a> Expander<'a> {
 
     /// Binds a key, unless it is bound.
     pub(crate) fn put(&mut self, key: FuncKey<'a>, index: Index<'a>) -> Result<(), Error<'a>>
-        ensures ok { OnOk result (Extends self.old self.new ((key.entry, index.entry) ∷ [])) }
+        ensures ok { OnOk result (Extends self.old.bound self.new.bound ((key.entry, index.entry) ∷ [])) }
+        ensures names { self.new.names ≡ self.old.names }
         ensures refusal { IfErr result (λ e. e ≡ out_of_memory) }
         ensures err { OnErr result (self.new ≡ self.old) }
     {

@@ -3,31 +3,35 @@
 ghost use Rattle.std.specs.Prelude.{◌≡◌, ◌≤◌, ◌+◌, ◌++◌, IfOk, IfErr, OnOk};
 ghost use Rattle.wast_base.specs.Faults.{out_of_memory};
 ghost use Rattle.wast_base.specs.Filling.{one_if, given_if, filled, wanted, RunsOut};
-ghost use Rattle.wast_types.specs.Expanders.{Extends};
-ghost use Rattle.wast_types.specs.Expanded.{lacks_id, with_type_id, binding_of, bindings_in, bindings, expanded, ids_wanted};
+ghost use Rattle.wast_types.specs.EligibleTypes.{is_eligible, taken_by};
+ghost use Rattle.wast_types.specs.Expanders.{numbers_in, Extends};
+ghost use Rattle.wast_types.specs.Expanded.{lacks_id, with_type_id, binding_of, bindings_in, bindings, expanded, ids_wanted, StopsExpanding};
 
 use crate::binder::Binder;
 use crate::binding::bind_each;
 use crate::expanders::Expander;
 use crate::keys::TypeReference;
+use crate::type_names::type_names;
 use std::alloc::Global;
 use std::mem;
 use wast_base::{Error, Gensym, Id, Index, Seq};
-use wast_nodes::{InnerTypeKind, ModuleField, discard_fields, push_field, take_field};
+use wast_nodes::{InnerTypeKind, ModuleField, TypeDef, discard_fields, push_field, take_field};
 
-/// Binds each type use that needs a type and has no index to the first type that has its signature as it is written
-/// (text format, type uses: abbreviations); that of a block needs none where it has no parameter and at most one
-/// result.
+/// Binds each type use that needs a type and has no index to the first eligible type that has its signature (text format,
+/// type uses: abbreviations); that of a block needs none where it has no parameter and at most one result. Eligible is a
+/// function type in a field of its own that is final, unshared, and without parents, descriptor and describes. Signatures
+/// are compared by the numbers of the written types: each id that denotes one, members of groups included, counts as its
+/// position; another id is equal to itself alone.
 ///
-/// It gives the fields in their order, and after them a type for each signature that no written type has, in the order
-/// of first use. A use is bound by the id of its type, so each field that is a type without an id is given a generated
-/// one, at its place. No use takes a member of a group, and no member is given an id. Ids and indices that are there
-/// stay, and so do inline types. It takes any fields; the ids that it makes are new where the counter stands above
-/// `gensym_bound` of `wast_tree`.
+/// It gives the fields in their order, and after them a type for each signature that no eligible type has, in the order
+/// of first use, with numbers in the place of the ids that denote written types. A use is bound by the id of its type, so
+/// each field that is a type without an id is given a generated one, at its place. No use takes a member of a group, and
+/// no member is given an id. Ids and indices that are there stay, and so do inline types. It takes any fields; the ids that
+/// it makes are new where the counter stands above `gensym_bound` of `wast_tree`.
 ///
-/// It takes memory for the keys of types and for the new fields. The error is E12 where memory was refused, and E10 only
-/// where the counter would pass the greatest `u64`. On an error the fields are dropped, and the counter stands where it
-/// stood or higher.
+/// It takes memory for the names of types, for the keys of types and for the new fields. The error is E12 where memory was
+/// refused, and E10 only where the counter would pass the greatest `u64`, or where there are 2^32 written types or more. On
+/// an error the fields are dropped, and the counter stands where it stood or higher.
 pub fn expand<'a>(
     alloc: Global,
     fields: Seq<ModuleField<'a>>,
@@ -35,7 +39,7 @@ pub fn expand<'a>(
 ) -> Result<Seq<ModuleField<'a>>, Error<'a>>
     ensures list { IfOk result (λ out. out ≡ expanded gensym.old fields.entry) }
     ensures counted { OnOk result (gensym.new ≡ gensym.old + ids_wanted fields.entry) }
-    ensures refusal { IfErr result (RunsOut (gensym.old + ids_wanted fields.entry)) }
+    ensures refusal { IfErr result (StopsExpanding gensym.old fields.entry) }
     ensures rising { gensym.old ≤ gensym.new }
 {
     let mut fields = fields;
@@ -56,11 +60,12 @@ fn expand_fields<'a>(
 ) -> Result<(), Error<'a>>
     ensures list { OnOk result (fields.new ≡ expanded gensym.old fields.old) }
     ensures counted { OnOk result (gensym.new ≡ gensym.old + ids_wanted fields.old) }
-    ensures refusal { IfErr result (RunsOut (gensym.old + ids_wanted fields.old)) }
+    ensures refusal { IfErr result (StopsExpanding gensym.old fields.old) }
     ensures rising { gensym.old ≤ gensym.new }
 {
+    let names = type_names(alloc, fields.as_slice())?;
     name_types(fields, gensym)?;
-    let mut cx = Expander::new(alloc);
+    let mut cx = Expander::with_names(alloc, names);
     bind_types(alloc, fields.as_slice(), &mut cx)?;
     let mut binder = Binder {
         alloc,
@@ -117,13 +122,14 @@ fn name_type<'a>(field: &mut ModuleField<'a>, gensym: &mut Gensym) -> Result<(),
     }
 }
 
-/// Binds the signature of each written function type to the first that has it.
+/// Binds what a use takes of each written type to the first type of which it takes that.
 fn bind_types<'a>(
     alloc: Global,
     fields: &[ModuleField<'a>],
     cx: &mut Expander<'a>,
 ) -> Result<(), Error<'a>>
-    ensures ok { OnOk result (Extends cx.old cx.new (bindings fields.now)) }
+    ensures ok { OnOk result (Extends cx.old.bound cx.new.bound (bindings (numbers_in cx.old) fields.now)) }
+    ensures names { cx.new.names ≡ cx.old.names }
     ensures refusal { IfErr result (λ e. e ≡ out_of_memory) }
 {
     for field in fields {
@@ -132,43 +138,59 @@ fn bind_types<'a>(
     Ok(())
 }
 
-/// Binds the signature of a written function type, unless it is bound.
+/// Binds what a use takes of a written type, unless it is bound.
 fn bind_type<'a>(
     alloc: Global,
     field: &ModuleField<'a>,
     cx: &mut Expander<'a>,
 ) -> Result<(), Error<'a>>
-    ensures ok { OnOk result (Extends cx.old cx.new (bindings_in field.now)) }
+    ensures ok { OnOk result (Extends cx.old.bound cx.new.bound (bindings_in (numbers_in cx.old) field.now)) }
+    ensures names { cx.new.names ≡ cx.old.names }
     ensures refusal { IfErr result (λ e. e ≡ out_of_memory) }
 {
     match field {
         ModuleField::Ty(ty) => {
-            bind_kind(alloc, &ty.def.kind, ty.id, cx)?;
+            bind_def(alloc, &ty.def, ty.id, cx)?;
             Ok(())
         }
         _ => Ok(()),
     }
 }
 
-/// Binds the signature of a function type to its id, unless it is bound.
-fn bind_kind<'a>(
+/// Binds what a use takes of a type to the id of the type, unless it is bound.
+fn bind_def<'a>(
     alloc: Global,
-    kind: &InnerTypeKind<'a>,
+    def: &TypeDef<'a>,
     id: Option<Id<'a>>,
     cx: &mut Expander<'a>,
 ) -> Result<(), Error<'a>>
-    ensures ok { OnOk result (Extends cx.old cx.new (binding_of kind.now id.entry)) }
+    ensures ok { OnOk result (Extends cx.old.bound cx.new.bound (binding_of (taken_by (numbers_in cx.old) def.now) id.entry)) }
+    ensures names { cx.new.names ≡ cx.old.names }
     ensures refusal { IfErr result (λ e. e ≡ out_of_memory) }
 {
-    match (kind, id) {
+    if !is_eligible(def) {
+        return Ok(());
+    }
+    match (&def.kind, id) {
         (InnerTypeKind::Func(ty), Some(id)) => {
-            let key = ty.key(alloc)?;
+            let key = ty.key(alloc, cx)?;
             cx.put(key, Index::Id(id))?;
             Ok(())
         }
         (InnerTypeKind::Func(_), None) => Ok(()),
         (InnerTypeKind::Struct(_) | InnerTypeKind::Array(_) | InnerTypeKind::Cont(_), _) => Ok(()),
     }
+}
+
+/// Whether a use may take a type: it is final, unshared, and without parents, descriptor and describes.
+fn is_eligible(def: &TypeDef<'_>) -> bool
+    ensures { result ≡ is_eligible def.now }
+{
+    def.final_type.unwrap_or(true)
+        && !def.shared
+        && def.parents.is_empty()
+        && def.descriptor.is_none()
+        && def.describes.is_none()
 }
 
 /// Puts more fields at the end.

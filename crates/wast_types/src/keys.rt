@@ -8,7 +8,9 @@ ghost use Rattle.wast_types.specs.Signatures.{Signature, type_of_param, same_sig
 ghost use Rattle.wast_types.specs.SignatureLaws.{signatures_equiv, signature_fed, signatures_alike};
 ghost use Rattle.wast_types.specs.SignatureOrder.{signature_cmp, signatures_total, signatures_tied, signatures_ordered};
 ghost use Rattle.wast_types.specs.Expanded.{nameless, def_of};
-ghost use Rattle.wast_types.specs.Expanders.{index_of, Extends, Keeps};
+ghost use Rattle.wast_map.specs.Mapped.{mapped_heap};
+ghost use Rattle.wast_types.specs.Numbers.{in_numbers, numbered_val, numbered_signature};
+ghost use Rattle.wast_types.specs.Expanders.{numbers_in, index_of, Extends, Keeps};
 
 use crate::expanders::Expander;
 use std::alloc::Global;
@@ -16,12 +18,12 @@ use std::cmp::Ordering;
 use std::hash::{Hash, Hasher};
 use std::marker::Model;
 use wast_base::{Error, Id, Index, NameAnnotation, Seq, Span};
-use wast_nodes::{FunctionType, InnerTypeKind, TypeDef, ValType};
+use wast_nodes::{FunctionType, HeapType, InnerTypeKind, RefType, TypeDef, ValType};
 
 /// The key of a function type: the types of its parameters, and of its results. Contracts see its signature.
 ///
-/// Keys are equal where their signatures are equal as they are written (text format, type uses): `(ref $t)` and `(ref 0)`
-/// differ, also where both are one type.
+/// Keys are equal where their signatures are equal in the numbers of the written types (text format, type uses):
+/// `(ref $t)` and `(ref 0)` are one where `$t` is the first type. Another id is equal to itself alone.
 ///
 /// Keys have an order, for maps; the format gives it no meaning. It is by the number of parameters, then of results, then
 /// by the types of the parameters and of the results, in turn.
@@ -105,16 +107,19 @@ pub trait TypeReference<'a> {
     fn empty(alloc: Global) -> Self
         ensures { signature result ≡ empty_signature };
 
-    /// Its key: the signature as it is written. It takes memory for the key; where that is refused it answers E12.
-    fn key(&self, alloc: Global) -> Result<Self::Key, Error<'a>>
-        ensures key { IfOk result (λ k. Self.Key.signature k ≡ signature self.now) }
+    /// Its key: the signature, in which each id that `cx` knows of a written type is the number of that type. It takes
+    /// memory for the key; where that is refused it answers E12.
+    fn key(&self, alloc: Global, cx: &Expander<'a>) -> Result<Self::Key, Error<'a>>
+        ensures key { IfOk result (λ k.
+            Self.Key.signature k ≡ numbered_signature (numbers_in cx.now) (signature self.now)) }
         ensures refusal { IfErr result (λ e. e ≡ out_of_memory) };
 
-    /// Binds the type uses within it; its signature stays, and what is bound stays so. It may take memory; where that is
-    /// refused it answers E12.
+    /// Binds the type uses within it; its signature stays, what is bound stays so, and the names of types stay. It may take
+    /// memory; where that is refused it answers E12.
     fn expand(&mut self, cx: &mut Expander<'a>) -> Result<(), Error<'a>>
         ensures stays { signature self.new ≡ signature self.old }
-        ensures keeps { Keeps cx.old cx.new }
+        ensures keeps { Keeps cx.old.bound cx.new.bound }
+        ensures names { cx.new.names ≡ cx.old.names }
         ensures refusal { IfErr result (λ e. e ≡ out_of_memory) };
 }
 
@@ -125,7 +130,7 @@ pub trait TypeKey<'a> {
 
     /// The index that the key is bound to, if it is bound. It takes no memory.
     fn lookup(&self, cx: &Expander<'a>) -> Option<Index<'a>>
-        ensures { result ≡ index_of cx.now (signature self.now) };
+        ensures { result ≡ index_of cx.now.bound (signature self.now) };
 
     /// The definition of a type of this key: final, without parents, its parameters without names. It takes memory for its
     /// lists; where that is refused it answers E12.
@@ -133,15 +138,16 @@ pub trait TypeKey<'a> {
         ensures def { IfOk result (λ d. d ≡ def_of (signature self.now) shared) }
         ensures refusal { IfErr result (λ e. e ≡ out_of_memory) };
 
-    /// Binds the key to an index, unless it is bound; other keys keep theirs. It may take memory; where that is refused it
-    /// answers E12, and nothing changes.
+    /// Binds the key to an index, unless it is bound; other keys keep theirs, and the names of types stay. It may take
+    /// memory; where that is refused it answers E12, and nothing changes.
     fn insert(
         &self,
         alloc: Global,
         cx: &mut Expander<'a>,
         index: Index<'a>,
     ) -> Result<(), Error<'a>>
-        ensures ok { OnOk result (Extends cx.old cx.new ((signature self.now, index.entry) ∷ [])) }
+        ensures ok { OnOk result (Extends cx.old.bound cx.new.bound ((signature self.now, index.entry) ∷ [])) }
+        ensures names { cx.new.names ≡ cx.old.names }
         ensures refusal { IfErr result (λ e. e ≡ out_of_memory) }
         ensures err { OnErr result (cx.new ≡ cx.old) };
 }
@@ -158,16 +164,17 @@ impl<'a> TypeReference<'a> for FunctionType<'a> {
         }
     }
 
-    fn key(&self, alloc: Global) -> Result<FuncKey<'a>, Error<'a>> {
-        let params = types_of(alloc, &self.params)?;
-        let results = copied(alloc, &self.results)?;
+    fn key(&self, alloc: Global, cx: &Expander<'a>) -> Result<FuncKey<'a>, Error<'a>> {
+        let params = types_of(alloc, &self.params, cx)?;
+        let results = numbered(alloc, &self.results, cx)?;
         Ok(FuncKey(params, results))
     }
 
     /// No type use is within it, and nothing changes. It takes no memory.
     fn expand(&mut self, _cx: &mut Expander<'a>) -> Result<(), Error<'a>>
         ensures stays { signature_of self.new ≡ signature_of self.old }
-        ensures keeps { Keeps _cx.old _cx.new }
+        ensures keeps { Keeps _cx.old.bound _cx.new.bound }
+        ensures names { _cx.new.names ≡ _cx.old.names }
         ensures unchanged { self.new ≡ self.old }
         ensures binds_nothing { _cx.new ≡ _cx.old }
         ensures refusal { IfErr result (λ e. e ≡ out_of_memory) }
@@ -211,16 +218,64 @@ impl<'a> TypeKey<'a> for FuncKey<'a> {
 /// A parameter: its id, its name annotation and its type.
 type Param<'a> = (Option<Id<'a>>, Option<NameAnnotation<'a>>, ValType<'a>);
 
-/// The types of parameters.
-fn types_of<'a>(alloc: Global, params: &Seq<Param<'a>>) -> Result<Seq<ValType<'a>>, Error<'a>>
-    ensures ok { IfOk result (λ types. types ≡ map type_of_param params.now) }
+/// The types of parameters, in the numbers of the written types.
+fn types_of<'a>(
+    alloc: Global,
+    params: &Seq<Param<'a>>,
+    cx: &Expander<'a>,
+) -> Result<Seq<ValType<'a>>, Error<'a>>
+    ensures ok { IfOk result (λ types. types ≡ map (numbered_val (numbers_in cx.now)) (map type_of_param params.now)) }
     ensures refusal { IfErr result (λ e. e ≡ out_of_memory) }
 {
-    let mut types = Vec::with_capacity(alloc, params.len())?;
+    let mut types: Vec<ValType<'a>> = Vec::with_capacity(alloc, params.len())?;
     for param in params.as_slice() {
-        types.push(param.2)?;
+        types.push(numbered_val(param.2, cx))?;
     }
     Ok(Seq::from_vec(types))
+}
+
+/// The same value types, in the numbers of the written types.
+fn numbered<'a>(
+    alloc: Global,
+    types: &Seq<ValType<'a>>,
+    cx: &Expander<'a>,
+) -> Result<Seq<ValType<'a>>, Error<'a>>
+    ensures ok { IfOk result (λ list. list ≡ map (numbered_val (numbers_in cx.now)) types.now) }
+    ensures refusal { IfErr result (λ e. e ≡ out_of_memory) }
+{
+    let mut list: Vec<ValType<'a>> = Vec::with_capacity(alloc, types.len())?;
+    for ty in types.as_slice() {
+        list.push(numbered_val(*ty, cx))?;
+    }
+    Ok(Seq::from_vec(list))
+}
+
+/// A value type, in the numbers of the written types.
+fn numbered_val<'a>(ty: ValType<'a>, cx: &Expander<'a>) -> ValType<'a>
+    ensures { result ≡ numbered_val (numbers_in cx.now) ty.entry }
+{
+    match ty {
+        ValType::I32 => ValType::I32,
+        ValType::I64 => ValType::I64,
+        ValType::F32 => ValType::F32,
+        ValType::F64 => ValType::F64,
+        ValType::V128 => ValType::V128,
+        ValType::Ref(ty) => ValType::Ref(RefType {
+            nullable: ty.nullable,
+            heap: numbered_heap(ty.heap, cx),
+        }),
+    }
+}
+
+/// A heap type, in the numbers of the written types.
+fn numbered_heap<'a>(heap: HeapType<'a>, cx: &Expander<'a>) -> HeapType<'a>
+    ensures { result ≡ mapped_heap (in_numbers (numbers_in cx.now)) heap.entry }
+{
+    match heap {
+        HeapType::Abstract { shared, ty } => HeapType::Abstract { shared, ty },
+        HeapType::Concrete(index) => HeapType::Concrete(cx.number(index)),
+        HeapType::Exact(index) => HeapType::Exact(cx.number(index)),
+    }
 }
 
 /// A parameter of this type, without names.

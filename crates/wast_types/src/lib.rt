@@ -12,6 +12,7 @@ mod expanders;
 mod expansion;
 mod keys;
 mod laws;
+mod type_names;
 
 pub use expanders::Expander;
 pub use keys::{FuncKey, TypeKey, TypeReference};

@@ -1,9 +1,8 @@
-use Rattle.std.proofs.Common.{◌∙◌, ◌+◌, ap, sym, subst, List}
+use Rattle.std.proofs.Common.{◌∙◌, ◌+◌, ℕ, ap, sym, subst, subst₂, List}
 use Rattle.std.proofs.lemmas.Result.{err_from_is_err_and}
-use Rattle.wast_base.specs.Filling.{RunsOut}
 use Rattle.wast_nodes.specs.Items.{items}
 use Rattle.wast_nodes.specs.Known.{known}
-use Rattle.wast_types.specs.Expanded.{ids_wanted}
+use Rattle.wast_types.specs.Expanded.{ids_wanted, StopsExpanding}
 use Rattle.wast_base.specs.FirstUnmet.{first_unmet, Answers}
 use Rattle.wast_base.specs.Faults.{told}
 use Rattle.wast_resolve.specs.Tree.{ModuleField}
@@ -25,7 +24,7 @@ returns-in_err-fields-3-clause-refusal c =
     let p = err_from_is_err_and c.from_residual-in_err-fields-3.result c.from_residual-in_err-fields-3.ensures.1 in
     rw (p.1, p.2)
     (unexpanded_still c.args.gensym.now c.args.fields c.requires c.in_err-fields-3.field-0.0
-    (subst (λ m. RunsOut m c.in_err-fields-3.field-0.0) (λ i. c.in_ok-fields.ensures.counted i + ids_wanted ((c.in_ok-fields-2.ensures.list ∙ c.in_ok-fields.ensures.list) i)) c.in_err-fields-3.ensures.refusal))
+    (subst₂ (λ (m : ℕ) (xs : List ModuleField). StopsExpanding m xs c.in_err-fields-3.field-0.0) c.in_ok-fields.ensures.counted (c.in_ok-fields-2.ensures.list ∙ c.in_ok-fields.ensures.list) c.in_err-fields-3.ensures.refusal))
 
 pub returns-in_err-fields-4-clause-refusal : goal.returns-in_err-fields-4-clause-refusal
 returns-in_err-fields-4-clause-refusal c =

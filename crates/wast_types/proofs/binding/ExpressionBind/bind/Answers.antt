@@ -3,7 +3,7 @@ use Rattle.std.proofs.lemmas.Result.{err_from_is_err_and}
 use Rattle.wast_nodes.specs.Sites.{start}
 use Rattle.wast_base.specs.Filling.{RunsOut}
 use Rattle.wast_types.specs.Tree.{Instruction}
-use Rattle.wast_types.specs.Expanders.{index_of, with_more}
+use Rattle.wast_types.specs.Expanders.{found_in}
 use Rattle.wast_types.specs.Binding.{next_after}
 use Rattle.wast_types.proofs.Adding.{adds_as}
 use Rattle.wast_types.proofs.Needing.{needed_constant, bound_instrs}
@@ -16,7 +16,7 @@ returns-in_err-bind_each-clause-refusal c =
 
 pub returns-clause-bound : goal.returns-clause-bound
 returns-clause-bound c = λ more.
-    ap (λ (xs : List Instruction). record c.args.self.now { instrs = xs }) (c.in_ok-bind_each.ensures.bound more ∙ sym (bound_instrs (with_more (index_of c.bind_each.new.binder.cx) more) start c.args.self.now.instrs))
+    ap (λ (xs : List Instruction). record c.args.self.now { instrs = xs }) (c.in_ok-bind_each.ensures.bound more ∙ sym (bound_instrs (found_in c.bind_each.new.binder.cx more) start c.args.self.now.instrs))
 
 pub returns-clause-adds : goal.returns-clause-adds
 returns-clause-adds c = adds_as (sym (needed_constant c.args.self.now)) c.in_ok-bind_each.ensures.adds

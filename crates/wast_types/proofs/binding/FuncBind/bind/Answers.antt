@@ -3,9 +3,9 @@ use Rattle.std.proofs.lemmas.Result.{err_from_is_err_and}
 use Rattle.wast_nodes.specs.Sites.{OfItem, in_func_kind}
 use Rattle.wast_base.specs.Filling.{RunsOut}
 use Rattle.wast_types.specs.NeedingUses.{needed_in}
-use Rattle.wast_types.specs.Expanders.{LookUp, index_of, with_more}
-use Rattle.wast_types.specs.Expanded.{bindings, bound_use}
-use Rattle.wast_types.specs.Binding.{no_use, new_types, next_after}
+use Rattle.wast_types.specs.Expanders.{LookUp, found_in}
+use Rattle.wast_types.specs.Expanded.{bound_use}
+use Rattle.wast_types.specs.Binding.{no_use, new_bindings, next_after}
 use Rattle.wast_types.proofs.Adding.{adds_as, adds_both, count_then, more_then}
 use Rattle.wast_types.proofs.Needing.{needed_func, bound_kind_anywhere}
 use Rattle.wast_types.proofs.binding.FuncBind.bind.Goals as goal
@@ -19,8 +19,8 @@ returns-in_err-bind-2-clause-refusal c =
 
 pub returns-clause-bound : goal.returns-clause-bound
 returns-clause-bound c = λ more i. record c.args.self.now {
-  kind = (c.in_ok-bind-2.ensures.bound more ∙ sym (bound_kind_anywhere (with_more (index_of c.bind-2.new.binder.cx) more) c.args.self.now.ty c.args.self.now.kind)) i;
-  ty = (c.in_ok-bind.ensures.bound (bindings (new_types c.bind.new.binder (needed_in (in_func_kind no_use c.args.self.now.kind))) ++ more)
+  kind = (c.in_ok-bind-2.ensures.bound more ∙ sym (bound_kind_anywhere (found_in c.bind-2.new.binder.cx more) c.args.self.now.ty c.args.self.now.kind)) i;
+  ty = (c.in_ok-bind.ensures.bound (new_bindings c.bind.new.binder (needed_in (in_func_kind no_use c.args.self.now.kind)) ++ more)
       ∙ ap (λ (find : LookUp). bound_use find OfItem c.args.self.now.ty) (sym (more_then c.in_ok-bind-2.ensures.adds more))) i;
 }
 

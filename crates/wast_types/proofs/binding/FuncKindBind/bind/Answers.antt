@@ -6,7 +6,7 @@ use Rattle.wast_map.specs.Mapped.{mapped_func_kind}
 use Rattle.wast_types.specs.Tree.{Expression}
 use Rattle.wast_types.specs.Tree.func
 use Rattle.wast_types.specs.NeedingUses.{needed_in}
-use Rattle.wast_types.specs.Expanders.{index_of, with_more}
+use Rattle.wast_types.specs.Expanders.{found_in}
 use Rattle.wast_types.specs.Expanded.{binding}
 use Rattle.wast_types.specs.Binding.{no_use, next_after}
 use Rattle.wast_types.proofs.Adding.{adds_as}
@@ -22,7 +22,7 @@ returns-in_err-bind-in-Inline-clause-refusal c =
 pub returns-in_ok-bind-in-Inline-clause-bound : goal.returns-in_ok-bind-in-Inline-clause-bound
 returns-in_ok-bind-in-Inline-clause-bound c = λ more.
     ap (λ (e : Expression). func.Inline c.in-Inline.locals e) (c.in_ok-bind-in-Inline.ensures.bound more)
-    ∙ (sym (inline_bound (with_more (index_of c.bind.new.binder.cx) more) no_use c.in-Inline.locals c.in-Inline.expression) ∙ sym (ap (mapped_func_kind (binding (with_more (index_of c.bind.new.binder.cx) more)) no_use) c.in-Inline.is))
+    ∙ (sym (inline_bound (found_in c.bind.new.binder.cx more) no_use c.in-Inline.locals c.in-Inline.expression) ∙ sym (ap (mapped_func_kind (binding (found_in c.bind.new.binder.cx more)) no_use) c.in-Inline.is))
 
 pub returns-in_ok-bind-in-Inline-clause-adds : goal.returns-in_ok-bind-in-Inline-clause-adds
 returns-in_ok-bind-in-Inline-clause-adds c =

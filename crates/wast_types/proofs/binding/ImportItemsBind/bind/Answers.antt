@@ -8,7 +8,7 @@ use Rattle.wast_nodes.specs.Sites.{in_sig, in_shared_id, in_import, uncovered}
 use Rattle.wast_map.specs.Mapped.{mapped_item_kind, mapped_import_items}
 use Rattle.wast_map.proofs.Alone.{shared_id_stays}
 use Rattle.wast_types.specs.Binding.{next_after}
-use Rattle.wast_types.specs.Expanders.{index_of, with_more}
+use Rattle.wast_types.specs.Expanders.{found_in}
 use Rattle.wast_types.specs.Expanded.{binding}
 use Rattle.wast_types.specs.NeedingUses.{needed_in}
 use Rattle.wast_types.proofs.Adding.{adds_as}
@@ -17,11 +17,11 @@ use Rattle.wast_types.proofs.binding.ImportItemsBind.bind.Goals as goal
 
 pub returns-in_ok-bind-in-Single-clause-bound : goal.returns-in_ok-bind-in-Single-clause-bound
 returns-in_ok-bind-in-Single-clause-bound c = λ more.
-    ap (λ (s : ItemSig). import_items.Single c.in-Single.«module» c.in-Single.name s) (c.in_ok-bind-in-Single.ensures.bound more) ∙ sym (ap (mapped_import_items (binding (with_more (index_of c.bind.new.binder.cx) more))) c.in-Single.is)
+    ap (λ (s : ItemSig). import_items.Single c.in-Single.«module» c.in-Single.name s) (c.in_ok-bind-in-Single.ensures.bound more) ∙ sym (ap (mapped_import_items (binding (found_in c.bind.new.binder.cx more))) c.in-Single.is)
 
 pub returns-in_ok-bind_each-in-Group1-clause-bound : goal.returns-in_ok-bind_each-in-Group1-clause-bound
 returns-in_ok-bind_each-in-Group1-clause-bound c = λ more.
-    ap (λ items. import_items.Group1 c.in-Group1.«module» items) (c.in_ok-bind_each-in-Group1.ensures.bound more) ∙ sym (ap (mapped_import_items (binding (with_more (index_of c.bind_each.new.binder.cx) more))) c.in-Group1.is)
+    ap (λ items. import_items.Group1 c.in-Group1.«module» items) (c.in_ok-bind_each-in-Group1.ensures.bound more) ∙ sym (ap (mapped_import_items (binding (found_in c.bind_each.new.binder.cx more))) c.in-Group1.is)
 
 pub returns-in_ok-bind_each-in-Group1-clause-adds : goal.returns-in_ok-bind_each-in-Group1-clause-adds
 returns-in_ok-bind_each-in-Group1-clause-adds c =
@@ -35,7 +35,7 @@ returns-in_err-bind_each-in-Group1-clause-refusal c =
 
 pub returns-in_ok-bind-in-Group2-clause-bound : goal.returns-in_ok-bind-in-Group2-clause-bound
 returns-in_ok-bind-in-Group2-clause-bound c = λ more.
-    let f = binding (with_more (index_of c.bind-in-Group2.new.binder.cx) more) in
+    let f = binding (found_in c.bind-in-Group2.new.binder.cx more) in
     let sig = c.in-Group2.sig in
     let of_sig = λ (s : ItemSig). import_items.Group2 c.in-Group2.«module» s c.in-Group2.items in
     ap of_sig (c.in_ok-bind-in-Group2.ensures.bound more)

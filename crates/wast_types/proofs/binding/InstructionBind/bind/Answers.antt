@@ -6,7 +6,7 @@ use Rattle.wast_types.specs.Tree.form
 use Rattle.wast_types.specs.Tree.space
 use Rattle.wast_types.specs.Tree.instr
 use Rattle.wast_types.specs.Expanded.{binding}
-use Rattle.wast_types.specs.Expanders.{index_of, with_more}
+use Rattle.wast_types.specs.Expanders.{found_in}
 use Rattle.wast_types.specs.NeedingUses.{needed_in}
 use Rattle.wast_types.proofs.Adding.{adds_nothing}
 use Rattle.wast_types.proofs.Needing.{select_stays, needed_asking, needed_besides, needed_cast, needed_resume, handlers_stay, needed_br_table}
@@ -14,7 +14,7 @@ use Rattle.wast_types.proofs.binding.InstructionBind.bind.Goals as goal
 
 pub returns-in-select-clause-bound : goal.returns-in-select-clause-bound
 returns-in-select-clause-bound c = λ more.
-    subst (λ i. i ≡ mapped_instr (binding (with_more (index_of c.args.binder.now.cx) more)) start i) (sym c.in-select.is) (ap instr.select (sym (select_stays c.in-select.field-0)))
+    subst (λ i. i ≡ mapped_instr (binding (found_in c.args.binder.now.cx more)) start i) (sym c.in-select.is) (ap instr.select (sym (select_stays c.in-select.field-0)))
 
 pub returns-in-select-clause-adds : goal.returns-in-select-clause-adds
 returns-in-select-clause-adds c =
@@ -22,36 +22,36 @@ returns-in-select-clause-adds c =
 
 pub returns-in_ok-bind-in-call_indirect-clause-bound : goal.returns-in_ok-bind-in-call_indirect-clause-bound
 returns-in_ok-bind-in-call_indirect-clause-bound c = λ more.
-    ap instr.call_indirect (c.in_ok-bind-in-call_indirect.ensures.bound more) ∙ sym (ap (mapped_instr (binding (with_more (index_of c.bind-in-call_indirect.new.binder.cx) more)) start) c.in-call_indirect.is)
+    ap instr.call_indirect (c.in_ok-bind-in-call_indirect.ensures.bound more) ∙ sym (ap (mapped_instr (binding (found_in c.bind-in-call_indirect.new.binder.cx more)) start) c.in-call_indirect.is)
 
 pub returns-in_ok-bind-in-return_call_indirect-clause-bound : goal.returns-in_ok-bind-in-return_call_indirect-clause-bound
 returns-in_ok-bind-in-return_call_indirect-clause-bound c = λ more.
     ap instr.return_call_indirect (c.in_ok-bind-in-return_call_indirect.ensures.bound more)
-    ∙ sym (ap (mapped_instr (binding (with_more (index_of c.bind-in-return_call_indirect.new.binder.cx) more)) start) c.in-return_call_indirect.is)
+    ∙ sym (ap (mapped_instr (binding (found_in c.bind-in-return_call_indirect.new.binder.cx more)) start) c.in-return_call_indirect.is)
 
 pub returns-in_ok-bind-in-block-clause-bound : goal.returns-in_ok-bind-in-block-clause-bound
 returns-in_ok-bind-in-block-clause-bound c = λ more.
-    ap instr.block (c.in_ok-bind-in-block.ensures.bound more ∙ ap (mapped_block (binding (with_more (index_of c.bind.new.binder.cx) more))) c.get_mut.ensures.value)
-    ∙ sym (ap (mapped_instr (binding (with_more (index_of c.bind.new.binder.cx) more)) start) c.in-block.is)
+    ap instr.block (c.in_ok-bind-in-block.ensures.bound more ∙ ap (mapped_block (binding (found_in c.bind.new.binder.cx more))) c.get_mut.ensures.value)
+    ∙ sym (ap (mapped_instr (binding (found_in c.bind.new.binder.cx more)) start) c.in-block.is)
 
 pub returns-in_ok-bind-in-loop_-clause-bound : goal.returns-in_ok-bind-in-loop_-clause-bound
 returns-in_ok-bind-in-loop_-clause-bound c = λ more.
-    ap instr.loop_ (c.in_ok-bind-in-loop_.ensures.bound more ∙ ap (mapped_block (binding (with_more (index_of c.bind-in-loop_.new.binder.cx) more))) c.get_mut-in-loop_.ensures.value)
-    ∙ sym (ap (mapped_instr (binding (with_more (index_of c.bind-in-loop_.new.binder.cx) more)) start) c.in-loop_.is)
+    ap instr.loop_ (c.in_ok-bind-in-loop_.ensures.bound more ∙ ap (mapped_block (binding (found_in c.bind-in-loop_.new.binder.cx more))) c.get_mut-in-loop_.ensures.value)
+    ∙ sym (ap (mapped_instr (binding (found_in c.bind-in-loop_.new.binder.cx more)) start) c.in-loop_.is)
 
 pub returns-in_ok-bind-in-if_-clause-bound : goal.returns-in_ok-bind-in-if_-clause-bound
 returns-in_ok-bind-in-if_-clause-bound c = λ more.
-    ap instr.if_ (c.in_ok-bind-in-if_.ensures.bound more ∙ ap (mapped_block (binding (with_more (index_of c.bind-in-if_.new.binder.cx) more))) c.get_mut-in-if_.ensures.value)
-    ∙ sym (ap (mapped_instr (binding (with_more (index_of c.bind-in-if_.new.binder.cx) more)) start) c.in-if_.is)
+    ap instr.if_ (c.in_ok-bind-in-if_.ensures.bound more ∙ ap (mapped_block (binding (found_in c.bind-in-if_.new.binder.cx more))) c.get_mut-in-if_.ensures.value)
+    ∙ sym (ap (mapped_instr (binding (found_in c.bind-in-if_.new.binder.cx more)) start) c.in-if_.is)
 
 pub returns-in_ok-bind-in-try_-clause-bound : goal.returns-in_ok-bind-in-try_-clause-bound
 returns-in_ok-bind-in-try_-clause-bound c = λ more.
-    ap instr.try_ (c.in_ok-bind-in-try_.ensures.bound more ∙ ap (mapped_block (binding (with_more (index_of c.bind-in-try_.new.binder.cx) more))) c.get_mut-in-try_.ensures.value)
-    ∙ sym (ap (mapped_instr (binding (with_more (index_of c.bind-in-try_.new.binder.cx) more)) start) c.in-try_.is)
+    ap instr.try_ (c.in_ok-bind-in-try_.ensures.bound more ∙ ap (mapped_block (binding (found_in c.bind-in-try_.new.binder.cx more))) c.get_mut-in-try_.ensures.value)
+    ∙ sym (ap (mapped_instr (binding (found_in c.bind-in-try_.new.binder.cx more)) start) c.in-try_.is)
 
 pub returns-in_ok-bind-in-try_table-clause-bound : goal.returns-in_ok-bind-in-try_table-clause-bound
 returns-in_ok-bind-in-try_table-clause-bound c = λ more.
-    ap instr.try_table (c.in_ok-bind-in-try_table.ensures.bound more) ∙ sym (ap (mapped_instr (binding (with_more (index_of c.bind-in-try_table.new.binder.cx) more)) start) c.in-try_table.is)
+    ap instr.try_table (c.in_ok-bind-in-try_table.ensures.bound more) ∙ sym (ap (mapped_instr (binding (found_in c.bind-in-try_table.new.binder.cx more)) start) c.in-try_table.is)
 
 pub returns-in-br_table-clause-adds : goal.returns-in-br_table-clause-adds
 returns-in-br_table-clause-adds c =
@@ -99,18 +99,18 @@ returns-in-ref_cast_desc_eq-clause-adds c =
 
 pub returns-in-resume-clause-bound : goal.returns-in-resume-clause-bound
 returns-in-resume-clause-bound c = λ more.
-    let find = with_more (index_of c.args.binder.now.cx) more in
+    let find = found_in c.args.binder.now.cx more in
     let x = c.in-resume.field-0 in
     subst (λ i. i ≡ mapped_instr (binding find) start i) (sym c.in-resume.is) (ap (λ (t : ResumeTable). instr.resume (record { type_index = x.type_index; table = t })) (sym (handlers_stay find [] x.table)))
 
 pub returns-in-resume_throw-clause-bound : goal.returns-in-resume_throw-clause-bound
 returns-in-resume_throw-clause-bound c = λ more.
-    let find = with_more (index_of c.args.binder.now.cx) more in
+    let find = found_in c.args.binder.now.cx more in
     let x = c.in-resume_throw.field-0 in
     subst (λ i. i ≡ mapped_instr (binding find) start i) (sym c.in-resume_throw.is) (ap (λ (t : ResumeTable). instr.resume_throw (record { type_index = x.type_index; tag_index = x.tag_index; table = t })) (sym (handlers_stay find [] x.table)))
 
 pub returns-in-resume_throw_ref-clause-bound : goal.returns-in-resume_throw_ref-clause-bound
 returns-in-resume_throw_ref-clause-bound c = λ more.
-    let find = with_more (index_of c.args.binder.now.cx) more in
+    let find = found_in c.args.binder.now.cx more in
     let x = c.in-resume_throw_ref.field-0 in
     subst (λ i. i ≡ mapped_instr (binding find) start i) (sym c.in-resume_throw_ref.is) (ap (λ (t : ResumeTable). instr.resume_throw_ref (record { type_index = x.type_index; table = t })) (sym (handlers_stay find [] x.table)))

@@ -6,7 +6,7 @@ use Rattle.wast_types.specs.Tree.kind
 use Rattle.wast_nodes.specs.Sites.{OfItem, in_use, in_item_kind, uncovered}
 use Rattle.wast_map.specs.Mapped.{mapped_item_kind}
 use Rattle.wast_types.specs.Binding.{next_after}
-use Rattle.wast_types.specs.Expanders.{index_of, with_more}
+use Rattle.wast_types.specs.Expanders.{found_in}
 use Rattle.wast_types.specs.Expanded.{binding}
 use Rattle.wast_types.specs.NeedingUses.{needed_in}
 use Rattle.wast_types.proofs.Adding.{adds_as}
@@ -14,18 +14,18 @@ use Rattle.wast_types.proofs.Needing.{needed_besides}
 use Rattle.wast_types.proofs.binding.ItemKindBind.bind.Goals as goal
 
 pub returns-in_ok-bind-in-Func-clause-bound : goal.returns-in_ok-bind-in-Func-clause-bound
-returns-in_ok-bind-in-Func-clause-bound c = λ more. ap kind.Func (c.in_ok-bind-in-Func.ensures.bound more) ∙ sym (ap (mapped_item_kind (binding (with_more (index_of c.bind.new.binder.cx) more))) c.in-Func.is)
+returns-in_ok-bind-in-Func-clause-bound c = λ more. ap kind.Func (c.in_ok-bind-in-Func.ensures.bound more) ∙ sym (ap (mapped_item_kind (binding (found_in c.bind.new.binder.cx more))) c.in-Func.is)
 
 pub returns-in_ok-bind-in-FuncExact-clause-bound : goal.returns-in_ok-bind-in-FuncExact-clause-bound
 returns-in_ok-bind-in-FuncExact-clause-bound c = λ more.
-    ap kind.FuncExact (c.in_ok-bind-in-FuncExact.ensures.bound more) ∙ sym (ap (mapped_item_kind (binding (with_more (index_of c.bind-in-FuncExact.new.binder.cx) more))) c.in-FuncExact.is)
+    ap kind.FuncExact (c.in_ok-bind-in-FuncExact.ensures.bound more) ∙ sym (ap (mapped_item_kind (binding (found_in c.bind-in-FuncExact.new.binder.cx more))) c.in-FuncExact.is)
 
 pub returns-in_ok-bind-in-FuncExact-clause-adds : goal.returns-in_ok-bind-in-FuncExact-clause-adds
 returns-in_ok-bind-in-FuncExact-clause-adds c =
     adds_as (sym (ap (λ k. needed_in (in_item_kind k)) c.in-FuncExact.is ∙ needed_besides (in_use OfItem c.in-FuncExact.ty) (uncovered form.Descriptor))) c.in_ok-bind-in-FuncExact.ensures.adds
 
 pub returns-in_ok-bind-in-Tag-clause-bound : goal.returns-in_ok-bind-in-Tag-clause-bound
-returns-in_ok-bind-in-Tag-clause-bound c = λ more. ap kind.Tag (c.in_ok-bind-in-Tag.ensures.bound more) ∙ sym (ap (mapped_item_kind (binding (with_more (index_of c.bind-in-Tag.new.binder.cx) more))) c.in-Tag.is)
+returns-in_ok-bind-in-Tag-clause-bound c = λ more. ap kind.Tag (c.in_ok-bind-in-Tag.ensures.bound more) ∙ sym (ap (mapped_item_kind (binding (found_in c.bind-in-Tag.new.binder.cx more))) c.in-Tag.is)
 
 pub returns-in_err-bind-in-FuncExact-clause-refusal : goal.returns-in_err-bind-in-FuncExact-clause-refusal
 returns-in_err-bind-in-FuncExact-clause-refusal c =

@@ -2,7 +2,7 @@ use Rattle.std.proofs.Common.{[], ap, sym, ◌∙◌}
 use Rattle.wast_nodes.specs.Sites.{in_block}
 use Rattle.wast_map.specs.Mapped.{mapped_block}
 use Rattle.wast_types.specs.NeedingUses.{needed_in}
-use Rattle.wast_types.specs.Expanders.{index_of, with_more}
+use Rattle.wast_types.specs.Expanders.{found_in}
 use Rattle.wast_types.specs.Expanded.{binding}
 use Rattle.wast_types.proofs.Adding.{adds_as}
 use Rattle.wast_types.proofs.Needing.{needed_block, needed_try_table, catches_stay}
@@ -10,8 +10,8 @@ use Rattle.wast_types.proofs.binding.TryTableBind.bind.Goals as goal
 
 pub returns-clause-bound : goal.returns-clause-bound
 returns-clause-bound c = λ more t. record {
-  block = (c.in_ok-bind.ensures.bound more ∙ ap (mapped_block (binding (with_more (index_of c.bind.new.binder.cx) more))) c.get_mut.ensures.value) t;
-  catches = sym (catches_stay (with_more (index_of c.bind.new.binder.cx) more) [] c.args.self.now.catches) t;
+  block = (c.in_ok-bind.ensures.bound more ∙ ap (mapped_block (binding (found_in c.bind.new.binder.cx more))) c.get_mut.ensures.value) t;
+  catches = sym (catches_stay (found_in c.bind.new.binder.cx more) [] c.args.self.now.catches) t;
 }
 
 pub returns-clause-adds : goal.returns-clause-adds

@@ -5,8 +5,8 @@ use Rattle.wast_map.specs.Mapped.{mapped_elem_kind}
 use Rattle.wast_base.specs.Filling.{RunsOut}
 use Rattle.wast_types.specs.NeedingUses.{needed_in}
 use Rattle.wast_types.specs.Expanders.{LookUp}
-use Rattle.wast_types.specs.Expanded.{bindings, binding}
-use Rattle.wast_types.specs.Binding.{new_types, next_after}
+use Rattle.wast_types.specs.Expanded.{binding}
+use Rattle.wast_types.specs.Binding.{new_bindings, next_after}
 use Rattle.wast_types.proofs.Adding.{adds_as, adds_both, count_then, more_then, first_runs_out}
 use Rattle.wast_types.proofs.InConstants.{elem_needs}
 use Rattle.wast_types.proofs.constants.ElemBind.bind.Goals as goal
@@ -26,7 +26,7 @@ returns-in_err-bind-2-clause-refusal c =
 
 pub returns-clause-bound : goal.returns-clause-bound
 returns-clause-bound c = λ more i. record c.args.self.now {
-  kind = (c.in_ok-bind.ensures.bound (bindings (new_types c.bind.new.binder (needed_in (in_payload c.args.self.now.payload))) ++ more)
+  kind = (c.in_ok-bind.ensures.bound (new_bindings c.bind.new.binder (needed_in (in_payload c.args.self.now.payload)) ++ more)
       ∙ ap (λ (find : LookUp). mapped_elem_kind (binding find) c.args.self.now.kind) (sym (more_then c.in_ok-bind-2.ensures.adds more))) i;
   payload = c.in_ok-bind-2.ensures.bound more i;
 }

@@ -6,7 +6,7 @@ use Rattle.wast_base.specs.Filling.{RunsOut}
 use Rattle.wast_types.specs.Tree.{Expression}
 use Rattle.wast_types.specs.Tree.elem
 use Rattle.wast_types.specs.NeedingUses.{needed_in}
-use Rattle.wast_types.specs.Expanders.{LookUp, index_of, with_more}
+use Rattle.wast_types.specs.Expanders.{LookUp, found_in}
 use Rattle.wast_types.specs.Expanded.{binding}
 use Rattle.wast_types.specs.Binding.{next_after}
 use Rattle.wast_types.proofs.Adding.{adds_as}
@@ -21,7 +21,7 @@ returns-in_err-bind-in-Active-clause-refusal c =
 
 pub returns-in_ok-bind-in-Active-clause-bound : goal.returns-in_ok-bind-in-Active-clause-bound
 returns-in_ok-bind-in-Active-clause-bound c = λ more.
-    let find : LookUp = with_more (index_of c.bind.new.binder.cx) more in
+    let find : LookUp = found_in c.bind.new.binder.cx more in
     ap (λ (e : Expression). elem.Active c.in-Active.table e) (c.in_ok-bind-in-Active.ensures.bound more) ∙ (sym (active_bound find c.in-Active.table c.in-Active.offset) ∙ sym (ap (mapped_elem_kind (binding find)) c.in-Active.is))
 
 pub returns-in_ok-bind-in-Active-clause-adds : goal.returns-in_ok-bind-in-Active-clause-adds

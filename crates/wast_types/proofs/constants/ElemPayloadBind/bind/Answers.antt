@@ -6,7 +6,7 @@ use Rattle.wast_base.specs.Filling.{RunsOut}
 use Rattle.wast_types.specs.Tree.{Expression}
 use Rattle.wast_types.specs.Tree.payload
 use Rattle.wast_types.specs.NeedingUses.{needed_in}
-use Rattle.wast_types.specs.Expanders.{LookUp, index_of, with_more}
+use Rattle.wast_types.specs.Expanders.{LookUp, found_in}
 use Rattle.wast_types.specs.Expanded.{binding}
 use Rattle.wast_types.specs.Binding.{next_after}
 use Rattle.wast_types.proofs.Adding.{adds_as, adds_nothing}
@@ -15,7 +15,7 @@ use Rattle.wast_types.proofs.constants.ElemPayloadBind.bind.Goals as goal
 
 pub returns-in-Indices-clause-bound : goal.returns-in-Indices-clause-bound
 returns-in-Indices-clause-bound c = λ more.
-    let find : LookUp = with_more (index_of c.args.binder.now.cx) more in
+    let find : LookUp = found_in c.args.binder.now.cx more in
     c.in-Indices.is ∙ (sym (functions_bound find c.in-Indices.field-0) ∙ sym (ap (mapped_payload (binding find)) c.in-Indices.is))
 
 pub returns-in-Indices-clause-adds : goal.returns-in-Indices-clause-adds
@@ -29,7 +29,7 @@ returns-in_err-bind_each-in-Exprs-clause-refusal c =
 
 pub returns-in_ok-bind_each-in-Exprs-clause-bound : goal.returns-in_ok-bind_each-in-Exprs-clause-bound
 returns-in_ok-bind_each-in-Exprs-clause-bound c = λ more.
-    let find : LookUp = with_more (index_of c.bind_each.new.binder.cx) more in
+    let find : LookUp = found_in c.bind_each.new.binder.cx more in
     ap (λ (es : List Expression). payload.Exprs c.in-Exprs.ty es) (c.in_ok-bind_each-in-Exprs.ensures.bound more) ∙ (sym (exprs_bound find c.in-Exprs.ty c.in-Exprs.exprs) ∙ sym (ap (mapped_payload (binding find)) c.in-Exprs.is))
 
 pub returns-in_ok-bind_each-in-Exprs-clause-adds : goal.returns-in_ok-bind_each-in-Exprs-clause-adds

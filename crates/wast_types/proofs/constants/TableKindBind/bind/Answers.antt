@@ -6,7 +6,7 @@ use Rattle.wast_base.specs.Filling.{RunsOut}
 use Rattle.wast_types.specs.Tree.{Expression, ElemPayload}
 use Rattle.wast_types.specs.Tree.table
 use Rattle.wast_types.specs.NeedingUses.{needed_in}
-use Rattle.wast_types.specs.Expanders.{LookUp, index_of, with_more}
+use Rattle.wast_types.specs.Expanders.{LookUp, found_in}
 use Rattle.wast_types.specs.Expanded.{binding}
 use Rattle.wast_types.specs.Binding.{next_after}
 use Rattle.wast_types.proofs.Adding.{adds_as, adds_nothing}
@@ -15,7 +15,7 @@ use Rattle.wast_types.proofs.constants.TableKindBind.bind.Goals as goal
 
 pub returns-in-Import-clause-bound : goal.returns-in-Import-clause-bound
 returns-in-Import-clause-bound c = λ more.
-    let find : LookUp = with_more (index_of c.args.binder.now.cx) more in
+    let find : LookUp = found_in c.args.binder.now.cx more in
     c.in-Import.is ∙ (sym (import_bound find c.in-Import.import c.in-Import.ty) ∙ sym (ap (mapped_table_kind (binding find)) c.in-Import.is))
 
 pub returns-in-Import-clause-adds : goal.returns-in-Import-clause-adds
@@ -29,7 +29,7 @@ returns-in_err-bind-in-Normal-clause-refusal c =
 
 pub returns-in_ok-bind-in-Normal-clause-bound : goal.returns-in_ok-bind-in-Normal-clause-bound
 returns-in_ok-bind-in-Normal-clause-bound c = λ more.
-    let find : LookUp = with_more (index_of c.bind.new.binder.cx) more in
+    let find : LookUp = found_in c.bind.new.binder.cx more in
     ap (λ (o : Option Expression). table.Normal c.in-Normal.ty o) (c.in_ok-bind-in-Normal.ensures.bound more) ∙ (sym (normal_bound find c.in-Normal.ty c.in-Normal.init_expr) ∙ sym (ap (mapped_table_kind (binding find)) c.in-Normal.is))
 
 pub returns-in_ok-bind-in-Normal-clause-adds : goal.returns-in_ok-bind-in-Normal-clause-adds
@@ -43,7 +43,7 @@ returns-in_err-bind-in-Inline-clause-refusal c =
 
 pub returns-in_ok-bind-in-Inline-clause-bound : goal.returns-in_ok-bind-in-Inline-clause-bound
 returns-in_ok-bind-in-Inline-clause-bound c = λ more.
-    let find : LookUp = with_more (index_of c.bind-in-Inline.new.binder.cx) more in
+    let find : LookUp = found_in c.bind-in-Inline.new.binder.cx more in
     ap (λ (p : ElemPayload). table.Inline c.in-Inline.elem c.in-Inline.is64 c.in-Inline.shared p) (c.in_ok-bind-in-Inline.ensures.bound more) ∙ (sym (inline_bound find c.in-Inline.elem c.in-Inline.is64 c.in-Inline.shared c.in-Inline.payload) ∙ sym (ap (mapped_table_kind (binding find)) c.in-Inline.is))
 
 pub returns-in_ok-bind-in-Inline-clause-adds : goal.returns-in_ok-bind-in-Inline-clause-adds
