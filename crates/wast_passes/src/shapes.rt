@@ -52,7 +52,7 @@ fn func_shape<'a>(alloc: Global, ty: &FunctionType<'a>) -> Result<TypeShape<'a>,
     ensures refusal { IfErr result (λ e. e ≡ out_of_memory) }
 {
     let cx = Expander::new(alloc);
-    let key = ty.key(alloc, &cx)?;
+    let key = ty.key(&cx)?;
     Ok(TypeShape::of_func(key))
 }
 

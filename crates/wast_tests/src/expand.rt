@@ -72,22 +72,21 @@ fn keys_of<'a, T: TypeReference<'a> + Drop>(
 ) -> (T::Key, T::Key) {
     let mut cx = Expander::new(alloc);
     ty.expand(&mut cx).expect(rt, "memory");
-    let empty = T::empty(alloc).key(alloc, &cx).expect(rt, "memory");
-    (ty.key(alloc, &cx).expect(rt, "memory"), empty)
+    let empty = T::empty(alloc).key(&cx).expect(rt, "memory");
+    (ty.key(&cx).expect(rt, "memory"), empty)
 }
 
 /// What a key is bound to, before and after it is bound to one index and then to another.
 fn bound_to<'a, K: TypeKey<'a>>(
     rt: &impl Abort,
-    alloc: Global,
     key: &K,
     cx: &mut Expander<'a>,
     indices: [Index<'a>; 2],
 ) -> [Option<Index<'a>>; 3] {
     let before = key.lookup(cx);
-    key.insert(alloc, cx, indices[0]).expect(rt, "memory");
+    key.insert(cx, indices[0]).expect(rt, "memory");
     let after = key.lookup(cx);
-    key.insert(alloc, cx, indices[1]).expect(rt, "memory");
+    key.insert(cx, indices[1]).expect(rt, "memory");
     [before, after, key.lookup(cx)]
 }
 
@@ -109,7 +108,7 @@ fn the_type_of_a_key_has_its_signature(rt: HostRuntime) {
     assert!(rt; def.shared && def.final_type.is_none());
     let again = function_in(&def.kind).expect(&rt, "a function type");
     let cx = Expander::new(alloc);
-    assert!(rt; again.key(alloc, &cx).expect(&rt, "memory") == found);
+    assert!(rt; again.key(&cx).expect(&rt, "memory") == found);
     discard_type(Type::new(at(3), None, def));
 }
 
@@ -136,8 +135,8 @@ fn the_first_index_of_a_key_stays(rt: HostRuntime) {
     let mut cx = Expander::new(alloc);
     let first = key(&rt, alloc, &[ValType::I32], &[]);
     let second = key(&rt, alloc, &[], &[ValType::I32]);
-    assert!(rt; bound_to(&rt, alloc, &first, &mut cx, [one, two]) == [None, Some(one), Some(one)]);
-    assert!(rt; bound_to(&rt, alloc, &second, &mut cx, [two, one]) == [None, Some(two), Some(two)]);
+    assert!(rt; bound_to(&rt, &first, &mut cx, [one, two]) == [None, Some(one), Some(one)]);
+    assert!(rt; bound_to(&rt, &second, &mut cx, [two, one]) == [None, Some(two), Some(two)]);
     assert!(rt; first.lookup(&cx) == Some(one));
 }
 

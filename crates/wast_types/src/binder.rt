@@ -82,7 +82,7 @@ fn inline_key<'a>(
     ensures refusal { IfErr result (λ e. e ≡ out_of_memory) }
 {
     match inline {
-        Some(ty) => ty.key(alloc, cx),
+        Some(ty) => ty.key(cx),
         None => Ok(FuncKey(Seq::new(alloc), Seq::new(alloc))),
     }
 }

@@ -18,6 +18,7 @@ use wast_namespace::Namespace;
 /// with indices, no two signatures equal, in any order, beside a name space.
 #[derive(Drop)]
 pub struct Expander<'a> {
+    alloc: Global,
     names: Namespace<'a>,
     // by each hash, the first key that has it
     firsts: BTreeMap<u64, (FuncKey<'a>, Index<'a>)>,
@@ -42,7 +43,7 @@ impl<'a> Model for Expander<'a> {
 
 impl<'a> Expander<'a> {
     /// Binds nothing, and knows no names of types. It takes no memory; `alloc` is what
-    /// [`TypeKey::insert`](crate::TypeKey::insert) will ask.
+    /// [`TypeReference::key`](crate::TypeReference::key) and [`TypeKey::insert`](crate::TypeKey::insert) will ask.
     pub fn new(alloc: Global) -> Self
         ensures { result ≡ nothing_bound }
     {
@@ -55,10 +56,16 @@ impl<'a> Expander<'a> {
         ensures { result ≡ record { names = names.entry; bound = [] } }
     {
         Expander {
+            alloc,
             names,
             firsts: BTreeMap::new(alloc),
             others: BTreeMap::new(alloc),
         }
+    }
+
+    /// What it asks for memory.
+    pub(crate) fn alloc(&self) -> Global {
+        self.alloc
     }
 
     /// An index with the number of the written type that it denotes; another id stays.

@@ -66,7 +66,7 @@ fn expand_fields<'a>(
     let names = type_names(alloc, fields.as_slice())?;
     name_types(fields, gensym)?;
     let mut cx = Expander::with_names(alloc, names);
-    bind_types(alloc, fields.as_slice(), &mut cx)?;
+    bind_types(fields.as_slice(), &mut cx)?;
     let mut binder = Binder {
         alloc,
         cx,
@@ -123,34 +123,26 @@ fn name_type<'a>(field: &mut ModuleField<'a>, gensym: &mut Gensym) -> Result<(),
 }
 
 /// Binds what a use takes of each written type to the first type of which it takes that.
-fn bind_types<'a>(
-    alloc: Global,
-    fields: &[ModuleField<'a>],
-    cx: &mut Expander<'a>,
-) -> Result<(), Error<'a>>
+fn bind_types<'a>(fields: &[ModuleField<'a>], cx: &mut Expander<'a>) -> Result<(), Error<'a>>
     ensures ok { OnOk result (Extends cx.old.bound cx.new.bound (bindings (numbers_in cx.old) fields.now)) }
     ensures names { cx.new.names ≡ cx.old.names }
     ensures refusal { IfErr result (λ e. e ≡ out_of_memory) }
 {
     for field in fields {
-        bind_type(alloc, field, cx)?;
+        bind_type(field, cx)?;
     }
     Ok(())
 }
 
 /// Binds what a use takes of a written type, unless it is bound.
-fn bind_type<'a>(
-    alloc: Global,
-    field: &ModuleField<'a>,
-    cx: &mut Expander<'a>,
-) -> Result<(), Error<'a>>
+fn bind_type<'a>(field: &ModuleField<'a>, cx: &mut Expander<'a>) -> Result<(), Error<'a>>
     ensures ok { OnOk result (Extends cx.old.bound cx.new.bound (bindings_in (numbers_in cx.old) field.now)) }
     ensures names { cx.new.names ≡ cx.old.names }
     ensures refusal { IfErr result (λ e. e ≡ out_of_memory) }
 {
     match field {
         ModuleField::Ty(ty) => {
-            bind_def(alloc, &ty.def, ty.id, cx)?;
+            bind_def(&ty.def, ty.id, cx)?;
             Ok(())
         }
         _ => Ok(()),
@@ -159,7 +151,6 @@ fn bind_type<'a>(
 
 /// Binds what a use takes of a type to the id of the type, unless it is bound.
 fn bind_def<'a>(
-    alloc: Global,
     def: &TypeDef<'a>,
     id: Option<Id<'a>>,
     cx: &mut Expander<'a>,
@@ -173,7 +164,7 @@ fn bind_def<'a>(
     }
     match (&def.kind, id) {
         (InnerTypeKind::Func(ty), Some(id)) => {
-            let key = ty.key(alloc, cx)?;
+            let key = ty.key(cx)?;
             cx.put(key, Index::Id(id))?;
             Ok(())
         }

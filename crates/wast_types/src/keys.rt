@@ -109,7 +109,7 @@ pub trait TypeReference<'a> {
 
     /// Its key: the signature, in which each id that `cx` knows of a written type is the number of that type. It takes
     /// memory for the key; where that is refused it answers E12.
-    fn key(&self, alloc: Global, cx: &Expander<'a>) -> Result<Self::Key, Error<'a>>
+    fn key(&self, cx: &Expander<'a>) -> Result<Self::Key, Error<'a>>
         ensures key { IfOk result (λ k.
             Self.Key.signature k ≡ numbered_signature (numbers_in cx.now) (signature self.now)) }
         ensures refusal { IfErr result (λ e. e ≡ out_of_memory) };
@@ -140,12 +140,7 @@ pub trait TypeKey<'a> {
 
     /// Binds the key to an index, unless it is bound; other keys keep theirs, and the names of types stay. It may take
     /// memory; where that is refused it answers E12, and nothing changes.
-    fn insert(
-        &self,
-        alloc: Global,
-        cx: &mut Expander<'a>,
-        index: Index<'a>,
-    ) -> Result<(), Error<'a>>
+    fn insert(&self, cx: &mut Expander<'a>, index: Index<'a>) -> Result<(), Error<'a>>
         ensures ok { OnOk result (Extends cx.old.bound cx.new.bound ((signature self.now, index.entry) ∷ [])) }
         ensures names { cx.new.names ≡ cx.old.names }
         ensures refusal { IfErr result (λ e. e ≡ out_of_memory) }
@@ -164,9 +159,9 @@ impl<'a> TypeReference<'a> for FunctionType<'a> {
         }
     }
 
-    fn key(&self, alloc: Global, cx: &Expander<'a>) -> Result<FuncKey<'a>, Error<'a>> {
-        let params = types_of(alloc, &self.params, cx)?;
-        let results = numbered(alloc, &self.results, cx)?;
+    fn key(&self, cx: &Expander<'a>) -> Result<FuncKey<'a>, Error<'a>> {
+        let params = types_of(&self.params, cx)?;
+        let results = numbered(&self.results, cx)?;
         Ok(FuncKey(params, results))
     }
 
@@ -204,12 +199,8 @@ impl<'a> TypeKey<'a> for FuncKey<'a> {
         })
     }
 
-    fn insert(
-        &self,
-        alloc: Global,
-        cx: &mut Expander<'a>,
-        index: Index<'a>,
-    ) -> Result<(), Error<'a>> {
+    fn insert(&self, cx: &mut Expander<'a>, index: Index<'a>) -> Result<(), Error<'a>> {
+        let alloc = cx.alloc();
         let key = FuncKey(copied(alloc, &self.0)?, copied(alloc, &self.1)?);
         cx.put(key, index)
     }
@@ -219,15 +210,11 @@ impl<'a> TypeKey<'a> for FuncKey<'a> {
 type Param<'a> = (Option<Id<'a>>, Option<NameAnnotation<'a>>, ValType<'a>);
 
 /// The types of parameters, in the numbers of the written types.
-fn types_of<'a>(
-    alloc: Global,
-    params: &Seq<Param<'a>>,
-    cx: &Expander<'a>,
-) -> Result<Seq<ValType<'a>>, Error<'a>>
+fn types_of<'a>(params: &Seq<Param<'a>>, cx: &Expander<'a>) -> Result<Seq<ValType<'a>>, Error<'a>>
     ensures ok { IfOk result (λ types. types ≡ map (numbered_val (numbers_in cx.now)) (map type_of_param params.now)) }
     ensures refusal { IfErr result (λ e. e ≡ out_of_memory) }
 {
-    let mut types: Vec<ValType<'a>> = Vec::with_capacity(alloc, params.len())?;
+    let mut types: Vec<ValType<'a>> = Vec::with_capacity(cx.alloc(), params.len())?;
     for param in params.as_slice() {
         types.push(numbered_val(param.2, cx))?;
     }
@@ -235,15 +222,11 @@ fn types_of<'a>(
 }
 
 /// The same value types, in the numbers of the written types.
-fn numbered<'a>(
-    alloc: Global,
-    types: &Seq<ValType<'a>>,
-    cx: &Expander<'a>,
-) -> Result<Seq<ValType<'a>>, Error<'a>>
+fn numbered<'a>(types: &Seq<ValType<'a>>, cx: &Expander<'a>) -> Result<Seq<ValType<'a>>, Error<'a>>
     ensures ok { IfOk result (λ list. list ≡ map (numbered_val (numbers_in cx.now)) types.now) }
     ensures refusal { IfErr result (λ e. e ≡ out_of_memory) }
 {
-    let mut list: Vec<ValType<'a>> = Vec::with_capacity(alloc, types.len())?;
+    let mut list: Vec<ValType<'a>> = Vec::with_capacity(cx.alloc(), types.len())?;
     for ty in types.as_slice() {
         list.push(numbered_val(*ty, cx))?;
     }
