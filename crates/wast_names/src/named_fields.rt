@@ -48,8 +48,7 @@ pub(crate) fn with_items<'b, 'a>(
     requires { IsTrue (are_reaches fields.now reaches.now) }
     ensures { flat_map (names_given space) result.now ≡ flat_map (names_given space) fields.now }
 {
-    let reach = reach_of(space, reaches);
-    &fields[reach.first..reach.end]
+    reach_of(space, reaches).of(fields)
 }
 
 /// Where the fields stand within whose items such lists can stand.
@@ -73,6 +72,5 @@ pub(crate) fn with_lists<'b, 'a>(
     requires { IsTrue (are_reaches fields.now reaches.now) }
     ensures { (types : List ty.«Type») → flat_map (lists_within types within) result.now ≡ flat_map (lists_within types within) fields.now }
 {
-    let reach = reach_within(within, reaches);
-    &fields[reach.first..reach.end]
+    reach_within(within, reaches).of(fields)
 }
