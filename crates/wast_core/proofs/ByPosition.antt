@@ -1,13 +1,12 @@
 -- The parts of a module tell nothing of generated ids, and of the places of type uses: so the list with the ids that a
 -- counter gives has the parts of the list by positions.
-use Rattle.std.proofs.Common.{◌≡◌, ℕ, ◌<◌, ◌^◌, ◌||◌, ◌==◌, not, List, [], ◌∷◌, ◌++◌, map, length, Option, Some, None, refl, sym, ap, ◌∙◌, subst, arith}
+use Rattle.std.proofs.Common.{◌≡◌, ℕ, ◌<◌, ◌^◌, ◌||◌, List, [], ◌∷◌, ◌++◌, length, Option, refl, sym, ap, ◌∙◌, subst}
 use Rattle.std.specs.Prelude.{All, codes, if◌then◌else◌}
 use Rattle.std.specs.List.{flat_map}
-use Rattle.std.proofs.lemmas.Grind.{common_steps}
 use mathlib.Core.Path.{fun_ext}
 use Rattle.wasm_ops.proofs.Everywhere.{all_both}
 use Rattle.wasm_out.specs.NameSectionBytes.{InRangeNameSubsection}
-use Rattle.wasm_out.specs.Parts.{SectionKind, Data, Part, part, InRangePart}
+use Rattle.wasm_out.specs.Parts.{Part, part, InRangePart}
 use Rattle.wasm_out.specs.Reads.{header}
 use Rattle.wast_nodes.specs.Generations.{greatest_generation}
 use Rattle.wast_map.specs.Mapped.{mapped}
@@ -20,65 +19,21 @@ use Rattle.wast_alike.specs.Laws.{SamePositions}
 use Rattle.wast_core.specs.Tree.{ModuleField}
 use Rattle.wast_core.specs.declared.slots.Slot.{Slot}
 use Rattle.wast_core.specs.declared.slots.Slot.TheVariants as slot
-use Rattle.wast_core.specs.Slots.{section_kind, order}
-use Rattle.wast_nodes.specs.Customs.{customs_in, customs_at, is_custom_called}
+use Rattle.wast_core.specs.Slots.{order}
+use Rattle.wast_nodes.specs.Customs.{customs_at, is_custom_called}
 use Rattle.wast_core.specs.Tree.{CustomPlace}
-use Rattle.wast_conv.specs.Customs.{custom_part, InRangeCustomBytes}
+use Rattle.wast_conv.specs.Customs.{InRangeCustomBytes}
 use Rattle.wast_core.specs.Tree.field
 use Rattle.wast_names.specs.NamesPart.{names_part}
-use Rattle.wasm_out.specs.Bodies.{Body}
-use Rattle.wast_base.specs.Spaces.{same_space}
-use Rattle.wast_map.specs.Mapped.{mapped_func_kind, mapped_import_items, mapped_sig}
-use Rattle.wast_names.specs.GivenNames.{named_from}
-use Rattle.wast_nodes.specs.Imports.{item_sigs}
-use Rattle.wast_core.specs.Tree.{FunctionType, TypeUse, FuncKind, ImportItems}
-use Rattle.wast_core.specs.Tree.func
-use Rattle.wast_core.specs.Tree.space
-use Rattle.wast_core.specs.DataCounts.{count_parts}
-use Rattle.wast_core.specs.Hints.{if_hinted, imported_func, functions_in, hinted, hints_part, InRangeHints}
-use Rattle.wast_core.specs.Meaning.{Contribution, start_part, starts_in, contributed, of_kind, entries_in, entries, listed, has_own_names, subsections_of, in_slot, parts}
+use Rattle.wast_core.specs.Hints.{hinted, InRangeHints}
+use Rattle.wast_core.specs.Meaning.{has_own_names, subsections_of, in_slot, parts}
 use Rattle.wast_core.specs.Bounded.{InRangeHeld, InRangeSlot, InRangeModule, IsWritable}
 use Rattle.wast_core.specs.Headline.{IsMet}
 use Rattle.wast_core.specs.Laws.{MeansWhatIsWritten}
-use Rattle.wast_core.proofs.Counting.{same_need}
-use Rattle.wast_core.proofs.Stripping.{type_told, group_told, import_told, use_told, body_told, table_told, global_type_stays, value_told, mode_told, items_told, place_told, tag_told}
-use Rattle.wast_core.proofs.StrippedNames.{keeps_names, same_space_of, sigs_changed}
-use Rattle.wast_names.proofs.Each.{each_like}
+use Rattle.wast_core.proofs.Fronts.{same_customs, same_hinted, same_slot}
+use Rattle.wast_core.proofs.Stripping.{stripping_tells}
+use Rattle.wast_core.proofs.StrippedNames.{keeps_names}
 use Rattle.wast_names.proofs.SameNameSection.{same_subsections}
-
--- What is read of a field.
-same_contributed : (x : ModuleField) → contributed (mapped stripping x) ≡ contributed x
-same_contributed x = grind (arith, common_steps, type_told, group_told, import_told, use_told, body_told, table_told, global_type_stays, value_told, mode_told, items_told, place_told, tag_told)
-
--- What is read of all of them.
-same_entries : (kind : SectionKind) (xs : List ModuleField) → entries kind (all_mapped stripping xs) ≡ entries kind xs
-same_entries kind xs = each_like (mapped stripping) (entries_in kind) (entries_in kind) (λ x. ap (of_kind kind) (same_contributed x)) xs
-
--- A custom section stays as it is.
-same_customs : (place : CustomPlace) (xs : List ModuleField) → customs_at place (all_mapped stripping xs) ≡ customs_at place xs
-same_customs place xs = each_like (mapped stripping) (customs_in place) (customs_in place) each xs
-  where
-    each : (x : ModuleField) → customs_in place (mapped stripping x) ≡ customs_in place x
-    each (field.Ty t) = refl
-    each x = refl
-
--- A function has the body and the hints that it had, and an import the functions.
-same_hints : (u : TypeUse FunctionType) (k : FuncKind) → if_hinted (mapped_func_kind stripping u k) ≡ if_hinted k
-same_hints u (func.Import import exact) = refl
-same_hints u (func.Inline locals e) = ap (λ (b : Body). if not (length e.branch_hints == 0) then Some (record { body = b; hints = e.branch_hints }) else None) (body_told u (func.Inline locals e))
-
-same_imported : (i : ImportItems) → flat_map imported_func (item_sigs (mapped_import_items stripping i)) ≡ flat_map imported_func (item_sigs i)
-same_imported i =
-    ap (flat_map imported_func) (sigs_changed i)
-    ∙ each_like (mapped_sig stripping) imported_func imported_func (λ s. ap (λ k. if same_space space.Func k then None ∷ [] else []) (same_space_of s.kind)) (item_sigs i)
-
-same_functions : (x : ModuleField) → functions_in (mapped stripping x) ≡ functions_in x
-same_functions (field.Func f) = ap (λ o. o ∷ []) (same_hints f.ty f.kind)
-same_functions (field.Import i) = same_imported i.items
-same_functions x = refl
-
-same_hinted : (xs : List ModuleField) → hinted (all_mapped stripping xs) ≡ hinted xs
-same_hinted xs = ap (named_from 0) (each_like (mapped stripping) functions_in functions_in same_functions xs)
 
 same_own : (xs : List ModuleField) → has_own_names (all_mapped stripping xs) ≡ has_own_names xs
 same_own [] = refl
@@ -92,27 +47,27 @@ module _ (name : Option (List ℕ)) where
   same_given : (xs : List ModuleField) → subsections_of name (all_mapped stripping xs) ≡ subsections_of name xs
   same_given xs = λ i. if same_own xs i then [] else same_subsections (mapped stripping) keeps_names name xs i
 
-  same_slot : (xs : List ModuleField) (s : Slot) → in_slot name (all_mapped stripping xs) s ≡ in_slot name xs s
-  same_slot xs (slot.Custom place) = ap (map custom_part) (same_customs place xs)
-  same_slot xs (slot.Section kind) = ap (listed (section_kind kind)) (same_entries (section_kind kind) xs)
-  same_slot xs slot.Start = each_like (mapped stripping) starts_in starts_in (λ x. ap (λ (c : Contribution). map start_part c.starts) (same_contributed x)) xs
-  same_slot xs slot.DataCount = λ i. count_parts (same_need stripping xs i) (length (same_entries Data xs i))
-  same_slot xs slot.Names = ap names_part (same_given xs)
-  same_slot xs slot.Hints = ap hints_part (same_hinted xs)
+  slot_same : (xs : List ModuleField) (s : Slot) → in_slot name (all_mapped stripping xs) s ≡ in_slot name xs s
+  slot_same xs slot.Names = ap names_part (same_given xs)
+  slot_same xs (slot.Custom place) = same_slot stripping stripping_tells name xs (slot.Custom place) refl
+  slot_same xs (slot.Section kind) = same_slot stripping stripping_tells name xs (slot.Section kind) refl
+  slot_same xs slot.Start = same_slot stripping stripping_tells name xs slot.Start refl
+  slot_same xs slot.DataCount = same_slot stripping stripping_tells name xs slot.DataCount refl
+  slot_same xs slot.Hints = same_slot stripping stripping_tells name xs slot.Hints refl
 
   -- two lists that differ in nothing else
   module _ (xs ys : List ModuleField) (alike : all_mapped stripping xs ≡ all_mapped stripping ys) where
     slots_same : in_slot name xs ≡ in_slot name ys
-    slots_same = fun_ext (λ (s : Slot). sym (same_slot xs s) ∙ (ap (λ zs. in_slot name zs s) alike ∙ same_slot ys s))
+    slots_same = fun_ext (λ (s : Slot). sym (slot_same xs s) ∙ (ap (λ zs. in_slot name zs s) alike ∙ slot_same ys s))
 
     names_same : subsections_of name xs ≡ subsections_of name ys
     names_same = sym (same_given xs) ∙ (ap (subsections_of name) alike ∙ same_given ys)
 
     customs_same : (place : CustomPlace) → customs_at place xs ≡ customs_at place ys
-    customs_same place = sym (same_customs place xs) ∙ (ap (customs_at place) alike ∙ same_customs place ys)
+    customs_same place = sym (same_customs stripping stripping_tells place xs) ∙ (ap (customs_at place) alike ∙ same_customs stripping stripping_tells place ys)
 
     hinted_same : hinted xs ≡ hinted ys
-    hinted_same = sym (same_hinted xs) ∙ (ap hinted alike ∙ same_hinted ys)
+    hinted_same = sym (same_hinted stripping stripping_tells xs) ∙ (ap hinted alike ∙ same_hinted stripping stripping_tells ys)
 
     pub parts_same : parts name xs ≡ parts name ys
     parts_same = ap (λ (f : Slot → List Part). flat_map f order) slots_same

@@ -25,3 +25,8 @@ pub mod WrittenBehind
 pub mod Swapped
 pub mod AtRest
 pub mod StartsComputed
+pub mod ToldTypes
+pub mod Told
+pub mod Fronts
+pub mod RenamedFronts
+pub mod FrontsComputed

@@ -1,23 +1,19 @@
 -- The name section tells nothing of generated ids, and of the places of type uses.
-use Rattle.std.proofs.Common.{◌≡◌, ℕ, List, [], ◌∷◌, ◌++◌, map, Option, Some, None, option_map, refl, ap, arith}
+use Rattle.std.proofs.Common.{◌≡◌, List, [], ◌∷◌, ◌++◌, map, Option, Some, None, option_map, refl, ap, arith}
 use Rattle.std.specs.Prelude.{cond}
-use Rattle.std.specs.Borrow.{Bor}
 use Rattle.std.specs.List.{flat_map}
 use Rattle.std.proofs.lemmas.Grind.{common_steps}
 use Rattle.wast_base.specs.Ids.{Name, Written, Generated, name_of, is_generated}
-use Rattle.wast_nodes.specs.Imports.{item_sigs}
-use Rattle.wast_nodes.specs.Items.{space_of_kind}
 use Rattle.wast_nodes.specs.Sites.{Here, behind, param_marks, local_marks, body_here}
 use Rattle.wast_map.specs.Mapped.{mapped_type, mapped_tag_type, mapped_item_kind, mapped_sig, mapped_import_items, mapped_instr, mapped_instrs, mapped_local, mapped_func_kind, mapped_func, mapped}
 use Rattle.wast_map.specs.Laws.{all_mapped}
 use Rattle.wast_demands.specs.Stripped.{written_id, at_start, stripped_use, stripping}
-use Rattle.wast_core.specs.Tree.{Id, Index, NameAnnotation, FunctionType, TypeUse, TagType, ItemKind, ItemSig, ImportItems, Instruction, FuncKind, Func, ModuleField}
+use Rattle.wast_core.specs.Tree.{Id, Index, NameAnnotation, FunctionType, TypeUse, TagType, ItemKind, ImportItems, Instruction, FuncKind, Func, ModuleField}
 use Rattle.wast_core.specs.Tree.index
 use Rattle.wast_core.specs.Tree.space
 use Rattle.wast_core.specs.Tree.ty
 use Rattle.wast_core.specs.Tree.tag
 use Rattle.wast_core.specs.Tree.kind
-use Rattle.wast_core.specs.Tree.import_items
 use Rattle.wast_core.specs.Tree.func
 use Rattle.wast_core.specs.Tree.field
 use Rattle.wast_names.specs.GivenNames.{written_text, id_text, given_name}
@@ -26,7 +22,9 @@ use Rattle.wast_names.specs.WithinItems.{arity, types_within, types_of, arity_at
 use Rattle.wast_names.specs.ModuleNames.{type_name, import_names, item_names_in}
 use Rattle.wast_names.proofs.Each.{each_like}
 use Rattle.wast_names.proofs.SameNameSection.{SameLists, SameInKind, SameInImport, KeepsNames, arity_in, same_arity, in_type, in_func, in_tag, in_imported_func, names_imported, in_import}
-use Rattle.wast_core.proofs.Stripping.{each_alike, def_stays}
+use Rattle.wast_core.proofs.Fronts.{same_space_of, sigs_changed}
+use Rattle.wast_core.proofs.Stripping.{def_stays}
+use Rattle.wast_core.proofs.ToldTypes.{each_alike}
 
 -- The names of items.
 same_given : (name : Option NameAnnotation) (id : Option Id) → given_name name (written_id id) ≡ given_name name id
@@ -41,36 +39,8 @@ same_given None (Some id) = by_name (name_of id) refl
 same_types : (ts : List ty.«Type») → map type_name (map (mapped_type stripping) ts) ≡ map type_name ts
 same_types ts = each_alike (mapped_type stripping) type_name (λ t i. (space.Ty, same_given t.name t.id i)) ts
 
-pub same_space_of : (k : ItemKind) → space_of_kind (mapped_item_kind stripping k) ≡ space_of_kind k
-same_space_of k = grind (arith, common_steps)
-
--- an item of a group, with its name there
-abbrev Named : Type 0
-Named = Bor (List ℕ) × ItemSig
-
-abbrev sig_of : Named → ItemSig
-sig_of p = p.1
-
-abbrev stripped_item : Named → Named
-stripped_item p = (p.0, mapped_sig stripping p.1)
-
--- the signatures of what is imported are changed one by one
-pub sigs_changed : (x : ImportItems) → item_sigs (mapped_import_items stripping x) ≡ map (mapped_sig stripping) (item_sigs x)
-sigs_changed (import_items.Single source name sig) = refl
-sigs_changed (import_items.Group1 source items) = pairs items
-  where
-    pairs : (ps : List Named) → map sig_of (map stripped_item ps) ≡ map (mapped_sig stripping) (map sig_of ps)
-    pairs [] = refl
-    pairs (p ∷ ps) = ap (λ sigs. mapped_sig stripping p.1 ∷ sigs) (pairs ps)
-sigs_changed (import_items.Group2 source sig []) = refl
-sigs_changed (import_items.Group2 source sig (name ∷ names)) = copies (name ∷ names)
-  where
-    copies : (names : List (Bor (List ℕ))) → map (λ name. mapped_sig stripping sig) names ≡ map (mapped_sig stripping) (map (λ name. sig) names)
-    copies [] = refl
-    copies (name ∷ names) = ap (λ sigs. mapped_sig stripping sig ∷ sigs) (copies names)
-
 same_imported : (x : ImportItems) → import_names (mapped_import_items stripping x) ≡ import_names x
-same_imported x = names_imported (mapped_sig stripping) x (mapped_import_items stripping x) (sigs_changed x) (λ s i. (same_space_of s.kind i, same_given s.name s.id i))
+same_imported x = names_imported (mapped_sig stripping) x (mapped_import_items stripping x) (sigs_changed stripping x) (λ s i. (same_space_of stripping s.kind i, same_given s.name s.id i))
 
 same_names : (x : ModuleField) → item_names_in (mapped stripping x) ≡ item_names_in x
 same_names x = grind (arith, common_steps, same_given, same_types, same_imported)
@@ -117,7 +87,7 @@ same_kind (kind.FuncExact u) = λ w. in_imported_func w (stripped_use u) u refl
 same_kind k = λ w. refl
 
 same_import : (x : ImportItems) → SameInImport (mapped_import_items stripping x) x
-same_import x = in_import (mapped_sig stripping) x (mapped_import_items stripping x) (sigs_changed x) (λ s. same_kind s.kind)
+same_import x = in_import (mapped_sig stripping) x (mapped_import_items stripping x) (sigs_changed stripping x) (λ s. same_kind s.kind)
 
 same_lists : (xs : List ModuleField) (x : ModuleField) → SameLists (all_mapped stripping xs) xs (mapped stripping x) x
 same_lists xs (field.Ty t) = λ w. in_type w (mapped_type stripping t) t (def_stays t)

@@ -24,3 +24,5 @@ pub mod Writing
 pub mod Extents
 pub mod Putting
 pub mod Measured
+pub mod Front
+pub mod WorkedFronts

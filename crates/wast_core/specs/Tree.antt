@@ -12,15 +12,18 @@ pub use Rattle.wast_nodes.specs.declared.types.RefType.{RefType}
 pub use Rattle.wast_nodes.specs.declared.types.HeapType.{HeapType}
 pub use Rattle.wast_nodes.specs.declared.types.HeapType.TheVariants as heap
 pub use Rattle.wast_nodes.specs.declared.types.AbstractHeapType.TheVariants as abstract
+pub use Rattle.wast_nodes.specs.declared.types.StorageType.{StorageType}
 pub use Rattle.wast_nodes.specs.declared.types.StorageType.TheVariants as storage
 pub use Rattle.wast_nodes.specs.declared.types.StructField.{StructField}
 pub use Rattle.wast_nodes.specs.declared.types.FunctionType.{FunctionType}
 pub use Rattle.wast_nodes.specs.declared.types.TypeUse.{TypeUse}
 pub use Rattle.wast_nodes.specs.declared.types.InnerTypeKind.{InnerTypeKind}
 pub use Rattle.wast_nodes.specs.declared.types.InnerTypeKind.TheVariants as inner
+pub use Rattle.wast_nodes.specs.declared.types.TypeDef.{TypeDef}
 pub use Rattle.wast_nodes.specs.declared.types.Type as ty
 pub use Rattle.wast_nodes.specs.declared.types.Rec.{Rec}
 pub use Rattle.wast_nodes.specs.declared.immediates.BlockType.{BlockType}
+pub use Rattle.wast_nodes.specs.declared.immediates.MemArg.{MemArg}
 pub use Rattle.wast_nodes.specs.declared.immediates.TryTableCatch.{TryTableCatch}
 pub use Rattle.wast_nodes.specs.declared.instrs.Instruction.{Instruction}
 pub use Rattle.wast_nodes.specs.declared.instrs.Instruction.TheVariants as instr

@@ -6,6 +6,7 @@ ghost use Rattle.wast_core.specs.WorkedEntries.{ImportedEntities, MemoryAndData,
 ghost use Rattle.wast_core.specs.WorkedCounts.{CountedData, CountedNone, UncountedData};
 ghost use Rattle.wast_core.specs.WorkedHints.{Row11, Row54};
 ghost use Rattle.wast_core.specs.WorkedBlocks.{Row28, Row55, Row56};
+ghost use Rattle.wast_core.specs.WorkedFronts as fronts;
 ghost use Rattle.wast_core.specs.WorkedCustoms.{OwnNames, Row29, Row51, Row52, Row53};
 ghost use Rattle.wast_core.specs.WorkedStarts as started;
 
@@ -72,6 +73,13 @@ pub(crate) fn worked_customs()
 pub(crate) fn worked_hints()
     ensures row11 { Row11 }
     ensures row54 { Row54 }
+{}
+
+/// With `r` before each name the bytes before the names are the same, and the names have their `r`.
+pub(crate) fn worked_fronts()
+    ensures row27 { fronts.Row27 }
+    ensures row9 { fronts.Row9 }
+    ensures row48 { fronts.Row48 }
 {}
 
 /// A start field that is put last has its section behind the exports, and the resolved list with the number of its function

@@ -3,11 +3,15 @@
 ghost use Rattle.std.specs.Prelude.{◌≡◌, ℕ, List};
 ghost use Rattle.wasm_out.specs.Parts.{Part};
 ghost use Rattle.wasm_out.specs.Reads.{Reads};
+ghost use Rattle.wast_alike.specs.Extended.{ExtendedIsInjective, ExtendedAgrees};
+ghost use Rattle.wast_alike.specs.Renaming.{RenamedAnswer, RenamedCounts, WrittenAnswer};
+ghost use Rattle.wast_core.specs.Front.{RenamedParts, SameFront, WrittenMeans, WrittenFront};
 ghost use Rattle.wast_core.specs.HintPlaces.{HintsPointAtInstructions};
 ghost use Rattle.wast_core.specs.Laws.{MeansWhatIsWritten, TooLargeIsUnbounded, CustomsStandOnce};
 
 pub use crate::rests::at_rest;
 use wasm_out::reading_laws;
+use wast_resolve::laws::naming_laws;
 use wast_resolve::resolved_laws;
 
 /// Bytes have one meaning, and a meaning has one spelling (binary format, modules): no bytes are read as two lists of parts, and
@@ -52,3 +56,25 @@ pub fn customs_law()
 pub fn hint_places()
     ensures { HintsPointAtInstructions }
 {}
+
+/// Names say nothing but names (text format, identifiers): where each id of a module is called otherwise, at its place, and no
+/// two names become one, the module is accepted or not as it was. What is unmet first has the same fault at the same place, and
+/// where that tells a name, it tells what the name of an id there becomes; there are as many items, fields of structs,
+/// parameters, locals and open blocks; and the parts before the names are the same, so that
+/// [`EncodeOptions::encode_module`](crate::EncodeOptions::encode_module) gives bytes that begin alike, each with its own names
+/// behind. All this is so too of what `deinline::run` writes out from a counter above the ids of the fields, as it is and where
+/// the ids that the counter gave are called otherwise, as by written names. The law wants what each name becomes; a finite map,
+/// as of the names of one tree, by which no two names become one, extends to such a map of all names. It does nothing.
+pub fn renaming()
+    ensures answer { RenamedAnswer }
+    ensures counts { RenamedCounts }
+    ensures parts { RenamedParts }
+    ensures bytes { SameFront }
+    ensures written { WrittenAnswer }
+    ensures written_parts { WrittenMeans }
+    ensures written_bytes { WrittenFront }
+    ensures injective { ExtendedIsInjective }
+    ensures agrees { ExtendedAgrees }
+{
+    naming_laws();
+}

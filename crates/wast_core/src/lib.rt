@@ -18,7 +18,9 @@ mod utf8_names;
 mod wat;
 
 pub use encode::EncodeOptions;
-pub use laws::{at_rest, bounded_law, customs_law, hint_places, meaning_law, one_meaning};
+pub use laws::{
+    at_rest, bounded_law, customs_law, hint_places, meaning_law, one_meaning, renaming,
+};
 pub use module::{Module, ModuleKind, discard_module};
 pub use spelled::Encode;
 pub use wast_conv::{FuncSectionTy, RecOrType, SectionItem, conv};

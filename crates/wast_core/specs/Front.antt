@@ -1,0 +1,80 @@
+-- The parts of a module before its names, which stand last; and changes of the tree that these do not tell (binary format,
+-- modules).
+use Rattle.std.specs.Prelude.{◌≡◌, ℕ, ◌<◌, Bool, true, false, List, ◌++◌, Option, None}
+use Rattle.std.specs.List.{flat_map, filter}
+use Rattle.wasm_out.specs.Parts.{Part, part}
+use Rattle.wasm_out.specs.Reads.{header, Reads}
+use Rattle.wast_base.specs.Blocks.{Blocks}
+use Rattle.wast_nodes.specs.Generations.{greatest_generation}
+use Rattle.wast_nodes.specs.Sites.{Where, OfBlock, Locals}
+use Rattle.wast_map.specs.Mapped.{Change}
+use Rattle.wast_map.specs.Laws.{all_mapped}
+use Rattle.wast_deinline.specs.Written.{written_out_from}
+use Rattle.wast_demands.specs.Explicit.{by_positions}
+use Rattle.wast_demands.specs.Resolved.{resolved}
+use Rattle.wast_alike.specs.Renaming.{Renaming, IsRenaming, renamed_fields}
+use Rattle.wast_core.specs.Tree.{Index, Space, TypeUse, FunctionType, ModuleField}
+use Rattle.wast_core.specs.declared.slots.Slot.{Slot}
+use Rattle.wast_core.specs.declared.slots.Slot.TheVariants as slot
+use Rattle.wast_core.specs.Slots.{order}
+use Rattle.wast_conv.specs.Values.{number, type_index, use_as_block}
+use Rattle.wast_core.specs.Headline.{IsMet}
+use Rattle.wast_core.specs.Meaning.{in_slot, meaning}
+
+-- any place but that of the names
+abbrev pub is_front : Slot → Bool
+is_front slot.Names = false
+is_front s = true
+
+-- the parts in those places; none of them tells the name of the module
+abbrev pub front : List ModuleField → List Part
+front fields = flat_map (in_slot None fields) (filter is_front order)
+
+-- those of what a text module means
+abbrev pub meant_front : List ModuleField → List Part
+meant_front fields = front (resolved (by_positions fields))
+
+-- Each index reads the same number, and each type use the same type.
+pub record Tells (f : Change) : Type 0 where
+  pub index : (s : Space) (i : Index) → number (f.index s i) ≡ number i
+  pub local : (l : Locals) (i : Index) → number (f.local l i) ≡ number i
+  pub member : (owner i : Index) → number (f.field owner i) ≡ number i
+  pub label : (blocks : Blocks) (i : Index) → number (f.label blocks i) ≡ number i
+  pub used : (w : Where) (u : TypeUse FunctionType) → type_index (f.used w u) ≡ type_index u
+  pub block : (u : TypeUse FunctionType) → use_as_block (f.used OfBlock u).index (f.used OfBlock u).inline ≡ use_as_block u.index u.inline
+
+-- Then the parts before the names stay.
+abbrev pub FrontStays : Type 0
+FrontStays = (f : Change) → Tells f → (fields : List ModuleField) → front (all_mapped f fields) ≡ front fields
+
+-- With other names the parts before the names are the same;
+abbrev pub RenamedParts : Type 0
+RenamedParts = (r : Renaming) → IsRenaming r → (fields : List ModuleField) → meant_front (renamed_fields r fields) ≡ meant_front fields
+
+-- so are those of what is written out from a counter, and of that with other names, as where the ids that the counter gave are
+-- written.
+abbrev pub WrittenMeans : Type 0
+WrittenMeans = (r : Renaming) → IsRenaming r → (n : ℕ) (fields : List ModuleField) → greatest_generation fields < n → IsMet fields
+    → (meant_front (written_out_from n fields) ≡ meant_front fields) × (meant_front (renamed_fields r (written_out_from n fields)) ≡ meant_front fields)
+
+-- the bytes before the names, and those of the names, of a module with this name
+abbrev pub front_bytes : List ModuleField → List ℕ
+front_bytes fields = header ++ flat_map part (meant_front fields)
+
+abbrev pub names_bytes : Option (List ℕ) → List ModuleField → List ℕ
+names_bytes name fields = flat_map part (in_slot name (resolved (by_positions fields)) slot.Names)
+
+-- Bytes that are read as what the fields mean, and bytes that are read as what the others mean, begin with the same bytes;
+-- behind these each has the bytes of its names, or nothing.
+abbrev pub BeginAlike : (fields others : List ModuleField) → Type 0
+BeginAlike fields others = (name other : Option (List ℕ)) (b c : List ℕ) → Reads b (meaning name fields) → Reads c (meaning other others)
+    → (b ≡ front_bytes fields ++ names_bytes name fields) × (c ≡ front_bytes fields ++ names_bytes other others)
+
+-- So it is with other names,
+abbrev pub SameFront : Type 0
+SameFront = (r : Renaming) → IsRenaming r → (fields : List ModuleField) → BeginAlike fields (renamed_fields r fields)
+
+-- and for what is written out from a counter, with other names or as it is.
+abbrev pub WrittenFront : Type 0
+WrittenFront = (r : Renaming) → IsRenaming r → (n : ℕ) (fields : List ModuleField) → greatest_generation fields < n → IsMet fields
+    → BeginAlike fields (written_out_from n fields) × BeginAlike fields (renamed_fields r (written_out_from n fields))
