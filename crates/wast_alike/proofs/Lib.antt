@@ -32,6 +32,7 @@ pub mod Renamed
 pub mod RenamedDemands
 pub mod RenamedNumbers
 pub mod RenamedShapes
+pub mod RenamedSizes
 pub mod RenamedTypes
 pub mod RenamedWrittenOut
 pub mod Resolving

@@ -34,7 +34,7 @@ use Rattle.wast_alike.proofs.WrittenAlike.{written_unmet}
 use Rattle.wast_alike.proofs.WrittenPositions.{written_positions}
 
 module _ (r : Renaming) (is : IsRenaming r) where
-  same_explicit : (fields : List ModuleField) → explicit (renamed_fields r fields) ≡ renamed_fields r (explicit fields)
+  pub same_explicit : (fields : List ModuleField) → explicit (renamed_fields r fields) ≡ renamed_fields r (explicit fields)
   same_explicit fields = ap completed (same_written r is fields) ∙ same_completed r is (written_out fields)
 
   same_positions : (fields : List ModuleField) → by_positions (renamed_fields r fields) ≡ renamed_fields r (by_positions fields)
@@ -48,7 +48,7 @@ module _ (r : Renaming) (is : IsRenaming r) where
   fields_count [] = refl
   fields_count (x ∷ xs) = λ i. length-map x.fields (renamed_mark r.name) i ∷ fields_count xs i
 
-  items_count : (xs : List ModuleField) → item_counts (items (renamed_fields r xs)) ≡ item_counts (items xs)
+  pub items_count : (xs : List ModuleField) → item_counts (items (renamed_fields r xs)) ≡ item_counts (items xs)
   items_count xs = ap item_counts (items_are r is xs) ∙ (λ i. spaces_count (items xs) i ++ fields_count (items xs) i)
 
   -- Bodies.
@@ -84,7 +84,7 @@ module _ (r : Renaming) (is : IsRenaming r) where
     all_count [] = refl
     all_count (x ∷ xs) = λ i. body_count x i ++ all_count xs i
 
-  bodies_count : (xs : List ModuleField) → body_counts (renamed_fields r xs) ≡ body_counts xs
+  pub bodies_count : (xs : List ModuleField) → body_counts (renamed_fields r xs) ≡ body_counts xs
   bodies_count xs =
       all_count (scope xs) (scope (renamed_fields r xs)) (λ u. nameless_same r is (scope xs) (scope (renamed_fields r xs)) (numbers_are r is xs) (shapes_alike r is xs) (Some u)) xs
 

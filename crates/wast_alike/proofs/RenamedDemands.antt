@@ -39,7 +39,7 @@ use Rattle.wast_alike.proofs.RenamedShapes.{ShapesAlike, FoundAlike, get_alike, 
 use Rattle.wast_alike.proofs.ToldNames.{AllAlike, both_alike, all_among, parts_alike, first_alike, one_alike, lone, told_alike}
 
 -- the names of the fields of items that may be told
-abbrev fields_marks : List Item → List Mark
+abbrev pub fields_marks : List Item → List Mark
 fields_marks xs = flat_map (λ x. flat_map mark_if x.fields) xs
 
 abbrev asks_marks : List Ask → List Mark
@@ -201,13 +201,16 @@ module _ (r : Renaming) (is : IsRenaming r) where
         subst (λ (marks : List Mark). AllAlike n marks (site_demands c (s ∷ ss)) (site_demands d (named_site n (renaming r) s ∷ new))) (sym (flat_map-append ask_marks (asked_in s) (asked ss)))
         (parts_alike n (asks_marks (asked_in s)) (asks_marks (asked ss)) (site_demand c s) (site_demand d (named_site n (renaming r) s)) (site_demands c ss) (site_demands d new) (site_told s) (sites_told ss))
 
+  items_alike : (xs : List ModuleField) → AllAlike n (fields_marks (items xs)) (item_demands (items xs)) (item_demands (items (renamed_fields r xs)))
+  items_alike xs = subst (λ (its : List Item). AllAlike n (fields_marks (items xs)) (item_demands (items xs)) (item_demands its)) (sym (items_are r is xs)) (items_told [] (items xs))
+
   names_told : (xs : List ModuleField) → AllAlike n (told_marks xs) (name_demands xs) (name_demands (renamed_fields r xs))
   names_told xs =
       let c = scope xs in
       let d = scope (renamed_fields r xs) in
       let sites = in_module xs in
       parts_alike n (fields_marks (items xs)) (asks_marks (asked sites)) (item_demands (items xs)) (item_demands (items (renamed_fields r xs))) (site_demands c sites) (site_demands d (in_module (renamed_fields r xs)))
-      (subst (λ (its : List Item). AllAlike n (fields_marks (items xs)) (item_demands (items xs)) (item_demands its)) (sym (items_are r is xs)) (items_told [] (items xs)))
+      (items_alike xs)
       (subst (λ (ss : List Site). AllAlike n (asks_marks (asked sites)) (site_demands c sites) (site_demands d ss)) (sym (stands_named n (renaming r) (names r is) xs))
       (sites_told c d (numbers_are r is xs) (shapes_alike r is xs) sites))
 
@@ -256,3 +259,7 @@ pub same_demands : (r : Renaming) → IsRenaming r → (xs : List ModuleField) �
 same_demands r is xs =
     first_alike r.name (told_marks xs) (demands xs) (demands (renamed_fields r xs))
     (both_alike r.name (told_marks xs) (order_demands xs) (order_demands (renamed_fields r xs)) (name_demands xs) (name_demands (renamed_fields r xs)) (orders_alike r is (told_marks xs) [] xs) (names_told r is xs))
+
+-- and of the items alone
+pub same_item_demands : (r : Renaming) → IsRenaming r → (xs : List ModuleField) → RenamesFault r.name (fields_marks (items xs)) (first_unmet (item_demands (items xs))) (first_unmet (item_demands (items (renamed_fields r xs))))
+same_item_demands r is xs = first_alike r.name (fields_marks (items xs)) (item_demands (items xs)) (item_demands (items (renamed_fields r xs))) (items_alike r is xs)

@@ -5,7 +5,7 @@ use Rattle.std.proofs.lemmas.List.{append_cancel_left}
 use Rattle.wast_base.specs.declared.ids.Name as code
 use Rattle.wast_base.specs.declared.ids.Name.TheVariants as name
 use Rattle.wast_base.specs.Ids.{Name, Written, Generated, named_by, place_of, text_of}
-use Rattle.wast_alike.specs.WorkedRenaming.{prefixed, prefixed_code, PrefixesNames, Row27, Row31, Row48, OneGiven}
+use Rattle.wast_alike.specs.WorkedRenaming.{prefixed, prefixed_code, PrefixesNames, Row27, Row9, Row31, Row48, OneGiven}
 
 named_so : (q : code.Name) → named_by (prefixed_code q) ≡ prefixed (named_by q)
 named_so (name.Written text) = refl
@@ -22,6 +22,9 @@ prefixes_names = record { calls = λ id i. (named_so id.name i, place_of id); in
 
 pub row27 : Row27
 row27 a b c d e f = (refl, refl, refl, refl)
+
+pub row9 : Row9
+row9 a b c d = (refl, refl, refl)
 
 pub row31 : Row31
 row31 a b c d e = (refl, refl, refl)

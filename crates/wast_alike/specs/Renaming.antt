@@ -11,8 +11,8 @@ use Rattle.wast_map.specs.Named.{Naming}
 use Rattle.wast_deinline.specs.Written.{written_out_from}
 use Rattle.wast_alike.specs.Tree.{Span, Id, Index, FunctionType, TypeUse, ModuleField}
 use Rattle.wast_alike.specs.Tree.index
-use Rattle.wast_demands.specs.Demands.{first_unmet, demands, item_counts, body_counts}
-use Rattle.wast_demands.specs.Explicit.{explicit, by_positions}
+use Rattle.wast_demands.specs.Demands.{first_unmet, demands, item_counts, body_counts, IsTooLarge}
+use Rattle.wast_demands.specs.Explicit.{explicit, by_positions, ids_filled}
 use Rattle.wast_demands.specs.Resolved.{resolved}
 use Rattle.wast_demands.specs.Stripped.{stripping}
 
@@ -106,6 +106,15 @@ RenamedPositions = (r : Renaming) → IsRenaming r → (fields : List ModuleFiel
 abbrev pub RenamedCounts : Type 0
 RenamedCounts = (r : Renaming) → IsRenaming r → (fields : List ModuleField)
     → (item_counts (items (explicit (renamed_fields r fields))) ≡ item_counts (items (explicit fields))) × (body_counts (explicit (renamed_fields r fields)) ≡ body_counts (explicit fields))
+
+-- As many ids are filled in,
+abbrev pub RenamedFilled : Type 0
+RenamedFilled = (r : Renaming) → IsRenaming r → (fields : List ModuleField) → ids_filled (renamed_fields r fields) ≡ ids_filled fields
+
+-- and the list is too large to be resolved exactly where it was.
+abbrev pub RenamedTooLarge : Type 0
+RenamedTooLarge = (r : Renaming) → IsRenaming r → (n : ℕ) (fields : List ModuleField)
+    → (IsTooLarge n fields → IsTooLarge n (renamed_fields r fields)) × (IsTooLarge n (renamed_fields r fields) → IsTooLarge n fields)
 
 -- What is written out from a counter is answered as the fields are,
 abbrev pub WrittenAnswer : Type 0

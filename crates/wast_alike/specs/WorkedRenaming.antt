@@ -6,8 +6,9 @@ use Rattle.wast_base.specs.Faults.{Unknown}
 use Rattle.wast_base.specs.Ids.{Name, Written, Generated}
 use Rattle.wast_nodes.specs.WorkedModules.{Address, place, id_at, by_id, plain_type, plain_func, export_field, row27, row31}
 use Rattle.wast_demands.specs.Demands.{first_unmet, demands}
-use Rattle.wast_demands.specs.Explicit.{explicit, by_positions}
+use Rattle.wast_demands.specs.Explicit.{explicit, by_positions, ids_filled}
 use Rattle.wast_demands.specs.Resolved.{resolved}
+use Rattle.wast_demands.specs.WorkedBodies.{catching}
 use Rattle.wast_demands.specs.WorkedFields.{reading}
 use Rattle.wast_alike.specs.Extended.{extended}
 use Rattle.wast_alike.specs.Renaming.{Renaming, IsRenaming, renamed_fields, told_marks}
@@ -49,6 +50,14 @@ Row27 = (a b c d e f : Address) →
     × (first_unmet (demands (explicit (row27_twin a b c d e f))) ≡ None)
     × (resolved (by_positions (row27_twin a b c d e f)) ≡ renamed_fields prefixing (resolved (by_positions (row27 a b c d e f))))
     × (told_marks (row27 a b c d e f) ≡ (Written (codes "t"), place 40) ∷ (Written (codes "f"), place 49) ∷ (Written (codes "f"), place 71) ∷ [])
+
+-- `(module (tag $e) (func block $h try_table (catch $e $h) end end))`: labels too; its type is implied, and has one id, as before.
+abbrev pub Row9 : Type 0
+Row9 = (a b c d : Address) →
+    let fields = catching a b c d in
+    (first_unmet (demands (explicit (renamed_fields prefixing fields))) ≡ None)
+    × (resolved (by_positions (renamed_fields prefixing fields)) ≡ renamed_fields prefixing (resolved (by_positions fields)))
+    × (ids_filled (renamed_fields prefixing fields) ≡ 1)
 
 -- An unknown name is told as what the name of the id there becomes.
 abbrev pub Row31 : Type 0

@@ -4,7 +4,7 @@ ghost use Rattle.std.specs.Prelude.{◌≡◌, ℕ, List};
 ghost use Rattle.wasm_out.specs.Parts.{Part};
 ghost use Rattle.wasm_out.specs.Reads.{Reads};
 ghost use Rattle.wast_alike.specs.Extended.{ExtendedIsInjective, ExtendedAgrees};
-ghost use Rattle.wast_alike.specs.Renaming.{RenamedAnswer, RenamedCounts, WrittenAnswer};
+ghost use Rattle.wast_alike.specs.Renaming.{RenamedAnswer, RenamedCounts, RenamedFilled, RenamedTooLarge, WrittenAnswer};
 ghost use Rattle.wast_core.specs.Front.{RenamedParts, SameFront, WrittenMeans, WrittenFront};
 ghost use Rattle.wast_core.specs.HintPlaces.{HintsPointAtInstructions};
 ghost use Rattle.wast_core.specs.Laws.{MeansWhatIsWritten, TooLargeIsUnbounded, CustomsStandOnce};
@@ -60,14 +60,19 @@ pub fn hint_places()
 /// Names say nothing but names (text format, identifiers): where each id of a module is called otherwise, at its place, and no
 /// two names become one, the module is accepted or not as it was. What is unmet first has the same fault at the same place, and
 /// where that tells a name, it tells what the name of an id there becomes; there are as many items, fields of structs,
-/// parameters, locals and open blocks; and the parts before the names are the same, so that
-/// [`EncodeOptions::encode_module`](crate::EncodeOptions::encode_module) gives bytes that begin alike, each with its own names
-/// behind. All this is so too of what `deinline::run` writes out from a counter above the ids of the fields, as it is and where
-/// the ids that the counter gave are called otherwise, as by written names. The law wants what each name becomes; a finite map,
-/// as of the names of one tree, by which no two names become one, extends to such a map of all names. It does nothing.
+/// parameters, locals and open blocks; as many ids are filled in; and the module is too large to be resolved exactly where it
+/// was. The parts before the names are the same, so that [`EncodeOptions::encode_module`](crate::EncodeOptions::encode_module)
+/// gives bytes that begin alike, each with its own names behind.
+///
+/// What `deinline::run` writes out from a counter above the ids of the fields is answered as they are, and where each demand is
+/// met, its parts before the names are theirs, as it stands and where the ids that the counter gave are called otherwise, as by
+/// written names. The law wants what each name becomes; a finite map, as of the names of one tree, by which no two names become
+/// one, extends to such a map of all names. It does nothing.
 pub fn renaming()
     ensures answer { RenamedAnswer }
     ensures counts { RenamedCounts }
+    ensures filled { RenamedFilled }
+    ensures large { RenamedTooLarge }
     ensures parts { RenamedParts }
     ensures bytes { SameFront }
     ensures written { WrittenAnswer }
