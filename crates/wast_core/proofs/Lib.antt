@@ -17,6 +17,7 @@ pub mod CountsComputed
 pub mod BlocksComputed
 pub mod HintsComputed
 pub mod CustomsComputed
+pub mod ResolvingComputed
 pub mod Hinting
 pub mod Pointing
 pub mod Sizes

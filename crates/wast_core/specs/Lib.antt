@@ -18,6 +18,7 @@ pub mod WorkedBlocks
 pub mod WorkedHints
 pub mod WorkedCustoms
 pub mod WorkedStarts
+pub mod WorkedResolving
 pub mod Tree
 pub mod Wats
 pub mod Writing

@@ -9,6 +9,7 @@ ghost use Rattle.wast_core.specs.WorkedBlocks.{Row28, Row55, Row56};
 ghost use Rattle.wast_core.specs.WorkedFronts as fronts;
 ghost use Rattle.wast_core.specs.WorkedCustoms.{OwnNames, Row29, Row51, Row52, Row53};
 ghost use Rattle.wast_core.specs.WorkedStarts as started;
+ghost use Rattle.wast_core.specs.WorkedResolving.{ReadyModules, KnownNames27, ResolvedModules};
 
 /// The modules of the rows 1 and 27 are bounded and read from their bytes; an implied type is written without a
 /// name, also beside a group; a written number stays; a name annotation stands before an id; an item without a name
@@ -89,4 +90,12 @@ pub(crate) fn worked_starts()
     ensures row27 { started.Row27 }
     ensures row9 { started.Row9 }
     ensures row48 { started.Row48 }
+{}
+
+/// A module is ready where it is well formed and the counter stands above its generated ids; and resolving leaves numbers, or
+/// keeps why it refused.
+pub(crate) fn worked_resolving()
+    ensures ready { ReadyModules }
+    ensures names { KnownNames27 }
+    ensures resolved { ResolvedModules }
 {}
