@@ -4,4 +4,6 @@ pub mod Forms
 pub mod Lines
 pub mod Numerals
 pub mod Runs
+pub mod Starting
+pub mod StartSteps
 pub mod Worked

@@ -8,8 +8,10 @@ mod forms;
 mod numbers;
 mod runs;
 mod samples;
+mod starting;
 
 pub use errors::RunError;
 pub use forms::form_sample;
 pub use runs::run;
 pub use samples::{sample, twin};
+pub use starting::add_start;
