@@ -95,29 +95,45 @@ fn fields<'a>(alloc: Global, start: &'a str) -> Result<Seq<ModuleField<'a>>, Err
     make.finish(fields)
 }
 
-/// The numbers of `$read` and `$closed` in a module, and its bytes. From then on the module is resolved.
+/// What a module knows, by its names.
+#[derive(Clone, Copy)]
+struct Numbers<'a> {
+    read: Index<'a>,
+    closed: Index<'a>,
+    stop: Index<'a>,
+    reader: Index<'a>,
+}
+
+/// The numbers of a function, a global, a tag and a type of a module, and its bytes. From then on the module is resolved.
 fn encoded<'a>(
     alloc: Global,
     module: &mut Module<'a>,
     gensym: &mut Gensym,
-) -> Result<(Index<'a>, Index<'a>, Vec<u8>), Error<'a>>
+) -> Result<(Numbers<'a>, Vec<u8>), Error<'a>>
     requires { IsReady «module».old gensym.old }
     ensures { IsReady «module».new gensym.new }
 {
     let names = module.resolve(alloc, gensym)?;
     let mut read = Index::Id(Id::new("read", at(244)));
     let mut closed = Index::Id(Id::new("closed", at(189)));
+    let mut stop = Index::Id(Id::new("stop", at(229)));
+    let mut reader = Index::Id(Id::new("reader", at(16)));
     names.resolve_func(&mut read)?;
     names.resolve_global(&mut closed)?;
+    names.resolve_tag(&mut stop)?;
+    names.resolve_type(&mut reader)?;
+    let numbers = Numbers {
+        read,
+        closed,
+        stop,
+        reader,
+    };
     let bytes = EncodeOptions::new().encode_module(alloc, module, gensym)?;
-    Ok((read, closed, bytes))
+    Ok((numbers, bytes))
 }
 
 /// The same of the module that starts with this function; `None` where it is not ready for a counter at 1.
-fn made<'a>(
-    alloc: Global,
-    start: &'a str,
-) -> Result<Option<(Index<'a>, Index<'a>, Vec<u8>)>, Error<'a>> {
+fn made<'a>(alloc: Global, start: &'a str) -> Result<Option<(Numbers<'a>, Vec<u8>)>, Error<'a>> {
     let kind = ModuleKind::Text(fields(alloc, start)?);
     let mut module = Module {
         span: at(1),
@@ -138,9 +154,12 @@ fn made<'a>(
 /// Prints these, or a fault with its line and its column in the text.
 fn print_module(rt: &impl Print, alloc: Global, start: &str) -> io::Result<()> {
     match made(alloc, start) {
-        Ok(Some((read, closed, bytes))) => {
+        Ok(Some((numbers, bytes))) => {
             println!(rt; "{}", hex::encode(alloc, bytes.as_slice())?)?;
-            println!(rt; "$read: {read:?}, $closed: {closed:?}")
+            let Numbers { read, closed, .. } = numbers;
+            println!(rt; "$read: {read:?}, $closed: {closed:?}")?;
+            let Numbers { stop, reader, .. } = numbers;
+            println!(rt; "$stop: {stop:?}, $reader: {reader:?}")
         }
         Ok(None) => println!(rt; "not ready"),
         Err(error) => match error.span() {

@@ -39,6 +39,8 @@ mod refused;
 #[cfg(test)]
 mod runs;
 #[cfg(test)]
+mod starts;
+#[cfg(test)]
 mod streams;
 #[cfg(test)]
 mod twins;

@@ -11,7 +11,7 @@ use wast_resolve::{Names, discard_names};
 use wast_tree::{Error, Fault, Gensym, Id, Index, Space};
 
 /// An index that is an id, at a place: as each id that is written, it may be looked up in any space.
-fn by_id<'a>(name: &'a str, place: usize) -> Index<'a>
+pub(crate) fn by_id<'a>(name: &'a str, place: usize) -> Index<'a>
     ensures { (number : Name → Option ℕ) → IsTrue (is_settled_index number result) }
 {
     Index::Id(Id::new(name, at(place)))
@@ -58,4 +58,27 @@ fn names_of_a_resolved_module(rt: HostRuntime) {
     assert!(rt; number.span() == at(70));
     discard_names(names);
     discard_module(module);
+}
+
+#[test]
+fn a_tag_and_a_type_are_looked_up(rt: HostRuntime) {
+    let alloc = rt.alloc();
+    let mut caught = row(&rt, alloc, 9);
+    let names = caught.resolve(alloc, &mut Gensym::new(1));
+    let names = names.expect(&rt, "a module");
+    let mut tag = by_id("e", 80);
+    assert!(rt; names.resolve_tag(&mut tag).is_ok());
+    assert!(rt; matches!(tag, Index::Num(n, _) if n == 0));
+    assert!(rt; tag.span() == at(80));
+    discard_names(names);
+    discard_module(caught);
+    let mut written_later = row(&rt, alloc, 7);
+    let names = written_later.resolve(alloc, &mut Gensym::new(1));
+    let names = names.expect(&rt, "a module");
+    let mut ty = by_id("t", 90);
+    assert!(rt; names.resolve_type(&mut ty).is_ok());
+    assert!(rt; matches!(ty, Index::Num(n, _) if n == 0));
+    assert!(rt; ty.span() == at(90));
+    discard_names(names);
+    discard_module(written_later);
 }
