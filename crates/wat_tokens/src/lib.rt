@@ -1,0 +1,24 @@
+//! The tokens of the text format: words, strings and numbers at their places.
+//!
+//! A call takes memory only where its text says so. A call that can fail says when, and with what.
+#![tactic(auto)]
+
+mod faults;
+mod floats;
+mod integers;
+mod scans;
+mod strings;
+#[cfg(test)]
+mod tests;
+mod tokens;
+mod words;
+
+pub use faults::{TextError, TextFault};
+pub use floats::{float32, float64};
+pub use integers::{integer8, integer16, integer32, integer64, unsigned8, unsigned32, unsigned64};
+pub use scans::tokens_of;
+pub use strings::Strings;
+pub use tokens::{Annotation, Placed, Token};
+pub use words::{
+    AtomicOp, BlockOp, IndexOp, Key, MemoryOp, OwnOp, StructOp, TableOp, Word, look_up,
+};

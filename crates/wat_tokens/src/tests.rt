@@ -1,0 +1,62 @@
+//! Numbers and strings whose bits and bytes come from outside, and a text that is cut into tokens.
+
+use crate::{
+    Key, Strings, TextError, TextFault, Token, Word, float32, float64, integer32, tokens_of,
+    unsigned64,
+};
+use wast_base::Span;
+
+#[test]
+fn integers_have_their_values(rt: HostRuntime) {
+    assert!(rt; integer32("0xffff_ffff") == Ok(-1));
+    assert!(rt; integer32("-2147483648") == Ok(i32::MIN));
+    assert!(rt; integer32("-2147483649") == Err(TextFault::Range));
+    assert!(rt; integer32("1__0") == Err(TextFault::Number));
+    assert!(rt; unsigned64("18446744073709551615") == Ok(u64::MAX));
+    assert!(rt; unsigned64("+1") == Err(TextFault::Number));
+}
+
+#[test]
+fn numbers_are_rounded(rt: HostRuntime) {
+    let singles = [
+        ("-0", 0x8000_0000_u32),
+        ("1_0.5", 0x4128_0000),
+        ("3.4028234663852886e38", 0x7f7f_ffff),
+        ("0x1.000001p0", 0x3f80_0000),
+        ("0x1.000003p0", 0x3f80_0002),
+        ("0x1p-150", 0),
+        ("0x1.8p-150", 1),
+        ("-nan:0x1", 0xff80_0001),
+    ];
+    for (text, bits) in &singles {
+        assert!(rt; float32(rt.alloc(), text) == Ok(*bits));
+    }
+    assert!(rt; float32(rt.alloc(), "0x1p128") == Err(TextFault::Range));
+    assert!(rt; float32(rt.alloc(), "1._0") == Err(TextFault::Number));
+    assert!(rt; float64(rt.alloc(), "0.1") == Ok(0x3fb9_9999_9999_999a));
+    assert!(rt; float64(rt.alloc(), "0x1.fffffffffffff8p1023") == Err(TextFault::Range));
+}
+
+#[test]
+fn strings_lose_their_escapes(rt: HostRuntime) {
+    let strings = Strings::new(rt.alloc());
+    let bytes = strings
+        .read(rt.alloc(), br"a\n\u{1D_11E}\ff")
+        .expect(&rt, "memory");
+    assert!(rt; bytes == b"a\n\xf0\x9d\x84\x9e\xff".as_slice());
+    assert!(rt; strings.read(rt.alloc(), br"\q").is_err());
+}
+
+#[test]
+fn texts_are_cut_into_tokens(rt: HostRuntime) {
+    let strings = Strings::new(rt.alloc());
+    let text = r#"(func $"a b" (;(;;);) i32.const 0x1 (@skip ()) (@name "f"));; "#;
+    let tokens = tokens_of(rt.alloc(), text, &strings).expect(&rt, "memory");
+    assert!(rt; tokens.len() == 9);
+    assert!(rt; matches!(tokens[1].token, Token::Word(Word::Key(Key::Func), _)));
+    assert!(rt; matches!(tokens[2].token, Token::Id("a b")) && tokens[2].span.offset == 6);
+    assert!(rt; matches!(tokens[4].token, Token::Other("0x1")));
+    assert!(rt; tokens[8].span.offset == text.len() - 4);
+    let error = tokens_of(rt.alloc(), "(; (;;)", &strings).err();
+    assert!(rt; error == Some(TextError::new(Span::default(), TextFault::OpenComment)));
+}

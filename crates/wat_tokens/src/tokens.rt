@@ -1,0 +1,47 @@
+//! The tokens of a text.
+
+use crate::words::Word;
+use wast_base::Span;
+
+/// The annotations that mean something to the reader of a module (text format, custom annotations).
+#[derive(Clone, Copy)]
+pub enum Annotation {
+    /// `(@name`
+    Name,
+    /// `(@custom`
+    Custom,
+    /// `(@producers`
+    Producers,
+    /// `(@dylink.0`
+    Dylink0,
+    /// `(@metadata.code.branch_hint`
+    BranchHint,
+}
+
+/// A token (text format, tokens).
+#[derive(Clone, Copy)]
+pub enum Token<'a> {
+    /// `(`
+    Open,
+    /// `)`
+    Close,
+    /// `(@` and the name of an annotation, in one.
+    Annotation(Annotation),
+    /// A word that means something of its own.
+    Word(Word, &'a str),
+    /// The name of an id, without its `$`.
+    Id(&'a str),
+    /// The bytes of a string.
+    String(&'a [u8]),
+    /// Another word: a number, `offset=4`, or what there is none of.
+    Other(&'a str),
+}
+
+/// A token at its place: that of its first character, and of an annotation that of its `@`.
+#[derive(Clone, Copy)]
+pub struct Placed<'a> {
+    /// The token.
+    pub token: Token<'a>,
+    /// The place.
+    pub span: Span,
+}
