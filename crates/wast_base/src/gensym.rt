@@ -34,9 +34,10 @@ impl Gensym {
         Gensym { next: first }
     }
 
-    /// The generation of the next id.
+    /// The generation of the next id, 1 or more.
     pub fn peek(&self) -> u64
-        ensures { result ≡ self.now }
+        ensures next { result ≡ self.now }
+        ensures positive { 1 ≤ result }
     {
         self.next
     }

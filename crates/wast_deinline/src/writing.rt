@@ -36,7 +36,7 @@ use wast_nodes::{
 /// Where nothing stands in place, it gives the fields back as they are, and never an error. Else it takes memory for the
 /// new list and for the offsets of segments. The error is E12 where memory was refused, and E10 only where the counter
 /// would pass the greatest `u64` or the bytes in place of a memory are 2^32 or more. On an error the fields are dropped,
-/// and the counter stands where it stood or higher.
+/// and the counter stays: no id of this call is left.
 pub fn run<'a>(
     alloc: Global,
     fields: Seq<ModuleField<'a>>,
@@ -47,6 +47,7 @@ pub fn run<'a>(
     ensures refusal { IfErr result (CannotBeWritten gensym.old fields.entry) }
     ensures at_rest { IsTrue (is_written_out fields.entry) → IsOk result }
     ensures rising { gensym.old ≤ gensym.new }
+    ensures stays { IfErr result (λ e. gensym.new ≡ gensym.old) }
 {
     let mut fields = fields;
     if is_at_rest(&mut fields) {
@@ -74,10 +75,15 @@ fn replaced<'a>(
     ensures counted { OnOk result (gensym.new ≡ gensym.old + references_wanted fields.entry) }
     ensures refusal { IfErr result (CannotBeWritten gensym.old fields.entry) }
     ensures rising { gensym.old ≤ gensym.new }
+    ensures stays { IfErr result (λ e. gensym.new ≡ gensym.old) }
 {
     let mut fields = fields;
+    let first = gensym.peek();
     let written = written_fields(alloc, &mut fields, gensym);
     discard_fields(fields);
+    if written.is_err() {
+        *gensym = Gensym::new(first);
+    }
     written
 }
 

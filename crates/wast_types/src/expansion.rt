@@ -31,7 +31,7 @@ use wast_nodes::{InnerTypeKind, ModuleField, TypeDef, discard_fields, push_field
 ///
 /// It takes memory for the names of types, for the keys of types and for the new fields. The error is E12 where memory was
 /// refused, and E10 only where the counter would pass the greatest `u64`, or where there are 2^32 written types or more. On
-/// an error the fields are dropped, and the counter stands where it stood or higher.
+/// an error the fields are dropped, and the counter stays: no id of this call is left.
 pub fn expand<'a>(
     alloc: Global,
     fields: Seq<ModuleField<'a>>,
@@ -41,12 +41,15 @@ pub fn expand<'a>(
     ensures counted { OnOk result (gensym.new ≡ gensym.old + ids_wanted fields.entry) }
     ensures refusal { IfErr result (StopsExpanding gensym.old fields.entry) }
     ensures rising { gensym.old ≤ gensym.new }
+    ensures stays { IfErr result (λ e. gensym.new ≡ gensym.old) }
 {
     let mut fields = fields;
+    let first = gensym.peek();
     match expand_fields(alloc, &mut fields, gensym) {
         Ok(()) => Ok(fields),
         Err(e) => {
             discard_fields(fields);
+            *gensym = Gensym::new(first);
             Err(e)
         }
     }
