@@ -106,16 +106,6 @@ module _ (es : List (Id × ℕ)) (name : Name) (at : ℕ) (h : IsPlaceOf (names_
         smaller_key (key_cmp (key_at (get_or es j d)) (key_of name)) (subst (λ (n : Name). name_lt n name ≡ true) is (h.before j lt));
   }
 
-  -- where it stands there
-  pub there : AreSorted es → at < length es → (e : Id × ℕ) (id : Id) → name_of id ≡ name → same_id (get_or es at e).0 id ≡ true → IsAt es (key_of name) at
-  there sorted lt e id is same =
-      let key : key_at (get_or es at e) ≡ key_of name = ap key_of (same_name_equal (name_of (get_or es at e).0) (name_of id) same ∙ is) in
-      record {
-        in_range = lt;
-        above = above_place;
-        same = any_answer es (key_of name) at Equal e lt (subst (λ (k : Key). key_cmp k (key_of name) ≡ Equal) (sym key) (tied_itself keys_total (key_of name)));
-      }
-
   -- where another one does, or none
   greater_key : AreSorted es → (at < length es → (d : Id × ℕ) → key_at (get_or es at d) ≡ key_of name → ⊥) → (j : ℕ) (d : Id × ℕ) → at ≤ j → j < length es → key_cmp (key_at (get_or es j d)) (key_of name) ≡ Greater
   greater_key sorted other j d le lt = by_order (key_cmp (key_at (get_or es j d)) (key_of name)) refl
@@ -170,3 +160,13 @@ none_sorted = empty_of_len _ (len-entries (from_sorted {R = key_cmp} []) ∙ ap 
 pub another_there : (es : List (Id × ℕ)) (at : ℕ) (e d : Id × ℕ) (id : Id) → at < length es → same_id (get_or es at e).0 id ≡ false → key_at (get_or es at d) ≡ key_of (name_of id) → ⊥
 another_there es at e d id lt h is =
     another (name_of (get_or es at e).0) (name_of id) h (ap key_at (any_default es at e d lt) ∙ is)
+
+-- where the name of a pair is the same, it stands
+pub stands : (es : List (Id × ℕ)) (id : Id) (at : ℕ) (e : Id × ℕ) → AreSorted es → at < length es → same_id (get_or es at e).0 id ≡ true → IsAt es (key_of (name_of id)) at
+stands es id at e sorted lt same =
+    let key : key_at (get_or es at e) ≡ key_of (name_of id) = ap key_of (same_name_equal (name_of (get_or es at e).0) (name_of id) same) in
+    record {
+      in_range = lt;
+      above = record { smaller = λ j d before. subst (λ (k : Key). key_cmp (key_at (get_or es j d)) k ≡ Less) (ap key_at (any_default es at d e lt) ∙ key) (rises es sorted j at d before lt) };
+      same = any_answer es (key_of (name_of id)) at Equal e lt (subst (λ (k : Key). key_cmp k (key_of (name_of id)) ≡ Equal) (sym key) (tied_itself keys_total (key_of (name_of id))));
+    }

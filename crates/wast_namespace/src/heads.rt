@@ -1,4 +1,5 @@
-//! Heads of names: eight bytes behind a prefix as one number, by which many names are sorted first.
+//! Heads of names, eight bytes behind a prefix as one number, by which many names are sorted first; and their ends, by which
+//! few are told apart first.
 
 ghost use Rattle.std.specs.Prelude.{◌≡◌, IfOk, map};
 ghost use Rattle.std.specs.List.Sorted.{IsPermutation};
@@ -137,4 +138,19 @@ fn leading_short(bytes: &[u8]) -> u64 {
         number = number << 8 | u64::from(byte);
     }
     number
+}
+
+/// The last eight bytes of a text as a number, or the last byte of a text that has fewer.
+#[inline(always)]
+pub(crate) fn ending(text: &[u8]) -> u64 {
+    if text.is_empty() {
+        return 0;
+    }
+    if text.len() < 8 {
+        return u64::from(text[text.len() - 1]);
+    }
+    let end = &text[text.len() - 8..];
+    u64::from_le_bytes([
+        end[0], end[1], end[2], end[3], end[4], end[5], end[6], end[7],
+    ])
 }

@@ -1,6 +1,6 @@
 //! A name space: the numbers of names, and how many items there are.
 
-ghost use Rattle.std.specs.Prelude.{◌≡◌, ⊤, ◌+◌, ◌<◌, ◌≤◌, ◌^◌, ◌↔◌, IsTrue, is_some, not, Some, IfOk, OnOk, OnErr, IfErr};
+ghost use Rattle.std.specs.Prelude.{◌≡◌, ⊤, ◌+◌, ◌<◌, ◌≤◌, ◌^◌, ◌↔◌, IsTrue, is_some, not, Some, IfSome, IfOk, OnOk, OnErr, IfErr};
 ghost use Rattle.std.specs.FinMap as finmap;
 ghost use Rattle.std.specs.FinMap.{find, put};
 ghost use Rattle.wast_base.specs.Ids.{name_of, place_of, mark_of, marked, text_of, is_generated};
@@ -9,17 +9,22 @@ ghost use Rattle.wast_base.specs.Spaces.{is_settled_index};
 ghost use Rattle.wast_base.specs.FirstUnmet.{first_unmet, Answers, known_index};
 ghost use Rattle.wast_base.specs.Denoted.{denoted, numbered};
 ghost use Rattle.wast_base.specs.Outcomes.{Gives, unless_refused};
-ghost use Rattle.wast_namespace.specs.Places.{entries_of, AreSorted, IsPlace};
+ghost use Rattle.wast_namespace.specs.Places.{entries_of, AreSorted, IsAt, IsPlace};
 ghost use Rattle.wast_namespace.specs.Namespaces.{NameSpace, coded_space, empty_from, number_in, counted, named, registered, new_item, new_name};
 ghost use Rattle.wast_base.specs.Order.{key_cmp, key_of};
 
+use crate::heads::ending;
 use std::alloc::{AllocError, Global};
 use std::marker::Model;
 use wast_base::{Error, Fault, Id, Index, Numbering, number_index, place_among, try_number};
 
+/// Up to so many names are gone through for one before it is sought by halving.
+const FEW: usize = 32;
+
 /// A name space (text format, indices): a finite map from ids to numbers, beside a count of items.
 ///
-/// Names are those of ids: an id is found whatever its place, by halving. A count is at most 4,294,967,295.
+/// Names are those of ids: an id is found whatever its place, by halving; up to 32 names are gone through for it first. A
+/// count is at most 4,294,967,295.
 #[derive(Drop)]
 pub struct Namespace<'a> {
     // sorted by name
@@ -160,7 +165,7 @@ impl<'a> Namespace<'a> {
     pub fn find(&self, id: &Id<'a>) -> Option<u32>
         ensures { result ≡ number_in self.now (name_of id.now) }
     {
-        match place_of(&self.names, id) {
+        match sought(&self.names, id) {
             Ok(at) => Some(self.names[at].1),
             Err(_) => None,
         }
@@ -185,7 +190,39 @@ impl<'a> Numbering<'a> for Namespace<'a> {
     }
 }
 
-/// The place of a name among sorted names, or the place where it would go.
+/// The place of a name among sorted names, or the place where it would go; few names are first gone through for it.
+fn sought<'a>(names: &[(Id<'a>, u32)], id: &Id<'a>) -> Result<usize, usize>
+    requires { AreSorted names.now }
+    ensures { IsPlace names.now (key_of (name_of id.now)) result }
+{
+    if names.len() <= FEW {
+        if let Some(at) = seen_among(names, id) {
+            return Ok(at);
+        }
+    }
+    place_of(names, id)
+}
+
+/// The place of a name among sorted names, if it stands there.
+///
+/// Whole names are compared only where their lengths and their ends are the same, so most names are passed over in a few
+/// instructions. Nothing is promised where no place is given.
+fn seen_among<'a>(names: &[(Id<'a>, u32)], id: &Id<'a>) -> Option<usize>
+    requires { AreSorted names.now }
+    ensures { IfSome result (IsAt names.now (key_of (name_of id.now))) }
+{
+    let text = id.name().as_bytes();
+    let end = ending(text);
+    for i in 0..names.len() {
+        let other = names[i].0.name().as_bytes();
+        if other.len() == text.len() && ending(other) == end && names[i].0.is_same(id) {
+            return Some(i);
+        }
+    }
+    None
+}
+
+/// The place of a name among sorted names, or the place where it would go, by halving.
 fn place_of<'a>(names: &[(Id<'a>, u32)], id: &Id<'a>) -> Result<usize, usize>
     requires { AreSorted names.now }
     ensures { IsPlace names.now (key_of (name_of id.now)) result }
