@@ -1,7 +1,4 @@
 pub mod Counting
-pub mod Known
+pub mod Indexed
 pub mod Lasts
-pub mod Linked
-pub mod Searches
-pub mod Tables
 pub mod Worked

@@ -1,7 +1,7 @@
 -- What the definitions say of a worked expression, computed.
 use Rattle.std.proofs.Common.{refl}
 use Rattle.wast_base.specs.Blocks.{stays_open}
-use Rattle.wast_labels.specs.Worked.{ThreeAreOpen, LabelsThere, EndsThere, GatheredThere}
+use Rattle.wast_labels.specs.Worked.{ThreeAreOpen, LabelsThere, EndsThere}
 
 pub three_are_open : ThreeAreOpen
 unfolding stays_open
@@ -12,6 +12,3 @@ labels_there = (refl, refl, refl, refl)
 
 pub ends_there : EndsThere
 ends_there = (refl, refl, refl, refl, refl)
-
-pub gathered_there : GatheredThere
-gathered_there = (refl, refl, refl)

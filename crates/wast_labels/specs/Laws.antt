@@ -1,19 +1,10 @@
--- Laws of open blocks: what is gathered, opened and closed along an expression is what counting its openers and closers gives.
+-- Laws of open blocks: what is opened and closed along an expression is what counting its openers and closers gives.
 use Rattle.std.specs.Prelude.{◌≡◌, ℕ, suc, ◌+◌, ◌≤◌, true, List, [], ◌∷◌, ◌++◌, length, drop, Option, Some, None}
 use Rattle.wast_base.specs.Blocks.{Turn, Opens, openers}
 use Rattle.wast_base.specs.Ids.{Name}
 use Rattle.wast_base.specs.Spaces.{is_called}
-use Rattle.wast_labels.specs.Gathered.{knows}
 use Rattle.wast_labels.specs.OpenBlocks.{denotes, expects}
-use Rattle.wast_labels.specs.Turns.{open_blocks, open_count, IsOpen, IsLastOpen, IsLastOf, after, walked, gathered}
-
--- Labels are gathered in the order of their openers.
-abbrev pub GathersInOrder : Type 0
-GathersInOrder = (ts us : List Turn) → gathered [] (ts ++ us) ≡ gathered (gathered [] ts) us
-
--- The label of each opener is known.
-abbrev pub KnowsItsLabels : Type 0
-KnowsItsLabels = (ts us : List Turn) (label : Option Name) → knows (gathered [] (ts ++ Opens label ∷ us)) label ≡ true
+use Rattle.wast_labels.specs.Turns.{open_blocks, open_count, IsOpen, IsLastOpen, IsLastOf, after, walked}
 
 -- One more instruction opens or closes a block, or does neither.
 abbrev pub StepsAsCounted : Type 0

@@ -1,7 +1,7 @@
 -- The open blocks of an expression by their labels, the innermost first, and what a label denotes among them (text format,
 -- control instructions: labels).
-use Rattle.std.specs.Prelude.{ℕ, Bool, true, false, List, [], ◌∷◌, Option, Some, None}
-use Rattle.wast_base.specs.Blocks.{Blocks, closed}
+use Rattle.std.specs.Prelude.{ℕ, Bool, true, false, [], ◌∷◌, Option, Some, None}
+use Rattle.wast_base.specs.Blocks.{Blocks}
 use Rattle.wast_base.specs.Ids.{Name}
 use Rattle.wast_base.specs.Spaces.{is_called, position_of}
 
@@ -19,16 +19,3 @@ abbrev pub expects : Option Name → Blocks → Bool
 expects None blocks = true
 expects (Some label) [] = true
 expects (Some label) (l ∷ ls) = is_called label l
-
--- the labels that may be opened, and the open blocks
-pub record OpenBlocks : Type 0 where
-  pub known : List Name
-  pub blocks : Blocks
-
--- one more block is open, the innermost
-abbrev pub with_open : Option Name → OpenBlocks → OpenBlocks
-with_open label s = record s { blocks = label ∷ s.blocks }
-
--- the innermost block is closed
-abbrev pub with_closed : OpenBlocks → OpenBlocks
-with_closed s = record s { blocks = closed s.blocks }

@@ -2,7 +2,6 @@
 use Rattle.std.specs.Prelude.{◌≡◌, ℕ, suc, ◌+◌, ◌<◌, true, if◌then◌else◌, List, [], ◌∷◌, ◌++◌, drop, slice_get, Option, Some}
 use Rattle.wast_base.specs.Blocks.{Blocks, Turn, Opens, Closes, Stays, stays_open, closed}
 use Rattle.wast_base.specs.Ids.{Name}
-use Rattle.wast_labels.specs.Gathered.{with_opener}
 
 -- the labels of the blocks that are open behind them, the innermost first
 abbrev pub open_blocks : List Turn → Blocks
@@ -43,10 +42,3 @@ after blocks Stays = blocks
 abbrev pub walked : Blocks → List Turn → Blocks
 walked blocks [] = blocks
 walked blocks (t ∷ ts) = walked (after blocks t) ts
-
--- the labels of openers as they are gathered, one after the other
-abbrev pub gathered : List Name → List Turn → List Name
-gathered labels [] = labels
-gathered labels (Opens l ∷ ts) = gathered (with_opener l labels) ts
-gathered labels (Closes ∷ ts) = gathered labels ts
-gathered labels (Stays ∷ ts) = gathered labels ts

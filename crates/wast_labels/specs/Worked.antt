@@ -2,9 +2,8 @@
 use Rattle.std.specs.Prelude.{◌≡◌, true, false, List, [], ◌∷◌, Some, None, codes}
 use Rattle.wast_base.specs.Blocks.{closed, Turn, Opens, Closes, Stays}
 use Rattle.wast_base.specs.Ids.{Name, Written, Generated}
-use Rattle.wast_labels.specs.Gathered.{knows}
 use Rattle.wast_labels.specs.OpenBlocks.{denotes, is_innermost, expects}
-use Rattle.wast_labels.specs.Turns.{open_blocks, open_count, walked, gathered}
+use Rattle.wast_labels.specs.Turns.{open_blocks, open_count, walked}
 
 abbrev pub a : Name
 a = Written (codes "a")
@@ -32,9 +31,3 @@ abbrev pub EndsThere : Type 0
 EndsThere =
     (expects (Some a) (walked [] nested) ≡ true) × (expects (Some b) (walked [] nested) ≡ false) × (expects None (walked [] nested) ≡ true)
     × (expects (Some b) [] ≡ true) × (is_innermost b [] ≡ false)
-
--- Of its four openers three have a label that is gathered.
-abbrev pub GatheredThere : Type 0
-GatheredThere =
-    (gathered [] nested ≡ a ∷ b ∷ a ∷ []) × (knows (gathered [] nested) (Some b) ≡ true)
-    × (knows (gathered [] nested) (Some (Generated 1)) ≡ false)

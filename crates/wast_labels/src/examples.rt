@@ -1,12 +1,11 @@
 //! A worked expression, of which the definitions compute what they say.
 
-ghost use Rattle.wast_labels.specs.Worked.{ThreeAreOpen, LabelsThere, EndsThere, GatheredThere};
+ghost use Rattle.wast_labels.specs.Worked.{ThreeAreOpen, LabelsThere, EndsThere};
 
-/// The open blocks of a worked expression, what its labels denote there, what may stand at an `end`, and what is gathered.
-#[tactic(auto, using(crate::proofs::Worked::three_are_open, crate::proofs::Worked::labels_there, crate::proofs::Worked::ends_there, crate::proofs::Worked::gathered_there))]
+/// The open blocks of a worked expression, what its labels denote there, and what may stand at an `end`.
+#[tactic(auto, using(crate::proofs::Worked::three_are_open, crate::proofs::Worked::labels_there, crate::proofs::Worked::ends_there))]
 pub(crate) fn nested_blocks()
     ensures open_blocks { ThreeAreOpen }
     ensures labels { LabelsThere }
     ensures ends { EndsThere }
-    ensures gathered { GatheredThere }
 {}

@@ -1,14 +1,6 @@
 //! What holds of the open blocks of each expression.
 
-ghost use Rattle.wast_labels.specs.Laws.{GathersInOrder, KnowsItsLabels, StepsAsCounted, WalksAsCounted, HasFewBlocks, HasRoom, DenotesTheLast, DenotesNothing, ExpectsTheLast, ExpectsAny};
-
-/// The laws of gathering: the labels of an expression are gathered in the order of its openers, and the label of each is known.
-///
-/// It does nothing: what it ensures holds for each list of instructions, seen as what they do to the open blocks.
-pub fn gathering_law()
-    ensures order { GathersInOrder }
-    ensures known { KnowsItsLabels }
-{}
+ghost use Rattle.wast_labels.specs.Laws.{StepsAsCounted, WalksAsCounted, HasFewBlocks, HasRoom, DenotesTheLast, DenotesNothing, ExpectsTheLast, ExpectsAny};
 
 /// The laws of walking (text format, control instructions: labels): a walk that opens a block at each opener and closes one
 /// at each closer has, at each place, the blocks that are open there; they are no more than the openers, and where an

@@ -2,14 +2,12 @@
 #![tactic(auto)]
 
 mod examples;
-mod gathering;
+mod index;
 mod labels;
 mod laws;
-mod order;
 
-pub use gathering::LabelNames;
 pub use labels::Labels;
-pub use laws::{expecting_law, gathering_law, walking_law};
+pub use laws::{expecting_law, walking_law};
 
 #[cfg(test)]
 mod tests;

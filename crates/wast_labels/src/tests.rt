@@ -1,6 +1,6 @@
 //! Many blocks, with ample memory: no contract says that calls get it.
 
-use crate::{LabelNames, Labels};
+use crate::Labels;
 use std::process::Abort;
 use wast_base::{Id, Index, Span};
 
@@ -8,12 +8,8 @@ fn id<'a>(name: &'a str) -> Id<'a> {
     Id::new(name, Span { offset: 7 })
 }
 
-fn add<'a>(rt: &impl Abort, names: &mut LabelNames<'a>, label: Option<Id<'a>>) {
-    names.add(label).expect(rt, "memory");
-}
-
 fn open<'a>(rt: &impl Abort, labels: &mut Labels<'a>, label: Option<Id<'a>>) {
-    assert!(rt; labels.knows(label) && !labels.is_full());
+    assert!(rt; !labels.is_full());
     labels.open(label).expect(rt, "memory");
 }
 
@@ -25,22 +21,31 @@ fn open_many<'a>(rt: &impl Abort, labels: &mut Labels<'a>, label: Id<'a>) {
 
 #[test]
 fn one_label_is_that_of_the_innermost_block(rt: HostRuntime) {
-    let mut names = LabelNames::new(rt.alloc());
-    for _ in 0..10000 {
-        add(&rt, &mut names, Some(id("l")));
-    }
-    let mut labels = names.table(rt.alloc()).expect(&rt, "memory");
+    let mut labels = Labels::new(rt.alloc());
     open_many(&rt, &mut labels, id("l"));
     let mut branch = Index::Id(id("l"));
     assert!(rt; labels.number(&mut branch) == Ok(0));
     assert!(rt; branch == Index::Num(0, Span { offset: 7 }));
-    open(&rt, &mut labels, None);
-    assert!(rt; labels.denotes(&id("l")) == Some(1));
+    for _ in 0..100 {
+        open(&rt, &mut labels, None);
+    }
+    assert!(rt; labels.denotes(&id("l")) == Some(100));
 }
 
 fn open_each<'a>(rt: &impl Abort, labels: &mut Labels<'a>, texts: &'a [String]) {
     for text in texts {
         open(rt, labels, Some(id(text.as_str())));
+    }
+}
+
+fn are_apart<'a>(rt: &impl Abort, labels: &mut Labels<'a>, texts: &'a [String]) {
+    let mut want = 10000u32;
+    for text in texts {
+        assert!(rt; want > 0);
+        want -= 1;
+        let mut branch = Index::Id(id(text.as_str()));
+        labels.reach(&branch).expect(rt, "memory");
+        assert!(rt; labels.number(&mut branch) == Ok(want));
     }
 }
 
@@ -51,16 +56,12 @@ fn many_labels_are_told_apart(rt: HostRuntime) {
         let text = format!(in rt.alloc(); "{n}").expect(&rt, "memory");
         texts.push(text).expect(&rt, "memory");
     }
-    let mut names = LabelNames::new(rt.alloc());
-    for text in &texts {
-        add(&rt, &mut names, Some(id(text.as_str())));
-    }
-    let mut labels = names.table(rt.alloc()).expect(&rt, "memory");
+    let mut labels = Labels::new(rt.alloc());
     open_each(&rt, &mut labels, &texts);
-    let mut want = 10000u32;
-    for text in &texts {
-        assert!(rt; want > 0);
-        want -= 1;
-        assert!(rt; labels.denotes(&id(text.as_str())) == Some(want));
+    are_apart(&rt, &mut labels, &texts);
+    open_each(&rt, &mut labels, &texts);
+    for _ in 0..10000 {
+        labels.close();
     }
+    are_apart(&rt, &mut labels, &texts);
 }

@@ -15,7 +15,7 @@ use Rattle.wast_passes.specs.Tree.func
 use Rattle.wast_demands.specs.Scopes.{Scope, denoted, type_at, params_of, unsaid_params, nameless}
 use Rattle.wast_demands.specs.Demands.{ask_demands, site_demand, site_demands, declared, kind_marks, open_counts_at, open_counts, HasMany}
 use Rattle.wast_passes.specs.Locals.{LocalSpace, opening, names, locals_in, NumbersIn, SaysAsMuch, kind_counts}
-use Rattle.wast_passes.specs.Openable.{begin}
+use Rattle.wast_passes.specs.Standing.{begin}
 use Rattle.wast_demands.specs.Resolved.{numbered_by, numbered, numbered_at, numbered_use}
 use Rattle.wast_passes.specs.TwoSteps.{in_locals, in_body, with_locals, with_body}
 use Rattle.wast_demands.proofs.Counted.{many_one, many_left, many_right}

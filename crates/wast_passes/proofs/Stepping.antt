@@ -4,14 +4,14 @@ use Rattle.std.proofs.Math.ListN.{set, length-set}
 use Rattle.std.proofs.Math.Seq.{drop-cons, take-suc}
 use Rattle.std.proofs.lemmas.List.{append-nil, drop-drop, drop-set-lt, set-get_or, take_more_set, take-append-drop, take_all}
 use Rattle.wast_base.specs.Faults.{Told}
-use Rattle.wast_labels.specs.OpenBlocks.{OpenBlocks}
+use Rattle.wast_base.specs.Blocks.{Blocks}
 use Rattle.wast_nodes.specs.Sites.{Locals, Here, start, after_all, behind, in_instr, in_instrs}
 use Rattle.wast_nodes.proofs.Behind.{after-append, instrs-append}
 use Rattle.wast_map.specs.Mapped.{Change, mapped_instr, mapped_instrs}
 use Rattle.wast_passes.specs.Tree.{Instruction}
 use Rattle.wast_demands.specs.Scopes.{Scope}
 use Rattle.wast_demands.specs.Demands.{first_unmet, Answers, site_demand, site_demands, open_counts, HasMany}
-use Rattle.wast_passes.specs.Openable.{is_openable, AreOpenable, IsPassed, here, with_blocks}
+use Rattle.wast_passes.specs.Standing.{IsPassed, here}
 use Rattle.wast_demands.specs.Resolved.{numbering}
 use Rattle.wast_demands.proofs.Counted.{many_sites}
 use Rattle.wast_passes.proofs.Moving.{stands_by}
@@ -56,13 +56,13 @@ sites_one_more start olds i x lt item =
     ∙ (instrs-append start (take i olds) (x ∷ []) ∙ ap (λ zs. in_instrs start (take i olds) ++ zs) (append-nil (in_instr (reached start olds i) x)))
 
 -- the first i instructions are walked, and s are the open blocks before them and t those behind them
-pub record IsAlong (s t : OpenBlocks) (olds nows : List Instruction) (i : ℕ) : Type 0 where
+pub record IsAlong (s t : Blocks) (olds nows : List Instruction) (i : ℕ) : Type 0 where
   pub len : length nows ≡ length olds
   pub left : drop i nows ≡ drop i olds
-  pub moved : (l : Locals) → t ≡ with_blocks s (reached (here l s) olds i)
+  pub moved : (l : Locals) → t ≡ (reached (here l s) olds i).blocks
 
-pub along_more : {s t u : OpenBlocks} {olds nows : List Instruction} {i : ℕ} {x : Instruction} (y : Instruction) → IsAlong s t olds nows i → i < length olds → x ≡ get_or nows i x
-    → ((l : Locals) → u ≡ with_blocks t (after_all (here l t) (in_instr (here l t) x))) → IsAlong s u olds (set nows i y) (i + 1)
+pub along_more : {s t u : Blocks} {olds nows : List Instruction} {i : ℕ} {x : Instruction} (y : Instruction) → IsAlong s t olds nows i → i < length olds → x ≡ get_or nows i x
+    → ((l : Locals) → u ≡ (after_all (here l t) (in_instr (here l t) x)).blocks) → IsAlong s u olds (set nows i y) (i + 1)
 along_more {s} {t} {u} {olds} {nows} {i} {x} y p lt is moves =
     let item = at_place olds nows i x p.len p.left lt is in
     record {
@@ -72,16 +72,9 @@ along_more {s} {t} {u} {olds} {nows} {i} {x} y p lt is moves =
           let h = here l s in
           let there = stands_by l s (in_instrs h (take i olds)) t (p.moved l) in
           moves l
-          ∙ (ap (λ (g : Here). with_blocks t (after_all g (in_instr g x))) there
-          ∙ (ap (λ v. with_blocks v (after_all (reached h olds i) (in_instr (reached h olds i) x))) (p.moved l)
-          ∙ ap (with_blocks s) (sym (ap (after_all h) (sites_one_more h olds i x lt item) ∙ after-append h (in_instrs h (take i olds)) (in_instr (reached h olds i) x)))));
+          ∙ (ap (λ (g : Here). (after_all g (in_instr g x)).blocks) there
+          ∙ ap (λ (g : Here). g.blocks) (sym (ap (after_all h) (sites_one_more h olds i x lt item) ∙ after-append h (in_instrs h (take i olds)) (in_instr (reached h olds i) x))));
     }
-
--- the label of a block that the next one opens was gathered
-pub along_openable : {s t : OpenBlocks} {olds nows : List Instruction} {i : ℕ} {x : Instruction} → IsAlong s t olds nows i → i < length olds → x ≡ get_or nows i x → AreOpenable s.known olds → is_openable t.known x ≡ true
-along_openable {s} {t} {olds} {nows} {i} {x} p lt is all =
-    ap (λ (u : OpenBlocks). is_openable u.known x) (p.moved start.locals)
-    ∙ all (take i olds) (drop (suc i) olds) x (about olds i x lt (at_place olds nows i x p.len p.left lt is))
 
 module _ {c : Scope} {f : Change} {start : Here} {olds nows : List Instruction} {i : ℕ} {x : Instruction} (p : IsPartway c f start olds nows i) (lt : i < length olds) (is : x ≡ get_or nows i x) where
   item : get_or olds i x ≡ x
@@ -138,9 +131,9 @@ put_back : (nows : List Instruction) (i : ℕ) (x : Instruction) → x ≡ get_o
 put_back nows i x is = ap (set nows i) is ∙ set-get_or nows i x
 
 -- and opens and closes no block
-pub along_passed : {s t : OpenBlocks} {olds nows : List Instruction} {i : ℕ} {x : Instruction} → IsPassed x → IsAlong s t olds nows i → i < length olds → x ≡ get_or nows i x → IsAlong s t olds nows (i + 1)
+pub along_passed : {s t : Blocks} {olds nows : List Instruction} {i : ℕ} {x : Instruction} → IsPassed x → IsAlong s t olds nows i → i < length olds → x ≡ get_or nows i x → IsAlong s t olds nows (i + 1)
 along_passed {s} {t} {olds} {nows} {i} {x} passed p lt is =
-    subst (λ ys. IsAlong s t olds ys (i + 1)) (put_back nows i x is) (along_more x p lt is (λ l. sym (ap (with_blocks t) (passed.still (here l t)))))
+    subst (λ ys. IsAlong s t olds ys (i + 1)) (put_back nows i x is) (along_more x p lt is (λ l. sym (ap (λ (g : Here). g.blocks) (passed.still (here l t)))))
 
 -- and is walked
 pub partway_passed : {c : Scope} {start : Here} {olds nows : List Instruction} {i : ℕ} {x : Instruction} → IsPassed x → IsPartway c (numbering c) start olds nows i → i < length olds → x ≡ get_or nows i x → IsPartway c (numbering c) start olds nows (i + 1)

@@ -4,9 +4,9 @@ pub mod Guesses
 pub mod Laws
 pub mod Locals
 pub mod LookUps
-pub mod Openable
 pub mod Resolvers
 pub mod Shaping
+pub mod Standing
 pub mod Tree
 pub mod TwoSteps
 pub mod Walking

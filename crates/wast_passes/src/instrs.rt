@@ -5,16 +5,13 @@ ghost use Rattle.std.specs.Prelude.{◌≡◌, ◌++◌, ◌∷◌, [], map, fla
 ghost use Rattle.wast_base.specs.Blocks.{closed};
 ghost use Rattle.wast_base.specs.Ids.{marked};
 ghost use Rattle.wast_base.specs.Spaces.{name_if};
-ghost use Rattle.wast_labels.specs.Gathered.{knows};
-ghost use Rattle.wast_labels.specs.Turns.{gathered};
 ghost use Rattle.wast_map.specs.Mapped.{mapped_access, mapped_block, mapped_br_table, mapped_catch, mapped_caught, mapped_expression, mapped_handle, mapped_handlers, mapped_indirect, mapped_instr, mapped_instrs, mapped_try_table};
 ghost use Rattle.wast_passes.specs.Locals.{Numbers};
-ghost use Rattle.wast_passes.specs.Openable.{is_openable, AreOpenable, here, begin, Moves, IsPassed};
+ghost use Rattle.wast_passes.specs.Standing.{here, begin, Moves, IsPassed};
 ghost use Rattle.wast_passes.specs.Resolvers.{Resolution, scope_of};
 ghost use Rattle.wast_passes.specs.Tree.space;
 ghost use Rattle.wast_passes.specs.TwoSteps.{in_handler_tag, in_handler_label, with_handler_tag, with_handler_label};
 ghost use Rattle.wast_passes.specs.Walking.{WalksAsks, WalksSites, WalksBodies, WalksCast};
-ghost use Rattle.wast_nodes.specs.Instrs.{turn_of, turns};
 ghost use Rattle.wast_nodes.specs.Sites.{Begins, Ends, Repeated, LocalAt, Locals, OfBlock, asking, at_index, at_label, in_access, in_block, in_br_table, in_catch, in_caught, in_handle, in_handlers, in_indirect, in_instr, in_instrs, in_pair, in_try_table, in_use};
 
 use crate::apart::{walk_outside, walk_outside_index};
@@ -23,7 +20,7 @@ use crate::resolver::Resolver;
 use crate::walks::{Walk, walk_body_type, walk_index};
 use std::alloc::{AllocError, Global};
 use wast_base::{Boxed, Error, Fault, Id, Index, Seq, Space};
-use wast_labels::{LabelNames, Labels, gathering_law};
+use wast_labels::Labels;
 use wast_nodes::{
     ArrayInit, BlockType, BrTableIndices, CallIndirect, Expression, Handle, Instruction,
     MemArgTarget, RefType, Resume, ResumeTable, ResumeThrow, ResumeThrowRef, StructAccess,
@@ -59,7 +56,7 @@ fn walk_local<'a>(locals: &LocalNames<'a>, index: &mut Index<'a>) -> Result<(), 
 /// Walks over a label: E4 at an id that no open block has.
 fn walk_label<'a>(labels: &Labels<'a>, label: &mut Index<'a>) -> Result<(), Error<'a>>
     ensures { (names : Resolution) →
-        WalksSites names (at_label labels.now.blocks) (λ f. f.label labels.now.blocks) label.old label.new result }
+        WalksSites names (at_label labels.now) (λ f. f.label labels.now) label.old label.new result }
 {
     labels.number(label)?;
     Ok(())
@@ -68,7 +65,7 @@ fn walk_label<'a>(labels: &Labels<'a>, label: &mut Index<'a>) -> Result<(), Erro
 /// Walks over the label of a branch. No block is opened.
 fn walk_branch<'a>(labels: &Labels<'a>, label: &mut Index<'a>) -> Result<(), Error<'a>>
     ensures { (names : Resolution) →
-        WalksBodies names (at_label labels.now.blocks) (λ f. f.label labels.now.blocks) label.old label.new result }
+        WalksBodies names (at_label labels.now) (λ f. f.label labels.now) label.old label.new result }
 {
     walk_label(labels, label)
 }
@@ -76,7 +73,7 @@ fn walk_branch<'a>(labels: &Labels<'a>, label: &mut Index<'a>) -> Result<(), Err
 /// Walks over labels, in order.
 fn walk_labels<'a>(labels: &Labels<'a>, indices: &mut Seq<Index<'a>>) -> Result<(), Error<'a>>
     ensures { (names : Resolution) →
-        WalksSites names (flat_map (at_label labels.now.blocks)) (λ f. map (f.label labels.now.blocks)) indices.old indices.new result }
+        WalksSites names (flat_map (at_label labels.now)) (λ f. map (f.label labels.now)) indices.old indices.new result }
 {
     for i in 0..indices.len() {
         walk_label(labels, indices.at_mut(i))?;
@@ -87,7 +84,7 @@ fn walk_labels<'a>(labels: &Labels<'a>, indices: &mut Seq<Index<'a>>) -> Result<
 /// Walks over the labels that a number chooses from, and then the one for all others.
 fn walk_br_table<'a>(labels: &Labels<'a>, table: &mut BrTableIndices<'a>) -> Result<(), Error<'a>>
     ensures { (names : Resolution) →
-        WalksBodies names (in_br_table labels.now.blocks) (λ f. mapped_br_table f labels.now.blocks) table.old table.new result }
+        WalksBodies names (in_br_table labels.now) (λ f. mapped_br_table f labels.now) table.old table.new result }
 {
     walk_labels(labels, &mut table.labels)?;
     walk_label(labels, &mut table.default)?;
@@ -105,10 +102,9 @@ fn walk_indirect<'a>(names: &Resolver<'a>, call: &mut CallIndirect<'a>) -> Resul
 
 /// Opens a block: E10 where 4,294,967,295 are open, E12 where memory is refused.
 fn open_label<'a>(labels: &mut Labels<'a>, label: Option<Id<'a>>) -> Result<(), Error<'a>>
-    requires { IsTrue (knows labels.old.known (name_if (marked label))) }
     ensures walks { (names : Resolution) →
-        WalksBodies names (λ o. Begins labels.old.blocks (marked o) ∷ []) (λ f o. o) label.entry label.entry result }
-    ensures blocks { Moves labels.old (λ h. Begins labels.old.blocks (marked label.entry) ∷ []) labels.new result }
+        WalksBodies names (λ o. Begins labels.old (marked o) ∷ []) (λ f o. o) label.entry label.entry result }
+    ensures blocks { Moves labels.old (λ h. Begins labels.old (marked label.entry) ∷ []) labels.new result }
 {
     if labels.is_full() {
         return Err(Error::refusal(Fault::TooLarge));
@@ -134,9 +130,8 @@ fn walk_block<'a>(
     labels: &mut Labels<'a>,
     block: &mut Boxed<BlockType<'a>>,
 ) -> Result<(), Error<'a>>
-    requires { IsTrue (knows labels.old.known (name_if (marked block.old.label))) }
-    ensures walks { WalksBodies names.now (in_block labels.old.blocks) mapped_block block.old block.new result }
-    ensures blocks { Moves labels.old (λ h. in_block labels.old.blocks block.old) labels.new result }
+    ensures walks { WalksBodies names.now (in_block labels.old) mapped_block block.old block.new result }
+    ensures blocks { Moves labels.old (λ h. in_block labels.old block.old) labels.new result }
 {
     walk_block_type(names, block)?;
     open_label(labels, block.get().label)?;
@@ -161,7 +156,7 @@ fn walk_catch<'a>(
     labels: &Labels<'a>,
     catch: &mut TryTableCatch<'a>,
 ) -> Result<(), Error<'a>>
-    ensures { WalksSites names.now (in_catch labels.now.blocks) (λ f. mapped_catch f labels.now.blocks) catch.old catch.new result }
+    ensures { WalksSites names.now (in_catch labels.now) (λ f. mapped_catch f labels.now) catch.old catch.new result }
 {
     walk_caught(names, &mut catch.kind)?;
     walk_label(labels, &mut catch.label)?;
@@ -174,8 +169,8 @@ fn walk_catches<'a>(
     labels: &Labels<'a>,
     catches: &mut Seq<TryTableCatch<'a>>,
 ) -> Result<(), Error<'a>>
-    ensures { WalksSites names.now (flat_map (in_catch labels.now.blocks))
-        (λ f. map (mapped_catch f labels.now.blocks)) catches.old catches.new result }
+    ensures { WalksSites names.now (flat_map (in_catch labels.now))
+        (λ f. map (mapped_catch f labels.now)) catches.old catches.new result }
 {
     for i in 0..catches.len() {
         walk_catch(names, labels, catches.at_mut(i))?;
@@ -189,10 +184,9 @@ fn walk_try_table<'a>(
     labels: &mut Labels<'a>,
     table: &mut TryTable<'a>,
 ) -> Result<(), Error<'a>>
-    requires { IsTrue (knows labels.old.known (name_if (marked table.old.block.label))) }
-    ensures walks { WalksBodies names.now (in_try_table labels.old.blocks)
-        (λ f. mapped_try_table f labels.old.blocks) table.old table.new result }
-    ensures blocks { Moves labels.old (λ h. in_try_table labels.old.blocks table.old) labels.new result }
+    ensures walks { WalksBodies names.now (in_try_table labels.old)
+        (λ f. mapped_try_table f labels.old) table.old table.new result }
+    ensures blocks { Moves labels.old (λ h. in_try_table labels.old table.old) labels.new result }
 {
     walk_block_type(names, &mut table.block)?;
     walk_catches(names, labels, &mut table.catches)?;
@@ -203,7 +197,7 @@ fn walk_try_table<'a>(
 /// Walks over the label at an `else`: E8 where it is not that of the innermost open block.
 fn walk_else<'a>(labels: &Labels<'a>, label: &Option<Id<'a>>) -> Result<(), Error<'a>>
     ensures { (names : Resolution) →
-        WalksBodies names (λ o. Repeated labels.now.blocks (marked o) ∷ []) (λ f o. o) label.now label.now result }
+        WalksBodies names (λ o. Repeated labels.now (marked o) ∷ []) (λ f o. o) label.now label.now result }
 {
     labels.check(*label)
 }
@@ -211,8 +205,8 @@ fn walk_else<'a>(labels: &Labels<'a>, label: &Option<Id<'a>>) -> Result<(), Erro
 /// Walks over the label at an `end`: E8 where it is not that of the innermost open block, which is closed then.
 fn walk_end<'a>(labels: &mut Labels<'a>, label: &Option<Id<'a>>) -> Result<(), Error<'a>>
     ensures walks { (names : Resolution) →
-        WalksBodies names (λ o. Repeated labels.old.blocks (marked o) ∷ Ends ∷ []) (λ f o. o) label.now label.now result }
-    ensures blocks { Moves labels.old (λ h. Repeated labels.old.blocks (marked label.now) ∷ Ends ∷ []) labels.new result }
+        WalksBodies names (λ o. Repeated labels.old (marked o) ∷ Ends ∷ []) (λ f o. o) label.now label.now result }
+    ensures blocks { Moves labels.old (λ h. Repeated labels.old (marked label.now) ∷ Ends ∷ []) labels.new result }
 {
     walk_else(labels, label)?;
     labels.close();
@@ -222,9 +216,9 @@ fn walk_end<'a>(labels: &mut Labels<'a>, label: &Option<Id<'a>>) -> Result<(), E
 /// Closes the innermost open block, and then walks over the label of `delegate`.
 fn walk_delegate<'a>(labels: &mut Labels<'a>, label: &mut Index<'a>) -> Result<(), Error<'a>>
     ensures walks { (names : Resolution) →
-        WalksBodies names (λ l. Ends ∷ at_label (closed labels.old.blocks) l)
-        (λ f. f.label (closed labels.old.blocks)) label.old label.new result }
-    ensures blocks { Moves labels.old (λ h. Ends ∷ at_label (closed labels.old.blocks) label.old) labels.new result }
+        WalksBodies names (λ l. Ends ∷ at_label (closed labels.old) l)
+        (λ f. f.label (closed labels.old)) label.old label.new result }
+    ensures blocks { Moves labels.old (λ h. Ends ∷ at_label (closed labels.old) label.old) labels.new result }
 {
     labels.close();
     walk_label(labels, label)?;
@@ -260,7 +254,7 @@ fn walk_cast<'a>(
     to: &mut RefType<'a>,
     from: &mut RefType<'a>,
 ) -> Result<(), Error<'a>>
-    ensures { WalksCast names.now labels.now.blocks (label.old, (to.old, from.old)) (label.new, (to.new, from.new)) result }
+    ensures { WalksCast names.now labels.now (label.old, (to.old, from.old)) (label.new, (to.new, from.new)) result }
 {
     walk_label(labels, label)?;
     walk_outside(names, to)?;
@@ -280,8 +274,8 @@ fn walk_handler_tag<'a>(names: &Resolver<'a>, handle: &mut Handle<'a>) -> Result
 
 /// Walks over the label of a handler of a resumption, if it has one.
 fn walk_handler_label<'a>(labels: &Labels<'a>, handle: &mut Handle<'a>) -> Result<(), Error<'a>>
-    ensures { (names : Resolution) → WalksSites names (in_handler_label labels.now.blocks)
-        (λ f. with_handler_label f labels.now.blocks) handle.old handle.new result }
+    ensures { (names : Resolution) → WalksSites names (in_handler_label labels.now)
+        (λ f. with_handler_label f labels.now) handle.old handle.new result }
 {
     match handle {
         Handle::OnLabel { label, .. } => walk_label(labels, label),
@@ -295,7 +289,7 @@ fn walk_handle<'a>(
     labels: &Labels<'a>,
     handle: &mut Handle<'a>,
 ) -> Result<(), Error<'a>>
-    ensures { WalksSites names.now (in_handle labels.now.blocks) (λ f. mapped_handle f labels.now.blocks) handle.old handle.new result }
+    ensures { WalksSites names.now (in_handle labels.now) (λ f. mapped_handle f labels.now) handle.old handle.new result }
 {
     walk_handler_tag(names, handle)?;
     walk_handler_label(labels, handle)?;
@@ -308,8 +302,8 @@ fn walk_handles<'a>(
     labels: &Labels<'a>,
     handles: &mut Seq<Handle<'a>>,
 ) -> Result<(), Error<'a>>
-    ensures { WalksSites names.now (flat_map (in_handle labels.now.blocks))
-        (λ f. map (mapped_handle f labels.now.blocks)) handles.old handles.new result }
+    ensures { WalksSites names.now (flat_map (in_handle labels.now))
+        (λ f. map (mapped_handle f labels.now)) handles.old handles.new result }
 {
     for i in 0..handles.len() {
         walk_handle(names, labels, handles.at_mut(i))?;
@@ -323,7 +317,7 @@ fn walk_handlers<'a>(
     labels: &Labels<'a>,
     table: &mut ResumeTable<'a>,
 ) -> Result<(), Error<'a>>
-    ensures { WalksSites names.now (in_handlers labels.now.blocks) (λ f. mapped_handlers f labels.now.blocks) table.old table.new result }
+    ensures { WalksSites names.now (in_handlers labels.now) (λ f. mapped_handlers f labels.now) table.old table.new result }
 {
     walk_handles(names, labels, &mut table.handlers)?;
     Ok(())
@@ -335,8 +329,8 @@ fn walk_resume<'a>(
     labels: &Labels<'a>,
     resume: &mut Resume<'a>,
 ) -> Result<(), Error<'a>>
-    ensures { WalksBodies names.now (λ a. at_index space.Ty a.type_index ++ in_handlers labels.now.blocks a.table)
-        (λ f a. record { type_index = f.index space.Ty a.type_index; table = mapped_handlers f labels.now.blocks a.table }) resume.old resume.new result }
+    ensures { WalksBodies names.now (λ a. at_index space.Ty a.type_index ++ in_handlers labels.now a.table)
+        (λ f a. record { type_index = f.index space.Ty a.type_index; table = mapped_handlers f labels.now a.table }) resume.old resume.new result }
 {
     walk_outside_index(names, Space::Ty, &mut resume.type_index)?;
     walk_handlers(names, labels, &mut resume.table)?;
@@ -350,8 +344,8 @@ fn walk_resume_throw<'a>(
     resume: &mut ResumeThrow<'a>,
 ) -> Result<(), Error<'a>>
     ensures { WalksBodies names.now
-        (λ a. asking (in_pair space.Ty a.type_index space.Tag a.tag_index) ++ in_handlers labels.now.blocks a.table)
-        (λ f a. record { type_index = f.index space.Ty a.type_index; tag_index = f.index space.Tag a.tag_index; table = mapped_handlers f labels.now.blocks a.table }) resume.old resume.new result }
+        (λ a. asking (in_pair space.Ty a.type_index space.Tag a.tag_index) ++ in_handlers labels.now a.table)
+        (λ f a. record { type_index = f.index space.Ty a.type_index; tag_index = f.index space.Tag a.tag_index; table = mapped_handlers f labels.now a.table }) resume.old resume.new result }
 {
     walk_outside_index(names, Space::Ty, &mut resume.type_index)?;
     walk_outside_index(names, Space::Tag, &mut resume.tag_index)?;
@@ -365,8 +359,8 @@ fn walk_resume_throw_ref<'a>(
     labels: &Labels<'a>,
     resume: &mut ResumeThrowRef<'a>,
 ) -> Result<(), Error<'a>>
-    ensures { WalksBodies names.now (λ a. at_index space.Ty a.type_index ++ in_handlers labels.now.blocks a.table)
-        (λ f a. record { type_index = f.index space.Ty a.type_index; table = mapped_handlers f labels.now.blocks a.table }) resume.old resume.new result }
+    ensures { WalksBodies names.now (λ a. at_index space.Ty a.type_index ++ in_handlers labels.now a.table)
+        (λ f a. record { type_index = f.index space.Ty a.type_index; table = mapped_handlers f labels.now a.table }) resume.old resume.new result }
 {
     walk_outside_index(names, Space::Ty, &mut resume.type_index)?;
     walk_handlers(names, labels, &mut resume.table)?;
@@ -374,15 +368,12 @@ fn walk_resume_throw_ref<'a>(
 }
 
 /// Walks over an instruction. A block that it opens or closes is opened or closed then.
-///
-/// It needs that the label of a block that it opens was gathered.
 fn walk_instr<'a>(
     names: &Resolver<'a>,
     locals: &LocalNames<'a>,
     labels: &mut Labels<'a>,
     instr: &mut Instruction<'a>,
 ) -> Result<(), Error<'a>>
-    requires { IsTrue (is_openable labels.old.known instr.old) }
     ensures walks { (l : Locals) → Numbers (scope_of names.now) l locals.now →
         WalksBodies names.now (in_instr (here l labels.old)) (λ f. mapped_instr f (here l labels.old)) instr.old instr.new result }
     ensures blocks { Moves labels.old (λ h. in_instr h instr.old) labels.new result }
@@ -549,16 +540,72 @@ fn is_passed(instr: &Instruction) -> bool
     }
 }
 
+/// Sees to it that the labels that are looked up in an instruction are found in few steps.
+fn reach_labels<'a>(labels: &mut Labels<'a>, instr: &Instruction<'a>) -> Result<(), AllocError>
+    ensures { labels.new ≡ labels.old }
+{
+    match instr {
+        Instruction::br(label)
+        | Instruction::br_if(label)
+        | Instruction::br_on_null(label)
+        | Instruction::br_on_non_null(label)
+        | Instruction::rethrow(label)
+        | Instruction::delegate(label) => labels.reach(label),
+        Instruction::br_table(table) => reach_all(labels, table),
+        Instruction::try_table(table) => reach_caught(labels, &table.catches),
+        Instruction::br_on_cast(arg) => labels.reach(&arg.label),
+        Instruction::br_on_cast_fail(arg) => labels.reach(&arg.label),
+        Instruction::br_on_cast_desc_eq(arg) => labels.reach(&arg.label),
+        Instruction::br_on_cast_desc_eq_fail(arg) => labels.reach(&arg.label),
+        Instruction::resume(arg) => reach_handled(labels, &arg.table),
+        Instruction::resume_throw(arg) => reach_handled(labels, &arg.table),
+        Instruction::resume_throw_ref(arg) => reach_handled(labels, &arg.table),
+        _ => Ok(()),
+    }
+}
+
+/// The same of the labels that a number chooses from, and of the one for all others.
+fn reach_all<'a>(labels: &mut Labels<'a>, table: &BrTableIndices<'a>) -> Result<(), AllocError>
+    ensures { labels.new ≡ labels.old }
+{
+    for label in table.labels.as_slice() {
+        labels.reach(label)?;
+    }
+    labels.reach(&table.default)
+}
+
+/// The same of the labels of clauses of `try_table`.
+fn reach_caught<'a>(
+    labels: &mut Labels<'a>,
+    catches: &Seq<TryTableCatch<'a>>,
+) -> Result<(), AllocError>
+    ensures { labels.new ≡ labels.old }
+{
+    for catch in catches.as_slice() {
+        labels.reach(&catch.label)?;
+    }
+    Ok(())
+}
+
+/// The same of the labels of handlers of a resumption.
+fn reach_handled<'a>(labels: &mut Labels<'a>, table: &ResumeTable<'a>) -> Result<(), AllocError>
+    ensures { labels.new ≡ labels.old }
+{
+    for handle in table.handlers.as_slice() {
+        if let Handle::OnLabel { label, .. } = handle {
+            labels.reach(label)?;
+        }
+    }
+    Ok(())
+}
+
 /// Walks over instructions, in order.
-///
-/// It needs that the labels of all blocks that they open were gathered.
 fn walk_instrs<'a>(
     names: &Resolver<'a>,
     locals: &LocalNames<'a>,
     labels: &mut Labels<'a>,
     instrs: &mut Seq<Instruction<'a>>,
 ) -> Result<(), Error<'a>>
-    requires { AreOpenable labels.old.known instrs.old }
     ensures { (l : Locals) → Numbers (scope_of names.now) l locals.now →
         WalksBodies names.now (in_instrs (here l labels.old)) (λ f. mapped_instrs f (here l labels.old)) instrs.old instrs.new result }
 {
@@ -566,49 +613,15 @@ fn walk_instrs<'a>(
         if is_passed(&instrs.as_slice()[i]) {
             continue;
         }
+        reach_labels(labels, &instrs.as_slice()[i])?;
         walk_instr(names, locals, labels, instrs.at_mut(i))?;
     }
     Ok(())
 }
 
-/// Takes in the label of a block, where an instruction opens one.
-fn gather_label<'a>(labels: &mut LabelNames<'a>, instr: &Instruction<'a>) -> Result<(), AllocError>
-    ensures { OnOk result (labels.new ≡ gathered labels.old (turn_of instr.now ∷ [])) }
-{
-    match instr.block_type() {
-        Some(block) => labels.add(block.label),
-        None => Ok(()),
-    }
-}
-
-/// The labels of the blocks that instructions open, in order.
-fn gather_labels<'a>(
-    alloc: Global,
-    instrs: &[Instruction<'a>],
-) -> Result<LabelNames<'a>, AllocError>
-    ensures { IfOk result (λ labels. labels ≡ gathered [] (turns instrs.now)) }
-{
-    let mut labels = LabelNames::new(alloc);
-    for instr in instrs {
-        gather_label(&mut labels, instr)?;
-    }
-    Ok(labels)
-}
-
-/// The labels that instructions may open, with no block open. It takes memory only where there is a label.
-fn table_of_labels<'a>(alloc: Global, instrs: &[Instruction<'a>]) -> Result<Labels<'a>, AllocError>
-    ensures known { IfOk result (λ labels. AreOpenable labels.known instrs.now) }
-    ensures none_open { IfOk result (λ labels. labels.blocks ≡ []) }
-{
-    // the label of each opener is known to the table of what was gathered
-    gathering_law();
-    let labels = gather_labels(alloc, instrs)?.table(alloc)?;
-    Ok(labels)
-}
-
 /// Walks over the instructions of an expression, in a function whose parameters and locals have these names.
 ///
-/// It takes memory for the labels, where there are any, and for the open blocks: E12 where it is refused, and E10 only where
+/// It takes memory for the open blocks: E12 where it is refused, and E10 only where
 /// 2^32 blocks or more would be open at once.
 pub(crate) fn walk_expression<'a>(
     alloc: Global,
@@ -619,7 +632,7 @@ pub(crate) fn walk_expression<'a>(
     ensures { (l : Locals) → Numbers (scope_of names.now) l locals.now → let h = begin l in
         WalksBodies names.now (λ e. in_instrs h e.instrs) (λ f. mapped_expression f h) expression.old expression.new result }
 {
-    let mut labels = table_of_labels(alloc, expression.instrs.as_slice())?;
+    let mut labels = Labels::new(alloc);
     walk_instrs(names, locals, &mut labels, &mut expression.instrs)?;
     Ok(())
 }

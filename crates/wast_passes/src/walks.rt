@@ -6,7 +6,7 @@ ghost use Rattle.wast_nodes.specs.Sites.{Ask, OfItem, OfCall, OfBlock, Locals, i
 ghost use Rattle.wast_map.specs.Mapped.{Change, mapped_heap, mapped_ref, mapped_val, mapped_signature, mapped_type, mapped_rec, mapped_table_type, mapped_global_type, mapped_local, mapped_export, mapped_mem_arg, mapped_select, mapped_memory_init, mapped_memory_copy, mapped_table_init, mapped_table_copy, mapped_func_kind, mapped_func, mapped};
 ghost use Rattle.wast_demands.specs.Demands.{match_if, first_unmet, body_counts_in, HasMany};
 ghost use Rattle.wast_passes.specs.Locals.{NumbersIn, SaysAsMuch, kind_counts};
-ghost use Rattle.wast_passes.specs.Openable.{begin};
+ghost use Rattle.wast_passes.specs.Standing.{begin};
 ghost use Rattle.wast_base.specs.Outcomes.{Outcome};
 ghost use Rattle.wast_passes.specs.TwoSteps.{in_locals, in_body, with_locals, with_body};
 ghost use Rattle.wast_passes.specs.Resolvers.{known_of, scope_of};

@@ -8,5 +8,5 @@ use Rattle.wast_passes.proofs.instrs.open_label.Goals as goal
 
 pub returns-then-is_full-clause-walks : goal.returns-then-is_full-clause-walks
 returns-then-is_full-clause-walks c names =
-    let n = length c.args.labels.now.blocks + 1 in
+    let n = length c.args.labels.now + 1 in
     subst (λ (e : Error). Answers ⊤ (HasMany (n ∷ [])) (told e) None) (sym c.refusal.ensures) (many_one n (c.is_full.ensures.0 c.if-is_full.true))

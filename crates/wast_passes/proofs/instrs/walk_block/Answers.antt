@@ -1,11 +1,9 @@
 use Rattle.std.specs.Prelude.{⊤, [], ◌∷◌}
-use Rattle.std.proofs.Common.{◌≡◌, ap, sym, subst, ◌∙◌, true}
+use Rattle.std.proofs.Common.{ap, ◌∙◌}
 use Rattle.std.proofs.lemmas.Result.{err_from_is_err_and}
 use Rattle.wast_base.specs.Faults.{told}
 use Rattle.wast_base.specs.Ids.{marked}
 use Rattle.wast_base.specs.Spaces.{name_if}
-use Rattle.wast_labels.specs.Gathered.{knows}
-use Rattle.wast_labels.specs.OpenBlocks.{with_open}
 use Rattle.wast_nodes.specs.Sites.{OfBlock, Begins, in_block, in_use}
 use Rattle.wast_passes.specs.Tree.{BlockType}
 use Rattle.wast_demands.specs.Demands.{HasMany, open_counts, site_demand}
@@ -13,15 +11,10 @@ use Rattle.wast_passes.specs.Resolvers.{scope_of}
 use Rattle.wast_passes.proofs.Parts.{both_met, fails_first, fails_second}
 use Rattle.wast_passes.proofs.instrs.walk_block.Goals as goal
 
-pub open_label-requires : goal.open_label-requires
-open_label-requires c =
-    let same = ap (λ (b : BlockType). b.label) (c.get.ensures ∙ c.in_ok-walk_block_type.ensures.1) in
-    subst (λ o. knows c.args.labels.now.known (name_if (marked o)) ≡ true) (sym same) c.requires
-
 pub returns-in_err-walk_block_type-clause-walks : goal.returns-in_err-walk_block_type-clause-walks
 returns-in_err-walk_block_type-clause-walks c =
     let x = c.args.block.now in
-    let blocks = c.args.labels.now.blocks in
+    let blocks = c.args.labels.now in
     let p = err_from_is_err_and c.from_residual.result c.from_residual.ensures.1 in
     rw (p.1, p.2) (fails_first ⊤ (HasMany (open_counts (in_block blocks x))) (scope_of c.args.names.now) (in_use OfBlock x.ty) (Begins blocks (marked x.label) ∷ []) (told c.in_err-walk_block_type.field-0.0)
     c.in_err-walk_block_type.ensures)
@@ -29,7 +22,7 @@ returns-in_err-walk_block_type-clause-walks c =
 pub returns-in_err-open_label-clause-walks : goal.returns-in_err-open_label-clause-walks
 returns-in_err-open_label-clause-walks c =
     let x = c.args.block.now in
-    let blocks = c.args.labels.now.blocks in
+    let blocks = c.args.labels.now in
     let p = err_from_is_err_and c.from_residual-in_err-open_label.result c.from_residual-in_err-open_label.ensures.1 in
     rw (p.1, p.2) (fails_second ⊤ (HasMany (open_counts (in_block blocks x))) (scope_of c.args.names.now) (in_use OfBlock x.ty) (Begins blocks (marked x.label) ∷ []) (told c.in_err-open_label.field-0.0)
     c.in_ok-walk_block_type.ensures.0 (c.in_err-open_label.ensures.walks c.args.names.now))
@@ -37,7 +30,7 @@ returns-in_err-open_label-clause-walks c =
 pub returns-clause-walks : goal.returns-clause-walks
 returns-clause-walks c =
     let x = c.args.block.now in
-    let blocks = c.args.labels.now.blocks in
+    let blocks = c.args.labels.now in
     let typed = c.in_ok-walk_block_type.ensures in
     let opened = c.in_ok-open_label.ensures.walks c.args.names.now in
     (both_met (site_demand (scope_of c.args.names.now)) (in_use OfBlock x.ty) (Begins blocks (marked x.label) ∷ []) typed.0 opened.0, typed.1)
@@ -45,4 +38,4 @@ returns-clause-walks c =
 pub returns-clause-blocks : goal.returns-clause-blocks
 returns-clause-blocks c l =
     let same = ap (λ (b : BlockType). b.label) (c.get.ensures ∙ c.in_ok-walk_block_type.ensures.1) in
-    c.in_ok-open_label.ensures.blocks l ∙ ap (λ o. with_open (name_if (marked o)) c.args.labels.now) same
+    c.in_ok-open_label.ensures.blocks l ∙ ap (λ o. name_if (marked o) ∷ c.args.labels.now) same

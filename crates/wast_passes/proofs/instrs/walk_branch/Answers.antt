@@ -9,6 +9,6 @@ use Rattle.wast_passes.proofs.instrs.walk_branch.Goals as goal
 
 pub returns : goal.returns
 returns c names =
-    let blocks = c.args.labels.now.blocks in
+    let blocks = c.args.labels.now in
     more_refused ⊤ (HasMany []) (site_demands (scope_of names) (at_label blocks c.args.label.now)) (numbered (λ name. denotes name blocks) c.args.label.now)
     c.walk_label.new.label c.walk_label.result (c.walk_label.ensures names)

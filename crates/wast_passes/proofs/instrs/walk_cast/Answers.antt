@@ -11,7 +11,7 @@ use Rattle.wast_passes.proofs.instrs.walk_cast.Goals as goal
 pub returns-in_err-walk_label : goal.returns-in_err-walk_label
 returns-in_err-walk_label c =
     let s = scope_of c.args.names.now in
-    let blocks = c.args.labels.now.blocks in
+    let blocks = c.args.labels.now in
     let to = c.args.to.now in
     let from = c.args.from.now in
     let t = told c.in_err-walk_label.field-0.0 in
@@ -22,7 +22,7 @@ returns-in_err-walk_label c =
 pub returns-in_err-walk_outside : goal.returns-in_err-walk_outside
 returns-in_err-walk_outside c =
     let s = scope_of c.args.names.now in
-    let blocks = c.args.labels.now.blocks in
+    let blocks = c.args.labels.now in
     let to = c.args.to.now in
     let from = c.args.from.now in
     let t = told c.in_err-walk_outside.field-0.0 in
@@ -34,7 +34,7 @@ returns-in_err-walk_outside c =
 pub returns-in_err-walk_outside-2 : goal.returns-in_err-walk_outside-2
 returns-in_err-walk_outside-2 c =
     let s = scope_of c.args.names.now in
-    let blocks = c.args.labels.now.blocks in
+    let blocks = c.args.labels.now in
     let to = c.args.to.now in
     let from = c.args.from.now in
     let t = told c.in_err-walk_outside-2.field-0.0 in
@@ -46,7 +46,7 @@ returns-in_err-walk_outside-2 c =
 pub returns : goal.returns
 returns c =
     let s = scope_of c.args.names.now in
-    let blocks = c.args.labels.now.blocks in
+    let blocks = c.args.labels.now in
     let to = c.args.to.now in
     let from = c.args.from.now in
     let label = c.in_ok-walk_label.ensures c.args.names.now in

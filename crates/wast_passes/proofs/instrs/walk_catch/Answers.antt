@@ -13,7 +13,7 @@ returns-in_err-walk_caught c =
     let s = scope_of c.args.names.now in
     let t = told c.in_err-walk_caught.field-0.0 in
     let p = err_from_is_err_and c.from_residual.result c.from_residual.ensures.1 in
-    rw (p.1, p.2) (fails_first ⊥ ⊥ s (asking (in_caught x.kind)) (at_label c.args.labels.now.blocks x.label) t
+    rw (p.1, p.2) (fails_first ⊥ ⊥ s (asking (in_caught x.kind)) (at_label c.args.labels.now x.label) t
     (subst (λ ds. Answers ⊥ ⊥ t (first_unmet ds)) (sym (asking_demands s (in_caught x.kind))) c.in_err-walk_caught.ensures))
 
 pub returns-in_err-walk_label : goal.returns-in_err-walk_label
@@ -22,7 +22,7 @@ returns-in_err-walk_label c =
     let s = scope_of c.args.names.now in
     let t = told c.in_err-walk_label.field-0.0 in
     let p = err_from_is_err_and c.from_residual-in_err-walk_label.result c.from_residual-in_err-walk_label.ensures.1 in
-    rw (p.1, p.2) (fails_behind ⊥ ⊥ s (asking (in_caught x.kind)) (at_label c.args.labels.now.blocks x.label) t
+    rw (p.1, p.2) (fails_behind ⊥ ⊥ s (asking (in_caught x.kind)) (at_label c.args.labels.now x.label) t
     (ap first_unmet (asking_demands s (in_caught x.kind)) ∙ c.in_ok-walk_caught.ensures.0) (c.in_err-walk_label.ensures c.args.names.now))
 
 pub returns : goal.returns
@@ -30,6 +30,6 @@ returns c =
     let x = c.args.catch.now in
     let s = scope_of c.args.names.now in
     let named = c.in_ok-walk_label.ensures c.args.names.now in (
-      both_met (site_demand s) (asking (in_caught x.kind)) (at_label c.args.labels.now.blocks x.label) (ap first_unmet (asking_demands s (in_caught x.kind)) ∙ c.in_ok-walk_caught.ensures.0) named.0,
+      both_met (site_demand s) (asking (in_caught x.kind)) (at_label c.args.labels.now x.label) (ap first_unmet (asking_demands s (in_caught x.kind)) ∙ c.in_ok-walk_caught.ensures.0) named.0,
       λ i. record { kind = c.in_ok-walk_caught.ensures.1 i; label = named.1 i },
     )

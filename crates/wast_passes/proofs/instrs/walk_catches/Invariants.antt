@@ -7,4 +7,4 @@ use Rattle.wast_passes.proofs.Each.{IsHalfway}
 use Rattle.wast_passes.proofs.instrs.walk_catches.Given as goal
 
 abbrev pub invariant-loop-i : goal.invariant-loop-i
-invariant-loop-i l = IsHalfway (site_demand (scope_of l.names)) (in_catch l.labels.blocks) (mapped_catch (numbering (scope_of l.names)) l.labels.blocks) l.fn.catches l.catches l.i
+invariant-loop-i l = IsHalfway (site_demand (scope_of l.names)) (in_catch l.labels) (mapped_catch (numbering (scope_of l.names)) l.labels) l.fn.catches l.catches l.i

@@ -5,4 +5,4 @@ use Rattle.wast_passes.proofs.Within.{label_checked}
 use Rattle.wast_passes.proofs.instrs.walk_else.Goals as goal
 
 pub returns : goal.returns
-returns c names = label_checked (HasMany []) (scope_of names) c.args.labels.now.blocks c.args.label.now c.check.result c.check.ensures
+returns c names = label_checked (HasMany []) (scope_of names) c.args.labels.now c.args.label.now c.check.result c.check.ensures

@@ -7,7 +7,7 @@ use Rattle.wast_map.specs.Mapped.{mapped_instrs}
 use Rattle.wast_nodes.specs.Sites.{in_instrs}
 use Rattle.wast_passes.specs.Tree.{Instruction}
 use Rattle.wast_demands.specs.Demands.{first_unmet, site_demands, open_counts, HasMany, Answers}
-use Rattle.wast_passes.specs.Openable.{begin}
+use Rattle.wast_passes.specs.Standing.{begin}
 use Rattle.wast_demands.specs.Resolved.{numbering}
 use Rattle.wast_passes.specs.Resolvers.{scope_of}
 use Rattle.wast_passes.proofs.instrs.walk_expression.Goals as goal
@@ -18,9 +18,9 @@ returns-in_err-walk_instrs c l numbers =
     let s = scope_of c.args.names.now in
     let h = begin l in
     let e = told c.in_err-walk_instrs.field-0.0 in
-    let p = err_from_is_err_and c.from_residual-in_err-walk_instrs.result c.from_residual-in_err-walk_instrs.ensures.1 in
+    let p = err_from_is_err_and c.from_residual.result c.from_residual.ensures.1 in
     rw (p.1, p.2) (subst (λ (bs : Blocks). let g = record h { blocks = bs } in Answers ⊤ (HasMany (open_counts (in_instrs g x.instrs))) e (first_unmet (site_demands s (in_instrs g x.instrs))))
-    c.in_ok-labels.ensures.none_open (c.in_err-walk_instrs.ensures l numbers))
+    c.new-labels.ensures (c.in_err-walk_instrs.ensures l numbers))
 
 pub returns : goal.returns
 returns c l numbers =
@@ -28,5 +28,5 @@ returns c l numbers =
     let s = scope_of c.args.names.now in
     let h = begin l in
     let done = subst (λ (bs : Blocks). let g = record h { blocks = bs } in (first_unmet (site_demands s (in_instrs g x.instrs)) ≡ None) × (c.walk_instrs.new.instrs ≡ mapped_instrs (numbering s) g x.instrs))
-    c.in_ok-labels.ensures.none_open (c.in_ok-walk_instrs.ensures l numbers) in
+    c.new-labels.ensures (c.in_ok-walk_instrs.ensures l numbers) in
     (done.0, ap (λ (is : List Instruction). record x { instrs = is }) done.1)

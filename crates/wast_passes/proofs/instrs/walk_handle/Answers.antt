@@ -14,7 +14,7 @@ use Rattle.wast_passes.proofs.instrs.walk_handle.Goals as goal
 pub returns-in_err-walk_handler_tag : goal.returns-in_err-walk_handler_tag
 returns-in_err-walk_handler_tag c =
     let s = scope_of c.args.names.now in
-    let blocks = c.args.labels.now.blocks in
+    let blocks = c.args.labels.now in
     let x = c.args.handle.now in
     let t = told c.in_err-walk_handler_tag.field-0.0 in
     let p = err_from_is_err_and c.from_residual.result c.from_residual.ensures.1 in
@@ -24,7 +24,7 @@ returns-in_err-walk_handler_tag c =
 pub returns-in_err-walk_handler_label : goal.returns-in_err-walk_handler_label
 returns-in_err-walk_handler_label c =
     let s = scope_of c.args.names.now in
-    let blocks = c.args.labels.now.blocks in
+    let blocks = c.args.labels.now in
     let x = c.args.handle.now in
     let t = told c.in_err-walk_handler_label.field-0.0 in
     let tagged = c.in_ok-walk_handler_tag.ensures in
@@ -37,7 +37,7 @@ returns-in_err-walk_handler_label c =
 pub returns : goal.returns
 returns c =
     let s = scope_of c.args.names.now in
-    let blocks = c.args.labels.now.blocks in
+    let blocks = c.args.labels.now in
     let x = c.args.handle.now in
     let tagged = c.in_ok-walk_handler_tag.ensures in
     let named = c.in_ok-walk_handler_label.ensures c.args.names.now in

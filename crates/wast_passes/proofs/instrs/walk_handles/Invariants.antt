@@ -7,4 +7,4 @@ use Rattle.wast_passes.proofs.Each.{IsHalfway}
 use Rattle.wast_passes.proofs.instrs.walk_handles.Given as goal
 
 abbrev pub invariant-loop-i : goal.invariant-loop-i
-invariant-loop-i l = IsHalfway (site_demand (scope_of l.names)) (in_handle l.labels.blocks) (mapped_handle (numbering (scope_of l.names)) l.labels.blocks) l.fn.handles l.handles l.i
+invariant-loop-i l = IsHalfway (site_demand (scope_of l.names)) (in_handle l.labels) (mapped_handle (numbering (scope_of l.names)) l.labels) l.fn.handles l.handles l.i

@@ -7,7 +7,7 @@ use Rattle.wast_passes.specs.Tree.{Index, RefType}
 use Rattle.wast_passes.specs.Tree.form
 use Rattle.wast_passes.specs.Tree.space
 use Rattle.wast_passes.specs.Tree.instr
-use Rattle.wast_passes.specs.Openable.{here}
+use Rattle.wast_passes.specs.Standing.{here}
 use Rattle.wast_demands.specs.Demands.{HasMany, open_counts, site_demands}
 use Rattle.wast_demands.specs.Resolved.{numbering}
 use Rattle.wast_passes.specs.Resolvers.{scope_of}
@@ -41,18 +41,18 @@ pub returns-in-else_-clause-walks : goal.returns-in-else_-clause-walks
 returns-in-else_-clause-walks c l numbers =
     let names = c.args.names.now in
     let label = c.in-else_.label in
-    rw c.in-else_.is (walks_in ⊤ (HasMany []) instr.else_ (site_demands (scope_of names) (Repeated c.args.labels.now.blocks (marked label) ∷ [])) label label c.walk_else.result (c.walk_else.ensures names))
+    rw c.in-else_.is (walks_in ⊤ (HasMany []) instr.else_ (site_demands (scope_of names) (Repeated c.args.labels.now (marked label) ∷ [])) label label c.walk_else.result (c.walk_else.ensures names))
 
 pub returns-in-end_-clause-walks : goal.returns-in-end_-clause-walks
 returns-in-end_-clause-walks c l numbers =
     let names = c.args.names.now in
     let label = c.in-end_.label in
-    rw c.in-end_.is (walks_in ⊤ (HasMany []) instr.end_ (site_demands (scope_of names) (Repeated c.args.labels.now.blocks (marked label) ∷ Ends ∷ [])) label label c.walk_end.result (c.walk_end.ensures.walks names))
+    rw c.in-end_.is (walks_in ⊤ (HasMany []) instr.end_ (site_demands (scope_of names) (Repeated c.args.labels.now (marked label) ∷ Ends ∷ [])) label label c.walk_end.result (c.walk_end.ensures.walks names))
 
 pub returns-in-delegate-clause-walks : goal.returns-in-delegate-clause-walks
 returns-in-delegate-clause-walks c l numbers =
     let names = c.args.names.now in
-    let blocks = closed c.args.labels.now.blocks in
+    let blocks = closed c.args.labels.now in
     let label = c.in-delegate.label in
     rw c.in-delegate.is (walks_in ⊤ (HasMany []) instr.delegate (site_demands (scope_of names) (Ends ∷ at_label blocks label)) ((numbering (scope_of names)).label blocks label) c.walk_delegate.new.label c.walk_delegate.result
     (c.walk_delegate.ensures.walks names))
@@ -60,7 +60,7 @@ returns-in-delegate-clause-walks c l numbers =
 pub returns-in-br_table-clause-walks : goal.returns-in-br_table-clause-walks
 returns-in-br_table-clause-walks c l numbers =
     let names = c.args.names.now in
-    let blocks = c.args.labels.now.blocks in
+    let blocks = c.args.labels.now in
     let table = c.in-br_table.table in
     rw c.in-br_table.is (walks_in ⊤ (HasMany (open_counts (in_br_table blocks table))) instr.br_table (site_demands (scope_of names) (in_br_table blocks table)) (mapped_br_table (numbering (scope_of names)) blocks table) c.walk_br_table.new.table
     c.walk_br_table.result (c.walk_br_table.ensures names))
@@ -68,35 +68,35 @@ returns-in-br_table-clause-walks c l numbers =
 pub returns-in-br-clause-walks : goal.returns-in-br-clause-walks
 returns-in-br-clause-walks c l numbers =
     let names = c.args.names.now in
-    let blocks = c.args.labels.now.blocks in
+    let blocks = c.args.labels.now in
     let label = c.in-br.label in
     rw c.in-br.is (walks_in ⊤ (HasMany []) instr.br (site_demands (scope_of names) (at_label blocks label)) ((numbering (scope_of names)).label blocks label) c.walk_branch.new.label c.walk_branch.result (c.walk_branch.ensures names))
 
 pub returns-in-br_if-clause-walks : goal.returns-in-br_if-clause-walks
 returns-in-br_if-clause-walks c l numbers =
     let names = c.args.names.now in
-    let blocks = c.args.labels.now.blocks in
+    let blocks = c.args.labels.now in
     let label = c.in-br_if.label in
     rw c.in-br_if.is (walks_in ⊤ (HasMany []) instr.br_if (site_demands (scope_of names) (at_label blocks label)) ((numbering (scope_of names)).label blocks label) c.walk_branch-in-br_if.new.label c.walk_branch-in-br_if.result (c.walk_branch-in-br_if.ensures names))
 
 pub returns-in-br_on_null-clause-walks : goal.returns-in-br_on_null-clause-walks
 returns-in-br_on_null-clause-walks c l numbers =
     let names = c.args.names.now in
-    let blocks = c.args.labels.now.blocks in
+    let blocks = c.args.labels.now in
     let label = c.in-br_on_null.label in
     rw c.in-br_on_null.is (walks_in ⊤ (HasMany []) instr.br_on_null (site_demands (scope_of names) (at_label blocks label)) ((numbering (scope_of names)).label blocks label) c.walk_branch-in-br_on_null.new.label c.walk_branch-in-br_on_null.result (c.walk_branch-in-br_on_null.ensures names))
 
 pub returns-in-br_on_non_null-clause-walks : goal.returns-in-br_on_non_null-clause-walks
 returns-in-br_on_non_null-clause-walks c l numbers =
     let names = c.args.names.now in
-    let blocks = c.args.labels.now.blocks in
+    let blocks = c.args.labels.now in
     let label = c.in-br_on_non_null.label in
     rw c.in-br_on_non_null.is (walks_in ⊤ (HasMany []) instr.br_on_non_null (site_demands (scope_of names) (at_label blocks label)) ((numbering (scope_of names)).label blocks label) c.walk_branch-in-br_on_non_null.new.label c.walk_branch-in-br_on_non_null.result (c.walk_branch-in-br_on_non_null.ensures names))
 
 pub returns-in-rethrow-clause-walks : goal.returns-in-rethrow-clause-walks
 returns-in-rethrow-clause-walks c l numbers =
     let names = c.args.names.now in
-    let blocks = c.args.labels.now.blocks in
+    let blocks = c.args.labels.now in
     let label = c.in-rethrow.label in
     rw c.in-rethrow.is (walks_in ⊤ (HasMany []) instr.rethrow (site_demands (scope_of names) (at_label blocks label)) ((numbering (scope_of names)).label blocks label) c.walk_branch-in-rethrow.new.label c.walk_branch-in-rethrow.result (c.walk_branch-in-rethrow.ensures names))
 
@@ -124,7 +124,7 @@ returns-in-local_tee-clause-walks c l numbers =
 pub returns-in-br_on_cast-clause-walks : goal.returns-in-br_on_cast-clause-walks
 returns-in-br_on_cast-clause-walks c l numbers =
     let s = scope_of c.args.names.now in
-    let blocks = c.args.labels.now.blocks in
+    let blocks = c.args.labels.now in
     let x = c.in-br_on_cast.arg in
     rw c.in-br_on_cast.is (walks_made_in ⊤ (HasMany (open_counts (in_cast blocks x.label x.to_type x.from_type))) (λ (q : Index × (RefType × RefType)). instr.br_on_cast (record { label = q.0; from_type = q.1.1; to_type = q.1.0 })) (site_demands s (in_cast blocks x.label x.to_type x.from_type)) ((numbering s).label blocks x.label, (mapped_ref (numbering s).index x.to_type, mapped_ref (numbering s).index x.from_type)) (c.walk_cast.new.label, (c.walk_cast.new.to, c.walk_cast.new.from)) c.walk_cast.result c.walk_cast.ensures)
 
@@ -132,12 +132,12 @@ pub returns-in-br_on_cast-clause-blocks : goal.returns-in-br_on_cast-clause-bloc
 returns-in-br_on_cast-clause-blocks c l =
     let labels = c.args.labels.now in
     let x = c.in-br_on_cast.arg in
-    rw c.in-br_on_cast.is (still_moves labels l (in_cast labels.blocks x.label x.to_type x.from_type) c.walk_cast.result (cast_stays (here l labels) labels.blocks x.label x.to_type x.from_type))
+    rw c.in-br_on_cast.is (still_moves labels l (in_cast labels x.label x.to_type x.from_type) c.walk_cast.result (cast_stays (here l labels) labels x.label x.to_type x.from_type))
 
 pub returns-in-br_on_cast_fail-clause-walks : goal.returns-in-br_on_cast_fail-clause-walks
 returns-in-br_on_cast_fail-clause-walks c l numbers =
     let s = scope_of c.args.names.now in
-    let blocks = c.args.labels.now.blocks in
+    let blocks = c.args.labels.now in
     let x = c.in-br_on_cast_fail.arg in
     rw c.in-br_on_cast_fail.is (walks_made_in ⊤ (HasMany (open_counts (in_cast blocks x.label x.to_type x.from_type))) (λ (q : Index × (RefType × RefType)). instr.br_on_cast_fail (record { label = q.0; from_type = q.1.1; to_type = q.1.0 })) (site_demands s (in_cast blocks x.label x.to_type x.from_type)) ((numbering s).label blocks x.label, (mapped_ref (numbering s).index x.to_type, mapped_ref (numbering s).index x.from_type)) (c.walk_cast-in-br_on_cast_fail.new.label, (c.walk_cast-in-br_on_cast_fail.new.to, c.walk_cast-in-br_on_cast_fail.new.from)) c.walk_cast-in-br_on_cast_fail.result c.walk_cast-in-br_on_cast_fail.ensures)
 
@@ -145,12 +145,12 @@ pub returns-in-br_on_cast_fail-clause-blocks : goal.returns-in-br_on_cast_fail-c
 returns-in-br_on_cast_fail-clause-blocks c l =
     let labels = c.args.labels.now in
     let x = c.in-br_on_cast_fail.arg in
-    rw c.in-br_on_cast_fail.is (still_moves labels l (in_cast labels.blocks x.label x.to_type x.from_type) c.walk_cast-in-br_on_cast_fail.result (cast_stays (here l labels) labels.blocks x.label x.to_type x.from_type))
+    rw c.in-br_on_cast_fail.is (still_moves labels l (in_cast labels x.label x.to_type x.from_type) c.walk_cast-in-br_on_cast_fail.result (cast_stays (here l labels) labels x.label x.to_type x.from_type))
 
 pub returns-in-br_on_cast_desc_eq-clause-walks : goal.returns-in-br_on_cast_desc_eq-clause-walks
 returns-in-br_on_cast_desc_eq-clause-walks c l numbers =
     let s = scope_of c.args.names.now in
-    let blocks = c.args.labels.now.blocks in
+    let blocks = c.args.labels.now in
     let x = c.in-br_on_cast_desc_eq.arg in
     rw c.in-br_on_cast_desc_eq.is (walks_before ⊤ (HasMany (open_counts (in_cast blocks x.label x.to_type x.from_type ++ asking (uncovered form.Descriptor)))) s (in_cast blocks x.label x.to_type x.from_type) (Covered form.Descriptor false) refl (λ (q : Index × (RefType × RefType)). instr.br_on_cast_desc_eq (record { label = q.0; from_type = q.1.1; to_type = q.1.0 })) ((numbering s).label blocks x.label, (mapped_ref (numbering s).index x.to_type, mapped_ref (numbering s).index x.from_type)) (c.walk_cast-in-br_on_cast_desc_eq.new.label, (c.walk_cast-in-br_on_cast_desc_eq.new.to, c.walk_cast-in-br_on_cast_desc_eq.new.from)) c.walk_cast-in-br_on_cast_desc_eq.result c.walk_cast-in-br_on_cast_desc_eq.ensures)
 
@@ -158,12 +158,12 @@ pub returns-in-br_on_cast_desc_eq-clause-blocks : goal.returns-in-br_on_cast_des
 returns-in-br_on_cast_desc_eq-clause-blocks c l =
     let labels = c.args.labels.now in
     let x = c.in-br_on_cast_desc_eq.arg in
-    rw c.in-br_on_cast_desc_eq.is (still_moves labels l (in_cast labels.blocks x.label x.to_type x.from_type ++ asking (uncovered form.Descriptor)) c.walk_cast-in-br_on_cast_desc_eq.result (behind_stays (here l labels) (in_cast labels.blocks x.label x.to_type x.from_type) (uncovered form.Descriptor) (cast_stays (here l labels) labels.blocks x.label x.to_type x.from_type)))
+    rw c.in-br_on_cast_desc_eq.is (still_moves labels l (in_cast labels x.label x.to_type x.from_type ++ asking (uncovered form.Descriptor)) c.walk_cast-in-br_on_cast_desc_eq.result (behind_stays (here l labels) (in_cast labels x.label x.to_type x.from_type) (uncovered form.Descriptor) (cast_stays (here l labels) labels x.label x.to_type x.from_type)))
 
 pub returns-in-br_on_cast_desc_eq_fail-clause-walks : goal.returns-in-br_on_cast_desc_eq_fail-clause-walks
 returns-in-br_on_cast_desc_eq_fail-clause-walks c l numbers =
     let s = scope_of c.args.names.now in
-    let blocks = c.args.labels.now.blocks in
+    let blocks = c.args.labels.now in
     let x = c.in-br_on_cast_desc_eq_fail.arg in
     rw c.in-br_on_cast_desc_eq_fail.is (walks_before ⊤ (HasMany (open_counts (in_cast blocks x.label x.to_type x.from_type ++ asking (uncovered form.Descriptor)))) s (in_cast blocks x.label x.to_type x.from_type) (Covered form.Descriptor false) refl (λ (q : Index × (RefType × RefType)). instr.br_on_cast_desc_eq_fail (record { label = q.0; from_type = q.1.1; to_type = q.1.0 })) ((numbering s).label blocks x.label, (mapped_ref (numbering s).index x.to_type, mapped_ref (numbering s).index x.from_type)) (c.walk_cast-in-br_on_cast_desc_eq_fail.new.label, (c.walk_cast-in-br_on_cast_desc_eq_fail.new.to, c.walk_cast-in-br_on_cast_desc_eq_fail.new.from)) c.walk_cast-in-br_on_cast_desc_eq_fail.result c.walk_cast-in-br_on_cast_desc_eq_fail.ensures)
 
@@ -171,25 +171,25 @@ pub returns-in-br_on_cast_desc_eq_fail-clause-blocks : goal.returns-in-br_on_cas
 returns-in-br_on_cast_desc_eq_fail-clause-blocks c l =
     let labels = c.args.labels.now in
     let x = c.in-br_on_cast_desc_eq_fail.arg in
-    rw c.in-br_on_cast_desc_eq_fail.is (still_moves labels l (in_cast labels.blocks x.label x.to_type x.from_type ++ asking (uncovered form.Descriptor)) c.walk_cast-in-br_on_cast_desc_eq_fail.result (behind_stays (here l labels) (in_cast labels.blocks x.label x.to_type x.from_type) (uncovered form.Descriptor) (cast_stays (here l labels) labels.blocks x.label x.to_type x.from_type)))
+    rw c.in-br_on_cast_desc_eq_fail.is (still_moves labels l (in_cast labels x.label x.to_type x.from_type ++ asking (uncovered form.Descriptor)) c.walk_cast-in-br_on_cast_desc_eq_fail.result (behind_stays (here l labels) (in_cast labels x.label x.to_type x.from_type) (uncovered form.Descriptor) (cast_stays (here l labels) labels x.label x.to_type x.from_type)))
 
 pub returns-in-resume-clause-blocks : goal.returns-in-resume-clause-blocks
 returns-in-resume-clause-blocks c l =
     let labels = c.args.labels.now in
     let x = c.in-resume.arg in
-    rw c.in-resume.is (still_moves labels l (at_index space.Ty x.type_index ++ in_handlers labels.blocks x.table) c.walk_resume.result (handlers_stay (here l labels) labels.blocks x.table))
+    rw c.in-resume.is (still_moves labels l (at_index space.Ty x.type_index ++ in_handlers labels x.table) c.walk_resume.result (handlers_stay (here l labels) labels x.table))
 
 pub returns-in-resume_throw-clause-blocks : goal.returns-in-resume_throw-clause-blocks
 returns-in-resume_throw-clause-blocks c l =
     let labels = c.args.labels.now in
     let x = c.in-resume_throw.arg in
-    rw c.in-resume_throw.is (still_moves labels l (asking (in_pair space.Ty x.type_index space.Tag x.tag_index) ++ in_handlers labels.blocks x.table) c.walk_resume_throw.result (handlers_stay (here l labels) labels.blocks x.table))
+    rw c.in-resume_throw.is (still_moves labels l (asking (in_pair space.Ty x.type_index space.Tag x.tag_index) ++ in_handlers labels x.table) c.walk_resume_throw.result (handlers_stay (here l labels) labels x.table))
 
 pub returns-in-resume_throw_ref-clause-blocks : goal.returns-in-resume_throw_ref-clause-blocks
 returns-in-resume_throw_ref-clause-blocks c l =
     let labels = c.args.labels.now in
     let x = c.in-resume_throw_ref.arg in
-    rw c.in-resume_throw_ref.is (still_moves labels l (at_index space.Ty x.type_index ++ in_handlers labels.blocks x.table) c.walk_resume_throw_ref.result (handlers_stay (here l labels) labels.blocks x.table))
+    rw c.in-resume_throw_ref.is (still_moves labels l (at_index space.Ty x.type_index ++ in_handlers labels x.table) c.walk_resume_throw_ref.result (handlers_stay (here l labels) labels x.table))
 
 pub returns-in-ref_test-clause-blocks : goal.returns-in-ref_test-clause-blocks
 returns-in-ref_test-clause-blocks c l = rw c.in-ref_test.is (asking_moves c.args.labels.now l (in_ref c.in-ref_test.arg.rt) c.walk_part-in-ref_test.result)

@@ -1,16 +1,17 @@
 use Rattle.std.specs.Prelude.{⊤}
-use Rattle.std.proofs.Common.{arith, ◌≤◌, ◌<◌, length, get_or, take, subst, ◌≡◌, None, refl}
+use Rattle.std.proofs.Common.{arith, ◌≤◌, ◌<◌, length, get_or, take, subst, ◌≡◌, ◌∙◌, None, refl, sym, ap}
+use Rattle.wast_base.specs.Blocks.{Blocks}
 use Rattle.std.proofs.lemmas.Result.{err_from_is_err_and}
 use Rattle.wast_base.specs.Faults.{told}
 use Rattle.wast_map.specs.Mapped.{mapped_instr}
 use Rattle.wast_nodes.specs.Sites.{Here, in_instr, in_instrs}
 use Rattle.wast_demands.specs.Demands.{first_unmet, site_demands, open_counts, HasMany, Answers}
-use Rattle.wast_passes.specs.Openable.{here, IsPassed}
+use Rattle.wast_passes.specs.Standing.{here, IsPassed}
 use Rattle.wast_demands.specs.Resolved.{numbering}
 use Rattle.wast_passes.specs.Resolvers.{scope_of}
 use Rattle.wast_passes.proofs.Moving.{stands_by}
 use Rattle.wast_passes.proofs.Parts.{more_answers}
-use Rattle.wast_passes.proofs.Stepping.{along_more, along_openable, along_passed, partway_more, partway_passed, partway_stops, partway_many, all_met, all_become}
+use Rattle.wast_passes.proofs.Stepping.{IsAlong, along_more, along_passed, partway_more, partway_passed, partway_stops, partway_many, all_met, all_become}
 use Rattle.wast_passes.proofs.instrs.walk_instrs.Goals as goal
 
 pub returns-in_err-walk_instr : goal.returns-in_err-walk_instr
@@ -22,9 +23,9 @@ returns-in_err-walk_instr c l numbers =
     let x = c.at_mut.result.now in
     let lt : c.loop-i.i < length c.args.instrs.now = omega (arith, c.loop-i-test.true, c.len-i-end.ensures) in
     let p = c.loop-i.invariant.1 l numbers in
-    let there = stands_by l s (in_instrs h (take c.loop-i.i c.args.instrs.now)) c.loop-i.labels (c.loop-i.invariant.0.moved l) in
+    let there = ap (here l) c.reach_labels.ensures ∙ stands_by l s (in_instrs h (take c.loop-i.i c.args.instrs.now)) c.loop-i.labels (c.loop-i.invariant.0.moved l) in
     let failed = subst (λ (g : Here). Answers ⊤ (HasMany (open_counts (in_instr g x))) e (first_unmet (site_demands sc (in_instr g x)))) there (c.in_err-walk_instr.ensures.walks l numbers) in
-    let q = err_from_is_err_and c.from_residual.result c.from_residual.ensures.1 in
+    let q = err_from_is_err_and c.from_residual-in_err-walk_instr.result c.from_residual-in_err-walk_instr.ensures.1 in
     rw (q.1, q.2) (partway_stops p lt c.at_mut.ensures.value ⊤ (HasMany (open_counts (in_instrs h c.args.instrs.now))) e (more_answers ⊤ _ _ e _ (partway_many p lt c.at_mut.ensures.value) failed))
 
 pub returns : goal.returns
@@ -39,20 +40,17 @@ loop-i-preserved c =
     let sc = scope_of c.args.names.now in
     let x = c.at_mut.result.now in
     let lt : c.loop-i.i < length c.args.instrs.now = omega (arith, c.loop-i-test.true, c.len-i-end.ensures) in
-    let along = c.loop-i.invariant.0 in (
+    let along = subst (λ (t : Blocks). IsAlong s t c.args.instrs.now c.loop-i.instrs c.loop-i.i) (sym c.reach_labels.ensures) c.loop-i.invariant.0 in (
       along_more c.walk_instr.new.instr along lt c.at_mut.ensures.value c.in_ok-walk_instr.ensures.blocks,
       λ l numbers.
           let h = here l s in
-          let there = stands_by l s (in_instrs h (take c.loop-i.i c.args.instrs.now)) c.loop-i.labels (along.moved l) in
+          let there = stands_by l s (in_instrs h (take c.loop-i.i c.args.instrs.now)) c.reach_labels.new.labels (along.moved l) in
           let done = subst (λ (g : Here). (first_unmet (site_demands sc (in_instr g x)) ≡ None) × (c.walk_instr.new.instr ≡ mapped_instr (numbering sc) g x)) there (c.in_ok-walk_instr.ensures.walks l numbers) in
           partway_more (c.loop-i.invariant.1 l numbers) lt c.at_mut.ensures.value done.0 done.1,
     )
 
 pub at_mut-requires : goal.at_mut-requires
 at_mut-requires c = omega (arith, c.loop-i.invariant.0.len, c.loop-i-test.true, c.len-i-end.ensures)
-
-pub walk_instr-requires : goal.walk_instr-requires
-walk_instr-requires c = along_openable c.loop-i.invariant.0 (omega (arith, c.loop-i-test.true, c.len-i-end.ensures)) c.at_mut.ensures.value c.requires
 
 pub loop-i-preserved-then-is_passed : goal.loop-i-preserved-then-is_passed
 loop-i-preserved-then-is_passed c =

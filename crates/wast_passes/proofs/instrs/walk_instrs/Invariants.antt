@@ -1,6 +1,6 @@
 use Rattle.wast_nodes.specs.Sites.{Locals}
 use Rattle.wast_passes.specs.Locals.{Numbers}
-use Rattle.wast_passes.specs.Openable.{here}
+use Rattle.wast_passes.specs.Standing.{here}
 use Rattle.wast_demands.specs.Resolved.{numbering}
 use Rattle.wast_passes.specs.Resolvers.{scope_of}
 use Rattle.wast_passes.proofs.Stepping.{IsAlong, IsPartway}

@@ -9,8 +9,8 @@ pub returns-in_err-number : goal.returns-in_err-number
 returns-in_err-number c names =
     let t = told c.in_err-number.field-0.0 in
     let p = err_from_is_err_and c.from_residual.result c.from_residual.ensures.1 in
-    rw (p.1, p.2) (subst (Answers ⊥ ⊥ t) (label_unmet c.args.labels.now.blocks c.args.label.now) c.in_err-number.ensures.answer)
+    rw (p.1, p.2) (subst (Answers ⊥ ⊥ t) (label_unmet c.args.labels.now c.args.label.now) c.in_err-number.ensures.answer)
 
 pub returns : goal.returns
 returns c names =
-    (sym (label_unmet c.args.labels.now.blocks c.args.label.now) ∙ c.in_ok-number.ensures.answer, c.in_ok-number.ensures.index)
+    (sym (label_unmet c.args.labels.now c.args.label.now) ∙ c.in_ok-number.ensures.answer, c.in_ok-number.ensures.index)

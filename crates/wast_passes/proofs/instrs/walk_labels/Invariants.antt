@@ -7,4 +7,4 @@ use Rattle.wast_passes.proofs.Each.{IsHalfway}
 use Rattle.wast_passes.proofs.instrs.walk_labels.Given as goal
 
 abbrev pub invariant-loop-i : goal.invariant-loop-i
-invariant-loop-i l = (names : Resolution) → IsHalfway (site_demand (scope_of names)) (at_label l.labels.blocks) (numbered (λ name. denotes name l.labels.blocks)) l.fn.indices l.indices l.i
+invariant-loop-i l = (names : Resolution) → IsHalfway (site_demand (scope_of names)) (at_label l.labels) (numbered (λ name. denotes name l.labels)) l.fn.indices l.indices l.i

@@ -1,32 +1,25 @@
 use Rattle.std.specs.Prelude.{⊤, [], ◌∷◌, ◌++◌, flat_map}
-use Rattle.std.proofs.Common.{◌≡◌, ap, sym, subst, ◌∙◌, true}
+use Rattle.std.proofs.Common.{◌≡◌, ap, sym, subst, ◌∙◌}
 use Rattle.std.proofs.lemmas.Grind.{flat_map-append}
 use Rattle.std.proofs.lemmas.Result.{err_from_is_err_and}
 use Rattle.wast_base.specs.Faults.{told}
 use Rattle.wast_base.specs.Ids.{marked}
 use Rattle.wast_base.specs.Spaces.{name_if}
-use Rattle.wast_labels.specs.Gathered.{knows}
-use Rattle.wast_labels.specs.OpenBlocks.{with_open}
 use Rattle.wast_nodes.specs.Sites.{Here, OfBlock, Begins, after_all, in_catch, in_try_table, in_use}
 use Rattle.wast_nodes.proofs.Behind.{after-append}
 use Rattle.wast_passes.specs.Tree.{BlockType}
 use Rattle.wast_demands.specs.Demands.{HasMany, open_counts_at, open_counts, site_demand}
-use Rattle.wast_passes.specs.Openable.{with_blocks, here}
+use Rattle.wast_passes.specs.Standing.{here}
 use Rattle.wast_passes.specs.Resolvers.{scope_of}
 use Rattle.wast_demands.proofs.Counted.{many_right}
 use Rattle.wast_demands.proofs.Unmoved.{catches_stay}
 use Rattle.wast_passes.proofs.Parts.{both_met, fails_first, fails_second, more_answers}
 use Rattle.wast_passes.proofs.instrs.walk_try_table.Goals as goal
 
-pub open_label-requires : goal.open_label-requires
-open_label-requires c =
-    let same = ap (λ (b : BlockType). b.label) (c.get.ensures ∙ c.in_ok-walk_block_type.ensures.1) in
-    subst (λ o. knows c.args.labels.now.known (name_if (marked o)) ≡ true) (sym same) c.requires
-
 pub returns-in_err-walk_block_type-clause-walks : goal.returns-in_err-walk_block_type-clause-walks
 returns-in_err-walk_block_type-clause-walks c =
     let x = c.args.table.now in
-    let blocks = c.args.labels.now.blocks in
+    let blocks = c.args.labels.now in
     let p = err_from_is_err_and c.from_residual.result c.from_residual.ensures.1 in
     rw (p.1, p.2) (fails_first ⊤ (HasMany (open_counts (in_try_table blocks x))) (scope_of c.args.names.now) (in_use OfBlock x.block.ty) (flat_map (in_catch blocks) x.catches ++ Begins blocks (marked x.block.label) ∷ []) (told c.in_err-walk_block_type.field-0.0)
     c.in_err-walk_block_type.ensures)
@@ -34,7 +27,7 @@ returns-in_err-walk_block_type-clause-walks c =
 pub returns-in_err-walk_catches-clause-walks : goal.returns-in_err-walk_catches-clause-walks
 returns-in_err-walk_catches-clause-walks c =
     let x = c.args.table.now in
-    let blocks = c.args.labels.now.blocks in
+    let blocks = c.args.labels.now in
     let s = scope_of c.args.names.now in
     let t = told c.in_err-walk_catches.field-0.0 in
     let many = HasMany (open_counts (in_try_table blocks x)) in
@@ -46,7 +39,7 @@ returns-in_err-walk_catches-clause-walks c =
 pub returns-in_err-open_label-clause-walks : goal.returns-in_err-open_label-clause-walks
 returns-in_err-open_label-clause-walks c =
     let x = c.args.table.now in
-    let blocks = c.args.labels.now.blocks in
+    let blocks = c.args.labels.now in
     let s = scope_of c.args.names.now in
     let t = told c.in_err-open_label.field-0.0 in
     let many = HasMany (open_counts (in_try_table blocks x)) in
@@ -61,7 +54,7 @@ returns-in_err-open_label-clause-walks c =
 pub returns-clause-walks : goal.returns-clause-walks
 returns-clause-walks c =
     let x = c.args.table.now in
-    let blocks = c.args.labels.now.blocks in
+    let blocks = c.args.labels.now in
     let d = site_demand (scope_of c.args.names.now) in
     let typed = c.in_ok-walk_block_type.ensures in
     let named = c.in_ok-walk_catches.ensures in
@@ -75,8 +68,8 @@ returns-clause-blocks c l =
     let x = c.args.table.now in
     let s = c.args.labels.now in
     let h = here l s in
-    let begins = Begins s.blocks (marked x.block.label) ∷ [] in
-    let caught = flat_map (in_catch s.blocks) x.catches in
+    let begins = Begins s (marked x.block.label) ∷ [] in
+    let caught = flat_map (in_catch s) x.catches in
     let same = ap (λ (b : BlockType). b.label) (c.get.ensures ∙ c.in_ok-walk_block_type.ensures.1) in
-    let stays : after_all h (caught ++ begins) ≡ after_all h begins = after-append h caught begins ∙ ap (λ (g : Here). after_all g begins) (catches_stay h s.blocks x.catches) in
-    c.in_ok-open_label.ensures.blocks l ∙ (ap (λ o. with_open (name_if (marked o)) s) same ∙ sym (ap (with_blocks s) stays))
+    let stays : after_all h (caught ++ begins) ≡ after_all h begins = after-append h caught begins ∙ ap (λ (g : Here). after_all g begins) (catches_stay h s x.catches) in
+    c.in_ok-open_label.ensures.blocks l ∙ (ap (λ o. name_if (marked o) ∷ s) same ∙ sym (ap (λ (g : Here). g.blocks) stays))

@@ -7,7 +7,7 @@ use Rattle.wast_passes.specs.Tree.{FuncKind}
 use Rattle.wast_passes.specs.Tree.func
 use Rattle.wast_demands.specs.Demands.{HasMany, first_unmet, open_counts, site_demands}
 use Rattle.wast_passes.specs.Locals.{NumbersIn}
-use Rattle.wast_passes.specs.Openable.{begin}
+use Rattle.wast_passes.specs.Standing.{begin}
 use Rattle.wast_demands.specs.Resolved.{numbering}
 use Rattle.wast_passes.specs.Resolvers.{scope_of}
 use Rattle.wast_passes.proofs.Parts.{all_but_last, all_counts_but_last, walks_as}

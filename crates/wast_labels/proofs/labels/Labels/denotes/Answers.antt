@@ -1,43 +1,36 @@
-use Rattle.std.proofs.Common.{◌≡◌, ◌∙◌, ◌-◌, Some, None, length, sym, ap, reverse, arith}
-use Rattle.std.proofs.lemmas.List.{length-reverse}
+use Rattle.std.proofs.Common.{◌≡◌, ◌∙◌, ◌-◌, Some, sym, ap, length, arith}
 use Rattle.wast_base.specs.Ids.{name_of}
-use Rattle.wast_labels.specs.Chains.{labels_of}
-use Rattle.wast_labels.specs.OpenBlocks.{OpenBlocks, denotes}
-use Rattle.wast_labels.specs.Rows.{names_of, row_of}
-use Rattle.wast_labels.proofs.Linked.{kept_says, IsCount, labels_as_many}
+use Rattle.wast_labels.specs.OpenBlocks.{denotes}
+use Rattle.wast_labels.proofs.Indexed.{found_near, found_nowhere, place_within, found_further}
 use Rattle.wast_labels.proofs.labels.Labels.denotes.Goals as goal
-use Rattle.wast_labels.proofs.labels.Labels.denotes.Goals.{After-len}
 
--- how many blocks there are
-as_many : (c : After-len) → length (labels_of (names_of c.self.inside.ids.items) (reverse c.self.inside.blocks.items)) ≡ c.len.result
-as_many c =
-    let blocks = c.self.inside.blocks.items in
-    omega (arith, labels_as_many (names_of c.self.inside.ids.items) (reverse blocks), length-reverse blocks)
-
--- what the place says
-said : (c : After-len) → IsCount (name_of c.args.id.now) (labels_of (names_of c.self.inside.ids.items) (reverse c.self.inside.blocks.items)) (Some c.in_ok-place.place)
-said c =
+pub returns-in-Some : goal.returns-in-Some
+returns-in-Some c =
     let own = c.self.inside in
-    let name = name_of c.args.id.now in
-    kept_says (names_of own.ids.items) name own.innermost.items c.deref-2.result.now (reverse own.blocks.items) c.first_row-row.result c.place_at.result c.self.invariant.1
-    (c.first_row-row.ensures ∙ ap (λ ids. row_of name (names_of ids)) c.deref.ensures.value) c.deref-2.ensures.value c.place_at.ensures (Some c.in_ok-place.place) c.in_ok-place.was
+    let long : c.len.result ≡ length own.outer.items = omega arith in
+    sym (found_near c.args.id.now own.places own.outer.items own.«open».items c.deref.result.now c.split_at.result.0.now c.split_at.result.1.now c.len.result c.self.invariant.1 c.deref.ensures.value long c.split_at.ensures.front c.split_at.ensures.back c.steps_back.result c.steps_back.ensures c.in-Some.steps c.in-Some.is)
+    ∙ ap (denotes (name_of c.args.id.now)) c.self.view_is
 
 pub returns-in_err-place : goal.returns-in_err-place
 returns-in_err-place c =
     let own = c.self.inside in
-    let name = name_of c.args.id.now in
-    let none =
-    kept_says (names_of own.ids.items) name own.innermost.items c.deref-2.result.now (reverse own.blocks.items) c.first_row-row.result c.place_at.result c.self.invariant.1
-    (c.first_row-row.ensures ∙ ap (λ ids. row_of name (names_of ids)) c.deref.ensures.value) c.deref-2.ensures.value c.place_at.ensures None c.in_err-place.was in
-    c.from_residual.ensures ∙ sym none ∙ ap (λ (s : OpenBlocks). denotes name s.blocks) c.self.view_is
-
-pub overflow_sub-result : goal.overflow_sub-result
-overflow_sub-result c = omega (arith, (said c).0, as_many c)
+    let long : c.len.result ≡ length own.outer.items = omega arith in
+    c.from_residual.ensures
+    ∙ (sym (found_nowhere c.args.id.now own.places own.outer.items own.«open».items c.deref.result.now c.split_at.result.0.now c.split_at.result.1.now c.len.result c.self.invariant.1 c.deref.ensures.value long c.split_at.ensures.front c.split_at.ensures.back c.steps_back.result c.indexed_place.result c.steps_back.ensures c.in_default.is c.indexed_place.ensures c.in_err-place.was)
+    ∙ ap (denotes (name_of c.args.id.now)) c.self.view_is)
 
 pub overflow_sub-result-2 : goal.overflow_sub-result-2
-overflow_sub-result-2 c = omega (arith, (said c).0, as_many c)
+overflow_sub-result-2 c =
+    let own = c.self.inside in
+    let long : c.len.result ≡ length own.outer.items = omega arith in
+    let within = place_within c.args.id.now own.places own.outer.items own.«open».items c.deref.result.now c.split_at.result.0.now c.split_at.result.1.now c.len.result c.self.invariant.1 c.deref.ensures.value long c.split_at.ensures.front c.split_at.ensures.back c.steps_back.result c.indexed_place.result c.steps_back.ensures c.in_default.is c.indexed_place.ensures c.in_ok-place.place c.in_ok-place.was in
+    omega (arith, within)
 
 pub returns : goal.returns
 returns c =
-    let name = name_of c.args.id.now in
-    ap (λ n. Some (n - 1 - c.in_ok-place.place)) (sym (as_many c)) ∙ sym (said c).1 ∙ ap (λ (s : OpenBlocks). denotes name s.blocks) c.self.view_is
+    let own = c.self.inside in
+    let long : c.len.result ≡ length own.outer.items = omega arith in
+    let many : c.len-2.result ≡ length own.«open».items = omega arith in
+    ap (λ n. Some (n - 1 - c.in_ok-place.place)) many
+    ∙ (sym (found_further c.args.id.now own.places own.outer.items own.«open».items c.deref.result.now c.split_at.result.0.now c.split_at.result.1.now c.len.result c.self.invariant.1 c.deref.ensures.value long c.split_at.ensures.front c.split_at.ensures.back c.steps_back.result c.indexed_place.result c.steps_back.ensures c.in_default.is c.indexed_place.ensures c.in_ok-place.place c.in_ok-place.was)
+    ∙ ap (denotes (name_of c.args.id.now)) c.self.view_is)

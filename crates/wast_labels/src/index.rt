@@ -1,0 +1,111 @@
+//! The open blocks by their labels: one by one, and by an index.
+
+ghost use Rattle.std.specs.Prelude.{◌≡◌, ◌+◌, ◌-◌, ◌∷◌, length, IfOk, OnOk, OnErr};
+ghost use Rattle.std.specs.BTreeMap.{get};
+ghost use Rattle.std.specs.Option.{option_flatten};
+ghost use Rattle.wast_base.specs.Blocks.{Blocks};
+ghost use Rattle.wast_base.specs.contracts.ids.IdOrd.TheImpl as by_name;
+ghost use Rattle.wast_base.specs.Ids.{name_of};
+ghost use Rattle.wast_base.specs.Spaces.{is_called};
+ghost use Rattle.wast_labels.specs.OpenBlocks.{denotes};
+ghost use Rattle.wast_labels.specs.Indexed.{label_of, labels_of, innermost_if, HasPlaces, IsIndexed, IsIndexOf};
+
+use std::alloc::AllocError;
+use std::collections::BTreeMap;
+use wast_base::Id;
+
+/// How many blocks stand within the innermost one that has a label, going by one after the other.
+pub(crate) fn steps_back<'a>(blocks: &[Option<Id<'a>>], id: &Id<'a>) -> Option<usize>
+    ensures { result ≡ denotes (name_of id.now) (labels_of blocks.now) }
+{
+    let mut steps: usize = 0;
+    while steps < blocks.len() {
+        if has_label(&blocks[blocks.len() - 1 - steps], id) {
+            return Some(steps);
+        }
+        steps += 1;
+    }
+    None
+}
+
+/// Whether a block that is opened with this id has a label.
+fn has_label<'a>(block: &Option<Id<'a>>, id: &Id<'a>) -> bool
+    ensures { result ≡ is_called (name_of id.now) (label_of block.now) }
+{
+    match block {
+        Some(label) => id.is_same(label),
+        None => false,
+    }
+}
+
+/// The place of the innermost block that is indexed and has a label.
+pub(crate) fn indexed_place<'a>(
+    places: &BTreeMap<Id<'a>, Option<usize>>,
+    id: &Id<'a>,
+) -> Option<usize>
+    ensures { result ≡ option_flatten (get by_name.ghosts.cmp places.now id.now) }
+{
+    *places.get(id)?
+}
+
+/// Indexes all blocks. Where memory is refused some are not.
+pub(crate) fn index_all<'a>(
+    blocks: &[Option<Id<'a>>],
+    places: &mut BTreeMap<Id<'a>, Option<usize>>,
+    outer: &mut Vec<Option<usize>>,
+) -> Result<(), AllocError>
+    ensures { IsIndexOf blocks.now places.old outer.old.items → IsIndexOf blocks.now places.new outer.new.items }
+{
+    while outer.len() < blocks.len() {
+        index_block(places, outer, blocks[outer.len()])?;
+    }
+    Ok(())
+}
+
+/// Indexes one block more, the innermost of those that are indexed. Where memory is refused nothing changes.
+fn index_block<'a>(
+    places: &mut BTreeMap<Id<'a>, Option<usize>>,
+    outer: &mut Vec<Option<usize>>,
+    label: Option<Id<'a>>,
+) -> Result<(), AllocError>
+    ensures ok { OnOk result ((ls : Blocks) → length ls ≡ length outer.old.items → IsIndexed places.old outer.old.items ls
+        → IsIndexed places.new outer.new.items (label_of label.entry ∷ ls)) }
+    ensures grows { OnOk result (length outer.new.items ≡ length outer.old.items + 1) }
+    ensures err { OnErr result ((places.new.entries ≡ places.old.entries) × (outer.new.items ≡ outer.old.items)) }
+{
+    outer.reserve(1)?;
+    let further = keep_place(places, outer.len(), label)?;
+    outer.push_reserved(further);
+    Ok(())
+}
+
+/// Keeps a place for a label, if there is one, and gives the place that was kept for it.
+fn keep_place<'a>(
+    places: &mut BTreeMap<Id<'a>, Option<usize>>,
+    place: usize,
+    label: Option<Id<'a>>,
+) -> Result<Option<usize>, AllocError>
+    ensures ok { IfOk result (λ further. (ls : Blocks) → length ls ≡ place → HasPlaces places.old ls
+        → HasPlaces places.new (label_of label.entry ∷ ls) × (further ≡ innermost_if (label_of label.entry) ls)) }
+    ensures err { OnErr result (places.new.entries ≡ places.old.entries) }
+{
+    match label {
+        Some(id) => Ok(places.insert(id, Some(place))?.flatten()),
+        None => Ok(None),
+    }
+}
+
+/// Takes the innermost of the blocks that are indexed out of the index.
+pub(crate) fn unindex_block<'a>(
+    places: &mut BTreeMap<Id<'a>, Option<usize>>,
+    outer: &mut Vec<Option<usize>>,
+    label: Option<Id<'a>>,
+)
+    ensures indexed { (ls : Blocks) → IsIndexed places.old outer.old.items (label_of label.entry ∷ ls) → IsIndexed places.new outer.new.items ls }
+    ensures shrinks { length outer.new.items ≡ length outer.old.items - 1 }
+{
+    if let (Some(further), Some(id)) = (outer.pop(), label) {
+        // the label is in the index, so that this takes no memory
+        let _ = places.insert(id, further);
+    }
+}
