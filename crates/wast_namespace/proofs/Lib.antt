@@ -1,6 +1,7 @@
 pub mod Basics
 pub mod Called
 pub mod FilledSpaces
+pub mod FirstNumbers
 mod Firsts
 pub mod Gathered
 pub mod LeastTie

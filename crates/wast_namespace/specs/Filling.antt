@@ -4,7 +4,7 @@ use Rattle.std.specs.declared.cmp.Ordering.{Ordering}
 use Rattle.std.specs.Ordering.{nat_cmp, ordering_then, is_lt, is_eq}
 use Rattle.std.specs.List.Sorted.{IsSortedBy}
 use Rattle.wast_base.specs.declared.ids.Id.{Id}
-use Rattle.wast_base.specs.Ids.{Name, name_of}
+use Rattle.wast_base.specs.Ids.{Name, name_of, same_name}
 use Rattle.wast_base.specs.Spaces.{position_of, is_borne}
 use Rattle.wast_base.specs.Order.{Key, key_of, key_cmp}
 use Rattle.wast_namespace.specs.Places.{entry_of}
@@ -42,6 +42,11 @@ unnamed (suc n) names = None ∷ unnamed n names
 abbrev pub names_from : ℕ → List (Id × ℕ) → ℕ → List (Option Name)
 names_from at [] count = unnamed (count - at) []
 names_from at (e ∷ es) count = unnamed (e.1 - at) (Some (name_of e.0) ∷ names_from (suc e.1) es count)
+
+-- the number of the first pair that has a name
+abbrev pub first_number : Name → List (Id × ℕ) → Option ℕ
+first_number name [] = None
+first_number name (e ∷ es) = if same_name name (name_of e.0) then Some e.1 else first_number name es
 
 -- The positions rise, from one on and below the count.
 abbrev pub ArePositions : ℕ → List (Id × ℕ) → ℕ → Type 0

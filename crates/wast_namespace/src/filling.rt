@@ -1,17 +1,17 @@
 //! Filling a name space at once, with the names of all its items.
 
 ghost use Rattle.std.specs.Prelude.{◌≡◌, ◌+◌, ◌<◌, ◌≤◌, ◌^◌, ◌↔◌, ◌++◌, ◌∷◌, [], IsTrue, List, Option as Maybe, length, IfOk, OnOk, OnErr};
-ghost use Rattle.wast_base.specs.Ids.{Name, marked};
-ghost use Rattle.wast_base.specs.Spaces.{name_if};
+ghost use Rattle.wast_base.specs.Ids.{Name, name_of, marked};
+ghost use Rattle.wast_base.specs.Spaces.{name_if, position_of};
 ghost use Rattle.wast_namespace.specs.Places.{entries_of};
-ghost use Rattle.wast_namespace.specs.Filling.{ArePositions, names_from, IsFirstTie, HasFirstClash, FillsSpace, Denotes, first_of_each, least_of};
+ghost use Rattle.wast_namespace.specs.Filling.{ArePositions, names_from, IsFirstTie, HasFirstClash, FillsSpace, Denotes, first_number, first_of_each, least_of};
 ghost use Rattle.wast_base.specs.Order.{key_cmp};
 
 use crate::namespace::Namespace;
 use crate::sorting::in_order;
 use std::alloc::{AllocError, Global};
 use std::marker::Model;
-use wast_base::{Id, compare_names};
+use wast_base::{Id, Numbering, compare_names};
 
 /// The items of a space in their order, before its name space is filled: the list of their names.
 #[derive(Drop)]
@@ -29,6 +29,14 @@ impl<'a> Model for Gathering<'a> {
 }
 
 impl<'a> Gathering<'a> {
+    /// No items. It takes no memory.
+    pub fn none(alloc: Global) -> Self
+        ensures { result ≡ [] }
+    {
+        let pairs = Vec::new(alloc);
+        Gathering { pairs, count: 0 }
+    }
+
     /// No items, with memory for so many ids.
     pub fn new(alloc: Global, room: usize) -> Result<Self, AllocError>
         ensures { IfOk result (λ g. g ≡ []) }
@@ -89,16 +97,37 @@ impl<'a> Gathering<'a> {
 
     /// The name space of the items, where a name denotes the first item that bears it.
     ///
-    /// It takes memory where there are more than 20 ids, to sort them, and gives that back; and for the names.
-    pub fn known(self, alloc: Global) -> Result<Namespace<'a>, AllocError>
-        ensures names { IfOk result (Denotes self.entry) }
-        ensures count { IfOk result (λ s. s.count ≡ length self.entry) }
+    /// It takes memory to sort the ids, and gives that back; and for the names.
+    pub fn known(&self, alloc: Global) -> Result<Namespace<'a>, AllocError>
+        ensures names { IfOk result (Denotes self.now) }
+        ensures count { IfOk result (λ s. s.count ≡ length self.now) }
     {
-        let Gathering { pairs, count } = self;
+        let pairs = Vec::from_slice(alloc, &self.pairs)?;
         let pairs = in_order(alloc, pairs)?;
         let firsts = first_of_each(alloc, &pairs)?;
-        Ok(Namespace::from_sorted(firsts, count))
+        Ok(Namespace::from_sorted(firsts, self.count))
     }
+}
+
+/// A name denotes the first item that bears it. Each look-up goes through the ids; it takes no memory.
+impl<'a> Numbering<'a> for Gathering<'a> {
+    ghost numbers = { λ names name. position_of name names };
+
+    fn number_of(&self, id: &Id<'a>) -> Option<u32> {
+        first_number(&self.pairs, id)
+    }
+}
+
+/// The number of the first pair that has this name.
+fn first_number<'a>(pairs: &[(Id<'a>, u32)], id: &Id<'a>) -> Option<u32>
+    ensures { result ≡ first_number (name_of id.now) pairs.now }
+{
+    for pair in pairs {
+        if id.is_same(&pair.0) {
+            return Some(pair.1);
+        }
+    }
+    None
 }
 
 /// The first pair of each name, where pairs of one name are neighbours.

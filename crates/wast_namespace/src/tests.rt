@@ -4,7 +4,7 @@
 use crate::{Gathering, Namespace};
 use std::alloc::Global;
 use std::process::Abort;
-use wast_base::{Gensym, Id, Span};
+use wast_base::{Gensym, Id, Numbering, Span};
 
 fn written<'a>(name: &'a str) -> Id<'a> {
     Id::new(name, Span { offset: 7 })
@@ -26,8 +26,9 @@ fn each_call_gets_its_memory(rt: HostRuntime) {
 fn of_several_items_of_one_name_the_first_is_known(rt: HostRuntime) {
     let (a, b) = (written("a"), written("b"));
     let ids = [a, b, a, b, b];
-    let known = gathered(&rt, rt.alloc(), &ids).known(rt.alloc());
-    let space: Namespace<'_> = known.expect(&rt, "memory");
+    let items = gathered(&rt, rt.alloc(), &ids);
+    assert!(rt; items.number_of(&a) == Some(1) && items.number_of(&b) == Some(3));
+    let space: Namespace<'_> = items.known(rt.alloc()).expect(&rt, "memory");
     assert!(rt; space.find(&a) == Some(1) && space.find(&b) == Some(3));
     assert!(rt; space.pairs().len() == 2);
 }

@@ -8,9 +8,9 @@ use Rattle.std.proofs.lemmas.Map.Made.{is_some-lookup}
 use Rattle.std.proofs.lemmas.List.{map-append}
 use Rattle.std.proofs.lemmas.List.Concat.{flat_map-append}
 use Rattle.wast_base.specs.declared.faults.Error.{Error}
+use Rattle.wast_base.specs.Spaces.{position_of}
 use Rattle.wast_types.specs.Tree.{Index, ValType}
 use Rattle.wast_types.specs.Signatures.{Signature, type_of_param, same_signature}
-use Rattle.wast_namespace.specs.Namespaces.{number_in}
 use Rattle.wast_types.specs.Numbers.{TypeNames, numbered_signature}
 use Rattle.wast_types.specs.ImpliedTypes.{is_among, first_new}
 use Rattle.wast_base.specs.Filling.{RunsOut}
@@ -110,7 +110,7 @@ adds_nothing a e = adds_as (sym e) (adds_none a)
 module _ {a b : Binder} {ss : List Signature} (h : AddsTypes a b ss) where
   -- the names of types stay
   names_then : numbers_in b.cx ≡ numbers_in a.cx
-  names_then i name = number_in (h.names i) name
+  names_then i name = position_of name (h.names i)
 
   -- what is bound once the first are
   bound_then : index_of b.cx.bound ≡ with_more (index_of a.cx.bound) (new_bindings a ss)

@@ -6,8 +6,8 @@ use Rattle.std.specs.Map.{keys_of}
 use Rattle.std.proofs.lemmas.Map.Made.{is_some-lookup}
 use Rattle.std.proofs.lemmas.List.{take_more, map-append}
 use Rattle.std.proofs.lemmas.List.Concat.{flat_map-append}
+use Rattle.wast_base.specs.Spaces.{position_of}
 use Rattle.wast_base.specs.Ids.{Name, generated}
-use Rattle.wast_namespace.specs.Namespaces.{number_in}
 use Rattle.wast_types.specs.Tree.{Id, Index, ModuleField}
 use Rattle.wast_types.specs.Tree.field
 use Rattle.wast_types.specs.Signatures.{Signature, same_signature}
@@ -93,7 +93,7 @@ module _ (n : ℕ) (fs named seen : List ModuleField) (old : Bound) (a : Binder)
   old_names = fun_ext knows
 
   names : numbers_in a.cx ≡ k
-  names = (λ i name. number_in (same i) name) ∙ old_names
+  names = (λ i name. position_of name (same i)) ∙ old_names
 
   cx_is : Extends [] a.cx.bound (bindings k named)
   cx_is = subst (λ (f : TypeNames). Extends [] a.cx.bound (bindings f named)) old_names

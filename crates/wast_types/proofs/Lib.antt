@@ -1,6 +1,7 @@
 pub mod Needing
 pub mod NumberedTypes
 pub mod TypeItems
+pub mod Naming
 pub mod InConstants
 pub mod Staying
 pub mod Bound

@@ -1,5 +1,5 @@
 -- The names of the types among the items of a list, and how they are gathered.
-use Rattle.std.proofs.Common.{◌≡◌, ℕ, ◌+◌, ◌<◌, ◌≤◌, List, [], ◌∷◌, ◌++◌, length, get_or, take, drop, map, append-nil, append_assoc, length-append, Option, inl, inr, refl, sym, ap, ◌∙◌, arith}
+use Rattle.std.proofs.Common.{◌≡◌, ℕ, ◌+◌, ◌<◌, ◌≤◌, List, [], ◌∷◌, ◌++◌, length, get_or, take, drop, map, append_assoc, length-append, Option, inl, inr, refl, sym, ap, ◌∙◌, arith}
 use Rattle.std.specs.List.{flat_map}
 use Rattle.std.proofs.lemmas.List.{take_more, take-append-drop, map-append}
 use Rattle.std.proofs.lemmas.List.Concat.{flat_map-append}
@@ -72,9 +72,6 @@ fields_join xs ys = ap (names_in space.Ty) (flat_map-append items_in xs ys) ∙ 
 
 pub types_join : (xs ys : List ty.«Type») → in_types (xs ++ ys) ≡ in_types xs ++ in_types ys
 types_join xs ys = ap (names_in space.Ty) (flat_map-append items_of_type xs ys) ∙ flat_map-append (name_in space.Ty) (flat_map items_of_type xs) (flat_map items_of_type ys)
-
-pub field_alone : (x : ModuleField) → names_in space.Ty (items_in x) ≡ in_fields (x ∷ [])
-field_alone x = ap (names_in space.Ty) (sym (append-nil (items_in x)))
 
 stops_later : (names more : List (Option Name)) (e : Error) → length names ≤ length more → StopsGathering names e → StopsGathering more e
 stops_later names more e le (inl m) = inl m

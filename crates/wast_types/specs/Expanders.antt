@@ -1,9 +1,10 @@
--- What signatures are bound to. An `Expander` is seen as such a list, in any order, with what names of types denote.
+-- What signatures are bound to. An `Expander` is seen as such a list, in any order, with the names of the written types.
 use Rattle.std.specs.Prelude.{◌≡◌, List, [], Option, Some}
 use Rattle.std.specs.Option.{option_or}
 use Rattle.std.specs.Map.{lookup}
+use Rattle.wast_base.specs.Ids.{Name}
+use Rattle.wast_base.specs.Spaces.{position_of}
 use Rattle.wast_types.specs.Tree.{Index}
-use Rattle.wast_namespace.specs.Namespaces.{NameSpace, empty_from, number_in}
 use Rattle.wast_types.specs.Signatures.{Signature, same_signature}
 use Rattle.wast_types.specs.Numbers.{TypeNames, numbered_signature}
 
@@ -31,18 +32,18 @@ Extends old new more = (s : Signature) → index_of new s ≡ with_more (index_o
 abbrev pub Keeps : BoundSignatures → BoundSignatures → Type 0
 Keeps old new = (s : Signature) (i : Index) → index_of old s ≡ Some i → index_of new s ≡ Some i
 
--- what signatures are bound to, and what names of types denote
+-- what signatures are bound to, and the names of the written types, in their order
 pub record Bound : Type 0 where
-  pub names : NameSpace
+  pub names : List (Option Name)
   pub bound : BoundSignatures
 
 -- Nothing is bound, and no type has a name.
 abbrev pub nothing_bound : Bound
-nothing_bound = record { names = empty_from 0; bound = [] }
+nothing_bound = record { names = []; bound = [] }
 
--- what names of types denote
+-- what names of types denote: of several types of one name the first
 abbrev pub numbers_in : Bound → TypeNames
-numbers_in cx name = number_in cx.names name
+numbers_in cx name = position_of name cx.names
 
 -- what is found of a signature, in the numbers of the written types, where more is bound
 abbrev pub found_in : Bound → BoundSignatures → LookUp

@@ -12,7 +12,7 @@ ghost use Rattle.wast_types.specs.Expanded.{start_of_text, implied_type};
 ghost use Rattle.wast_types.specs.Binding.{next_after, AddsTypes};
 
 use crate::expanders::Expander;
-use crate::keys::{FuncKey, TypeKey, TypeReference};
+use crate::keys::{FuncKey, TypeKey, key_in};
 use std::alloc::Global;
 use wast_base::{Error, Gensym, Index, Seq, Span};
 use wast_nodes::{FunctionType, ModuleField, Type, push_field};
@@ -39,7 +39,7 @@ impl<'a> Binder<'a> {
         ensures refusal { IfErr result (RunsOut (next_after self.old (inline_signature inline.now ∷ []))) }
         ensures rising { self.old.gensym ≤ self.new.gensym }
     {
-        let key = inline_key(self.alloc, inline, &self.cx)?;
+        let key = inline_key(self.alloc, inline, &mut self.cx)?;
         match self.cx.get(&key) {
             Some(index) => Ok(index),
             None => {
@@ -76,13 +76,14 @@ impl<'a> Binder<'a> {
 fn inline_key<'a>(
     alloc: Global,
     inline: &Option<FunctionType<'a>>,
-    cx: &Expander<'a>,
+    cx: &mut Expander<'a>,
 ) -> Result<FuncKey<'a>, Error<'a>>
-    ensures ok { IfOk result (λ key. key ≡ numbered_signature (numbers_in cx.now) (inline_signature inline.now)) }
+    ensures ok { IfOk result (λ key. key ≡ numbered_signature (numbers_in cx.old) (inline_signature inline.now)) }
+    ensures stays { cx.new ≡ cx.old }
     ensures refusal { IfErr result (λ e. e ≡ out_of_memory) }
 {
     match inline {
-        Some(ty) => ty.key(cx),
+        Some(ty) => key_in(ty, cx),
         None => Ok(FuncKey(Seq::new(alloc), Seq::new(alloc))),
     }
 }

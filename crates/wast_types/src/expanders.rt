@@ -7,19 +7,24 @@ ghost use Rattle.wast_types.specs.Expanders.{nothing_bound, numbers_in, index_of
 ghost use Rattle.wast_types.specs.Hashed.{hash_of, with_hash, bindings_of, ArePlaced, BindsFirst};
 
 use crate::keys::FuncKey;
+use crate::type_names::names_a_type;
 use std::alloc::Global;
 use std::collections::BTreeMap;
 use std::hash::{FoldHasher, Hash, Hasher};
 use std::marker::Model;
-use wast_base::{Error, Index};
-use wast_namespace::Namespace;
+use wast_base::{Error, Index, try_number};
+use wast_namespace::{Gathering, Namespace};
+use wast_nodes::FunctionType;
 
-/// The types that signatures are bound to, and the numbers of the written types that have names. Contracts see signatures
-/// with indices, no two signatures equal, in any order, beside a name space.
+/// The types that signatures are bound to, and the names of the written types. Contracts see signatures with indices, no two
+/// signatures equal, in any order, beside the list of names.
 #[derive(Drop)]
 pub struct Expander<'a> {
     alloc: Global,
-    names: Namespace<'a>,
+    // of the written types, in their order
+    names: Gathering<'a>,
+    // what these denote, once a key has asked for a name
+    sorted: Option<Namespace<'a>>,
     // by each hash, the first key that has it
     firsts: BTreeMap<u64, (FuncKey<'a>, Index<'a>)>,
     // the keys whose hash the first one has
@@ -27,18 +32,16 @@ pub struct Expander<'a> {
 }
 
 impl<'a> Model for Expander<'a> {
-    ghost use Rattle.std.specs.Coded.{codes};
-    ghost use Rattle.wast_namespace.specs.Namespaces.{coded_space};
+    ghost use Rattle.std.specs.Prelude.{IfSome};
+    ghost use Rattle.wast_namespace.specs.Filling.{Denotes};
     ghost use Rattle.wast_types.specs.Expanders.{Bound};
     ghost use Rattle.wast_types.specs.Hashed.{bindings_of, ArePlaced};
 
     ghost Value = { Bound };
 
-    ghost coded = { Prim.hlevel (codes, coded_space) };
-
     ghost view = { λ cx. record { names = cx.names; bound = bindings_of cx.firsts.entries cx.others.entries } };
 
-    ghost invariant = { λ cx. ArePlaced cx.firsts.entries cx.others.entries };
+    ghost invariant = { λ cx. ArePlaced cx.firsts.entries cx.others.entries × IfSome cx.sorted (Denotes cx.names) };
 }
 
 impl<'a> Expander<'a> {
@@ -47,17 +50,18 @@ impl<'a> Expander<'a> {
     pub fn new(alloc: Global) -> Self
         ensures { result ≡ nothing_bound }
     {
-        Expander::with_names(alloc, Namespace::new(alloc))
+        Expander::with_names(alloc, Gathering::none(alloc))
     }
 
     /// Binds nothing, and knows these names of types.
     #[tactic(auto, using(crate::proofs::Placed::none_placed))]
-    pub(crate) fn with_names(alloc: Global, names: Namespace<'a>) -> Self
+    pub(crate) fn with_names(alloc: Global, names: Gathering<'a>) -> Self
         ensures { result ≡ record { names = names.entry; bound = [] } }
     {
         Expander {
             alloc,
             names,
+            sorted: None,
             firsts: BTreeMap::new(alloc),
             others: BTreeMap::new(alloc),
         }
@@ -73,8 +77,24 @@ impl<'a> Expander<'a> {
         ensures { result ≡ numbered (numbers_in self.now) index.entry }
     {
         let mut index = index;
-        self.names.try_resolve(&mut index);
+        match &self.sorted {
+            Some(sorted) => sorted.try_resolve(&mut index),
+            None => try_number(&self.names, &mut index),
+        };
         index
+    }
+
+    /// Sorts the names where a type names one and they are not sorted, so that [`number`](Expander::number) does not go
+    /// through all of them. It takes memory then.
+    pub(crate) fn sort_names_for(&mut self, ty: &FunctionType<'a>) -> Result<(), Error<'a>>
+        ensures stays { self.new ≡ self.old }
+        ensures refusal { IfErr result (λ e. e ≡ out_of_memory) }
+    {
+        if self.sorted.is_none() && names_a_type(ty) {
+            let sorted = self.names.known(self.alloc)?;
+            self.sorted = Some(sorted);
+        }
+        Ok(())
     }
 
     /// The index that a key is bound to.

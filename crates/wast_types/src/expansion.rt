@@ -2,19 +2,24 @@
 
 ghost use Rattle.std.specs.Prelude.{◌≡◌, ◌≤◌, ◌+◌, ◌++◌, IfOk, IfErr, OnOk};
 ghost use Rattle.wast_base.specs.Faults.{out_of_memory};
-ghost use Rattle.wast_base.specs.Filling.{one_if, given_if, filled, wanted, RunsOut};
+ghost use Rattle.wast_base.specs.Filling.{one_if, given_if, filled, wanted};
+ghost use Rattle.wast_nodes.specs.Items.{items, items_in};
+ghost use Rattle.wast_nodes.specs.Known.{names_in};
+ghost use Rattle.wast_types.specs.Tree.space;
 ghost use Rattle.wast_types.specs.EligibleTypes.{is_eligible, taken_by};
 ghost use Rattle.wast_types.specs.Expanders.{numbers_in, Extends};
+ghost use Rattle.wast_types.specs.TypeItems.{StopsNaming};
 ghost use Rattle.wast_types.specs.Expanded.{lacks_id, with_type_id, binding_of, bindings_in, bindings, expanded, ids_wanted, StopsExpanding};
 
 use crate::binder::Binder;
 use crate::binding::bind_each;
 use crate::expanders::Expander;
-use crate::keys::TypeReference;
-use crate::type_names::type_names;
+use crate::keys::key_in;
+use crate::type_names::gather_field;
 use std::alloc::Global;
 use std::mem;
 use wast_base::{Error, Gensym, Id, Index, Seq};
+use wast_namespace::Gathering;
 use wast_nodes::{InnerTypeKind, ModuleField, TypeDef, discard_fields, push_field, take_field};
 
 /// Binds each type use that needs a type and has no index to the first eligible type that has its signature (text format,
@@ -66,8 +71,8 @@ fn expand_fields<'a>(
     ensures refusal { IfErr result (StopsExpanding gensym.old fields.old) }
     ensures rising { gensym.old ≤ gensym.new }
 {
-    let names = type_names(alloc, fields.as_slice())?;
-    name_types(fields, gensym)?;
+    let mut names = Gathering::none(alloc);
+    name_types(fields, gensym, &mut names)?;
     let mut cx = Expander::with_names(alloc, names);
     bind_types(fields.as_slice(), &mut cx)?;
     let mut binder = Binder {
@@ -96,26 +101,37 @@ fn expand_fields<'a>(
     }
 }
 
-/// Gives each type that is a field of its own an id.
-fn name_types<'a>(fields: &mut Seq<ModuleField<'a>>, gensym: &mut Gensym) -> Result<(), Error<'a>>
+/// Gives each type that is a field of its own an id, and gathers the names that types have without.
+fn name_types<'a>(
+    fields: &mut Seq<ModuleField<'a>>,
+    gensym: &mut Gensym,
+    names: &mut Gathering<'a>,
+) -> Result<(), Error<'a>>
     ensures fields { OnOk result (fields.new ≡ filled lacks_id with_type_id gensym.old fields.old) }
     ensures counted { OnOk result (gensym.new ≡ gensym.old + wanted lacks_id fields.old) }
-    ensures refusal { IfErr result (RunsOut (gensym.old + wanted lacks_id fields.old)) }
+    ensures names { OnOk result (names.new ≡ names.old ++ names_in space.Ty (items fields.old)) }
+    ensures refusal { IfErr result (StopsNaming (gensym.old + wanted lacks_id fields.old) (names.old ++ names_in space.Ty (items fields.old))) }
     ensures rising { gensym.old ≤ gensym.new }
 {
     for i in 0..fields.len() {
-        name_type(fields.at_mut(i), gensym)?;
+        name_type(fields.at_mut(i), gensym, names)?;
     }
     Ok(())
 }
 
-/// Gives a type an id.
-fn name_type<'a>(field: &mut ModuleField<'a>, gensym: &mut Gensym) -> Result<(), Error<'a>>
+/// The same of a field.
+fn name_type<'a>(
+    field: &mut ModuleField<'a>,
+    gensym: &mut Gensym,
+    names: &mut Gathering<'a>,
+) -> Result<(), Error<'a>>
     ensures field { OnOk result (field.new ≡ given_if (lacks_id field.old) with_type_id gensym.old field.old) }
     ensures counted { OnOk result (gensym.new ≡ gensym.old + one_if (lacks_id field.old)) }
-    ensures refusal { IfErr result (RunsOut (gensym.old + one_if (lacks_id field.old))) }
+    ensures names { OnOk result (names.new ≡ names.old ++ names_in space.Ty (items_in field.old)) }
+    ensures refusal { IfErr result (StopsNaming (gensym.old + one_if (lacks_id field.old)) (names.old ++ names_in space.Ty (items_in field.old))) }
     ensures rising { gensym.old ≤ gensym.new }
 {
+    gather_field(names, field)?;
     match field {
         ModuleField::Ty(ty) => {
             gensym.fill(ty.span, &mut ty.id)?;
@@ -167,7 +183,7 @@ fn bind_def<'a>(
     }
     match (&def.kind, id) {
         (InnerTypeKind::Func(ty), Some(id)) => {
-            let key = ty.key(cx)?;
+            let key = key_in(ty, cx)?;
             cx.put(key, Index::Id(id))?;
             Ok(())
         }

@@ -206,6 +206,19 @@ impl<'a> TypeKey<'a> for FuncKey<'a> {
     }
 }
 
+/// The key of a function type, for which the names of types may be sorted first.
+pub(crate) fn key_in<'a>(
+    ty: &FunctionType<'a>,
+    cx: &mut Expander<'a>,
+) -> Result<FuncKey<'a>, Error<'a>>
+    ensures ok { IfOk result (λ key. key ≡ numbered_signature (numbers_in cx.old) (signature_of ty.now)) }
+    ensures stays { cx.new ≡ cx.old }
+    ensures refusal { IfErr result (λ e. e ≡ out_of_memory) }
+{
+    cx.sort_names_for(ty)?;
+    ty.key(cx)
+}
+
 /// A parameter: its id, its name annotation and its type.
 type Param<'a> = (Option<Id<'a>>, Option<NameAnnotation<'a>>, ValType<'a>);
 

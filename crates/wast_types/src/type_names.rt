@@ -1,68 +1,22 @@
-//! The names of the written types.
+//! The names of the written types, as they are gathered; and which types refer to one.
 
-ghost use Rattle.std.specs.Prelude.{◌≡◌, ◌++◌, ◌∷◌, ◌⊎◌, [], flat_map, IfOk, IfErr, OnOk};
-ghost use Rattle.wast_base.specs.Faults.{out_of_memory, too_large};
+ghost use Rattle.std.specs.Prelude.{◌≡◌, ◌++◌, ◌∷◌, [], flat_map, IfErr, OnOk};
 ghost use Rattle.wast_base.specs.Ids.{marked};
 ghost use Rattle.wast_base.specs.Spaces.{name_if};
-ghost use Rattle.wast_nodes.specs.Items.{items, items_in, items_of_type};
+ghost use Rattle.wast_nodes.specs.Items.{items_in, items_of_type};
 ghost use Rattle.wast_nodes.specs.Known.{names_in};
-ghost use Rattle.wast_namespace.specs.Filling.{Denotes};
 ghost use Rattle.wast_types.specs.Tree.space;
-ghost use Rattle.wast_types.specs.Expanded.{HasManyTypes};
 ghost use Rattle.wast_types.specs.TypeItems.{StopsGathering};
 
-use std::alloc::Global;
-use wast_base::{Error, Fault, Id};
-use wast_namespace::{Gathering, Namespace};
-use wast_nodes::{ModuleField, Type};
-
-/// What the names of the written types denote, members of groups included: of several types of one name the first.
-///
-/// It asks for memory once, and for the sorted names. Where that is refused it is E12; where there are 2^32 types or more,
-/// E10.
-pub(crate) fn type_names<'a>(
-    alloc: Global,
-    fields: &[ModuleField<'a>],
-) -> Result<Namespace<'a>, Error<'a>>
-    ensures names { IfOk result (Denotes (names_in space.Ty (items fields.now))) }
-    ensures refusal { IfErr result (λ e. (e ≡ out_of_memory) ⊎ ((e ≡ too_large) × HasManyTypes fields.now)) }
-{
-    let mut gathering = Gathering::new(alloc, count_ids(fields))?;
-    gather(&mut gathering, fields)?;
-    Ok(gathering.known(alloc)?)
-}
-
-/// How many of the written types have ids; a guess where there are too many to be counted.
-fn count_ids<'a>(fields: &[ModuleField<'a>]) -> usize {
-    let mut ids: usize = 0;
-    for field in fields {
-        ids = ids.saturating_add(ids_in(field));
-    }
-    ids
-}
-
-/// The same of one field.
-fn ids_in<'a>(field: &ModuleField<'a>) -> usize {
-    match field {
-        ModuleField::Ty(ty) => usize::from(ty.id.is_some()),
-        ModuleField::Rec(rec) => rec.types.as_slice().len(),
-        _ => 0,
-    }
-}
-
-/// The types of all fields.
-fn gather<'a>(gathering: &mut Gathering<'a>, fields: &[ModuleField<'a>]) -> Result<(), Error<'a>>
-    ensures ok { OnOk result (gathering.new ≡ gathering.old ++ names_in space.Ty (items fields.now)) }
-    ensures refusal { IfErr result (StopsGathering (gathering.old ++ names_in space.Ty (items fields.now))) }
-{
-    for field in fields {
-        gather_field(gathering, field)?;
-    }
-    Ok(())
-}
+use wast_base::{Error, Fault, Id, Index};
+use wast_namespace::Gathering;
+use wast_nodes::{FunctionType, HeapType, ModuleField, Type, ValType};
 
 /// The types of a field.
-fn gather_field<'a>(gathering: &mut Gathering<'a>, field: &ModuleField<'a>) -> Result<(), Error<'a>>
+pub(crate) fn gather_field<'a>(
+    gathering: &mut Gathering<'a>,
+    field: &ModuleField<'a>,
+) -> Result<(), Error<'a>>
     ensures ok { OnOk result (gathering.new ≡ gathering.old ++ names_in space.Ty (items_in field.now)) }
     ensures refusal { IfErr result (StopsGathering (gathering.old ++ names_in space.Ty (items_in field.now))) }
 {
@@ -100,4 +54,30 @@ fn gather_type<'a>(gathering: &mut Gathering<'a>, id: Option<Id<'a>>) -> Result<
     }
     gathering.add(id)?;
     Ok(())
+}
+
+/// Whether a function type refers to a type by an id.
+pub(crate) fn names_a_type<'a>(ty: &FunctionType<'a>) -> bool {
+    for param in ty.params.as_slice() {
+        if is_by_id(&param.2) {
+            return true;
+        }
+    }
+    for value in ty.results.as_slice() {
+        if is_by_id(value) {
+            return true;
+        }
+    }
+    false
+}
+
+/// Whether a value type refers to a type by an id.
+fn is_by_id<'a>(ty: &ValType<'a>) -> bool {
+    match ty {
+        ValType::Ref(ty) => matches!(
+            ty.heap,
+            HeapType::Concrete(Index::Id(_)) | HeapType::Exact(Index::Id(_))
+        ),
+        _ => false,
+    }
 }

@@ -1,6 +1,4 @@
 use Rattle.std.proofs.Common.{ap, ◌∙◌}
-use Rattle.std.specs.FinMap.{get-empty}
-use Rattle.wast_base.specs.Order.{key_cmp, key_of}
 use Rattle.wast_types.specs.Expanders.{Bound, numbers_in}
 use Rattle.wast_types.proofs.NumberedTypes.{stays_as_written}
 use Rattle.wast_demands.specs.Scopes.{Function}
@@ -9,4 +7,4 @@ use Rattle.wast_passes.proofs.shapes.func_shape.Goals as goal
 pub returns-clause-shape : goal.returns-clause-shape
 returns-clause-shape c =
     c.of_func.ensures
-    ∙ ap Function (c.in_ok-key.ensures.key ∙ stays_as_written (numbers_in c.new-cx.result) (λ q. ap (λ (cx : Bound). numbers_in cx q) c.new-cx.ensures ∙ get-empty key_cmp (key_of q)) c.args.ty.now)
+    ∙ ap Function (c.in_ok-key.ensures.key ∙ stays_as_written (numbers_in c.new-cx.result) (λ q. ap (λ (cx : Bound). numbers_in cx q) c.new-cx.ensures) c.args.ty.now)

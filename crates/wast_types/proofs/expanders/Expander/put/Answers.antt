@@ -11,10 +11,10 @@ invariant_of-self-in-Some c =
     let taken = rw c.in-Some.is at c.in_ok-key.ensures.taken in
     let stays = rw c.in-Some.is at c.in_ok-key.ensures.stays in
     let w_is = c.or_insert.ensures.value ∙ ap (λ o. unwrap_or o c.args.index) c.in_ok-self-inside.ensures.value in
-    more_placed _ c.args.key c.in-Some.key c.args.index w c.self.invariant rest (taken refl) (stays refl) w_is (λ s. let written = (c.in_ok-self-inside.ensures.update.0 w).0 s in search rules)
+    (more_placed _ c.args.key c.in-Some.key c.args.index w c.self.invariant.0 rest (taken refl) (stays refl) w_is (λ s. let written = (c.in_ok-self-inside.ensures.update.0 w).0 s in search rules), c.self.invariant.1)
 
 pub invariant_of-self-in_default : goal.invariant_of-self-in_default
-invariant_of-self-in_default c = ((rw c.in_default.is at c.in_ok-key.ensures.bound) c.self.inside.others.entries c.self.invariant).0
+invariant_of-self-in_default c = (((rw c.in_default.is at c.in_ok-key.ensures.bound) c.self.inside.others.entries c.self.invariant.0).0, c.self.invariant.1)
 
 pub returns-clause-ok : goal.returns-clause-ok
 returns-clause-ok c = λ s.
@@ -25,6 +25,6 @@ returns-clause-ok c = λ s.
           let taken = rw b.in-Some.is at c.in_ok-key.ensures.taken in
           let stays = rw b.in-Some.is at c.in_ok-key.ensures.stays in
           let w_is = b.or_insert.ensures.value ∙ ap (λ o. unwrap_or o c.args.index) b.in_ok-self-inside.ensures.value in
-          rw (b.self-is, sym c.self.view_is) (more_extends _ c.args.key b.in-Some.key c.args.index w c.self.invariant rest (taken refl) (stays refl) w_is (λ t. let written = (b.in_ok-self-inside.ensures.update.0 w).0 t in search rules) s)
-      | in_default b ↦ rw (b.self-is, sym c.self.view_is) (((rw b.in_default.is at c.in_ok-key.ensures.bound) c.self.inside.others.entries c.self.invariant).1 s)
+          rw (b.self-is, sym c.self.view_is) (more_extends _ c.args.key b.in-Some.key c.args.index w c.self.invariant.0 rest (taken refl) (stays refl) w_is (λ t. let written = (b.in_ok-self-inside.ensures.update.0 w).0 t in search rules) s)
+      | in_default b ↦ rw (b.self-is, sym c.self.view_is) (((rw b.in_default.is at c.in_ok-key.ensures.bound) c.self.inside.others.entries c.self.invariant.0).1 s)
     ]
