@@ -72,6 +72,7 @@ fn plain_key(op: &Plain) -> u32
 }
 
 /// The opcode of an instruction without immediates.
+#[inline(always)]
 pub(crate) fn plain_opcode(op: &Plain) -> Opcode
     ensures { result ≡ opcode_of (plain_key op.now) }
 {
@@ -79,6 +80,7 @@ pub(crate) fn plain_opcode(op: &Plain) -> Opcode
 }
 
 /// The opcode of an instruction with a memory argument.
+#[inline(always)]
 pub(crate) fn mem_opcode(op: MemOp) -> Opcode
     ensures { result ≡ opcode_of (mem_key op) }
 {
