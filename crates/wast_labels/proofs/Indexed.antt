@@ -185,6 +185,13 @@ module _ {X : Type 0} (p : X → Bool) (ys : List X) where
         ∙ further_on (length xs) (position p ys)
   ]
 
+-- what a label denotes that one of the innermost blocks has
+pub found_nearest : (id : Id) (ids xs nearest : List (Option Id)) (k : ℕ) → xs ≡ ids → nearest ≡ drop k xs → (o : Option ℕ) → o ≡ denotes (name_of id) (labels_of nearest) → (steps : ℕ) → o ≡ Some steps → denotes (name_of id) (labels_of ids) ≡ Some steps
+found_nearest id ids xs nearest k same back o is steps here =
+    let split : ids ≡ take k xs ++ nearest = sym same ∙ (sym (take-append-drop k xs) ∙ ap (λ ys. take k xs ++ ys) (sym back)) in
+    let parted : labels_of ids ≡ labels_of nearest ++ labels_of (take k xs) = ap labels_of split ∙ (ap reverse (map-append label_of (take k xs) nearest) ∙ reverse-append (map label_of (take k xs)) (map label_of nearest)) in
+    ap (denotes (name_of id)) parted ∙ found_first (is_called (name_of id)) (labels_of (take k xs)) (labels_of nearest) steps (sym is ∙ here)
+
 -- what a label denotes, by the blocks that are not indexed, and by those that are
 module _ (id : Id) (m : BTreeMap Id (Option ℕ)) (outer : List (Option ℕ)) (ids xs further near : List (Option Id)) (k : ℕ) (h : IsIndexOf ids m outer) (same : xs ≡ ids) (long : k ≡ length outer) (front : further ≡ take k xs) (back : near ≡ drop k xs) where
   split : ids ≡ further ++ near

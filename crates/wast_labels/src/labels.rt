@@ -1,6 +1,6 @@
 //! The open blocks of an expression, by their labels.
 
-ghost use Rattle.std.specs.Prelude.{◌≡◌, ◌+◌, ◌<◌, ◌≤◌, ◌^◌, ◌↔◌, [], ◌∷◌, length, Some, codes, IsTrue, IfOk, OnOk, OnErr};
+ghost use Rattle.std.specs.Prelude.{◌≡◌, ◌+◌, ◌<◌, ◌≤◌, ◌^◌, ◌↔◌, [], ◌∷◌, length, Some, None, codes, IsTrue, IsFalse, IfOk, IfSome, OnOk, OnErr};
 ghost use Rattle.wast_base.specs.Blocks.{closed};
 ghost use Rattle.wast_base.specs.Ids.{name_of, marked};
 ghost use Rattle.wast_base.specs.Spaces.{name_if};
@@ -95,13 +95,26 @@ impl<'a> Labels<'a> {
         Ok(())
     }
 
+    /// Sees to it that all labels are found in few steps: where more than 16 open blocks are not indexed, all are indexed.
+    ///
+    /// What labels denote stays, and memory is taken as [`reach`](Labels::reach) takes it.
+    pub fn reach_all(&mut self) -> Result<(), AllocError>
+        ensures { self.new ≡ self.old }
+    {
+        if !self.is_near() {
+            index_all(&self.open, &mut self.places, &mut self.outer)?;
+        }
+        Ok(())
+    }
+
+    /// Whether all labels are found in few steps: at most 16 open blocks are not indexed. It takes no memory.
+    pub fn is_near(&self) -> bool {
+        self.open.len() - self.outer.len() <= NEAR
+    }
+
     /// Whether more blocks than a few are not indexed, and none of the innermost ones has a label.
     fn is_far(&self, id: &Id<'a>) -> bool {
-        let open = self.open.as_slice();
-        if open.len() - self.outer.len() <= NEAR {
-            return false;
-        }
-        steps_back(&open[open.len() - NEAR..], id).is_none()
+        !self.is_near() && self.near(id).is_none()
     }
 
     /// Closes the innermost open block, if there is one. It takes no memory.
@@ -126,6 +139,36 @@ impl<'a> Labels<'a> {
         }
         let place = indexed_place(&self.places, id)?;
         Some((self.open.len() - 1 - place) as u32)
+    }
+
+    /// What a label denotes, where one of the innermost open blocks, at most 16, has it.
+    fn near(&self, id: &Id<'a>) -> Option<u32>
+        ensures { IfSome result (λ n. denotes (name_of id.now) self.now ≡ Some n) }
+    {
+        let open = self.open.as_slice();
+        let (_, nearest) = open.split_at(open.len().saturating_sub(NEAR));
+        let steps = steps_back(nearest, id)?;
+        Some(steps as u32)
+    }
+
+    /// Numbers a label index, as [`Labels::number`] does, where that takes few steps: where it is a number, or one of the
+    /// innermost open blocks, at most 16, has it. Whether it did; else the index stays. It takes no memory.
+    pub fn try_number(&self, idx: &mut Index<'a>) -> bool
+        ensures met { IsTrue result → first_unmet (known_index (number_among self.now) (codes "label") idx.old) ≡ None }
+        ensures index { IsTrue result → idx.new ≡ numbered (number_among self.now) idx.old }
+        ensures stays { IsFalse result → idx.new ≡ idx.old }
+    {
+        let (number, span) = match idx {
+            Index::Num(_, _) => return true,
+            Index::Id(id) => (self.near(id), id.span()),
+        };
+        match number {
+            Some(number) => {
+                *idx = Index::Num(number, span);
+                true
+            }
+            None => false,
+        }
     }
 
     /// The number of a label index: a number is its own, and an id that denotes a block is replaced by its number, at the

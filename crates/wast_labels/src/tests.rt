@@ -60,6 +60,9 @@ fn many_labels_are_told_apart(rt: HostRuntime) {
     open_each(&rt, &mut labels, &texts);
     are_apart(&rt, &mut labels, &texts);
     open_each(&rt, &mut labels, &texts);
+    labels.reach_all().expect(&rt, "memory");
+    let mut outermost = Index::Id(id("0"));
+    assert!(&rt; labels.is_near() && !labels.try_number(&mut outermost));
     for _ in 0..10000 {
         labels.close();
     }

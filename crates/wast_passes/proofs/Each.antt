@@ -3,7 +3,7 @@ use Rattle.std.proofs.Common.{◌≡◌, ℕ, suc, ◌+◌, ◌<◌, List, [], �
 use Rattle.std.proofs.Math.ListN.{set, length-set}
 use Rattle.std.proofs.Math.Seq.{drop-cons, take-suc}
 use Rattle.std.specs.Prelude.{flat_map}
-use Rattle.std.proofs.lemmas.List.{append-nil, drop-drop, drop-set-lt, take_more_set, take-append-drop, take_all, map-append}
+use Rattle.std.proofs.lemmas.List.{append-nil, drop-drop, drop-set-lt, set-get_or, take_more_set, take-append-drop, take_all, map-append}
 use Rattle.std.proofs.lemmas.Grind.{flat_map-append}
 use Rattle.wast_base.specs.Faults.{Told}
 use Rattle.wast_demands.specs.Demands.{Demand, first_unmet, Answers}
@@ -46,6 +46,10 @@ module _ {X A : Type 0} {g : A → List Demand} {f : X → List A} {w : X → X}
             (both_met g (flat_map f (take i olds)) (f x) p.met met);
         become = take_more_set nows i y lt2 ∙ (ap (λ zs. zs ++ y ∷ []) p.become ∙ (ap (λ z. map w (take i olds) ++ z ∷ []) new ∙ (sym (map-append w (take i olds) (x ∷ [])) ∙ ap (map w) (sym more))));
       }
+
+  -- one that was tried in vain
+  pub tried : {nows : List X} {i : ℕ} {x y : X} → IsHalfway g f w olds nows i → x ≡ get_or nows i x → y ≡ x → IsHalfway g f w olds (set nows i y) i
+  tried {nows} {i} {x} {y} p is same = subst (λ ys. IsHalfway g f w olds ys i) (sym (ap (set nows i) (same ∙ is) ∙ set-get_or nows i x)) p
 
   -- what is refused at an item, where K and M say what may be refused without a place
   pub stops_with : {nows : List X} {i : ℕ} {x : X} (K M : Type 0) (t : Told) → IsHalfway g f w olds nows i → i < length olds → x ≡ get_or nows i x → Answers K M t (first_unmet (flat_map g (f x)))

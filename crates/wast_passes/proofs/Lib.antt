@@ -16,6 +16,7 @@ pub mod NoNames
 pub mod Parts
 pub mod Shaping
 pub mod Stepping
+pub mod Tries
 pub mod Trying
 pub mod TwoSteps
 pub mod Within

@@ -1,5 +1,5 @@
 -- Instructions of a body, one after the other, in their place.
-use Rattle.std.proofs.Common.{◌≡◌, ℕ, suc, ◌+◌, ◌<◌, ◌≤◌, List, [], ◌∷◌, ◌++◌, None, true, refl, sym, ◌∙◌, ap, length, get_or, drop, take, arith, add-one, subst}
+use Rattle.std.proofs.Common.{◌≡◌, ℕ, suc, ◌+◌, ◌<◌, ◌≤◌, List, [], ◌∷◌, ◌++◌, None, refl, sym, ◌∙◌, ap, length, get_or, drop, take, arith, add-one, subst}
 use Rattle.std.proofs.Math.ListN.{set, length-set}
 use Rattle.std.proofs.Math.Seq.{drop-cons, take-suc}
 use Rattle.std.proofs.lemmas.List.{append-nil, drop-drop, drop-set-lt, set-get_or, take_more_set, take-append-drop, take_all}
@@ -11,8 +11,7 @@ use Rattle.wast_map.specs.Mapped.{Change, mapped_instr, mapped_instrs}
 use Rattle.wast_passes.specs.Tree.{Instruction}
 use Rattle.wast_demands.specs.Scopes.{Scope}
 use Rattle.wast_demands.specs.Demands.{first_unmet, Answers, site_demand, site_demands, open_counts, HasMany}
-use Rattle.wast_passes.specs.Standing.{IsPassed, here}
-use Rattle.wast_demands.specs.Resolved.{numbering}
+use Rattle.wast_passes.specs.Standing.{here}
 use Rattle.wast_demands.proofs.Counted.{many_sites}
 use Rattle.wast_passes.proofs.Moving.{stands_by}
 use Rattle.wast_passes.proofs.Parts.{both_met, first_fails, second_fails}
@@ -126,16 +125,15 @@ module _ {c : Scope} {f : Change} {start : Here} {olds nows : List Instruction} 
   pub all_become : nows ≡ mapped_instrs f start olds
   all_become = sym (take_all i nows (omega (arith, p.len, le))) ∙ (p.become ∙ ap (mapped_instrs f start) (take_all i olds le))
 
--- one that a walk passes by stands there as it did
+-- what is put back as it was
 put_back : (nows : List Instruction) (i : ℕ) (x : Instruction) → x ≡ get_or nows i x → set nows i x ≡ nows
 put_back nows i x is = ap (set nows i) is ∙ set-get_or nows i x
 
--- and opens and closes no block
-pub along_passed : {s t : Blocks} {olds nows : List Instruction} {i : ℕ} {x : Instruction} → IsPassed x → IsAlong s t olds nows i → i < length olds → x ≡ get_or nows i x → IsAlong s t olds nows (i + 1)
-along_passed {s} {t} {olds} {nows} {i} {x} passed p lt is =
-    subst (λ ys. IsAlong s t olds ys (i + 1)) (put_back nows i x is) (along_more x p lt is (λ l. sym (ap (λ (g : Here). g.blocks) (passed.still (here l t)))))
+-- so does one that was tried in vain
+pub along_tried : {s t u : Blocks} {olds nows : List Instruction} {i : ℕ} {x y : Instruction} → IsAlong s t olds nows i → x ≡ get_or nows i x → y ≡ x → u ≡ t → IsAlong s u olds (set nows i y) i
+along_tried {s} {t} {u} {olds} {nows} {i} {x} {y} p is same still =
+    let back : set nows i y ≡ nows = ap (set nows i) same ∙ put_back nows i x is in
+    subst (λ ys. IsAlong s u olds ys i) (sym back) (subst (λ v. IsAlong s v olds nows i) (sym still) p)
 
--- and is walked
-pub partway_passed : {c : Scope} {start : Here} {olds nows : List Instruction} {i : ℕ} {x : Instruction} → IsPassed x → IsPartway c (numbering c) start olds nows i → i < length olds → x ≡ get_or nows i x → IsPartway c (numbering c) start olds nows (i + 1)
-partway_passed {c} {start} {olds} {nows} {i} {x} passed p lt is =
-    subst (λ ys. IsPartway c (numbering c) start olds ys (i + 1)) (put_back nows i x is) (partway_more p lt is (passed.met c (reached start olds i)) (sym (passed.stays c (reached start olds i))))
+pub partway_tried : {c : Scope} {f : Change} {start : Here} {olds nows : List Instruction} {i : ℕ} {x y : Instruction} → IsPartway c f start olds nows i → x ≡ get_or nows i x → y ≡ x → IsPartway c f start olds (set nows i y) i
+partway_tried {c} {f} {start} {olds} {nows} {i} {x} {y} p is same = subst (λ ys. IsPartway c f start olds ys i) (sym (ap (set nows i) same ∙ put_back nows i x is)) p

@@ -23,11 +23,11 @@ use Rattle.wast_nodes.specs.Sites.{Locals, LocalAt, Repeated, start}
 
 -- where names denote the same, indices do
 module _ (f g : Name → Option ℕ) (same : (name : Name) → f name ≡ g name) where
-  same_known : (word : List ℕ) (i : Index) → known_index f word i ≡ known_index g word i
+  pub same_known : (word : List ℕ) (i : Index) → known_index f word i ≡ known_index g word i
   same_known word (index.Num n p) = refl
   same_known word (index.Id id) = ap (λ o. unknown word (mark_of id) (is_some o)) (same (name_of id))
 
-  same_numbered : (i : Index) → numbered f i ≡ numbered g i
+  pub same_numbered : (i : Index) → numbered f i ≡ numbered g i
   same_numbered (index.Num n p) = refl
   same_numbered (index.Id id) = ap (λ o. numbered_by o id) (same (name_of id))
 

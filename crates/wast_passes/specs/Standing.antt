@@ -1,14 +1,17 @@
 -- Where the instructions of a body stand: by its parameters and locals and by the open blocks. Private functions alone use
 -- this.
-use Rattle.std.specs.Prelude.{◌≡◌, List, [], None, Result, OnOk}
-use Rattle.wast_base.specs.Blocks.{Blocks}
+use Rattle.std.specs.Prelude.{◌≡◌, Bool, true, false, List, [], ◌∷◌, map, flat_map, Option, None, Result, OnOk}
+use Rattle.wast_base.specs.Blocks.{Blocks, closed}
+use Rattle.wast_base.specs.Ids.{Mark, marked}
+use Rattle.wast_base.specs.Spaces.{name_if}
 use Rattle.wast_base.specs.declared.faults.Error.{Error}
-use Rattle.wast_nodes.specs.Sites.{Site, Locals, Here, after_all, in_instr}
-use Rattle.wast_map.specs.Mapped.{mapped_instr}
-use Rattle.wast_demands.specs.Demands.{first_unmet, site_demands}
-use Rattle.wast_demands.specs.Resolved.{numbering}
+use Rattle.wast_labels.specs.Asked.{wrong_label}
+use Rattle.wast_nodes.specs.Sites.{OfBlock, Site, Locals, Here, after_all, in_val, in_select, in_signature}
+use Rattle.wast_map.specs.Mapped.{Indices, mapped_val, mapped_select, mapped_signature}
+use Rattle.wast_demands.specs.Demands.{first_unmet, use_demand}
+use Rattle.wast_demands.specs.Resolved.{resolved_use}
 use Rattle.wast_demands.specs.Scopes.{Scope}
-use Rattle.wast_passes.specs.Tree.{Instruction}
+use Rattle.wast_passes.specs.Tree.{ValType, SelectTypes, FunctionType, TypeUse, BlockType}
 
 -- where an instruction stands in a body with these parameters and locals, and with these open blocks
 abbrev pub here : Locals → Blocks → Here
@@ -22,8 +25,42 @@ begin l = here l []
 abbrev pub Moves : {T : Type 0} → Blocks → (Here → List Site) → Blocks → Result T Error → Type 0
 Moves old sites new result = (l : Locals) → OnOk result (new ≡ (after_all (here l old) (sites (here l old))).blocks)
 
--- Wherever an instruction stands, it demands nothing, stays as it is, and opens and closes no block.
-pub record IsPassed (i : Instruction) : Type 0 where
-  pub met : (c : Scope) (h : Here) → first_unmet (site_demands c (in_instr h i)) ≡ None
-  pub stays : (c : Scope) (h : Here) → mapped_instr (numbering c) h i ≡ i
-  pub still : (h : Here) → after_all h (in_instr h i) ≡ h
+-- A walk over these sites that is tried leaves the blocks that are open behind them, or those that were open.
+abbrev pub Steps : Blocks → (Here → List Site) → Blocks → Bool → Type 0
+Steps old sites new true = (l : Locals) → new ≡ (after_all (here l old) (sites (here l old))).blocks
+Steps old sites new false = new ≡ old
+
+-- Nothing is asked of a value type, and it stays.
+pub record IsNumber (t : ValType) : Type 0 where
+  pub asks : in_val t ≡ []
+  pub stays : (f : Indices) → mapped_val f t ≡ t
+
+-- nor of types
+pub record AreNumbers (ts : List ValType) : Type 0 where
+  pub asks : flat_map in_val ts ≡ []
+  pub stays : (f : Indices) → map (mapped_val f) ts ≡ ts
+
+-- nor of those of a `select`
+pub record SelectsNumber (t : SelectTypes) : Type 0 where
+  pub asks : in_select t ≡ []
+  pub stays : (f : Indices) → mapped_select f t ≡ t
+
+-- nor of a signature
+pub record HasNoNames (t : FunctionType) : Type 0 where
+  pub asks : in_signature t ≡ []
+  pub stays : (f : Indices) → mapped_signature f t ≡ t
+
+-- The type of a block demands nothing, and stays.
+pub record IsSettled (u : TypeUse FunctionType) : Type 0 where
+  pub met : (c : Scope) → first_unmet (use_demand c u) ≡ None
+  pub stays : (c : Scope) → resolved_use c.known OfBlock u ≡ u
+
+-- A block whose type is settled is opened, or none is.
+abbrev pub OpensBlock : BlockType → Blocks → Blocks → Bool → Type 0
+OpensBlock block old new true = IsSettled block.ty × (new ≡ name_if (marked block.label) ∷ old)
+OpensBlock block old new false = new ≡ old
+
+-- The innermost block is closed at an `end` that may have this label, or none is.
+abbrev pub ClosesBlock : Option Mark → Blocks → Blocks → Bool → Type 0
+ClosesBlock label old new true = (wrong_label old label ≡ None) × (new ≡ closed old)
+ClosesBlock label old new false = new ≡ old

@@ -1,5 +1,5 @@
 -- The types of the tree under one roof, as in wast_nodes: each type by its name, the variants of an enum behind a word.
-pub use Rattle.wast_map.specs.Tree.{Span, Id, Index, NameAnnotation, Space, ValType, RefType, StructField, FunctionType, TypeUse, TypeDef, BlockType, BrTableIndices, Instruction, Expression, ItemSig, Elem, ElemKind, ElemPayload, DataKind, TableKind, Global, Local, FuncKind, ModuleField, Handle}
+pub use Rattle.wast_map.specs.Tree.{Span, Id, Index, NameAnnotation, Space, ValType, RefType, StructField, FunctionType, TypeUse, TypeDef, BlockType, BrTableIndices, Instruction, Expression, ItemSig, Elem, ElemKind, ElemPayload, DataKind, TableKind, Global, Local, FuncKind, ModuleField, Handle, SelectTypes}
 pub use Rattle.wast_map.specs.Tree.index
 pub use Rattle.wast_map.specs.Tree.space
 pub use Rattle.wast_map.specs.Tree.ty

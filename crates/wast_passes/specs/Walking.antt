@@ -1,5 +1,5 @@
 -- What a walk over a part of the tree does.
-use Rattle.std.specs.Prelude.{⊤, ◌≡◌, List, None, Result, Ok, Err}
+use Rattle.std.specs.Prelude.{⊤, ◌≡◌, Bool, true, false, List, None, Result, Ok, Err}
 use Rattle.wast_base.specs.declared.faults.Error.{Error}
 use Rattle.wast_base.specs.Faults.{told}
 use Rattle.wast_nodes.specs.Sites.{Ask, Site}
@@ -42,3 +42,12 @@ abbrev pub WalksCast : Resolution → Blocks → (old new : Cast) → Result (Un
 WalksCast names blocks old new result =
     let f = numbering (scope_of names) in
     Walks ⊥ ⊥ (site_demands (scope_of names) (in_cast blocks old.0 old.1.0 old.1.1)) (f.label blocks old.0, (mapped_ref f.index old.1.0, mapped_ref f.index old.1.1)) new result
+
+-- A walk is tried: each demand is met and the part is now what was wanted, or it stays as it was.
+abbrev pub Tries : {T : Type 0} → List Demand → T → T → T → Bool → Type 0
+Tries ds want old new true = (first_unmet ds ≡ None) × (new ≡ want)
+Tries ds want old new false = new ≡ old
+
+-- over a part with these sites
+abbrev pub TriesSites : {T : Type 0} → Resolution → (T → List Site) → (Change → T → T) → T → T → Bool → Type 0
+TriesSites names sites mapped old new done = Tries (site_demands (scope_of names) (sites old)) (mapped (numbering (scope_of names)) old) old new done

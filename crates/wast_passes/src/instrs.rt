@@ -1,18 +1,18 @@
 //! Walks over bodies: each instruction by the names of the module and of the function, and by the open blocks.
 #![tactic(auto, using(crate::proofs::Parts::both_met, crate::proofs::Parts::first_fails, crate::proofs::Parts::second_fails))]
 
-ghost use Rattle.std.specs.Prelude.{◌≡◌, ◌++◌, ◌∷◌, [], map, flat_map, IsTrue, IfOk, OnOk};
+ghost use Rattle.std.specs.Prelude.{◌≡◌, ◌++◌, ◌∷◌, [], map, flat_map, IsTrue, IsFalse, IfOk, OnOk};
 ghost use Rattle.wast_base.specs.Blocks.{closed};
 ghost use Rattle.wast_base.specs.Ids.{marked};
 ghost use Rattle.wast_base.specs.Spaces.{name_if};
-ghost use Rattle.wast_map.specs.Mapped.{mapped_access, mapped_block, mapped_br_table, mapped_catch, mapped_caught, mapped_expression, mapped_handle, mapped_handlers, mapped_indirect, mapped_instr, mapped_instrs, mapped_try_table};
+ghost use Rattle.wast_map.specs.Mapped.{mapped_access, mapped_block, mapped_br_table, mapped_catch, mapped_caught, mapped_expression, mapped_handle, mapped_handlers, mapped_indirect, mapped_instr, mapped_instrs, mapped_mem_arg, mapped_try_table};
 ghost use Rattle.wast_passes.specs.Locals.{Numbers};
-ghost use Rattle.wast_passes.specs.Standing.{here, begin, Moves, IsPassed};
+ghost use Rattle.wast_passes.specs.Standing.{here, begin, Moves, Steps, IsNumber, AreNumbers, HasNoNames, SelectsNumber, IsSettled, OpensBlock, ClosesBlock};
 ghost use Rattle.wast_passes.specs.Resolvers.{Resolution, scope_of};
 ghost use Rattle.wast_passes.specs.Tree.space;
 ghost use Rattle.wast_passes.specs.TwoSteps.{in_handler_tag, in_handler_label, with_handler_tag, with_handler_label};
-ghost use Rattle.wast_passes.specs.Walking.{WalksAsks, WalksSites, WalksBodies, WalksCast};
-ghost use Rattle.wast_nodes.specs.Sites.{Begins, Ends, Repeated, LocalAt, Locals, OfBlock, asking, at_index, at_label, in_access, in_block, in_br_table, in_catch, in_caught, in_handle, in_handlers, in_indirect, in_instr, in_instrs, in_pair, in_try_table, in_use};
+ghost use Rattle.wast_passes.specs.Walking.{WalksAsks, WalksSites, WalksBodies, WalksCast, TriesSites};
+ghost use Rattle.wast_nodes.specs.Sites.{Begins, Ends, Repeated, LocalAt, Locals, OfBlock, asking, at_index, at_label, in_access, in_block, in_br_table, in_catch, in_caught, in_handle, in_handlers, in_indirect, in_instr, in_instrs, in_mem_arg, in_pair, in_try_table, in_use};
 
 use crate::apart::{walk_outside, walk_outside_index};
 use crate::local_names::LocalNames;
@@ -22,9 +22,9 @@ use std::alloc::{AllocError, Global};
 use wast_base::{Boxed, Error, Fault, Id, Index, Seq, Space};
 use wast_labels::Labels;
 use wast_nodes::{
-    ArrayInit, BlockType, BrTableIndices, CallIndirect, Expression, Handle, Instruction,
-    MemArgTarget, RefType, Resume, ResumeTable, ResumeThrow, ResumeThrowRef, StructAccess,
-    TryTable, TryTableCatch, TryTableCatchKind,
+    ArrayInit, BlockType, BrTableIndices, CallIndirect, Expression, FunctionType, Handle,
+    Instruction, MemArg, MemArgTarget, RefType, Resume, ResumeTable, ResumeThrow, ResumeThrowRef,
+    SelectTypes, StructAccess, TryTable, TryTableCatch, TryTableCatchKind, TypeUse, ValType,
 };
 
 /// Walks over an index of a space. No block is opened.
@@ -76,6 +76,9 @@ fn walk_labels<'a>(labels: &Labels<'a>, indices: &mut Seq<Index<'a>>) -> Result<
         WalksSites names (flat_map (at_label labels.now)) (λ f. map (f.label labels.now)) indices.old indices.new result }
 {
     for i in 0..indices.len() {
+        if try_label(labels, indices.at_mut(i)) {
+            continue;
+        }
         walk_label(labels, indices.at_mut(i))?;
     }
     Ok(())
@@ -513,29 +516,154 @@ fn walk_instr<'a>(
     }
 }
 
-/// Whether nothing stands in an instruction that is looked up, and it opens and closes no block, so that a walk may pass it by.
-/// It may say no of such a one too.
-fn is_passed(instr: &Instruction) -> bool
-    ensures { IsTrue result → IsPassed instr.now }
+/// Numbers an index of a space, if it is a number or an id that is known.
+fn try_index<'a>(names: &Resolver<'a>, space: Space, index: &mut Index<'a>) -> bool
+    ensures { TriesSites names.now (at_index space) (λ f. f.index space) index.old index.new result }
+{
+    names.try_number(index, space)
+}
+
+/// Numbers the index of a local, if it is a number or an id that is known.
+fn try_local<'a>(locals: &LocalNames<'a>, index: &mut Index<'a>) -> bool
+    ensures walks { (names : Resolution) (l : Locals) → Numbers (scope_of names) l locals.now →
+        TriesSites names (λ i. LocalAt l i ∷ []) (λ f. f.local l) index.old index.new result }
+    ensures stays { IsFalse result → index.new ≡ index.old }
+{
+    locals.try_number(index)
+}
+
+/// Numbers a label, if it is a number or one of the innermost open blocks has it.
+fn try_label<'a>(labels: &Labels<'a>, label: &mut Index<'a>) -> bool
+    ensures { (names : Resolution) →
+        TriesSites names (at_label labels.now) (λ f. f.label labels.now) label.old label.new result }
+{
+    labels.try_number(label)
+}
+
+/// Numbers the memory of a memory argument, if it is a number or an id that is known.
+fn try_mem_arg<'a>(names: &Resolver<'a>, arg: &mut MemArg<'a>) -> bool
+    ensures { TriesSites names.now (λ a. asking (in_mem_arg a)) (λ f. mapped_mem_arg f.index) arg.old arg.new result }
+{
+    match &mut arg.target {
+        MemArgTarget::Memory(memory) => try_index(names, Space::Memory, memory),
+        MemArgTarget::Array(_) => false,
+    }
+}
+
+/// Whether a value type is a number or a vector.
+fn is_number(ty: &ValType) -> bool
+    ensures { IsTrue result → IsNumber ty.now }
+{
+    match ty {
+        ValType::I32 => true,
+        ValType::I64 => true,
+        ValType::F32 => true,
+        ValType::F64 => true,
+        ValType::V128 => true,
+        ValType::Ref(_) => false,
+    }
+}
+
+/// Whether types are none, or one number or vector.
+fn are_numbers(types: &[ValType]) -> bool
+    ensures { IsTrue result → AreNumbers types.now }
+{
+    match types {
+        [] => true,
+        [ty] => is_number(ty),
+        _ => false,
+    }
+}
+
+/// Whether an inline type takes nothing and gives nothing, or one number.
+fn gives_number(ty: &FunctionType) -> bool
+    ensures { IsTrue result → HasNoNames ty.now }
+{
+    ty.params.is_empty() && are_numbers(ty.results.as_slice())
+}
+
+/// Whether nothing is looked up in the types of a `select`. It may say no of such ones too.
+fn selects_number(types: &SelectTypes) -> bool
+    ensures { IsTrue result → SelectsNumber types.now }
+{
+    match &types.tys {
+        None => true,
+        Some(written) => are_numbers(written.as_slice()),
+    }
+}
+
+/// Whether nothing is looked up in the type of a block. It may say no of such a one too.
+fn is_settled<'a>(ty: &TypeUse<'a, FunctionType<'a>>) -> bool
+    ensures { IsTrue result → IsSettled ty.now }
+{
+    match (&ty.index, &ty.inline) {
+        (None, None) => true,
+        (None, Some(inline)) => gives_number(inline),
+        (Some(index), None) => index.is_resolved(),
+        (Some(_), Some(_)) => false,
+    }
+}
+
+/// Opens a block, if nothing is looked up in its type, fewer than 4,294,967,295 are open, and memory is not refused.
+fn try_block<'a>(labels: &mut Labels<'a>, block: &Boxed<BlockType<'a>>) -> bool
+    ensures { OpensBlock block.now labels.old labels.new result }
+{
+    let block = block.get();
+    if !is_settled(&block.ty) || labels.is_full() {
+        return false;
+    }
+    labels.open(block.label).is_ok()
+}
+
+/// Closes the innermost open block, if it has the label at an `end`.
+fn try_end<'a>(labels: &mut Labels<'a>, label: &Option<Id<'a>>) -> bool
+    ensures { ClosesBlock (marked label.now) labels.old labels.new result }
+{
+    if !labels.expects(*label) {
+        return false;
+    }
+    labels.close();
+    true
+}
+
+/// Walks over an instruction of the most frequent kinds, where each index in it is found at once and each demand is met. Whether
+/// it did; else nothing changes.
+fn try_instr<'a>(
+    names: &Resolver<'a>,
+    locals: &LocalNames<'a>,
+    labels: &mut Labels<'a>,
+    instr: &mut Instruction<'a>,
+) -> bool
+    ensures walks { (l : Locals) → Numbers (scope_of names.now) l locals.now →
+        TriesSites names.now (in_instr (here l labels.old)) (λ f. mapped_instr f (here l labels.old)) instr.old instr.new result }
+    ensures blocks { Steps labels.old (λ h. in_instr h instr.old) labels.new result }
+    ensures stays { IsFalse result → instr.new ≡ instr.old }
 {
     match instr {
-        Instruction::Plain(_)
-        | Instruction::i32_const(_)
-        | Instruction::i64_const(_)
-        | Instruction::f32_const(_)
-        | Instruction::f64_const(_) => true,
-        Instruction::Mem(_, arg) => match &arg.target {
-            MemArgTarget::Memory(memory) => memory.is_resolved(),
-            MemArgTarget::Array(_) => false,
-        },
-        Instruction::local_get(index) => index.is_resolved(),
-        Instruction::local_set(index) => index.is_resolved(),
-        Instruction::local_tee(index) => index.is_resolved(),
-        Instruction::global_get(index) => index.is_resolved(),
-        Instruction::global_set(index) => index.is_resolved(),
-        Instruction::call(index) => index.is_resolved(),
-        Instruction::br(index) => index.is_resolved(),
-        Instruction::br_if(index) => index.is_resolved(),
+        Instruction::Plain(_) => true,
+        Instruction::i32_const(_) => true,
+        Instruction::i64_const(_) => true,
+        Instruction::f32_const(_) => true,
+        Instruction::f64_const(_) => true,
+        Instruction::v128_const(_) => true,
+        Instruction::Lane(..) => true,
+        Instruction::Mem(_, arg) => try_mem_arg(names, arg),
+        Instruction::local_get(local) => try_local(locals, local),
+        Instruction::local_set(local) => try_local(locals, local),
+        Instruction::local_tee(local) => try_local(locals, local),
+        Instruction::global_get(global) => try_index(names, Space::Global, global),
+        Instruction::global_set(global) => try_index(names, Space::Global, global),
+        Instruction::call(func) => try_index(names, Space::Func, func),
+        Instruction::br(label) => try_label(labels, label),
+        Instruction::br_if(label) => try_label(labels, label),
+        Instruction::block(block) => try_block(labels, block),
+        Instruction::loop_(block) => try_block(labels, block),
+        Instruction::if_(block) => try_block(labels, block),
+        Instruction::try_(block) => try_block(labels, block),
+        Instruction::throw(tag) => try_index(names, Space::Tag, tag),
+        Instruction::select(types) => selects_number(types),
+        Instruction::else_(label) => labels.expects(*label),
+        Instruction::end_(label) => try_end(labels, label),
         _ => false,
     }
 }
@@ -544,10 +672,13 @@ fn is_passed(instr: &Instruction) -> bool
 fn reach_labels<'a>(labels: &mut Labels<'a>, instr: &Instruction<'a>) -> Result<(), AllocError>
     ensures { labels.new ≡ labels.old }
 {
+    if labels.is_near() {
+        return Ok(());
+    }
     match instr {
-        Instruction::br(label)
-        | Instruction::br_if(label)
-        | Instruction::br_on_null(label)
+        // of these it is known that none of the innermost blocks has the label
+        Instruction::br(_) | Instruction::br_if(_) => labels.reach_all(),
+        Instruction::br_on_null(label)
         | Instruction::br_on_non_null(label)
         | Instruction::rethrow(label)
         | Instruction::delegate(label) => labels.reach(label),
@@ -610,7 +741,7 @@ fn walk_instrs<'a>(
         WalksBodies names.now (in_instrs (here l labels.old)) (λ f. mapped_instrs f (here l labels.old)) instrs.old instrs.new result }
 {
     for i in 0..instrs.len() {
-        if is_passed(&instrs.as_slice()[i]) {
+        if try_instr(names, locals, labels, instrs.at_mut(i)) {
             continue;
         }
         reach_labels(labels, &instrs.as_slice()[i])?;

@@ -7,11 +7,12 @@ ghost use Rattle.wast_namespace.specs.Namespaces.{empty_from};
 ghost use Rattle.wast_base.specs.Outcomes.{Outcome};
 ghost use Rattle.wast_demands.specs.Resolved.{numbered};
 ghost use Rattle.wast_passes.specs.Locals.{local_in, AreFew};
+ghost use Rattle.wast_passes.specs.Walking.{Tries};
 
 use crate::guesses::GuessedNames;
 use std::alloc::Global;
 use std::marker::Model;
-use wast_base::{Error, Id, Index, Numbering, number_index};
+use wast_base::{Error, Id, Index, Numbering, number_index, try_number};
 
 /// The names of the parameters and locals of a function, and what they denote (text format, indices: locals).
 #[derive(Drop)]
@@ -73,6 +74,14 @@ impl<'a> LocalNames<'a> {
     {
         number_index(self, idx, "local")?;
         Ok(())
+    }
+
+    /// Numbers the index of a local, if that is a number or an id that is known. Whether it is; else the index stays.
+    pub(crate) fn try_number(&self, idx: &mut Index<'a>) -> bool
+        ensures { Tries (known_index (local_in self.now) (codes "local") idx.old)
+            (numbered (local_in self.now) idx.old) idx.old idx.new result }
+    {
+        try_number(self, idx).is_some()
     }
 }
 

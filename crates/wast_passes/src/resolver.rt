@@ -11,16 +11,19 @@ ghost use Rattle.wast_map.specs.Mapped.{mapped_access};
 ghost use Rattle.wast_demands.specs.Scopes.{Function, Struct, Other, denoted, type_at, params_of, nameless, field_in};
 ghost use Rattle.wast_passes.specs.Tree.space;
 ghost use Rattle.wast_demands.specs.Matches.{same_type};
-ghost use Rattle.wast_demands.specs.Demands.{first_unmet, match_demands, field_at, access_demand};
+ghost use Rattle.wast_demands.specs.Demands.{first_unmet, ask_demands, match_demands, field_at, access_demand};
 ghost use Rattle.wast_base.specs.Outcomes.{Outcome};
 ghost use Rattle.wast_passes.specs.Resolvers.{space_of, space_in, known_of, scope_of, read_shape, without_types, with_types, IsFieldsOf};
-ghost use Rattle.wast_passes.specs.Walking.{Walks};
+ghost use Rattle.wast_nodes.specs.Sites.{in_index};
+ghost use Rattle.wast_passes.specs.Walking.{Tries, Walks};
 
 use crate::guesses::GuessedNames;
 use crate::matches::has_signature;
 use std::alloc::Global;
 use std::marker::Model;
-use wast_base::{Error, Fault, Id, Index, Numbering, Space, denoted_number, number_index};
+use wast_base::{
+    Error, Fault, Id, Index, Numbering, Space, denoted_number, number_index, try_number,
+};
 use wast_nodes::{FunctionType, StructAccess, TypeUse};
 use wast_types::FuncKey;
 
@@ -181,6 +184,18 @@ impl<'a> Resolver<'a> {
             space,
         };
         number_index(&names, idx, space.word())
+    }
+
+    /// Numbers an index in a space, if it is a number or an id that is known. Whether it is; else the index stays.
+    pub(crate) fn try_number(&self, idx: &mut Index<'a>, space: Space) -> bool
+        ensures { Tries (ask_demands (known_of self.now) (in_index space idx.old))
+            (numbered_at (known_of self.now) space idx.old) idx.old idx.new result }
+    {
+        let names = NamesIn {
+            resolver: self,
+            space,
+        };
+        try_number(&names, idx).is_some()
     }
 
     /// The number that an index denotes in a space, if it denotes one.

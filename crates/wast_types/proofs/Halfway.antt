@@ -1,9 +1,9 @@
 -- Uses are bound in each part of a list, in its place.
-use Rattle.std.proofs.Common.{◌≡◌, ℕ, suc, ◌+◌, ◌<◌, List, [], ◌∷◌, ◌++◌, sym, ◌∙◌, ap, length, map, get_or, drop, take, arith, add-one, subst, append_assoc, refl}
+use Rattle.std.proofs.Common.{◌≡◌, ℕ, suc, ◌+◌, ◌<◌, ◌≤◌, List, [], ◌∷◌, ◌++◌, sym, ◌∙◌, ap, length, map, get_or, drop, take, arith, add-one, subst, append_assoc, refl}
 use Rattle.std.proofs.Math.ListN.{set, length-set}
 use Rattle.std.proofs.Math.Seq.{drop-cons, take-suc}
 use Rattle.std.specs.Prelude.{flat_map}
-use Rattle.std.proofs.lemmas.List.{append-nil, drop-drop, drop-set-lt, take_more_set, take-append-drop, map-append}
+use Rattle.std.proofs.lemmas.List.{append-nil, drop-drop, drop-set-lt, set-get_or, take_more_set, take-append-drop, take_all, map-append}
 use Rattle.std.proofs.lemmas.Grind.{flat_map-append}
 use Rattle.wast_base.specs.declared.faults.Error.{Error}
 use Rattle.wast_types.specs.Signatures.{Signature}
@@ -60,12 +60,23 @@ module _ {X : Type 0} {needed : X → List Signature} {bound : LookUp → X → 
               take_more_set nows i y lt2 ∙ (ap (λ zs. zs ++ y ∷ []) before ∙ (ap (λ z. map (bound find) (take i olds) ++ z ∷ []) (new more) ∙ (sym (map-append (bound find) (take i olds) (x ∷ [])) ∙ ap (map (bound find)) (sym more_taken))));
         }
 
+    -- one part in which nothing is bound
+    pub passes_by : needed x ≡ [] → ((find : LookUp) → bound find x ≡ x) → IsHalfway needed bound olds nows (i + 1) a b
+    passes_by none stays =
+        let back : set nows i x ≡ nows = ap (set nows i) is ∙ set-get_or nows i x in
+        subst (λ ys. IsHalfway needed bound olds ys (i + 1) a b) back (goes_on (subst (λ ss. AddsTypes b b ss) (sym none) (adds_none b)) (λ more. sym (stays (found_in b.cx more))))
+
     -- the ids run out in a part
     pub stops : (e : Error) → RunsOut (next_after b (needed x)) e → RunsOut (next_after a (flat_map needed olds)) e
     stops e out =
         let here : next_after a (flat_map needed (take i olds) ++ needed x) ≡ next_after b (needed x) = count_then h.adds (needed x) in
         let all : next_after a (flat_map needed olds) ≡ next_after a ((flat_map needed (take i olds) ++ needed x) ++ flat_map needed (drop (suc i) olds)) = ap (next_after a) needed_all in
         less_runs_out _ _ e (omega (arith, here, all, first_after a (flat_map needed (take i olds) ++ needed x) (flat_map needed (drop (suc i) olds)))) out
+
+-- all of them are bound
+pub all_bound : {X : Type 0} {needed : X → List Signature} {bound : LookUp → X → X} {olds nows : List X} {i : ℕ} {a b : Binder} → IsHalfway needed bound olds nows i a b → length olds ≤ i → (more : BoundSignatures) → nows ≡ map (bound (found_in b.cx more)) olds
+all_bound {X} {needed} {bound} {olds} {nows} {i} {a} {b} h le more =
+    sym (take_all i nows (omega (arith, h.len, le))) ∙ (h.become more ∙ ap (map (bound (found_in b.cx more))) (take_all i olds le))
 
 -- none yet
 pub starts : {X : Type 0} (needed : X → List Signature) (bound : LookUp → X → X) (olds : List X) (a : Binder) → IsHalfway needed bound olds olds 0 a a

@@ -1,14 +1,15 @@
 -- How the uses of a list are bound one after the other. Private functions alone use this.
-use Rattle.std.specs.Prelude.{◌≡◌, ℕ, ◌+◌, is_some, Bool, false, List, ◌++◌, map, length, Option, Some, None}
-use Rattle.wast_types.specs.Tree.{Index, FunctionType, TypeUse, ModuleField}
+use Rattle.std.specs.Prelude.{◌≡◌, ℕ, ◌+◌, is_some, Bool, false, List, [], ◌++◌, map, length, Option, Some, None}
+use Rattle.wast_types.specs.Tree.{Index, FunctionType, TypeUse, Instruction, ModuleField}
 use Rattle.wast_types.specs.declared.binder.Binder.{Binder}
 use Rattle.wast_types.specs.Signatures.{Signature}
-use Rattle.wast_nodes.specs.Sites.{OfBlock}
-use Rattle.wast_types.specs.NeedingUses.{needs_type}
+use Rattle.wast_nodes.specs.Sites.{OfBlock, start, in_instr}
+use Rattle.wast_types.specs.NeedingUses.{needs_type, needed_in}
 use Rattle.wast_types.specs.Numbers.{numbered_signature}
 use Rattle.wast_types.specs.ImpliedTypes.{first_new}
-use Rattle.wast_types.specs.Expanders.{BoundSignatures, Bound, numbers_in, index_of, Extends}
-use Rattle.wast_types.specs.Expanded.{implied_types, bindings}
+use Rattle.wast_types.specs.Expanders.{BoundSignatures, Bound, LookUp, numbers_in, index_of, Extends}
+use Rattle.wast_types.specs.Expanded.{binding, implied_types, bindings}
+use Rattle.wast_map.specs.Mapped.{mapped_instr}
 
 -- a type use that says nothing
 abbrev pub no_use : TypeUse FunctionType
@@ -41,3 +42,8 @@ pub record AddsTypes (a b : Binder) (ss : List Signature) : Type 0 where
   pub types : Extends a.cx.bound b.cx.bound (new_bindings a ss)
   pub fields : b.implied ≡ a.implied ++ new_types a ss
   pub counter : b.gensym ≡ next_after a ss
+
+-- Nothing is bound in an instruction.
+pub record IsPassed (i : Instruction) : Type 0 where
+  pub needs : needed_in (in_instr start i) ≡ []
+  pub stays : (find : LookUp) → mapped_instr (binding find) start i ≡ i

@@ -1,6 +1,6 @@
 //! Type uses are bound in their place.
 
-ghost use Rattle.std.specs.Prelude.{◌≡◌, ◌≤◌, [], Some, List, map, flat_map, IfOk, IfErr, OnOk};
+ghost use Rattle.std.specs.Prelude.{◌≡◌, ◌≤◌, [], Some, List, map, flat_map, IfOk, IfErr, IsTrue, OnOk};
 ghost use Rattle.wast_types.specs.Tree.index;
 ghost use Rattle.wast_types.specs.Signatures.{Signature};
 ghost use Rattle.wast_nodes.specs.Sites.{OfItem, OfBlock, start, in_block, in_try_table, in_instr, in_indirect, in_constant, in_func_kind, in_use, in_func, in_tag_type, in_item_kind, in_sig, in_import, in_field};
@@ -10,7 +10,7 @@ ghost use Rattle.wast_types.specs.NeedingUses.{needed_in};
 ghost use Rattle.wast_base.specs.Filling.{RunsOut};
 ghost use Rattle.wast_types.specs.Expanders.{BoundSignatures, LookUp, found_in};
 ghost use Rattle.wast_types.specs.Expanded.{bound_inline, bound_use, binding, bound_field};
-ghost use Rattle.wast_types.specs.Binding.{no_use, wants_type, next_after, AddsTypes};
+ghost use Rattle.wast_types.specs.Binding.{no_use, wants_type, next_after, AddsTypes, IsPassed};
 
 use crate::binder::Binder;
 use crate::keys::TypeReference;
@@ -245,9 +245,53 @@ impl<'a> Bind<'a> for Expression<'a> {
     ghost bound = { λ find. mapped_constant (binding find) };
 
     fn bind(&mut self, binder: &mut Binder<'a>) -> Result<(), Error<'a>> {
-        bind_each(&mut self.instrs, binder)?;
+        bind_instrs(&mut self.instrs, binder)?;
         Ok(())
     }
+}
+
+/// Whether nothing stands in an instruction that is bound, so that it may be passed by. It may say no of such a one too.
+fn is_passed(instr: &Instruction) -> bool
+    ensures { IsTrue result → IsPassed instr.now }
+{
+    match instr {
+        Instruction::Plain(_)
+        | Instruction::Mem(..)
+        | Instruction::end_(_)
+        | Instruction::br(_)
+        | Instruction::br_if(_)
+        | Instruction::call(_)
+        | Instruction::local_get(_)
+        | Instruction::local_set(_)
+        | Instruction::local_tee(_)
+        | Instruction::global_get(_)
+        | Instruction::global_set(_)
+        | Instruction::i32_const(_)
+        | Instruction::i64_const(_)
+        | Instruction::f32_const(_)
+        | Instruction::f64_const(_) => true,
+        _ => false,
+    }
+}
+
+/// Binds in each instruction, in order.
+fn bind_instrs<'a>(
+    instrs: &mut Seq<Instruction<'a>>,
+    binder: &mut Binder<'a>,
+) -> Result<(), Error<'a>>
+    ensures bound { OnOk result ((more : BoundSignatures) →
+        instrs.new ≡ map (mapped_instr (binding (found_in binder.new.cx more)) start) instrs.old) }
+    ensures adds { OnOk result (AddsTypes binder.old binder.new (flat_map (λ i. needed_in (in_instr start i)) instrs.old)) }
+    ensures refusal { IfErr result (RunsOut (next_after binder.old (flat_map (λ i. needed_in (in_instr start i)) instrs.old))) }
+    ensures rising { binder.old.gensym ≤ binder.new.gensym }
+{
+    for i in 0..instrs.len() {
+        if is_passed(&instrs.as_slice()[i]) {
+            continue;
+        }
+        instrs.at_mut(i).bind(binder)?;
+    }
+    Ok(())
 }
 
 impl<'a> Bind<'a> for Instruction<'a> {

@@ -1,32 +1,17 @@
 use Rattle.std.specs.Prelude.{⊤}
-use Rattle.std.proofs.Common.{arith, ◌≤◌, ◌<◌, length, get_or, take, subst, ◌≡◌, ◌∙◌, None, refl, sym, ap}
-use Rattle.wast_base.specs.Blocks.{Blocks}
+use Rattle.std.proofs.Common.{arith, ◌≤◌, ◌<◌, length, take, subst, ◌≡◌, ◌∙◌, None, refl, ap}
 use Rattle.std.proofs.lemmas.Result.{err_from_is_err_and}
 use Rattle.wast_base.specs.Faults.{told}
 use Rattle.wast_map.specs.Mapped.{mapped_instr}
 use Rattle.wast_nodes.specs.Sites.{Here, in_instr, in_instrs}
 use Rattle.wast_demands.specs.Demands.{first_unmet, site_demands, open_counts, HasMany, Answers}
-use Rattle.wast_passes.specs.Standing.{here, IsPassed}
+use Rattle.wast_passes.specs.Standing.{here}
 use Rattle.wast_demands.specs.Resolved.{numbering}
 use Rattle.wast_passes.specs.Resolvers.{scope_of}
 use Rattle.wast_passes.proofs.Moving.{stands_by}
 use Rattle.wast_passes.proofs.Parts.{more_answers}
-use Rattle.wast_passes.proofs.Stepping.{IsAlong, along_more, along_passed, partway_more, partway_passed, partway_stops, partway_many, all_met, all_become}
+use Rattle.wast_passes.proofs.Stepping.{along_more, along_tried, partway_more, partway_tried, partway_stops, partway_many, all_met, all_become}
 use Rattle.wast_passes.proofs.instrs.walk_instrs.Goals as goal
-
-pub returns-in_err-walk_instr : goal.returns-in_err-walk_instr
-returns-in_err-walk_instr c l numbers =
-    let s = c.args.labels.now in
-    let h = here l s in
-    let sc = scope_of c.args.names.now in
-    let e = told c.in_err-walk_instr.field-0.0 in
-    let x = c.at_mut.result.now in
-    let lt : c.loop-i.i < length c.args.instrs.now = omega (arith, c.loop-i-test.true, c.len-i-end.ensures) in
-    let p = c.loop-i.invariant.1 l numbers in
-    let there = ap (here l) c.reach_labels.ensures ∙ stands_by l s (in_instrs h (take c.loop-i.i c.args.instrs.now)) c.loop-i.labels (c.loop-i.invariant.0.moved l) in
-    let failed = subst (λ (g : Here). Answers ⊤ (HasMany (open_counts (in_instr g x))) e (first_unmet (site_demands sc (in_instr g x)))) there (c.in_err-walk_instr.ensures.walks l numbers) in
-    let q = err_from_is_err_and c.from_residual-in_err-walk_instr.result c.from_residual-in_err-walk_instr.ensures.1 in
-    rw (q.1, q.2) (partway_stops p lt c.at_mut.ensures.value ⊤ (HasMany (open_counts (in_instrs h c.args.instrs.now))) e (more_answers ⊤ _ _ e _ (partway_many p lt c.at_mut.ensures.value) failed))
 
 pub returns : goal.returns
 returns c l numbers =
@@ -34,27 +19,56 @@ returns c l numbers =
     let le : length c.args.instrs.now ≤ c.loop-i.i = omega (arith, c.loop-i-test.false, c.len-i-end.ensures) in
     (all_met p le, all_become p le)
 
-pub loop-i-preserved : goal.loop-i-preserved
-loop-i-preserved c =
+pub loop-i-preserved-then-try_instr : goal.loop-i-preserved-then-try_instr
+loop-i-preserved-then-try_instr c =
     let s = c.args.labels.now in
     let sc = scope_of c.args.names.now in
     let x = c.at_mut.result.now in
     let lt : c.loop-i.i < length c.args.instrs.now = omega (arith, c.loop-i-test.true, c.len-i-end.ensures) in
-    let along = subst (λ (t : Blocks). IsAlong s t c.args.instrs.now c.loop-i.instrs c.loop-i.i) (sym c.reach_labels.ensures) c.loop-i.invariant.0 in (
-      along_more c.walk_instr.new.instr along lt c.at_mut.ensures.value c.in_ok-walk_instr.ensures.blocks,
+    let along = c.loop-i.invariant.0 in (
+      along_more c.try_instr.new.instr along lt c.at_mut.ensures.value c.if-try_instr.ensures.blocks,
+      λ l numbers.
+          let h = here l s in
+          let there = stands_by l s (in_instrs h (take c.loop-i.i c.args.instrs.now)) c.loop-i.labels (along.moved l) in
+          let done = subst (λ (g : Here). (first_unmet (site_demands sc (in_instr g x)) ≡ None) × (c.try_instr.new.instr ≡ mapped_instr (numbering sc) g x)) there (c.if-try_instr.ensures.walks l numbers) in
+          partway_more (c.loop-i.invariant.1 l numbers) lt c.at_mut.ensures.value done.0 done.1,
+    )
+
+pub returns-in_err-walk_instr : goal.returns-in_err-walk_instr
+returns-in_err-walk_instr c l numbers =
+    let s = c.args.labels.now in
+    let h = here l s in
+    let sc = scope_of c.args.names.now in
+    let e = told c.in_err-walk_instr.field-0.0 in
+    let x = c.at_mut-in-loop-i.result.now in
+    let lt : c.loop-i.i < length c.args.instrs.now = omega (arith, c.loop-i-test.true, c.len-i-end.ensures) in
+    let p = partway_tried (c.loop-i.invariant.1 l numbers) c.at_mut.ensures.value (c.if-try_instr.ensures.stays refl) in
+    let still = c.reach_labels.ensures ∙ c.if-try_instr.ensures.blocks in
+    let there = ap (here l) still ∙ stands_by l s (in_instrs h (take c.loop-i.i c.args.instrs.now)) c.loop-i.labels (c.loop-i.invariant.0.moved l) in
+    let failed = subst (λ (g : Here). Answers ⊤ (HasMany (open_counts (in_instr g x))) e (first_unmet (site_demands sc (in_instr g x)))) there (c.in_err-walk_instr.ensures.walks l numbers) in
+    let q = err_from_is_err_and c.from_residual-in_err-walk_instr.result c.from_residual-in_err-walk_instr.ensures.1 in
+    rw (q.1, q.2) (partway_stops p lt c.at_mut-in-loop-i.ensures.value ⊤ (HasMany (open_counts (in_instrs h c.args.instrs.now))) e (more_answers ⊤ _ _ e _ (partway_many p lt c.at_mut-in-loop-i.ensures.value) failed))
+
+pub loop-i-preserved : goal.loop-i-preserved
+loop-i-preserved c =
+    let s = c.args.labels.now in
+    let sc = scope_of c.args.names.now in
+    let x = c.at_mut-in-loop-i.result.now in
+    let lt : c.loop-i.i < length c.args.instrs.now = omega (arith, c.loop-i-test.true, c.len-i-end.ensures) in
+    let same = c.if-try_instr.ensures.stays refl in
+    let along = along_tried c.loop-i.invariant.0 c.at_mut.ensures.value same (c.reach_labels.ensures ∙ c.if-try_instr.ensures.blocks) in (
+      along_more c.walk_instr.new.instr along lt c.at_mut-in-loop-i.ensures.value c.in_ok-walk_instr.ensures.blocks,
       λ l numbers.
           let h = here l s in
           let there = stands_by l s (in_instrs h (take c.loop-i.i c.args.instrs.now)) c.reach_labels.new.labels (along.moved l) in
           let done = subst (λ (g : Here). (first_unmet (site_demands sc (in_instr g x)) ≡ None) × (c.walk_instr.new.instr ≡ mapped_instr (numbering sc) g x)) there (c.in_ok-walk_instr.ensures.walks l numbers) in
-          partway_more (c.loop-i.invariant.1 l numbers) lt c.at_mut.ensures.value done.0 done.1,
+          partway_more (partway_tried (c.loop-i.invariant.1 l numbers) c.at_mut.ensures.value same) lt c.at_mut-in-loop-i.ensures.value done.0 done.1,
     )
 
 pub at_mut-requires : goal.at_mut-requires
 at_mut-requires c = omega (arith, c.loop-i.invariant.0.len, c.loop-i-test.true, c.len-i-end.ensures)
 
-pub loop-i-preserved-then-is_passed : goal.loop-i-preserved-then-is_passed
-loop-i-preserved-then-is_passed c =
-    let lt : c.loop-i.i < length c.args.instrs.now = omega (arith, c.loop-i-test.true, c.len-i-end.ensures) in
-    let passed : IsPassed c.index-as_slice-i.result = c.if-is_passed.ensures refl in
-    let is : c.index-as_slice-i.result ≡ get_or c.loop-i.instrs c.loop-i.i c.index-as_slice-i.result = subst (λ ys. c.index-as_slice-i.result ≡ get_or ys c.loop-i.i c.index-as_slice-i.result) c.as_slice.ensures c.index-as_slice-i.is in
-    (along_passed passed c.loop-i.invariant.0 lt is, λ l numbers. partway_passed passed (c.loop-i.invariant.1 l numbers) lt is)
+pub at_mut-requires-in-loop-i : goal.at_mut-requires-in-loop-i
+at_mut-requires-in-loop-i c =
+    let along = along_tried c.loop-i.invariant.0 c.at_mut.ensures.value (c.if-try_instr.ensures.stays refl) c.if-try_instr.ensures.blocks in
+    omega (arith, along.len, c.loop-i-test.true, c.len-i-end.ensures)
