@@ -1,46 +1,75 @@
 -- What is told of how many types stand before some places of a list of fields.
-use Rattle.std.proofs.Common.{◌≡◌, ◌<◌, ◌≤◌, ◌+◌, ◌-◌, ◌*◌, ℕ, List, [], ◌∷◌, ◌++◌, length, min, refl, sym, ap, ◌∙◌, arith, length-append, length-drop, take, drop, get_or, set, replicate, take-append-drop, Some, Bool, true, false, ltb, inl, inr}
+use Rattle.std.proofs.Common.{◌≡◌, ◌<◌, ◌≤◌, ◌+◌, ◌-◌, ◌*◌, ℕ, List, [], ◌∷◌, ◌++◌, length, min, refl, sym, ap, ◌∙◌, arith, length-append, length-drop, length-set, take, drop, get_or, set, take-append-drop, Some, Bool, true, false, ltb, inl, inr}
 use Rattle.std.specs.Prelude.{slice_get}
 use Rattle.std.specs.List.{flat_map}
 use Rattle.std.proofs.lemmas.Grind.{flat_map-append}
-use Rattle.std.proofs.lemmas.List.{get_or-replicate, get_or-set_same, get_or-set_other, get_or-append-add, length-replicate, take_all}
+use Rattle.std.proofs.lemmas.List.{get_or-set_same, get_or-set_other, get_or-append-add, take_all}
 use Rattle.std.proofs.lemmas.Option.{slice_get-get_or, slice_get_past}
 use Rattle.std.proofs.lemmas.Bool.{cases_eq, ltb-true, ltb-false}
 use Rattle.wast_names.specs.Checkpoints.{Tells}
+use Rattle.wast_names.specs.declared.arities.Places.{Places}
 use Rattle.wast_names.proofs.Each.{each_more}
 
--- where nothing is told but of the first place, all that is told is so
-pub tells_first : {A B : Type 0} (types : A → List B) (fields : List A) (every : ℕ) (before : List ℕ) → before ≡ set (replicate 1024 18446744073709551615) 0 0 → Tells types fields every before
-tells_first types fields every before is = record {
-  first = here;
-  told = λ k small few. elim (cases_eq k 0) [
-    | inl zero_is ↦
-        let none : 0 ≡ k * every = omega (arith, ap (λ n. n * every) zero_is) in
-        (omega arith, ap (λ j. get_or before j 0) zero_is ∙ (here ∙ ap (λ n. length (flat_map types (take n fields))) none))
-    | inr other ↦
-        let great : get_or before k 0 ≡ 18446744073709551615 = ap (λ b. get_or b k 0) is ∙ (get_or-set_other (replicate 1024 18446744073709551615) 0 k 0 0 other ∙ get_or-replicate 1024 k 18446744073709551615 0 small) in
-        absurd (omega arith)
-  ];
-}
-  where
-    here : get_or before 0 0 ≡ 0
-    here = ap (λ b. get_or b 0 0) is ∙ get_or-set_same (replicate 1024 18446744073709551615) 0 0 0 (omega (arith, length-replicate {A = ℕ} 1024 18446744073709551615))
+-- So many numbers at the front of a list tell how many types stand before places of a list of fields.
+pub record IsFilled {A B : Type 0} (types : A → List B) (fields : List A) (first every count : ℕ) (room : List ℕ) : Type 0 where
+  pub some : 0 < count
+  pub within : count ≤ length room
+  pub zero_first : get_or room 0 0 ≡ 0
+  pub told : (k : ℕ) → k < count → (first + k * every ≤ length fields) × (get_or room k 0 ≡ length (flat_map types (take (first + k * every) fields)))
 
--- one place more
-pub tells_more : {A B : Type 0} (types : A → List B) (fields : List A) (every : ℕ) (before : List ℕ) (at place sum : ℕ) → length before ≡ 1024 → 0 < at → at < 1024 → place ≡ at * every → place < length fields
-    → (sum < 18446744073709551615 → sum ≡ length (flat_map types (take place fields))) → Tells types fields every before → Tells types fields every (set before at sum)
-tells_more types fields every before at place sum size some small is inside right told = record {
-  first = get_or-set_other before at 0 sum 0 (λ e. omega arith) ∙ told.first;
-  told = λ k few less. elim (cases_eq k at) [
+-- of the first place, before which there are none
+pub filled_first : {A B : Type 0} (types : A → List B) (fields : List A) (first every : ℕ) (room : List ℕ) → first ≤ length fields → flat_map types (take first fields) ≡ [] → 0 < length room → IsFilled types fields first every 1 (set room 0 0)
+filled_first types fields first every room inside none some = record {
+  some = omega arith;
+  within = omega (arith, length-set room 0 0);
+  zero_first = get_or-set_same room 0 0 0 some;
+  told = λ k lt.
+      let here : k ≡ 0 = omega (arith, lt) in
+      let place : first ≡ first + k * every = omega (arith, ap (λ n. n * every) here) in
+      (omega (arith, place, inside), ap (λ j. get_or (set room 0 0) j 0) here ∙ get_or-set_same room 0 0 0 some ∙ ap length (sym none) ∙ ap (λ n. length (flat_map types (take n fields))) place);
+}
+
+-- of one place more
+pub filled_more : {A B : Type 0} (types : A → List B) (fields : List A) (first every count : ℕ) (room : List ℕ) (place sum : ℕ) → count < length room → place ≡ first + count * every → place ≤ length fields
+    → sum ≡ length (flat_map types (take place fields)) → IsFilled types fields first every count room → IsFilled types fields first every (count + 1) (set room count sum)
+filled_more types fields first every count room place sum small is inside right filled = record {
+  some = omega arith;
+  within = omega (arith, length-set room count sum);
+  zero_first = get_or-set_other room count 0 sum 0 (λ e. omega (arith, filled.some)) ∙ filled.zero_first;
+  told = λ k lt. elim (cases_eq k count) [
     | inl here ↦
-        let now : get_or (set before at sum) k 0 ≡ sum = ap (λ j. get_or (set before at sum) j 0) here ∙ get_or-set_same before at sum 0 (omega arith) in
-        let there : place ≡ k * every = is ∙ ap (λ j. j * every) (sym here) in
-        (omega arith, now ∙ right (omega arith) ∙ ap (λ n. length (flat_map types (take n fields))) there)
+        let now : get_or (set room count sum) k 0 ≡ sum = ap (λ j. get_or (set room count sum) j 0) here ∙ get_or-set_same room count sum 0 small in
+        let there : place ≡ first + k * every = is ∙ ap (λ j. first + j * every) (sym here) in
+        (omega (arith, there, inside), now ∙ right ∙ ap (λ n. length (flat_map types (take n fields))) there)
     | inr other ↦
-        let stays : get_or (set before at sum) k 0 ≡ get_or before k 0 = get_or-set_other before at k sum 0 other in
-        let was = told.told k few (omega arith) in
+        let stays : get_or (set room count sum) k 0 ≡ get_or room k 0 = get_or-set_other room count k sum 0 other in
+        let was = filled.told k (omega (arith, lt, other)) in
         (was.0, stays ∙ was.1)
   ];
+}
+
+-- fields that give nothing count for nothing
+pub counted_all : {A B : Type 0} (types : A → List B) (fields : List A) (end sum : ℕ) → flat_map types (drop end fields) ≡ [] → sum ≡ length (flat_map types (take end fields)) → sum ≡ length (flat_map types fields)
+counted_all types fields end sum none is =
+    let whole = ap (flat_map types) (sym (take-append-drop end fields)) ∙ flat_map-append types (take end fields) (drop end fields) in
+    omega (arith, is, ap length whole, length-append (flat_map types (take end fields)) (flat_map types (drop end fields)), ap length none)
+
+-- what is told by the numbers at the front
+pub tells_filled : {A B : Type 0} (types : A → List B) (fields : List A) (room : List ℕ) (p : Places) → IsFilled types fields p.first p.every p.count room
+    → (p.total < 18446744073709551615 → p.total ≡ length (flat_map types fields)) → Tells types fields p room
+tells_filled types fields room p filled all = record { some = filled.some; within = filled.within; first = filled.zero_first; told = filled.told; total = all }
+
+-- where nothing is told but of the first field, all that is told is so
+pub tells_first : {A B : Type 0} (types : A → List B) (fields : List A) (p : Places) (room : List ℕ) → p.first ≡ 0 → p.count ≡ 1 → p.total ≡ 18446744073709551615 → 0 < length room → get_or room 0 0 ≡ 0 → Tells types fields p room
+tells_first types fields p room first count total some before = record {
+  some = omega (arith, count);
+  within = omega (arith, count, some);
+  first = before;
+  told = λ k lt.
+      let here : k ≡ 0 = omega (arith, lt, count) in
+      let place : 0 ≡ p.first + k * p.every = omega (arith, first, ap (λ n. n * p.every) here) in
+      (omega (arith, place), ap (λ j. get_or room j 0) here ∙ before ∙ ap (λ n. length (flat_map types (take n fields))) place);
+  total = λ h. absurd (omega (arith, total, h));
 }
 
 -- and one field more

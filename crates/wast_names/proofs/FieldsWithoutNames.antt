@@ -1,12 +1,16 @@
--- Fields of other kinds have no items of a space, and no lists of names within their items.
-use Rattle.std.proofs.Common.{◌≡◌, false, List, [], ◌∷◌, map, refl}
+-- Fields of other kinds have no items of a space, no lists of names within their items, and no types.
+use Rattle.std.proofs.Common.{◌≡◌, true, false, List, [], ◌∷◌, map, refl, sym, arith}
 use Rattle.std.specs.List.{flat_map}
 use Rattle.wast_nodes.specs.Imports.{item_sigs}
 use Rattle.wast_nodes.specs.Items.{space_of_kind}
 use Rattle.wast_base.specs.Spaces.{same_space}
-use Rattle.wast_names.specs.FieldsWithNames.{has_items, has_lists}
+use Rattle.wast_reach.specs.Reaches.{none_pass}
+use Rattle.wast_reach.specs.declared.kinds.FieldKind.TheVariants as knd
+use Rattle.wast_reach.specs.declared.stretches.Reach.{Reach}
+use Rattle.wast_reach.proofs.Reaching.{all_there, reach_whole}
+use Rattle.wast_names.specs.FieldsWithNames.{is_either, has_items, has_lists}
 use Rattle.wast_names.specs.ModuleNames.{sig_name, given_name_in, names_given}
-use Rattle.wast_names.specs.WithinItems.{lists_in_type, lists_in_kind, lists_in_sig, lists_within}
+use Rattle.wast_names.specs.WithinItems.{types_within, lists_in_type, lists_in_kind, lists_in_sig, lists_within}
 use Rattle.wast_names.specs.Tree.{Space, ItemKind, ItemSig, ModuleField}
 use Rattle.wast_names.specs.Tree.space
 use Rattle.wast_names.specs.Tree.ty
@@ -115,3 +119,16 @@ no_lists_elsewhere types within.TagParameters (field.Import i) h = cc
 no_lists_elsewhere types within.TagParameters (field.Tag t) h = cc
 no_lists_elsewhere types within.TagParameters (field.Rec r) h = no_tag_params_in r.types
 no_lists_elsewhere types within.TagParameters f h = refl
+
+-- fields of other kinds have no types
+no_types_elsewhere : (f : ModuleField) → is_either knd.Ty knd.Rec f ≡ false → types_within f ≡ []
+no_types_elsewhere (field.Ty t) h = cc
+no_types_elsewhere (field.Rec r) h = cc
+no_types_elsewhere f h = refl
+
+-- a list of such fields has none
+pub no_types : (fields : List ModuleField) → none_pass (is_either knd.Ty knd.Rec) fields ≡ true → flat_map types_within fields ≡ []
+no_types fields h =
+    let none : Reach = record { first = 0; end = 0 } in
+    sym (all_there types_within (is_either knd.Ty knd.Rec) fields none no_types_elsewhere
+    (reach_whole (is_either knd.Ty knd.Rec) fields none record { ordered = omega arith; inside = omega arith; before = refl; behind = h }))

@@ -1,6 +1,6 @@
 //! How many parameters the types of a list of fields have, found in few steps.
 
-ghost use Rattle.std.specs.Prelude.{◌≡◌, ◌<◌, ◌≤◌, ◌-◌, ◌^◌, List, length, replicate, slice_get, slice_index, slice_set, IfOk, IfErr};
+ghost use Rattle.std.specs.Prelude.{◌≡◌, ◌<◌, ◌≤◌, ◌-◌, ◌^◌, List, [], length, take, drop, slice_get, slice_index, IfOk, IfErr};
 ghost use Rattle.std.specs.List.{flat_map};
 ghost use Rattle.wast_names.specs.Checkpoints.{Tells};
 ghost use Rattle.wast_names.specs.Tree.ty;
@@ -78,73 +78,112 @@ fn count_types<T: FieldTypes>(field: &T) -> usize
     }
 }
 
-/// At how many places checkpoints stand.
-const PLACES: usize = 1024;
-
-/// How many types stand before some places of a list of fields, each place as many fields behind the one before it. They
-/// stand on the stack, and take no memory.
-#[derive(Drop)]
-pub(crate) struct Checkpoints {
+/// Where in a list of fields checkpoints stand, each as many fields behind the one before it. How many types stand before each
+/// is told beside it. Before the first no type stands, and behind the last as few fields with types as between two of them.
+#[derive(Clone, Copy)]
+pub(crate) struct Places {
+    /// The first place.
+    first: usize,
     /// How many fields stand from one place to the next.
     every: usize,
-    /// How many types stand before each place; the greatest `usize` where that is not told.
-    before: [usize; 1024],
+    /// How many places there are.
+    count: usize,
+    /// How many types there are; the greatest `usize` where that is not told.
+    total: usize,
 }
 
-impl Checkpoints {
-    /// Those of any list of fields: they tell nothing but of the first place.
-    pub(crate) fn new(every: usize) -> Checkpoints
-        ensures every { result.every ≡ every }
-        ensures before { result.before ≡ slice_set (replicate 1024 18446744073709551615) 0 0 }
+impl Places {
+    /// Those in any list of fields: the first field alone. It needs room for one number.
+    pub(crate) fn none(room: &mut [u32]) -> Places
+        requires { 0 < length room.old }
+        ensures first { result.first ≡ 0 }
+        ensures count { result.count ≡ 1 }
+        ensures total { result.total ≡ 2 ^ 64 - 1 }
+        ensures room { 0 < length room.new }
+        ensures before { slice_index room.new 0 ≡ 0 }
     {
-        let mut before = [usize::MAX; 1024];
-        before[0] = 0;
-        Checkpoints { every, before }
+        room[0] = 0;
+        Places {
+            first: 0,
+            every: 0,
+            count: 1,
+            total: usize::MAX,
+        }
     }
 
-    /// Those of these fields, found in one walk over them.
-    pub(crate) fn of<T: FieldTypes>(fields: &[T]) -> Checkpoints
-        ensures { Tells T.types fields.now result.every result.before }
+    /// Those in these fields, which have types only from one place up to another; how many types stand before each is found in
+    /// one walk over the fields between these. It needs room for one number or more: the more, the nearer to each other the
+    /// checkpoints stand.
+    pub(crate) fn of<'b, T: FieldTypes>(
+        fields: &'b [T],
+        first: usize,
+        end: usize,
+        room: &'b mut [u32],
+    ) -> Places
+        requires inside { (first ≤ end) × (end ≤ length fields.now) }
+        requires front { flat_map T.types (take first fields.now) ≡ [] }
+        requires back { flat_map T.types (drop end fields.now) ≡ [] }
+        requires room { 0 < length room.old }
+        ensures { Tells T.types fields.now result room.new }
     {
-        let every = fields.len() / PLACES + 1;
-        let mut told = Checkpoints::new(every);
-        let mut at = 1;
-        let mut next = every;
+        let every = ((end - first) / room.len()).saturating_add(1);
+        room[0] = 0;
+        let mut count = 1;
+        let mut next = first.saturating_add(every);
         let mut sum = 0usize;
-        for (i, field) in fields.iter().enumerate() {
-            if i == next && at < PLACES {
-                told.before[at] = sum;
-                at += 1;
+        for i in first..end {
+            if i == next && count < room.len() && sum <= u32::MAX as usize {
+                room[count] = sum as u32;
+                count += 1;
                 next = next.saturating_add(every);
             }
-            sum = sum.saturating_add(count_types(field));
+            sum = sum.saturating_add(count_types(&fields[i]));
         }
-        told
+        Places {
+            first,
+            every,
+            count,
+            total: sum,
+        }
     }
+}
 
-    /// The last place before which no more types stand than this, found by halving.
-    fn last(&self, count: usize) -> usize
-        requires { slice_index self.now.before 0 ≡ 0 }
-        ensures inside { result < 1024 }
-        ensures before { slice_index self.now.before result ≤ count }
-    {
-        let mut at = 0;
-        let mut step = PLACES / 2;
-        while step > 0 {
-            if self.before[at + step] <= count {
-                at += step;
-            }
-            step /= 2;
+/// How many types stand before some places of a list of fields.
+#[derive(Clone, Copy)]
+pub(crate) struct Checkpoints<'b> {
+    /// The places.
+    pub(crate) places: Places,
+    /// How many types stand before each; what stands behind these numbers tells nothing.
+    pub(crate) before: &'b [u32],
+}
+
+/// The place of the last of so many rising counts that is no greater than this, found by halving, and that count.
+fn last(counts: &[u32], among: usize, most: usize) -> (usize, usize)
+    requires some { 0 < among }
+    requires within { among ≤ length counts.now }
+    requires first { slice_index counts.now 0 ≡ 0 }
+    ensures inside { result.0 < among }
+    ensures there { result.1 ≡ slice_index counts.now result.0 }
+    ensures below { result.1 ≤ most }
+{
+    let mut low = 0;
+    let mut high = among;
+    'halve: while high - low > 1 {
+        let mid = low + (high - low) / 2;
+        if counts[mid] as usize <= most {
+            low = mid;
+        } else {
+            high = mid;
         }
-        at
     }
+    (low, counts[low] as usize)
 }
 
 /// The types of these fields, as they are looked up from checkpoints.
 pub(crate) struct TypesOf<'b, T: FieldTypes> {
     fields: &'b [T],
-    checkpoints: &'b Checkpoints,
-    ghost told: { Tells T.types fields.now checkpoints.now.every checkpoints.now.before },
+    checkpoints: Checkpoints<'b>,
+    ghost told: { Tells T.types fields.now checkpoints.places checkpoints.before.now },
 }
 
 impl<T: FieldTypes> Clone for TypesOf<'_, T> {
@@ -157,8 +196,8 @@ impl<T: FieldTypes> Copy for TypesOf<'_, T> {}
 
 impl<'b, T: FieldTypes> TypesOf<'b, T> {
     /// It needs the checkpoints of these fields.
-    pub(crate) fn new(fields: &'b [T], checkpoints: &'b Checkpoints) -> TypesOf<'b, T>
-        requires { Tells T.types fields.now checkpoints.now.every checkpoints.now.before }
+    pub(crate) fn new(fields: &'b [T], checkpoints: Checkpoints<'b>) -> TypesOf<'b, T>
+        requires { Tells T.types fields.now checkpoints.places checkpoints.before.now }
         ensures { result.fields.now ≡ fields.now }
     {
         TypesOf {
@@ -183,14 +222,18 @@ fn arity_from<T: FieldTypes>(fields: &[T], index: usize) -> Option<u64>
 }
 
 /// A type is found from the last checkpoint that is not behind it: in as many steps as halving among the checkpoints takes,
-/// and as many more as fields stand from one to the next (a 1024th of the fields). Within a group it is taken at once.
+/// and as many more as fields stand from one to the next. Within a group it is taken at once.
 impl<T: FieldTypes> Arities for TypesOf<'_, T> {
     ghost types = { λ t. flat_map T.types t.fields.now };
 
     fn arity_of(&self, index: u32) -> Option<u64> {
+        let places = self.checkpoints.places;
         let index = index as usize;
-        let at = self.checkpoints.last(index);
-        let first = at * self.checkpoints.every;
-        arity_from(&self.fields[first..], index - self.checkpoints.before[at])
+        if index >= places.total {
+            return None;
+        }
+        let (at, before) = last(self.checkpoints.before, places.count, index);
+        let place = places.first + at * places.every;
+        arity_from(&self.fields[place..], index - before)
     }
 }

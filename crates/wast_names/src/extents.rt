@@ -60,10 +60,10 @@ fn lists_extent<'b, T: FieldTypes + PutLists>(
     there: &'b [T],
     within: Within,
     count: u64,
-    checkpoints: &'b Checkpoints,
+    checkpoints: Checkpoints<'b>,
 ) -> Result<MapExtent, Refusal>
     requires count { count ≡ counted (length (named_from 0 (flat_map (T.lists (flat_map T.types fields.now) within) there.now))) }
-    requires checkpoints { Tells T.types fields.now checkpoints.now.every checkpoints.now.before }
+    requires checkpoints { Tells T.types fields.now checkpoints.places checkpoints.before.now }
     ensures ok { IfOk result (λ e. IsTrue (is_extent map_entry (named_from 0 (flat_map (T.lists (flat_map T.types fields.now) within) there.now)) e)
         × InRangeMap map_entry InRangeMapEntry (named_from 0 (flat_map (T.lists (flat_map T.types fields.now) within) there.now))) }
     ensures err { IfErr result (λ e. (e ≡ refusal.TooLarge)
@@ -79,10 +79,10 @@ fn map_extent(
     fields: &[ModuleField],
     map: &NameMap,
     reaches: &Reaches,
-    checkpoints: &Checkpoints,
+    checkpoints: Checkpoints,
 ) -> Result<MapExtent, Refusal>
     requires reaches { IsTrue (are_reaches fields.now reaches.now) }
-    requires checkpoints { Tells types_within fields.now checkpoints.now.every checkpoints.now.before }
+    requires checkpoints { Tells types_within fields.now checkpoints.places checkpoints.before.now }
     ensures ok { IfOk result (λ e. IsTrue (is_map_extent fields.now map.now e) × All InRangeNameSubsection (map_names fields.now map.now)) }
     ensures err { IfErr result (λ e. (e ≡ refusal.TooLarge) × (All InRangeNameSubsection (map_names fields.now map.now) → ⊥)) }
 {
@@ -104,10 +104,10 @@ fn map_extent(
 pub(crate) fn map_extents(
     fields: &[ModuleField],
     reaches: &Reaches,
-    checkpoints: &Checkpoints,
+    checkpoints: Checkpoints,
 ) -> Result<[MapExtent; 13], Refusal>
     requires reaches { IsTrue (are_reaches fields.now reaches.now) }
-    requires checkpoints { Tells types_within fields.now checkpoints.now.every checkpoints.now.before }
+    requires checkpoints { Tells types_within fields.now checkpoints.places checkpoints.before.now }
     ensures ok { IfOk result (λ es. IsTrue (are_map_extents fields.now es) × All (λ m. All InRangeNameSubsection (map_names fields.now m)) name_maps) }
     ensures err { IfErr result (λ e. (e ≡ refusal.TooLarge) × (All (λ m. All InRangeNameSubsection (map_names fields.now m)) name_maps → ⊥)) }
 {

@@ -3,6 +3,7 @@
 ghost use Rattle.std.specs.Prelude.{◌≡◌, List, IsTrue};
 ghost use Rattle.std.specs.List.{flat_map};
 ghost use Rattle.wast_reach.specs.Reaches.{is_reach, are_reaches};
+ghost use Rattle.wast_reach.specs.declared.kinds.FieldKind.TheVariants as kind;
 ghost use Rattle.wast_names.specs.FieldsWithNames.{is_either, has_items, has_lists};
 ghost use Rattle.wast_names.specs.ModuleNames.{names_given};
 ghost use Rattle.wast_names.specs.Tree.{ModuleField};
@@ -35,7 +36,7 @@ fn reach_of(space: Space, reaches: &Reaches) -> Reach
         Space::Tag => either(reaches, FieldKind::Import, FieldKind::Tag),
         Space::Elem => reaches.of_kind(FieldKind::Elem),
         Space::Data => reaches.of_kind(FieldKind::Data),
-        Space::Ty => either(reaches, FieldKind::Ty, FieldKind::Rec),
+        Space::Ty => reach_of_types(reaches),
     }
 }
 
@@ -51,6 +52,14 @@ pub(crate) fn with_items<'b, 'a>(
     reach_of(space, reaches).of(fields)
 }
 
+/// Where the fields stand that can have types.
+pub(crate) fn reach_of_types(reaches: &Reaches) -> Reach
+    ensures { (fields : List ModuleField) → IsTrue (are_reaches fields reaches.now)
+        → IsTrue (is_reach (is_either kind.Ty kind.Rec) fields result) }
+{
+    either(reaches, FieldKind::Ty, FieldKind::Rec)
+}
+
 /// Where the fields stand within whose items such lists can stand.
 fn reach_within(within: Within, reaches: &Reaches) -> Reach
     ensures { (fields : List ModuleField) → IsTrue (are_reaches fields reaches.now)
@@ -58,7 +67,7 @@ fn reach_within(within: Within, reaches: &Reaches) -> Reach
 {
     match within {
         Within::Locals | Within::Labels => either(reaches, FieldKind::Import, FieldKind::Func),
-        Within::Fields | Within::Parameters => either(reaches, FieldKind::Ty, FieldKind::Rec),
+        Within::Fields | Within::Parameters => reach_of_types(reaches),
         Within::TagParameters => either(reaches, FieldKind::Import, FieldKind::Tag),
     }
 }

@@ -1,6 +1,6 @@
 //! The name section of a module.
 
-ghost use Rattle.std.specs.Prelude.{◌≡◌, ◌++◌, length, true, All, IfOk, IfErr, IsTrue, ◌+◌, ℕ, List, Option, map};
+ghost use Rattle.std.specs.Prelude.{◌≡◌, ◌<◌, ◌++◌, length, true, All, IfOk, IfErr, IsTrue, ◌+◌, ℕ, List, Option, map};
 ghost use Rattle.std.specs.List.{flat_map};
 ghost use Rattle.wasm_ops.specs.Sinks.{Writes};
 ghost use Rattle.wasm_ops.specs.declared.sink.Refusal.TheVariants as refusal;
@@ -15,11 +15,11 @@ ghost use Rattle.wast_names.specs.FoundNames.{text_seen, items_seen, counted, Wr
 ghost use Rattle.wast_names.specs.WithinItems.{types_within};
 ghost use Rattle.wast_names.specs.ModuleNames.{type_name, sig_name, item_names_in, given_name_in, names_given, named_of, named_within, map_names, module_name, name_maps, name_subsections, InRangeNames};
 
-use crate::arities::{Checkpoints, FieldTypes, TypesOf};
+use crate::arities::{Checkpoints, FieldTypes, Places, TypesOf};
 use crate::extents::{MapExtent, NamesExtent, map_extents, subsections_size};
 use crate::imported::{count_imported, put_imported};
 use crate::name_maps::{CountItems, NameItems, count_each, put_each, put_map, put_name};
-use crate::named_fields::{with_items, with_lists};
+use crate::named_fields::{reach_of_types, with_items, with_lists};
 use crate::within::{PutLists, Within, WithinItems};
 use wasm_ops::{Encode, Name, Refusal, Sink, WithLength, length_of};
 use wast_base::{Id, NameAnnotation, Space};
@@ -226,6 +226,13 @@ fn id_within(within: Within) -> u8
     }
 }
 
+/// Over up to so many fields types are looked up from 64 checkpoints.
+const FEW: usize = 64;
+
+/// Over up to so many fields from 1,024, and over more from 16,384, which take 64 KiB of the stack: so up to a million fields
+/// stand at most 64 from one to the next.
+const MANY: usize = 8192;
+
 /// A map of names by position.
 #[derive(Clone, Copy)]
 pub(crate) enum NameMap {
@@ -242,11 +249,11 @@ fn put_lists<'b, T: FieldTypes + PutLists, S: Sink>(
     there: &'b [T],
     within: Within,
     extent: MapExtent,
-    checkpoints: &'b Checkpoints,
+    checkpoints: Checkpoints<'b>,
     out: &'b mut S,
 ) -> Result<(), Refusal>
     requires extent { IsTrue (is_extent map_entry (named_from 0 (flat_map (T.lists (flat_map T.types fields.now) within) there.now)) extent) }
-    requires checkpoints { Tells T.types fields.now checkpoints.now.every checkpoints.now.before }
+    requires checkpoints { Tells T.types fields.now checkpoints.places checkpoints.before.now }
     ensures { Writes S.rules (InRangeMap map_entry InRangeMapEntry (named_from 0 (flat_map (T.lists (flat_map T.types fields.now) within) there.now)))
         out.old out.new (map_bytes (subsection_id (named_within within)) map_entry (named_from 0 (flat_map (T.lists (flat_map T.types fields.now) within) there.now))) result }
 {
@@ -262,12 +269,12 @@ fn put_subsection<S: Sink>(
     map: &NameMap,
     extent: MapExtent,
     reaches: &Reaches,
-    checkpoints: &Checkpoints,
+    checkpoints: Checkpoints,
     out: &mut S,
 ) -> Result<(), Refusal>
     requires extent { IsTrue (is_map_extent fields.now map.now extent) }
     requires reaches { IsTrue (are_reaches fields.now reaches.now) }
-    requires checkpoints { Tells types_within fields.now checkpoints.now.every checkpoints.now.before }
+    requires checkpoints { Tells types_within fields.now checkpoints.places checkpoints.before.now }
     ensures { Writes S.rules (All InRangeNameSubsection (map_names fields.now map.now))
         out.old out.new (flat_map name_subsection (map_names fields.now map.now)) result }
 {
@@ -289,12 +296,12 @@ fn put_subsections<S: Sink>(
     maps: &[NameMap],
     extents: &[MapExtent],
     reaches: &Reaches,
-    checkpoints: &Checkpoints,
+    checkpoints: Checkpoints,
     out: &mut S,
 ) -> Result<(), Refusal>
     requires extents { IsTrue (each_extent fields.now maps.now extents.now) }
     requires reaches { IsTrue (are_reaches fields.now reaches.now) }
-    requires checkpoints { Tells types_within fields.now checkpoints.now.every checkpoints.now.before }
+    requires checkpoints { Tells types_within fields.now checkpoints.places checkpoints.before.now }
     ensures { Writes S.rules (All (λ m. All InRangeNameSubsection (map_names fields.now m)) maps.now)
         out.old out.new (flat_map (λ m. flat_map name_subsection (map_names fields.now m)) maps.now) result }
 {
@@ -351,13 +358,13 @@ fn put_behind<P: Encode, S: Sink>(
     front: &P,
     extents: &[MapExtent],
     reaches: &Reaches,
-    checkpoints: &Checkpoints,
+    checkpoints: Checkpoints,
     out: &mut S,
 ) -> Result<(), Refusal>
     requires front { IsTrue (P.is_ready front.now) }
     requires extents { IsTrue (are_map_extents fields.now extents.now) }
     requires reaches { IsTrue (are_reaches fields.now reaches.now) }
-    requires checkpoints { Tells types_within fields.now checkpoints.now.every checkpoints.now.before }
+    requires checkpoints { Tells types_within fields.now checkpoints.places checkpoints.before.now }
     ensures { Writes S.rules (P.in_range front.now × All (λ m. All InRangeNameSubsection (map_names fields.now m)) name_maps)
         out.old out.new (P.spelling front.now ++ flat_map (λ m. flat_map name_subsection (map_names fields.now m)) name_maps) result }
 {
@@ -371,20 +378,65 @@ fn put_behind<P: Encode, S: Sink>(
     second
 }
 
-/// The checkpoints of these fields. Where no type is looked up, they are not walked over.
-fn checkpoints_of(fields: &[ModuleField], is_asked: bool) -> Checkpoints
-    ensures { Tells types_within fields.now result.every result.before }
+/// The places of the checkpoints of these fields. Where no type is looked up, they are not walked over; and else those alone
+/// that can have types.
+fn places_of<'b>(
+    fields: &'b [ModuleField],
+    reaches: &'b Reaches,
+    is_asked: bool,
+    room: &'b mut [u32],
+) -> Places
+    requires reaches { IsTrue (are_reaches fields.now reaches.now) }
+    requires room { 0 < length room.old }
+    ensures { Tells types_within fields.now result room.new }
 {
     if !is_asked {
-        return Checkpoints::new(0);
+        return Places::none(room);
     }
-    Checkpoints::of(fields)
+    let reach = reach_of_types(reaches);
+    Places::of(fields, reach.first, reach.end, room)
 }
 
-/// Whether a type may be looked up by a function: types and functions stand in the list.
-fn may_ask(reaches: &Reaches) -> bool {
-    reaches.of_kind(FieldKind::Func).end != 0
-        && (reaches.of_kind(FieldKind::Ty).end != 0 || reaches.of_kind(FieldKind::Rec).end != 0)
+/// Over how many fields types may be looked up: none where no function stands in the list.
+fn asked_fields(reaches: &Reaches) -> usize {
+    if reaches.of_kind(FieldKind::Func).end == 0 {
+        return 0;
+    }
+    let reach = reach_of_types(reaches);
+    reach.end.saturating_sub(reach.first)
+}
+
+/// The extent of the name section, with room for so many checkpoints.
+fn extent_within(
+    fields: &[ModuleField],
+    name: Option<&str>,
+    reaches: &Reaches,
+    room: &mut [u32],
+) -> Result<NamesExtent, Refusal>
+    requires reaches { IsTrue (are_reaches fields.now reaches.now) }
+    requires room { 0 < length room.old }
+    ensures ok { IfOk result (λ e. (e.size ≡ length (names_payload_of (name_subsections (text_seen name.entry) fields.now)))
+        × IsTrue (are_map_extents fields.now e.maps)) }
+    ensures err { IfErr result (λ e. (e ≡ refusal.TooLarge)
+        × (All InRangePart (names_part (name_subsections (text_seen name.entry) fields.now))
+        × InRangeNames (text_seen name.entry) fields.now → ⊥)) }
+{
+    let places = places_of(&*fields, &*reaches, asked_fields(reaches) != 0, room);
+    let checkpoints = Checkpoints {
+        places,
+        before: &*room,
+    };
+    let maps = map_extents(fields, reaches, checkpoints)?;
+    let front = length_of(&ModuleName(name))?;
+    let subsections = u64::from(front) + subsections_size(&maps);
+    if subsections == 0 {
+        return Ok(NamesExtent { size: 0, maps });
+    }
+    // `name` as a name: its length, and four bytes
+    match u32::try_from(5 + subsections) {
+        Ok(size) => Ok(NamesExtent { size, maps }),
+        Err(_) => Err(Refusal::TooLarge),
+    }
 }
 
 /// The extent of the name section of a module with this name and these resolved fields: how long its payload is, 0 where
@@ -404,18 +456,49 @@ pub fn names_extent(
         × (All InRangePart (names_part (name_subsections (text_seen name.entry) fields.now))
         × InRangeNames (text_seen name.entry) fields.now → ⊥)) }
 {
-    let checkpoints = checkpoints_of(fields, may_ask(reaches));
-    let maps = map_extents(fields, reaches, &checkpoints)?;
-    let front = length_of(&ModuleName(name))?;
-    let subsections = u64::from(front) + subsections_size(&maps);
-    if subsections == 0 {
-        return Ok(NamesExtent { size: 0, maps });
+    let asked = asked_fields(reaches);
+    if asked <= FEW {
+        let mut room = [0u32; 64];
+        return extent_within(fields, name, reaches, &mut room);
     }
-    // `name` as a name: its length, and four bytes
-    match u32::try_from(5 + subsections) {
-        Ok(size) => Ok(NamesExtent { size, maps }),
-        Err(_) => Err(Refusal::TooLarge),
+    if asked <= MANY {
+        let mut room = [0u32; 1024];
+        return extent_within(fields, name, reaches, &mut room);
     }
+    let mut room = [0u32; 16384];
+    extent_within(fields, name, reaches, &mut room)
+}
+
+/// Appends the name section, where there are names, with room for so many checkpoints.
+fn put_within<S: Sink>(
+    fields: &[ModuleField],
+    name: Option<&str>,
+    reaches: &Reaches,
+    extent: &NamesExtent,
+    room: &mut [u32],
+    out: &mut S,
+) -> Result<(), Refusal>
+    requires reaches { IsTrue (are_reaches fields.now reaches.now) }
+    requires size { extent.now.size ≡ length (names_payload_of (name_subsections (text_seen name) fields.now)) }
+    requires maps { IsTrue (are_map_extents fields.now extent.now.maps) }
+    requires room { 0 < length room.old }
+    ensures { Writes S.rules (All InRangePart (names_part (name_subsections (text_seen name.entry) fields.now))
+        × InRangeNames (text_seen name.entry) fields.now)
+        out.old out.new (flat_map part (names_part (name_subsections (text_seen name.entry) fields.now))) result }
+{
+    let size = extent.size;
+    if size == 0 {
+        return Ok(());
+    }
+    // types are looked up for the names of locals alone, which the second map has
+    let is_asked = extent.maps[1].count != 0 && asked_fields(reaches) != 0;
+    let places = places_of(&*fields, &*reaches, is_asked, room);
+    let checkpoints = Checkpoints {
+        places,
+        before: &*room,
+    };
+    let front = (0u8, (size, (Name("name"), ModuleName(name))));
+    put_behind(fields, &front, &extent.maps, reaches, checkpoints, out)
 }
 
 /// Appends the name section of a module with this name and these resolved fields, where there are names (custom sections,
@@ -437,12 +520,15 @@ pub fn put_names<S: Sink>(
         × InRangeNames (text_seen name.entry) fields.now)
         out.old out.new (flat_map part (names_part (name_subsections (text_seen name.entry) fields.now))) result }
 {
-    let size = extent.size;
-    if size == 0 {
-        return Ok(());
+    let asked = asked_fields(reaches);
+    if asked <= FEW {
+        let mut room = [0u32; 64];
+        return put_within(fields, name, reaches, extent, &mut room, out);
     }
-    // types are looked up for the names of locals alone, which the second map has
-    let checkpoints = checkpoints_of(fields, extent.maps[1].count != 0 && may_ask(reaches));
-    let front = (0u8, (size, (Name("name"), ModuleName(name))));
-    put_behind(fields, &front, &extent.maps, reaches, &checkpoints, out)
+    if asked <= MANY {
+        let mut room = [0u32; 1024];
+        return put_within(fields, name, reaches, extent, &mut room, out);
+    }
+    let mut room = [0u32; 16384];
+    put_within(fields, name, reaches, extent, &mut room, out)
 }

@@ -378,9 +378,9 @@ pub(crate) fn count_lists<'b, T: FieldTypes + CountLists>(
     fields: &'b [T],
     there: &'b [T],
     within: Within,
-    checkpoints: &'b Checkpoints,
+    checkpoints: Checkpoints<'b>,
 ) -> u64
-    requires { Tells T.types fields.now checkpoints.now.every checkpoints.now.before }
+    requires { Tells T.types fields.now checkpoints.places checkpoints.before.now }
     ensures { result ≡ counted (length (named_from 0 (flat_map (T.lists (flat_map T.types fields.now) within) there.now))) }
 {
     let arities = TypesOf::new(fields, checkpoints);

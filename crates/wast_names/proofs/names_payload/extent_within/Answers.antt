@@ -6,7 +6,7 @@ use Rattle.wast_names.specs.Tree.{ModuleField}
 use Rattle.wast_names.specs.FoundNames.{text_seen}
 use Rattle.wast_names.specs.ModuleNames.{map_names, module_name, name_maps, name_subsections}
 use Rattle.wast_names.proofs.NameMaps.{together, all_apart, payload_none, payload_length, payload_in_range, subsections_in_range}
-use Rattle.wast_names.proofs.names_payload.names_extent.Goals as goal
+use Rattle.wast_names.proofs.names_payload.extent_within.Goals as goal
 
 pub returns-in_err-maps-clause-err : goal.returns-in_err-maps-clause-err
 returns-in_err-maps-clause-err c =

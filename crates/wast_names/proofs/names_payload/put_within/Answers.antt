@@ -1,7 +1,7 @@
 use Rattle.wast_names.specs.FoundNames.{text_seen}
 use Rattle.wast_names.specs.ModuleNames.{map_names, module_name, name_maps, name_subsections}
 use Rattle.wast_names.proofs.NameMaps.{names_absent, names_written, front_written}
-use Rattle.wast_names.proofs.names_payload.put_names.Goals as goal
+use Rattle.wast_names.proofs.names_payload.put_within.Goals as goal
 
 pub returns : goal.returns
 returns g c =
