@@ -1,18 +1,12 @@
 -- Lists of names within items, as they are found, counted and written.
-use Rattle.std.proofs.Common.{◌≡◌, ◌<◌, ◌≤◌, ◌+◌, ℕ, zero, suc, List, [], ◌∷◌, ◌++◌, length, Option, Some, None, Result, refl, sym, ap, ◌∙◌, subst, arith, length-append, map, take, get_or, inl, inr}
-use Rattle.std.specs.Prelude.{All, nat_lt, true, false, ◌||◌, slice_get, option_map}
+use Rattle.std.proofs.Common.{◌≡◌, ◌<◌, ◌≤◌, ◌+◌, ℕ, zero, suc, List, [], ◌∷◌, ◌++◌, length, Option, Some, None, refl, sym, ap, ◌∙◌, subst, arith, length-append, map, take, get_or, inl, inr}
+use Rattle.std.specs.Prelude.{nat_lt, true, false, ◌||◌, slice_get, option_map}
 use Rattle.std.proofs.lemmas.Bool.{ltb-false, lt-ltb, le-ltb, cases_lt}
 use Rattle.std.proofs.lemmas.List.{length-map, take_all}
 use Rattle.std.specs.List.{flat_map}
-use Rattle.std.proofs.lemmas.Grind.{flat_map-append}
 use Rattle.std.proofs.lemmas.List.Concat.{flat_map_single, get_or-flat_map}
 use Rattle.std.proofs.lemmas.List.Folds.{length-flat_map-take}
-use Rattle.std.proofs.lemmas.List.Elements.{All-append}
 use Rattle.std.proofs.lemmas.Option.{slice_get-get_or, slice_get_past}
-use Rattle.wasm_ops.specs.declared.sink.Refusal.{Refusal}
-use Rattle.wasm_ops.specs.Sinks.{SinkRules, Writes}
-use Rattle.wasm_ops.proofs.Everywhere.{all_left, all_right}
-use Rattle.wasm_ops.proofs.Sinking.{written_as}
 use Rattle.wast_names.specs.GivenNames.{named_from}
 use Rattle.wast_names.specs.FoundNames.{counted}
 use Rattle.wast_names.specs.WithinItems.{where_named, nameless, behind, param_name, local_name}
@@ -23,20 +17,19 @@ use Rattle.wast_names.proofs.NameEntries.{named_append, as_many, none_named}
 pub each_named : {A : Type 0} (n : ℕ) (f : A → Option (List ℕ)) (xs : List A) → named_from n (flat_map (λ x. f x ∷ []) xs) ≡ named_from n (map f xs)
 each_named n f xs = ap (named_from n) (flat_map_single f xs)
 
--- one list after another, as they are counted and written
+-- one list after another, as they are counted
 pub both_counted : {A : Type 0} (xs ys : List (Option A)) (first m n : ℕ) → m ≡ counted (length (named_from 0 xs)) → n ≡ counted (length (named_from 0 ys)) → counted (m + n) ≡ counted (length (named_from 0 xs ++ named_from first ys))
 both_counted xs ys first m n is also = omega (arith, length-append (named_from 0 xs) (named_from first ys), as_many 0 first ys)
 
-pub both_written : {S R A : Type 0} (rules : SinkRules S) (entry : A → List ℕ) (InRange : A → Type 0) (a b : S) (xs ys : List A) (r : Result R Refusal)
-    → Writes rules (All InRange xs × All InRange ys) a b (flat_map entry xs ++ flat_map entry ys) r → Writes rules (All InRange (xs ++ ys)) a b (flat_map entry (xs ++ ys)) r
-both_written rules entry InRange a b xs ys r p =
-    written_as rules (All InRange xs × All InRange ys) (All InRange (xs ++ ys)) a b (flat_map entry xs ++ flat_map entry ys) (flat_map entry (xs ++ ys)) r
-    (λ h. All-append InRange xs ys h.0 h.1) (λ h. (all_left InRange xs ys h, all_right InRange xs ys h)) (sym (flat_map-append entry xs ys)) p
-
 -- a list that has names
-pub is_named : (es : List (ℕ × List ℕ)) (count : ℕ) → count ≡ counted (length es) → (count ≡ 0 → ⊥) → where_named es ≡ Some es
-is_named [] count is some = absurd (some is)
-is_named (e ∷ es) count is some = refl
+pub is_named : (es : List (ℕ × List ℕ)) → nat_lt 0 (length es) ≡ true → where_named es ≡ Some es
+is_named [] some = absurd cc
+is_named (e ∷ es) some = refl
+
+-- and one that has none
+pub not_named : (es : List (ℕ × List ℕ)) → nat_lt 0 (length es) ≡ false → where_named es ≡ None
+not_named [] none = refl
+not_named (e ∷ es) none = absurd (omega (arith, ltb-false 0 (length (e ∷ es)) none))
 
 -- nameless ones have no entry
 pub behind_nameless : (n k : ℕ) (names : List (Option (List ℕ))) → named_from k (nameless n ++ names) ≡ named_from (k + n) names

@@ -1,10 +1,10 @@
 -- The entries of items with their positions, as they are counted and written.
-use Rattle.std.proofs.Common.{◌≡◌, ◌≤◌, ◌<◌, ◌+◌, ℕ, List, [], ◌∷◌, ◌++◌, length, Option, Some, None, Result, Ok, Err, refl, sym, ap, ◌∙◌, subst, arith, length-append, ◌^◌}
+use Rattle.std.proofs.Common.{◌≡◌, ◌≤◌, ◌<◌, ◌+◌, ℕ, List, [], ◌∷◌, ◌++◌, length, Option, Some, None, Result, Ok, Err, refl, sym, ap, ◌∙◌, subst, arith, length-append, ◌^◌, inl, inr, take, drop, take-append-drop}
 use Rattle.std.specs.Prelude.{All, nat_lt, true}
 use Rattle.std.proofs.lemmas.Bool.{lt-ltb}
 use Rattle.std.specs.List.{flat_map}
 use Rattle.std.proofs.lemmas.Grind.{flat_map-append}
-use Rattle.std.proofs.lemmas.List.Elements.{All-head, All-append}
+use Rattle.std.proofs.lemmas.List.Elements.{All-nil, All-head, All-append}
 use Rattle.wasm_ops.specs.declared.sink.Refusal.{Refusal}
 use Rattle.wasm_ops.specs.Sinks.{SinkRules, Writes, AppendLaws}
 use Rattle.wasm_ops.specs.Leb128.{unsigned}
@@ -116,3 +116,57 @@ some_more names more rest all count parts is some =
       length-append (named_from 0 names) (named_from (0 + length names) more),
       as_many (0 + length names) 0 more,
     )))
+
+-- items without names behind others
+pub nameless_more : {A : Type 0} (names more : List (Option A)) (count : ℕ) → ((n : ℕ) → named_from n names ≡ []) → count ≡ counted (length (named_from 0 more)) → count ≡ 0 → (n : ℕ) → named_from n (names ++ more) ≡ []
+nameless_more names more count none is never n =
+    named_append n names more ∙ (ap (λ es. es ++ named_from (n + length names) more) (none n) ∙ none_named 0 (n + length names) more count is never)
+
+-- the names from a place on are all, where none stands before
+pub named_behind : {A B : Type 0} (f : A → List (Option B)) (xs : List A) (i before : ℕ) → before ≡ length (flat_map f (take i xs)) → ((n : ℕ) → named_from n (flat_map f (take i xs)) ≡ [])
+    → (n : ℕ) → named_from (n + before) (flat_map f (drop i xs)) ≡ named_from n (flat_map f xs)
+named_behind f xs i before is none n =
+    let items = flat_map f (take i xs) in
+    let rest = flat_map f (drop i xs) in
+    let whole : flat_map f xs ≡ items ++ rest = ap (flat_map f) (sym (take-append-drop i xs)) ∙ flat_map-append f (take i xs) (drop i xs) in
+    ap (λ m. named_from (n + m) rest) is ∙ sym (ap (named_from n) whole ∙ (named_append n items rest ∙ ap (λ es. es ++ named_from (n + length items) rest) (none n)))
+
+-- one list of entries after another
+pub both_entries : {S R A : Type 0} (rules : SinkRules S) (entry : A → List ℕ) (InRange : A → Type 0) (a b c : S) (xs ys : List A) (t u v : R)
+    → AppendLaws rules → Writes rules (All InRange xs) a b (flat_map entry xs) (Ok t) → Writes rules (All InRange ys) b c (flat_map entry ys) (Ok u) → Writes rules (All InRange (xs ++ ys)) a c (flat_map entry (xs ++ ys)) (Ok v)
+both_entries rules entry InRange a b c xs ys t u v laws p q = (
+  subst (rules.appended a c) (sym (flat_map-append entry xs ys)) (laws.joins a b c (flat_map entry xs) (flat_map entry ys) p.0 q.0),
+  All-append InRange xs ys p.1 q.1,
+)
+
+-- the first list was refused
+pub first_refused : {S A : Type 0} (R : Type 0) (rules : SinkRules S) (entry : A → List ℕ) (InRange : A → Type 0) (a b : S) (xs ys : List A) (e : Refusal)
+    → AppendLaws rules → Writes {A = R} rules (All InRange xs) a b (flat_map entry xs) (Err e) → Writes {A = R} rules (All InRange (xs ++ ys)) a b (flat_map entry (xs ++ ys)) (Err e)
+first_refused R rules entry InRange a b xs ys e laws p =
+    let least : length (flat_map entry xs) ≤ length (flat_map entry (xs ++ ys)) = omega (arith, ap length (flat_map-append entry xs ys), length-append (flat_map entry xs) (flat_map entry ys)) in (
+      p.0,
+      elim p.1 [
+        | inl q ↦ inl (q.0, λ f. q.1 (laws.fits_less a (length (flat_map entry xs)) (length (flat_map entry (xs ++ ys))) least f))
+        | inr q ↦ inr (q.0, λ h. q.1 (all_left InRange xs ys h))
+      ],
+    )
+
+-- the second list was refused: the sink is cut back to its size before the first
+pub second_refused : {S R A : Type 0} (rules : SinkRules S) (entry : A → List ℕ) (InRange : A → Type 0) (a b c d : S) (xs ys : List A) (t : R) (e : Refusal) (size : ℕ)
+    → AppendLaws rules → Writes rules (All InRange xs) a b (flat_map entry xs) (Ok t) → Writes {A = R} rules (All InRange ys) b c (flat_map entry ys) (Err e) → size ≡ rules.size_of a → rules.is_cut c size d
+    → Writes {A = R} rules (All InRange (xs ++ ys)) a d (flat_map entry (xs ++ ys)) (Err e)
+second_refused {R = R} rules entry InRange a b c d xs ys t e size laws p q start k =
+    cut_back {A = R} rules (All InRange (xs ++ ys)) (All InRange ys) a b c d (flat_map entry xs) (flat_map entry ys) (flat_map entry (xs ++ ys)) size (Err e) laws
+    (omega (arith, ap length (flat_map-append entry xs ys), length-append (flat_map entry xs) (flat_map entry ys)))
+    (all_right InRange xs ys) p.0 q refl start k
+
+-- and the sink is no shorter than before the first
+pub second_kept : {S R : Type 0} (A : Type 0) (rules : SinkRules S) (one other : Type 0) (a b c : S) (x y : List ℕ) (t : R) (e : Refusal) (size : ℕ)
+    → AppendLaws rules → Writes rules one a b x (Ok t) → Writes {A = A} rules other b c y (Err e) → size ≡ rules.size_of a → size ≤ rules.size_of c
+second_kept A rules one other a b c x y t e size laws p q start = omega (arith, laws.grows a b x p.0, laws.grows b c [] q.0, start)
+
+-- an item without an entry, as entries of other items are written
+pub none_written : {S A B : Type 0} (R : Type 0) (rules : SinkRules S) (entry : ℕ × A → List ℕ) (InRange : ℕ × A → Type 0) (other : ℕ × B → List ℕ) (Other : ℕ × B → Type 0) (a b : S) (position : ℕ) (r : Result R Refusal)
+    → WritesItems rules entry InRange (None ∷ []) position a b r → WritesItems rules other Other (None ∷ []) position a b r
+none_written R rules entry InRange other Other a b position r p = λ n at.
+    written_as rules (All InRange []) (All Other []) a b [] [] r (λ h. All-nil Other) (λ h. All-nil InRange) refl (p n at)

@@ -22,6 +22,11 @@ use Rattle.wast_names.specs.Tree.{Space}
 abbrev pub text_seen : Option (Bor (List ℕ)) → Option (List ℕ)
 text_seen text = option_map (λ t. t.now) text
 
+-- the item that a value may be, with its name
+abbrev pub item_seen : Option (Option (Bor (List ℕ))) → List (Option (List ℕ))
+item_seen None = []
+item_seen (Some text) = text_seen text ∷ []
+
 -- the items that are found in a field, each with its space and its name
 abbrev pub items_seen : Items → List (Space × Option (List ℕ))
 items_seen items.Nothing = []
@@ -62,7 +67,7 @@ abbrev pub names_listed : Listed → List (ℕ × List ℕ)
 names_listed (listed.Fields fields) = named_from 0 (flat_map (λ f. field_name f ∷ []) fields.now)
 names_listed (listed.Locals params first locals) =
     named_from 0 (flat_map (λ p. param_name p ∷ []) params.now) ++ named_from first (flat_map (λ l. local_name l ∷ []) locals.now)
-names_listed (listed.Labels instrs) = named_from 0 (flat_map label_in instrs.now)
+names_listed (listed.Labels first instrs) = named_from first (flat_map label_in instrs.now)
 
 -- the item with this list, where one is found
 abbrev pub lists_found : Option Listed → List (Option (List (ℕ × List ℕ)))

@@ -9,6 +9,7 @@ mod imported;
 mod name_lists;
 mod name_maps;
 mod named_fields;
+mod names_each;
 mod names_payload;
 mod within;
 

@@ -1,16 +1,16 @@
 //! Lists of what has names: fields of structs, parameters and locals, and labels.
 
-ghost use Rattle.std.specs.Prelude.{◌≡◌, ◌==◌, ◌+◌, nat_lt, ℕ, List, [], length, true, All, IfOk};
+ghost use Rattle.std.specs.Prelude.{◌≡◌, ◌++◌, ◌+◌, ◌∷◌, nat_lt, [], length, true, All, IfOk};
 ghost use Rattle.std.specs.List.{flat_map};
 ghost use Rattle.wasm_out.specs.NameSectionBytes.{map_entry, name_entry, InRangeMapEntry, InRangeNameEntry};
+ghost use Rattle.wasm_ops.specs.Sinks.{Writes};
 ghost use Rattle.wasm_ops.specs.Spelling.{vec, InRangeVec};
 ghost use Rattle.wast_names.specs.GivenNames.{named_from};
 ghost use Rattle.wast_names.specs.FoundNames.{counted, names_listed, lists_found, WritesItems};
 ghost use Rattle.wast_names.specs.WithinItems.{param_name, field_name, local_name, label_in};
 
-use crate::name_maps::{
-    CountItems, Entries, HasName, NameItems, Own, any_named, count_each, put_entry, put_name,
-};
+use crate::name_maps::put_entry;
+use crate::names_each::{MayHaveName, any_named, from_named, put_named};
 use crate::names_payload::given_name;
 use wasm_ops::{Encode, Refusal, Sink};
 use wast_base::{Id, NameAnnotation};
@@ -18,62 +18,39 @@ use wast_nodes::{Instruction, Local, StructField, ValType};
 
 type Param<'a> = (Option<Id<'a>>, Option<NameAnnotation<'a>>, ValType<'a>);
 
-impl<'a> HasName for (Option<Id<'a>>, Option<NameAnnotation<'a>>, ValType<'a>) {
-    ghost name = { param_name };
+impl<'a> MayHaveName for (Option<Id<'a>>, Option<NameAnnotation<'a>>, ValType<'a>) {
+    ghost names = { λ p. param_name p ∷ [] };
 
-    fn name(&self) -> Option<&str> {
-        given_name(&self.1, &self.0)
+    fn item(&self) -> Option<Option<&str>> {
+        Some(given_name(&self.1, &self.0))
     }
 }
 
-impl HasName for StructField<'_> {
-    ghost name = { field_name };
+impl MayHaveName for StructField<'_> {
+    ghost names = { λ f. field_name f ∷ [] };
 
-    fn name(&self) -> Option<&str> {
-        given_name(&self.name, &self.id)
+    fn item(&self) -> Option<Option<&str>> {
+        Some(given_name(&self.name, &self.id))
     }
 }
 
-impl HasName for Local<'_> {
-    ghost name = { local_name };
+impl MayHaveName for Local<'_> {
+    ghost names = { λ l. local_name l ∷ [] };
 
-    fn name(&self) -> Option<&str> {
-        given_name(&self.name, &self.id)
+    fn item(&self) -> Option<Option<&str>> {
+        Some(given_name(&self.name, &self.id))
     }
 }
 
-/// The way to see an instruction that opens a block as an item with the name of its label.
-#[derive(Clone, Copy)]
-struct Openers;
+/// An instruction that opens a block is an item with the name of its label; any other is none.
+impl MayHaveName for Instruction<'_> {
+    ghost names = { label_in };
 
-impl<'a> NameItems<Instruction<'a>> for Openers {
-    ghost Entry = { List ℕ };
-
-    ghost items = { λ _ i. label_in i };
-
-    ghost entry = { name_entry };
-
-    ghost in_range = { InRangeNameEntry };
-
-    fn put<S: Sink>(
-        &self,
-        part: &Instruction<'a>,
-        position: u64,
-        out: &mut S,
-    ) -> Result<u64, Refusal> {
-        match part.block_type() {
-            Some(block) => put_name(position, given_name(&block.label_name, &block.label), out),
-            None => Ok(position),
-        }
-    }
-}
-
-impl<'a> CountItems<Instruction<'a>> for Openers {
     #[inline(always)]
-    fn count(&self, part: &Instruction<'a>) -> u64 {
-        match part.block_type() {
-            Some(block) => u64::from(given_name(&block.label_name, &block.label).is_some()),
-            None => 0,
+    fn item(&self) -> Option<Option<&str>> {
+        match self.block_type() {
+            Some(block) => Some(given_name(&block.label_name, &block.label)),
+            None => None,
         }
     }
 }
@@ -85,8 +62,8 @@ pub(crate) enum Listed<'b, 'a> {
     Fields(&'b [StructField<'a>]),
     /// Parameters from 0 on, and locals from a position on.
     Locals(&'b [Param<'a>], u64, &'b [Local<'a>]),
-    /// Labels of the blocks that instructions open.
-    Labels(&'b [Instruction<'a>]),
+    /// Labels of the blocks that instructions open, from a position on.
+    Labels(u64, &'b [Instruction<'a>]),
 }
 
 /// Whether any in a list has a name.
@@ -94,22 +71,68 @@ fn is_named(listed: Listed) -> bool
     ensures { result ≡ nat_lt 0 (length (names_listed listed.entry)) }
 {
     match listed {
-        Listed::Fields(fields) => any_named(&Own, fields),
-        Listed::Locals(params, _, locals) => any_named(&Own, params) | any_named(&Own, locals),
-        Listed::Labels(instrs) => any_named(&Openers, instrs),
+        Listed::Fields(fields) => any_named(fields),
+        Listed::Locals(params, _, locals) => any_named(params) | any_named(locals),
+        Listed::Labels(_, instrs) => any_named(instrs),
     }
 }
 
-/// How many in a list have a name.
-fn count_listed(listed: Listed) -> u64
-    ensures { result ≡ counted (length (names_listed listed.entry)) }
+/// The same names; of labels those from the first on that has one, so that no instruction before it is gone through again.
+fn from_first<'b, 'a>(listed: Listed<'b, 'a>) -> Listed<'b, 'a>
+    ensures { names_listed result ≡ names_listed listed.entry }
+{
+    let Listed::Labels(first, instrs) = listed else {
+        return listed;
+    };
+    let (before, rest) = from_named(instrs);
+    match first.checked_add(before) {
+        Some(position) => Listed::Labels(position, rest),
+        None => listed,
+    }
+}
+
+/// Appends the names of parameters, and then those of locals from a position on, and answers how many they are.
+fn put_both<S: Sink>(
+    params: &[Param],
+    first: u64,
+    locals: &[Local],
+    out: &mut S,
+) -> Result<u64, Refusal>
+    ensures names { let es = named_from 0 (flat_map (λ p. param_name p ∷ []) params.now) ++ named_from first (flat_map (λ l. local_name l ∷ []) locals.now) in
+        Writes S.rules (All InRangeNameEntry es) out.old out.new (flat_map name_entry es) result }
+    ensures count { IfOk result (λ n. n ≡ counted (length (named_from 0 (flat_map (λ p. param_name p ∷ []) params.now)
+        ++ named_from first (flat_map (λ l. local_name l ∷ []) locals.now)))) }
+{
+    let start = out.size();
+    let before = put_named(params, 0, out)?;
+    match put_named(locals, first, out) {
+        Ok(count) => Ok(before.saturating_add(count)),
+        Err(refusal) => {
+            out.cut(start);
+            Err(refusal)
+        }
+    }
+}
+
+/// Appends the names of the labels of blocks that instructions open, from a position on, and answers how many they are.
+fn put_labels<S: Sink>(first: u64, instrs: &[Instruction], out: &mut S) -> Result<u64, Refusal>
+    ensures names { let es = named_from first (flat_map label_in instrs.now) in
+        Writes S.rules (All InRangeNameEntry es) out.old out.new (flat_map name_entry es) result }
+    ensures count { IfOk result (λ n. n ≡ counted (length (named_from first (flat_map label_in instrs.now)))) }
+{
+    put_named(instrs, first, out)
+}
+
+/// Appends the names in a list, by their positions, and answers how many they are. It refuses as [`Encode::encode`] does;
+/// then nothing was appended.
+fn put_listed<S: Sink>(listed: Listed, out: &mut S) -> Result<u64, Refusal>
+    ensures names { Writes S.rules (All InRangeNameEntry (names_listed listed.entry)) out.old out.new (flat_map name_entry (names_listed listed.entry)) result }
+    ensures count { IfOk result (λ n. n ≡ counted (length (names_listed listed.entry))) }
 {
     match listed {
-        Listed::Fields(fields) => count_each(&Own, fields),
-        Listed::Locals(params, _, locals) => {
-            count_each(&Own, params).saturating_add(count_each(&Own, locals))
-        }
-        Listed::Labels(instrs) => count_each(&Openers, instrs),
+        Listed::Fields(fields) => put_named(fields, 0, out),
+        Listed::Locals(params, first, locals) => put_both(params, first, locals, out),
+        Listed::Labels(first, instrs) => put_labels(first, instrs, out),
     }
 }
 
@@ -125,56 +148,42 @@ impl Encode for ListedNames<'_, '_> {
     ghost is_ready = { λ _. true };
 
     fn encode<S: Sink>(&self, out: &mut S) -> Result<(), Refusal> {
-        match self.0 {
-            Listed::Fields(parts) => Entries {
-                way: Own,
-                first: 0,
-                parts,
-            }
-            .encode(out),
-            Listed::Locals(params, first, locals) => {
-                let params = Entries {
-                    way: Own,
-                    first: 0,
-                    parts: params,
-                };
-                let locals = Entries {
-                    way: Own,
-                    first,
-                    parts: locals,
-                };
-                (params, locals).encode(out)
-            }
-            Listed::Labels(parts) => Entries {
-                way: Openers,
-                first: 0,
-                parts,
-            }
-            .encode(out),
-        }
+        put_listed(self.0, out)?;
+        Ok(())
     }
 }
 
-/// A list of names, and how many they are.
+/// The number of the names in a list, and these names.
 #[derive(Clone, Copy)]
-struct CountedNames<'b, 'a> {
-    listed: Listed<'b, 'a>,
-    count: u64,
-}
+struct CountedNames<'b, 'a>(Listed<'b, 'a>);
 
-/// The number of the names, and the names. It is ready where there are as many.
 impl Encode for CountedNames<'_, '_> {
-    ghost spelling = { λ s. vec name_entry (names_listed s.listed) };
+    ghost spelling = { λ s. vec name_entry (names_listed s.0) };
 
-    ghost in_range = { λ s. InRangeVec InRangeNameEntry (names_listed s.listed) };
+    ghost in_range = { λ s. InRangeVec InRangeNameEntry (names_listed s.0) };
 
-    ghost is_ready = { λ s. s.count == counted (length (names_listed s.listed)) };
+    ghost is_ready = { λ _. true };
 
     fn encode<S: Sink>(&self, out: &mut S) -> Result<(), Refusal> {
-        let Ok(count) = u32::try_from(self.count) else {
+        // A byte keeps the place of the number, which is known once the names were put.
+        let start = out.size();
+        out.push_bytes(&[0])?;
+        let count = match put_listed(self.0, out) {
+            Ok(count) => count,
+            Err(refusal) => {
+                out.cut(start);
+                return Err(refusal);
+            }
+        };
+        let Ok(number) = u32::try_from(count) else {
+            out.cut(start);
             return Err(Refusal::TooLarge);
         };
-        (count, ListedNames(self.listed)).encode(out)
+        if out.set_number(start, count) {
+            return Ok(());
+        }
+        out.cut(start);
+        (number, ListedNames(self.0)).encode(out)
     }
 }
 
@@ -200,11 +209,11 @@ pub(crate) fn put_found<S: Sink>(
     let Some(listed) = found else {
         return Ok(position);
     };
-    let count = count_listed(listed);
-    if count == 0 {
+    let listed = from_first(listed);
+    if !is_named(listed) {
         return put_entry(position, None::<CountedNames>, out);
     }
-    put_entry(position, Some(CountedNames { listed, count }), out)
+    put_entry(position, Some(CountedNames(listed)), out)
 }
 
 /// An empty list.

@@ -1,6 +1,6 @@
 //! Maps of names: the entries of items, by their positions.
 
-ghost use Rattle.std.specs.Prelude.{◌≡◌, ◌+◌, nat_lt, ℕ, List, [], ◌∷◌, Option, length, All, IfOk, IfErr, IsTrue, true};
+ghost use Rattle.std.specs.Prelude.{◌≡◌, ◌+◌, ℕ, List, [], ◌∷◌, Option, length, All, IfOk, IfErr, IsTrue, true};
 ghost use Rattle.std.specs.List.{flat_map};
 ghost use Rattle.std.specs.Option.{option_to_list};
 ghost use Rattle.wasm_ops.specs.Sinks.{Writes};
@@ -52,18 +52,6 @@ pub(crate) fn count_each<T, W: CountItems<T>>(way: &W, parts: &[T]) -> u64
         sum = sum.saturating_add(way.count(part));
     }
     sum
-}
-
-/// Whether any item in a list has an entry. It goes no further than the first that has one.
-pub(crate) fn any_named<T, W: CountItems<T>>(way: &W, parts: &[T]) -> bool
-    ensures { result ≡ nat_lt 0 (length (named_from 0 (flat_map (W.items way.now) parts.now))) }
-{
-    for part in parts {
-        if way.count(part) != 0 {
-            return true;
-        }
-    }
-    false
 }
 
 /// Appends the entries of the items in a list, and answers the position behind the last.
@@ -194,40 +182,6 @@ pub(crate) fn put_map<'b, T, W: NameItems<T> + Copy, S: Sink>(
         parts,
     };
     (id, (extent.size, (extent.count, entries))).encode(out)
-}
-
-/// What has one name.
-pub(crate) trait HasName {
-    /// Its name.
-    ghost name: { Self → Option (List ℕ) };
-
-    /// Its name, where it has one.
-    fn name(&self) -> Option<&str>
-        ensures { text_seen result ≡ name self.now };
-}
-
-/// The way to see each value as an item with its own name.
-#[derive(Clone, Copy)]
-pub(crate) struct Own;
-
-impl<T: HasName> NameItems<T> for Own {
-    ghost Entry = { List ℕ };
-
-    ghost items = { λ _ x. T.name x ∷ [] };
-
-    ghost entry = { name_entry };
-
-    ghost in_range = { InRangeNameEntry };
-
-    fn put<S: Sink>(&self, part: &T, position: u64, out: &mut S) -> Result<u64, Refusal> {
-        put_name(position, part.name(), out)
-    }
-}
-
-impl<T: HasName> CountItems<T> for Own {
-    fn count(&self, part: &T) -> u64 {
-        u64::from(part.name().is_some())
-    }
 }
 
 /// Appends the name of an item at its position, where it has one, and answers the position behind it.

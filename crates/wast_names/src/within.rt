@@ -14,7 +14,8 @@ ghost use Rattle.wast_names.specs.WithinItems.{param_name, local_name, lists_in_
 use crate::arities::{Arities, Checkpoints, FieldTypes, TypesOf};
 use crate::imported::{count_imported, put_imported};
 use crate::name_lists::{Listed, count_found, no_names, none, put_found};
-use crate::name_maps::{CountItems, NameItems, Own, any_named, count_each, put_each};
+use crate::name_maps::{CountItems, NameItems, count_each, put_each};
+use crate::names_each::any_named;
 use wasm_ops::{Refusal, Sink};
 use wast_base::Index;
 use wast_nodes::{
@@ -101,7 +102,7 @@ fn locals_behind<'b, 'a, A: Arities>(
         let params = inline.params.as_slice();
         return Listed::Locals(params, params.len() as u64, locals);
     }
-    if !any_named(&Own, locals) {
+    if !any_named(locals) {
         return Listed::Fields(none());
     }
     match arity_at(arities, &ty.index) {
@@ -141,7 +142,7 @@ fn instrs_in<'b, 'a>(kind: &'b FuncKind<'a>) -> &'b [Instruction<'a>]
 fn labels_of<'b, 'a>(func: &'b Func<'a>) -> Listed<'b, 'a>
     ensures { names_listed result ≡ named_from 0 (labels_in func.now.kind) }
 {
-    Listed::Labels(instrs_in(&func.kind))
+    Listed::Labels(0, instrs_in(&func.kind))
 }
 
 /// The list that stands within a function.
