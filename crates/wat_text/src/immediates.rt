@@ -1,0 +1,391 @@
+//! Instructions with immediates of their own.
+
+use crate::reader::Reader;
+use wast_tree::{
+    ArrayCopy, ArrayInit, ArrayNewData, ArrayNewElem, ArrayNewFixed, BrOnCast, BrOnCastDescEq,
+    BrOnCastDescEqFail, BrOnCastFail, BrTableIndices, CallIndirect, ContBind, Handle, Index,
+    Instruction, LoadOrStoreLane, MemArg, MemArgOrdering, MemArgTarget, MemoryCopy, MemoryInit,
+    Ordered, Ordering, RefCast, RefCastDescEq, RefTest, Resume, ResumeTable, ResumeThrow,
+    ResumeThrowRef, SelectTypes, Seq, StructAccess, Switch, TableArg, TableCopy, TableInit,
+};
+use wat_tokens::{AtomicOp, Key, OwnOp, TextFault, Token, Word, unsigned64};
+
+impl<'a> Reader<'a> {
+    /// What stands behind `=` in a word that begins so, where one does.
+    fn assigned(&mut self, name: &'static str) -> Option<&'a str> {
+        match self.look(0) {
+            Some(Token::Other(text)) => {
+                let value = text.strip_prefix(name)?;
+                self.skip();
+                Some(value)
+            }
+            _ => None,
+        }
+    }
+
+    /// `offset=4`, where it stands there, or else 0.
+    fn offset(&mut self) -> u64 {
+        let place = self.place();
+        match self.assigned("offset=") {
+            Some(text) => self.value(place, unsigned64(text), 0),
+            None => 0,
+        }
+    }
+
+    /// `align=4`, where it stands there.
+    fn align(&mut self, natural: u64) -> u64 {
+        let place = self.place();
+        let Some(text) = self.assigned("align=") else {
+            return natural;
+        };
+        let align = self.value(place, unsigned64(text), 1);
+        if !align.is_power_of_two() {
+            self.fail_at(place, TextFault::Alignment);
+        }
+        align
+    }
+
+    /// An ordering, where one stands there (threads).
+    fn ordering(&mut self) -> Option<Ordering> {
+        if self.accept(Key::SeqCst) {
+            return Some(Ordering::SeqCst);
+        }
+        if self.accept(Key::AcqRel) {
+            return Some(Ordering::AcqRel);
+        }
+        None
+    }
+
+    /// A memory argument (text format, memory instructions).
+    pub fn mem_arg(&mut self, natural: u64) -> MemArg<'a> {
+        let ordering = self.ordering().map(MemArgOrdering::Op);
+        let memory = self.index_or_zero();
+        self.mem_arg_of(natural, memory, ordering)
+    }
+
+    /// What stands of a memory argument behind its memory.
+    fn mem_arg_of(
+        &mut self,
+        natural: u64,
+        memory: Index<'a>,
+        ordering: Option<MemArgOrdering>,
+    ) -> MemArg<'a> {
+        let offset = self.offset();
+        let align = self.align(natural);
+        MemArg {
+            align,
+            offset,
+            target: MemArgTarget::Memory(memory),
+            ordering,
+        }
+    }
+
+    /// Whether the number that comes next is that of a lane, and not that of a memory.
+    fn is_lane_alone(&self) -> bool {
+        let is_assigned = match self.look(1) {
+            Some(Token::Other(text)) => text.starts_with("offset=") || text.starts_with("align="),
+            _ => false,
+        };
+        self.is_number(0) && !self.is_number(1) && !is_assigned
+    }
+
+    /// A memory argument and the number of a lane (text format, vector instructions).
+    pub fn load_or_store_lane(&mut self, natural: u64) -> LoadOrStoreLane<'a> {
+        let memarg = if self.is_lane_alone() {
+            let place = self.place_before();
+            MemArg::new(Index::Num(0, place), natural, 0)
+        } else {
+            self.mem_arg(natural)
+        };
+        let lane = self.lane_arg();
+        LoadOrStoreLane { memarg, lane }
+    }
+
+    /// A type and a field of a struct (text format, aggregate instructions).
+    pub fn struct_access(&mut self) -> StructAccess<'a> {
+        let owner = self.index();
+        let field = self.index();
+        StructAccess { owner, field }
+    }
+
+    /// An atomic access of what is no memory (shared-everything threads).
+    pub fn atomic(&mut self, op: AtomicOp) -> Instruction<'a> {
+        let ordering = match self.ordering() {
+            Some(ordering) => ordering,
+            None => Ordering::SeqCst,
+        };
+        match op {
+            AtomicOp::Global => {
+                let inner = self.index();
+                Instruction::GlobalAtomic(Ordered { ordering, inner })
+            }
+            AtomicOp::Table => {
+                let dst = self.index_or_zero();
+                let inner = TableArg { dst };
+                Instruction::TableAtomic(Ordered { ordering, inner })
+            }
+            AtomicOp::Struct => {
+                let inner = self.struct_access();
+                Instruction::StructAtomic(Ordered { ordering, inner })
+            }
+            AtomicOp::Array => {
+                let inner = self.index();
+                Instruction::ArrayAtomic(Ordered { ordering, inner })
+            }
+        }
+    }
+
+    /// `br_table` and its labels (text format, control instructions).
+    fn br_table(&mut self) -> Instruction<'a> {
+        let mut labels = Seq::new(self.alloc);
+        let mut default = self.index();
+        for _ in 0..self.left() {
+            match self.optional_index() {
+                Some(index) => {
+                    self.push_index(&mut labels, default);
+                    default = index;
+                }
+                None => break,
+            }
+        }
+        Instruction::br_table(BrTableIndices { labels, default })
+    }
+
+    /// The table and the type of an indirect call, in either order (text format, control instructions).
+    fn call_indirect(&mut self) -> CallIndirect<'a> {
+        let place = self.place_before();
+        let before = self.optional_index();
+        let ty = self.type_use(false);
+        let table = match before {
+            Some(table) => table,
+            None => match self.optional_index() {
+                Some(table) => table,
+                None => Index::Num(0, place),
+            },
+        };
+        CallIndirect { table, ty }
+    }
+
+    /// `select` and the types of what it gives (text format, parametric instructions).
+    fn select(&mut self) -> Instruction<'a> {
+        if !self.is_form(Key::Result) {
+            return Instruction::select(SelectTypes { tys: None });
+        }
+        let mut values = Seq::new(self.alloc);
+        for _ in 0..self.left() {
+            if !self.accept_form(Key::Result) {
+                break;
+            }
+            self.values(&mut values);
+            self.close();
+        }
+        Instruction::select(SelectTypes { tys: Some(values) })
+    }
+
+    /// One index or two: where one stands there, the first is 0, at the place of the token before.
+    fn one_or_two(&mut self) -> (Index<'a>, Index<'a>) {
+        let place = self.place_before();
+        let first = self.index();
+        match self.optional_index() {
+            Some(second) => (first, second),
+            None => (Index::Num(0, place), first),
+        }
+    }
+
+    /// No index or two: where none stands there, both are 0, at the place of the token before.
+    fn none_or_two(&mut self) -> (Index<'a>, Index<'a>) {
+        let place = self.place_before();
+        match self.optional_index() {
+            Some(first) => (first, self.index()),
+            None => (Index::Num(0, place), Index::Num(0, place)),
+        }
+    }
+
+    /// A handler of a resumption (stack switching).
+    fn handle(&mut self) -> Handle<'a> {
+        let tag = self.index();
+        if let Some(Word::Own(OwnOp::switch)) = self.word(0) {
+            self.skip();
+            return Handle::OnSwitch { tag };
+        }
+        let label = self.index();
+        Handle::OnLabel { tag, label }
+    }
+
+    /// The handlers of a resumption (stack switching).
+    fn resume_table(&mut self) -> ResumeTable<'a> {
+        let mut handlers = Seq::new(self.alloc);
+        for _ in 0..self.left() {
+            if !self.accept_form(Key::On) {
+                break;
+            }
+            let pushed = handlers.push(self.handle());
+            self.took(pushed);
+            self.close();
+        }
+        ResumeTable { handlers }
+    }
+
+    /// An instruction on tables or memories with two operands that are indices.
+    fn two_indices(&mut self, op: OwnOp) -> Instruction<'a> {
+        match op {
+            OwnOp::table_init => {
+                let (table, elem) = self.one_or_two();
+                Instruction::table_init(TableInit { table, elem })
+            }
+            OwnOp::table_copy => {
+                let (dst, src) = self.none_or_two();
+                Instruction::table_copy(TableCopy { dst, src })
+            }
+            OwnOp::memory_init => {
+                let (mem, segment) = self.one_or_two();
+                Instruction::memory_init(MemoryInit { segment, mem })
+            }
+            _ => {
+                let (dst, src) = self.none_or_two();
+                Instruction::memory_copy(MemoryCopy { src, dst })
+            }
+        }
+    }
+
+    /// An instruction on arrays that has an index beside the type.
+    fn array(&mut self, op: OwnOp) -> Instruction<'a> {
+        let array = self.index();
+        if let OwnOp::array_new_fixed = op {
+            let length = self.number32();
+            return Instruction::array_new_fixed(ArrayNewFixed { array, length });
+        }
+        let other = self.index();
+        match op {
+            OwnOp::array_new_data => Instruction::array_new_data(ArrayNewData {
+                array,
+                data_idx: other,
+            }),
+            OwnOp::array_new_elem => Instruction::array_new_elem(ArrayNewElem {
+                array,
+                elem_idx: other,
+            }),
+            OwnOp::array_init_data => Instruction::array_init_data(ArrayInit {
+                array,
+                segment: other,
+            }),
+            OwnOp::array_init_elem => Instruction::array_init_elem(ArrayInit {
+                array,
+                segment: other,
+            }),
+            _ => Instruction::array_copy(ArrayCopy {
+                dest_array: array,
+                src_array: other,
+            }),
+        }
+    }
+
+    /// A branch by a cast (text format, control instructions).
+    fn cast_branch(&mut self, op: OwnOp) -> Instruction<'a> {
+        let label = self.index();
+        let from_type = self.ref_type();
+        let to_type = self.ref_type();
+        match op {
+            OwnOp::br_on_cast => Instruction::br_on_cast(BrOnCast {
+                label,
+                from_type,
+                to_type,
+            }),
+            OwnOp::br_on_cast_fail => Instruction::br_on_cast_fail(BrOnCastFail {
+                label,
+                from_type,
+                to_type,
+            }),
+            OwnOp::br_on_cast_desc_eq => Instruction::br_on_cast_desc_eq(BrOnCastDescEq {
+                label,
+                from_type,
+                to_type,
+            }),
+            _ => Instruction::br_on_cast_desc_eq_fail(BrOnCastDescEqFail {
+                label,
+                from_type,
+                to_type,
+            }),
+        }
+    }
+
+    /// An instruction on continuations (stack switching).
+    fn resumption(&mut self, op: OwnOp) -> Instruction<'a> {
+        let type_index = self.index();
+        match op {
+            OwnOp::cont_bind => Instruction::cont_bind(ContBind {
+                argument_index: type_index,
+                result_index: self.index(),
+            }),
+            OwnOp::switch => Instruction::switch(Switch {
+                type_index,
+                tag_index: self.index(),
+            }),
+            OwnOp::resume => {
+                let table = self.resume_table();
+                Instruction::resume(Resume { type_index, table })
+            }
+            OwnOp::resume_throw => {
+                let tag_index = self.index();
+                let table = self.resume_table();
+                Instruction::resume_throw(ResumeThrow {
+                    type_index,
+                    tag_index,
+                    table,
+                })
+            }
+            _ => {
+                let table = self.resume_table();
+                Instruction::resume_throw_ref(ResumeThrowRef { type_index, table })
+            }
+        }
+    }
+
+    /// An instruction with immediates of its own (text format, instructions).
+    pub fn own(&mut self, op: OwnOp) -> Instruction<'a> {
+        match op {
+            OwnOp::else_ => Instruction::else_(self.id()),
+            OwnOp::end_ => Instruction::end_(self.id()),
+            OwnOp::br_table => self.br_table(),
+            OwnOp::call_indirect => Instruction::call_indirect(self.call_indirect()),
+            OwnOp::return_call_indirect => {
+                Instruction::return_call_indirect(self.call_indirect())
+            }
+            OwnOp::select => self.select(),
+            OwnOp::cont_bind
+            | OwnOp::switch
+            | OwnOp::resume
+            | OwnOp::resume_throw
+            | OwnOp::resume_throw_ref => self.resumption(op),
+            OwnOp::br_on_cast
+            | OwnOp::br_on_cast_fail
+            | OwnOp::br_on_cast_desc_eq
+            | OwnOp::br_on_cast_desc_eq_fail => self.cast_branch(op),
+            OwnOp::table_init | OwnOp::table_copy | OwnOp::memory_init | OwnOp::memory_copy =>
+                self.two_indices(op),
+            OwnOp::i32_const => Instruction::i32_const(self.integer32()),
+            OwnOp::i64_const => Instruction::i64_const(self.integer64()),
+            OwnOp::f32_const => Instruction::f32_const(self.single()),
+            OwnOp::f64_const => Instruction::f64_const(self.double()),
+            OwnOp::v128_const => Instruction::v128_const(self.vector()),
+            OwnOp::i8x16_shuffle => self.shuffle(),
+            OwnOp::atomic_fence => Instruction::atomic_fence(self.ordering()),
+            OwnOp::ref_null => Instruction::ref_null(self.heap_type()),
+            OwnOp::ref_test => Instruction::ref_test(RefTest {
+                rt: self.ref_type(),
+            }),
+            OwnOp::ref_cast => Instruction::ref_cast(RefCast {
+                rt: self.ref_type(),
+            }),
+            OwnOp::ref_cast_desc_eq => Instruction::ref_cast_desc_eq(RefCastDescEq {
+                rt: self.ref_type(),
+            }),
+            OwnOp::array_new_fixed
+            | OwnOp::array_new_data
+            | OwnOp::array_new_elem
+            | OwnOp::array_copy
+            | OwnOp::array_init_data
+            | OwnOp::array_init_elem => self.array(op),
+        }
+    }
+}

@@ -1,0 +1,18 @@
+//! Reads modules in the text format of WebAssembly into the tree.
+//!
+//! A call takes memory only where its text says so. A call that can fail says when, and with what.
+#![tactic(auto)]
+
+mod bodies;
+mod customs;
+mod fields;
+mod immediates;
+mod modules;
+mod operators;
+mod reader;
+mod segments;
+mod types;
+mod vectors;
+
+pub use modules::{TextModule, read};
+pub use wat_tokens::{Strings, TextError, TextFault};
