@@ -1,0 +1,92 @@
+//! A text is read and encoded.
+
+ghost use Rattle.std.specs.Prelude.{◌≡◌};
+ghost use Rattle.wast_core.specs.Modules.{IsReady};
+
+use std::alloc::Global;
+use std::fmt;
+use wast_core::{EncodeOptions, Module, ModuleKind, discard_module};
+use wast_tree::{Error, Gensym, Span};
+use wat_text::{Strings, TextError, TextFault, TextModule, read};
+
+/// Why a text has no bytes. It is printed as what is wrong, without the place.
+#[derive(Clone, Copy, Debug, PartialEq, Eq)]
+pub enum Refused<'a> {
+    /// It is no module in the text format, or one that is not well formed.
+    Text(TextError),
+    /// Resolving or encoding its module answers this.
+    Module(Error<'a>),
+}
+
+impl Refused<'_> {
+    /// The place in the text, where there is one. It takes no memory.
+    pub fn span(&self) -> Option<Span> {
+        match self {
+            Refused::Text(error) => Some(error.span),
+            Refused::Module(error) => error.span(),
+        }
+    }
+}
+
+impl fmt::Display for Refused<'_> {
+    fn fmt<W: fmt::Write>(&self, f: &mut fmt::Formatter<W>) -> fmt::Result {
+        match self {
+            Refused::Text(error) => write!(f, "{error}"),
+            Refused::Module(error) => write!(f, "{error}"),
+        }
+    }
+}
+
+/// The bytes of a module that is ready.
+fn encoded<'a>(
+    alloc: Global,
+    module: &mut Module<'a>,
+    gensym: &mut Gensym,
+) -> Result<Vec<u8>, Refused<'a>>
+    requires { IsReady «module».old gensym.old }
+{
+    let answer = EncodeOptions::new().encode_module(alloc, module, gensym);
+    match answer {
+        Ok(bytes) => Ok(bytes),
+        Err(error) => Err(Refused::Module(error)),
+    }
+}
+
+/// The bytes of a module that was read. No text has a generated id.
+fn encoded_text<'a>(alloc: Global, text: TextModule<'a>) -> Result<Vec<u8>, Refused<'a>> {
+    let TextModule {
+        span,
+        id,
+        name,
+        fields,
+    } = text;
+    let kind = ModuleKind::Text(fields);
+    let mut module = Module {
+        span,
+        id,
+        name,
+        kind,
+    };
+    let mut gensym = Gensym::new(1);
+    let is_ready = module.well_formed() && module.gensym_bound() < gensym.peek();
+    let answer = match is_ready {
+        true => encoded(alloc, &mut module, &mut gensym),
+        false => Err(Refused::Text(TextError::new(span, TextFault::IllFormed(6)))),
+    };
+    discard_module(module);
+    answer
+}
+
+/// Reads a module in the text format, resolves it, and gives its bytes (text format, modules; binary format, modules). Strings
+/// with escapes are kept in `strings`. It takes memory. Else it answers why there are no bytes: what
+/// [`read`](wat_text::read) or `encode_module` of wast_core answers.
+pub fn encode_text<'a>(
+    alloc: Global,
+    text: &'a str,
+    strings: &'a Strings,
+) -> Result<Vec<u8>, Refused<'a>> {
+    match read(alloc, text, strings) {
+        Ok(module) => encoded_text(alloc, module),
+        Err(error) => Err(Refused::Text(error)),
+    }
+}
