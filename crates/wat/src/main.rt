@@ -1,20 +1,23 @@
 //! Turns a module in the text format into its bytes.
 //!
-//! It reads the file that an argument names, or else standard input, and writes the bytes to standard output, or one line of
-//! them in hexadecimal with `--hex`. Where there are none it tells why on standard error, and ends with status 1.
+//! It reads the file that an argument names, or else standard input, and writes the bytes to standard output; with `--hex` one
+//! line of them in hexadecimal, and with `--names` what the ids of the text denote in their place. Where there are none it tells
+//! why on standard error, and ends with status 1.
 #![tactic(auto)]
 
 mod diagnostics;
+mod names;
 mod options;
 
 use diagnostics::print_diagnostic;
-use options::Options;
+use names::print_names;
+use options::{Options, Output};
 use std::alloc::Global;
 use std::fs::File;
 use std::io::{self, Read, Write};
 use std::process::ExitCode;
 use std::{env, str};
-use wat_bytes::encode_text;
+use wat_bytes::{Refused, encode_text, names_of_text};
 use wat_text::Strings;
 
 /// What is called so on standard error, where no file is named.
@@ -37,8 +40,8 @@ fn input(rt: &HostRuntime, options: &Options) -> io::Result<Vec<u8>> {
 }
 
 /// Writes the bytes of a module.
-fn output(rt: &HostRuntime, options: &Options, bytes: &[u8]) -> io::Result<()> {
-    if options.is_hex {
+fn print_bytes(rt: &HostRuntime, options: &Options, bytes: &[u8]) -> io::Result<()> {
+    if let Output::Hex = options.output {
         let line = hex::encode(rt.alloc(), bytes)?;
         return println!(rt; "{line}");
     }
@@ -47,25 +50,57 @@ fn output(rt: &HostRuntime, options: &Options, bytes: &[u8]) -> io::Result<()> {
     writer.flush()
 }
 
-/// Writes the bytes of the module of a text, or why there are none. It answers whether there are.
-fn convert(rt: &HostRuntime, options: &Options, text: &str) -> io::Result<bool> {
-    let strings = Strings::new(rt.alloc());
-    match encode_text(rt.alloc(), text, &strings) {
+/// Writes the bytes of the module of a text, and answers why there are none.
+fn convert_to_bytes<'a>(
+    rt: &HostRuntime,
+    options: &Options,
+    text: &'a str,
+    strings: &'a Strings,
+) -> io::Result<Option<Refused<'a>>> {
+    match encode_text(rt.alloc(), text, strings) {
         Ok(bytes) => {
-            output(rt, options, bytes.as_slice())?;
-            Ok(true)
+            print_bytes(rt, options, bytes.as_slice())?;
+            Ok(None)
         }
-        Err(refused) => {
-            print_diagnostic(rt, rt.alloc(), options.name(INPUT), text, &refused)?;
-            Ok(false)
-        }
+        Err(refused) => Ok(Some(refused)),
     }
 }
 
-/// The whole run: whether the bytes of a module were written.
+/// Writes what the ids of a text denote, and answers why they denote nothing.
+fn convert_to_names<'a>(
+    rt: &HostRuntime,
+    text: &'a str,
+    strings: &'a Strings,
+) -> io::Result<Option<Refused<'a>>> {
+    match names_of_text(rt.alloc(), text, strings) {
+        Ok(names) => {
+            print_names(rt, names.as_slice())?;
+            Ok(None)
+        }
+        Err(refused) => Ok(Some(refused)),
+    }
+}
+
+/// Writes what is asked for of a text, or why there is nothing to write. It answers whether there is.
+fn convert(rt: &HostRuntime, options: &Options, text: &str) -> io::Result<bool> {
+    let strings = Strings::new(rt.alloc());
+    let refused = match options.output {
+        Output::Names => convert_to_names(rt, text, &strings)?,
+        Output::Bytes | Output::Hex => convert_to_bytes(rt, options, text, &strings)?,
+    };
+    match refused {
+        Some(refused) => {
+            print_diagnostic(rt, rt.alloc(), options.name(INPUT), text, &refused)?;
+            Ok(false)
+        }
+        None => Ok(true),
+    }
+}
+
+/// The whole run: whether what was asked for was written.
 fn run(rt: &HostRuntime) -> io::Result<bool> {
     let Some(options) = Options::new(env::args(rt)?) else {
-        eprintln!(rt; "usage: wat [--hex] [FILE]")?;
+        eprintln!(rt; "usage: wat [--hex | --names] [FILE]")?;
         return Ok(false);
     };
     let bytes = input(rt, &options)?;

@@ -2,13 +2,24 @@
 
 use std::env::Args;
 
+/// What is written of a module.
+#[derive(Clone, Copy)]
+pub(crate) enum Output {
+    /// Its bytes.
+    Bytes,
+    /// Its bytes in hexadecimal.
+    Hex,
+    /// What its ids denote.
+    Names,
+}
+
 /// What the arguments ask for.
 #[derive(Drop)]
 pub(crate) struct Options {
     /// The file to read, where one is named.
     pub file: Option<String>,
-    /// Whether the bytes are written in hexadecimal.
-    pub is_hex: bool,
+    /// What is written.
+    pub output: Output,
 }
 
 impl Options {
@@ -16,7 +27,7 @@ impl Options {
     pub fn new(arguments: Args) -> Option<Options> {
         let mut options = Options {
             file: None,
-            is_hex: false,
+            output: Output::Bytes,
         };
         for argument in arguments.skip(1) {
             options = options.with(argument)?;
@@ -24,13 +35,21 @@ impl Options {
         Some(options)
     }
 
+    /// With this in the place of the bytes; `None` where something else was asked for before.
+    fn writing(self, output: Output) -> Option<Options> {
+        match self.output {
+            Output::Bytes => Some(Options { output, ..self }),
+            Output::Hex | Output::Names => None,
+        }
+    }
+
     /// With one more argument.
     fn with(self, argument: String) -> Option<Options> {
         if argument.as_str() == "--hex" {
-            return Some(Options {
-                is_hex: true,
-                ..self
-            });
+            return self.writing(Output::Hex);
+        }
+        if argument.as_str() == "--names" {
+            return self.writing(Output::Names);
         }
         if self.file.is_some() || argument.as_str().starts_with('-') {
             return None;

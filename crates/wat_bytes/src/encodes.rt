@@ -52,8 +52,8 @@ fn encoded<'a>(
     }
 }
 
-/// The bytes of a module that was read. No text has a generated id.
-fn encoded_text<'a>(alloc: Global, text: TextModule<'a>) -> Result<Vec<u8>, Refused<'a>> {
+/// The module that was read.
+pub(crate) fn module_of<'a>(text: TextModule<'a>) -> Module<'a> {
     let TextModule {
         span,
         id,
@@ -61,17 +61,22 @@ fn encoded_text<'a>(alloc: Global, text: TextModule<'a>) -> Result<Vec<u8>, Refu
         fields,
     } = text;
     let kind = ModuleKind::Text(fields);
-    let mut module = Module {
+    Module {
         span,
         id,
         name,
         kind,
-    };
+    }
+}
+
+/// The bytes of a module that was read. No text has a generated id.
+fn encoded_text<'a>(alloc: Global, text: TextModule<'a>) -> Result<Vec<u8>, Refused<'a>> {
+    let mut module = module_of(text);
     let mut gensym = Gensym::new(1);
     let is_ready = module.well_formed() && module.gensym_bound() < gensym.peek();
     let answer = match is_ready {
         true => encoded(alloc, &mut module, &mut gensym),
-        false => Err(Refused::Text(TextError::new(span, TextFault::IllFormed(6)))),
+        false => Err(Refused::Text(TextError::new(module.span, TextFault::IllFormed(6)))),
     };
     discard_module(module);
     answer
