@@ -18,11 +18,11 @@ fn print_refusal(rt: &impl Print, refused: Refused<'_>) -> io::Result<()> {
         };
     }
     match refused.span() {
-        Some(span) => {
+        Some(span) if !matches!(refused, Refused::Uncovered(_)) => {
             let offset = span.offset;
             println!(rt; "fault at {offset}: {refused}")
         }
-        None => println!(rt; "refused: {refused}"),
+        _ => println!(rt; "refused: {refused}"),
     }
 }
 

@@ -6,7 +6,7 @@ ghost use Rattle.wast_core.specs.Modules.{IsReady};
 use std::alloc::Global;
 use std::fmt;
 use wast_core::{EncodeOptions, Module, ModuleKind, discard_module};
-use wast_tree::{Error, Gensym, Span};
+use wast_tree::{Error, Fault, Gensym, Span, Uncovered, first_uncovered};
 use wat_text::{Strings, TextError, TextFault, TextModule, read};
 
 /// Why a text has no bytes. It is printed as what is wrong, without the place.
@@ -16,6 +16,8 @@ pub enum Refused<'a> {
     Text(TextError),
     /// Resolving or encoding its module answers this.
     Module(Error<'a>),
+    /// Its module resolves, and has a form that no encoder covers.
+    Uncovered(Uncovered),
 }
 
 impl Refused<'_> {
@@ -24,6 +26,7 @@ impl Refused<'_> {
         match self {
             Refused::Text(error) => Some(error.span),
             Refused::Module(error) => error.span(),
+            Refused::Uncovered(uncovered) => Some(uncovered.span),
         }
     }
 }
@@ -33,7 +36,32 @@ impl fmt::Display for Refused<'_> {
         match self {
             Refused::Text(error) => write!(f, "{error}"),
             Refused::Module(error) => write!(f, "{error}"),
+            Refused::Uncovered(uncovered) => {
+                let form = uncovered.form;
+                write!(f, "uncovered form: {form}")
+            }
         }
+    }
+}
+
+/// The first form of a module that no encoder covers. It is lent the module to change, and leaves it: where it was lent to be
+/// read, the prover would compare the type of the whole tree with itself.
+fn first_form(module: &mut Module<'_>) -> Option<Uncovered> {
+    match &module.kind {
+        ModuleKind::Text(fields) => first_uncovered(fields.as_slice()),
+        ModuleKind::Binary(_) | ModuleKind::Refused(_) => None,
+    }
+}
+
+/// Why a module has no bytes, with the place of a form that no encoder covers.
+fn refusal<'a>(module: &mut Module<'_>, error: Error<'a>) -> Refused<'a> {
+    let first = match error.fault() {
+        Fault::Uncovered(_) => first_form(module),
+        _ => None,
+    };
+    match first {
+        Some(uncovered) => Refused::Uncovered(uncovered),
+        None => Refused::Module(error),
     }
 }
 
@@ -48,7 +76,7 @@ fn encoded<'a>(
     let answer = EncodeOptions::new().encode_module(alloc, module, gensym);
     match answer {
         Ok(bytes) => Ok(bytes),
-        Err(error) => Err(Refused::Module(error)),
+        Err(error) => Err(refusal(module, error)),
     }
 }
 
@@ -84,7 +112,7 @@ fn encoded_text<'a>(alloc: Global, text: TextModule<'a>) -> Result<Vec<u8>, Refu
 
 /// Reads a module in the text format, resolves it, and gives its bytes (text format, modules; binary format, modules). Strings
 /// with escapes are kept in `strings`. It takes memory. Else it answers why there are no bytes: what
-/// [`read`](wat_text::read) or `encode_module` of wast_core answers.
+/// [`read`](wat_text::read) or `encode_module` of wast_core answers, E11 with the nearest place.
 pub fn encode_text<'a>(
     alloc: Global,
     text: &'a str,

@@ -5,6 +5,8 @@
 
 mod encodes;
 mod names;
+#[cfg(test)]
+mod tests;
 
 pub use encodes::{Refused, encode_text};
 pub use names::{Denoted, names_of_text};
