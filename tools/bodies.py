@@ -1,7 +1,16 @@
 """Texts of one function or one expression that is wrong or at an edge, with their answers, for `tools/texts`.
 
-In a text `^` stands before what is told, and in its answer for that place. The bytes were told by hand.
+In a text `^` stands before what is told, and in its answer for that place. The bytes were told by hand; those of instructions that
+have no immediates but lanes and memory arguments are the keys of the table in `tools/ops`, which also says what no encoder covers.
 """
+
+import itertools
+import pathlib
+import re
+
+from printing import natural
+
+OPS = (pathlib.Path(__file__).resolve().parent / "ops").read_text()
 
 TOLD = r"""
 (module (func br ^$a))	fault at ^: unknown label: failed to find name `$a`
@@ -151,6 +160,73 @@ def edges():
     yield "atomic.fence seq_cst", "fe0300"
 
 
+def listed(text):
+    """The names of `A.{x y}`."""
+    base, names = re.fullmatch(r"([\w.]*?)(?:\{(.*)\})?", text).groups()
+    return [base + name for name in names.split()] if names else [base]
+
+
+def leb(n):
+    return bytes([n]) if n < 128 else bytes([n & 127 | 128]) + leb(n >> 7)
+
+
+def row(kind, key, name):
+    """An instruction of the table, and its bytes."""
+    code = bytes([key]) if key < 1 << 16 else bytes([key >> 16]) + leb(key & 0xFFFF)
+    if kind in ("Mem", "MemLane"):
+        align = natural(name) if kind == "Mem" else int(re.search(r"\d+(?=_lane)", name)[0]) // 8
+        code += bytes([align.bit_length() - 1, 0])
+    is_lane = kind in ("Lane", "MemLane")
+    return name + " 1" * is_lane, code + b"\1" * is_lane
+
+
+def table():
+    """The rows of the table, those with one first word together."""
+    rows = []
+    for line in re.search(r'^TABLE = """\n(.*?)\n"""', OPS, re.S | re.M)[1].split("\n"):
+        kind, key, names = line.split(" ", 2)
+        rows += [row(kind, int(key, 16) + n, name) for n, name in enumerate(listed(names))]
+    rows.sort(key=lambda row: row[0].split(".")[0])
+    for _, group in itertools.groupby(rows, key=lambda row: row[0].split(".")[0]):
+        group = list(group)
+        yield " ".join(text for text, _ in group), b"".join(code for _, code in group).hex()
+
+
+# What stands behind the names of instructions that no encoder covers, by their kinds, and the forms.
+UNCOVERED = {
+    "GlobalAtomic": ("seq_cst 0", "atomic of a global, table, struct or array"),
+    "TableAtomic": ("acq_rel 0", "atomic of a global, table, struct or array"),
+    "StructAtomic": ("seq_cst 0 0", "atomic of a global, table, struct or array"),
+    "ArrayAtomic": ("acq_rel 0", "atomic of a global, table, struct or array"),
+    "Beyond": ("", "instruction beyond the table"),
+}
+OTHERS_UNCOVERED = {
+    "ref.get_desc 0": "descriptor or exact type",
+    "struct.new_desc 0": "descriptor or exact type",
+    "struct.new_default_desc 0": "descriptor or exact type",
+    "ref.cast_desc_eq (ref any)": "descriptor or exact type",
+    "br_on_cast_desc_eq 0 (ref any) (ref null any)": "descriptor or exact type",
+    "br_on_cast_desc_eq_fail 0 (ref any) (ref null any)": "descriptor or exact type",
+    "cont.new 0": "stack switching",
+    "cont.bind 0 0": "stack switching",
+    "suspend 0": "stack switching",
+    "switch 0 0": "stack switching",
+    "resume 0 (on 0 0) (on 0 switch)": "stack switching",
+    "resume_throw 0 0 (on 0 0)": "stack switching",
+    "resume_throw_ref 0": "stack switching",
+    "memory.discard": "instruction beyond the table",
+}
+
+
+def uncovered():
+    for line in re.search(r'^OTHERS = """\n(.*?)\n"""', OPS, re.S | re.M)[1].split("\n"):
+        kind, names = line.split(" ", 1)
+        if kind in UNCOVERED:
+            behind, form = UNCOVERED[kind]
+            yield from ((f"{name} {behind}".strip(), form) for name in listed(names))
+    yield from OTHERS_UNCOVERED.items()
+
+
 def lines(body):
     """All texts with their answers; `body` makes a module of the bytes of instructions."""
     yield from told()
@@ -160,6 +236,10 @@ def lines(body):
         yield f"(module (func {text}))", answer.replace("0a08010600", "0c01000a08010600") if wants_count else answer
     for text, code in edges():
         yield f"(module (func {text}))", body(bytes.fromhex(code))
+    for text, code in table():
+        yield f"(module (func {text}))", body(bytes.fromhex(code))
+    for text, form in uncovered():
+        yield f"(module (func {text}))", f"refused: uncovered form: {form}"
     for align in (0, 3, 5, 6, 7, (1 << 64) - 1):
         yield f"(module (func i32.atomic.load align={align}))", "ill formed: 1"
     many = "(module (type (func (param" + " i32" * 300 + "))) (func (type 0) (local $l i32) local.get "
