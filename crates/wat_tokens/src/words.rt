@@ -36,10 +36,10 @@ pub enum Word {
     Key(Key),
 }
 
-/// What the table says of a name.
-fn find<T: Copy>(rows: &[(&'static str, T)], name: &str) -> Option<T> {
+/// What a table says of a name.
+fn find(rows: &[(&'static str, Word)], name: &str) -> Option<Word> {
     for row in rows {
-        if row.0 == name {
+        if row.0.len() == name.len() && row.0 == name {
             return Some(row.1);
         }
     }
@@ -484,1326 +484,1719 @@ pub enum Key {
     Absolute,
 }
 
-static I32_PLAIN: [(&str, I32Op); 41] = [
-    ("eqz", I32Op::i32_eqz),
-    ("eq", I32Op::i32_eq),
-    ("ne", I32Op::i32_ne),
-    ("lt_s", I32Op::i32_lt_s),
-    ("lt_u", I32Op::i32_lt_u),
-    ("gt_s", I32Op::i32_gt_s),
-    ("gt_u", I32Op::i32_gt_u),
-    ("le_s", I32Op::i32_le_s),
-    ("le_u", I32Op::i32_le_u),
-    ("ge_s", I32Op::i32_ge_s),
-    ("ge_u", I32Op::i32_ge_u),
-    ("clz", I32Op::i32_clz),
-    ("ctz", I32Op::i32_ctz),
-    ("popcnt", I32Op::i32_popcnt),
-    ("add", I32Op::i32_add),
-    ("sub", I32Op::i32_sub),
-    ("mul", I32Op::i32_mul),
-    ("div_s", I32Op::i32_div_s),
-    ("div_u", I32Op::i32_div_u),
-    ("rem_s", I32Op::i32_rem_s),
-    ("rem_u", I32Op::i32_rem_u),
-    ("and", I32Op::i32_and),
-    ("or", I32Op::i32_or),
-    ("xor", I32Op::i32_xor),
-    ("shl", I32Op::i32_shl),
-    ("shr_s", I32Op::i32_shr_s),
-    ("shr_u", I32Op::i32_shr_u),
-    ("rotl", I32Op::i32_rotl),
-    ("rotr", I32Op::i32_rotr),
-    ("wrap_i64", I32Op::i32_wrap_i64),
-    ("trunc_f32_s", I32Op::i32_trunc_f32_s),
-    ("trunc_f32_u", I32Op::i32_trunc_f32_u),
-    ("trunc_f64_s", I32Op::i32_trunc_f64_s),
-    ("trunc_f64_u", I32Op::i32_trunc_f64_u),
-    ("reinterpret_f32", I32Op::i32_reinterpret_f32),
-    ("extend8_s", I32Op::i32_extend8_s),
-    ("extend16_s", I32Op::i32_extend16_s),
-    ("trunc_sat_f32_s", I32Op::i32_trunc_sat_f32_s),
-    ("trunc_sat_f32_u", I32Op::i32_trunc_sat_f32_u),
-    ("trunc_sat_f64_s", I32Op::i32_trunc_sat_f64_s),
-    ("trunc_sat_f64_u", I32Op::i32_trunc_sat_f64_u),
-];
-
-static I32_MEM: [(&str, (MemOp, u64)); 8] = [
-    ("load", (MemOp::i32_load, 4)),
-    ("load8_s", (MemOp::i32_load8_s, 1)),
-    ("load8_u", (MemOp::i32_load8_u, 1)),
-    ("load16_s", (MemOp::i32_load16_s, 2)),
-    ("load16_u", (MemOp::i32_load16_u, 2)),
-    ("store", (MemOp::i32_store, 4)),
-    ("store8", (MemOp::i32_store8, 1)),
-    ("store16", (MemOp::i32_store16, 2)),
-];
-
-static I32_OTHERS: [(&str, Word); 1] = [("const", Word::Own(OwnOp::i32_const))];
-
-/// The word `i32.` and a name.
-fn i32_word(name: &str) -> Option<Word> {
-    if let Some(op) = find(&I32_PLAIN, name) {
-        return Some(Word::Plain(Plain::I32(op)));
-    }
-    if let Some((op, align)) = find(&I32_MEM, name) {
-        return Some(Word::Mem(op, align));
-    }
-    find(&I32_OTHERS, name)
-}
-
-static I64_PLAIN: [(&str, I64Op); 43] = [
-    ("eqz", I64Op::i64_eqz),
-    ("eq", I64Op::i64_eq),
-    ("ne", I64Op::i64_ne),
-    ("lt_s", I64Op::i64_lt_s),
-    ("lt_u", I64Op::i64_lt_u),
-    ("gt_s", I64Op::i64_gt_s),
-    ("gt_u", I64Op::i64_gt_u),
-    ("le_s", I64Op::i64_le_s),
-    ("le_u", I64Op::i64_le_u),
-    ("ge_s", I64Op::i64_ge_s),
-    ("ge_u", I64Op::i64_ge_u),
-    ("clz", I64Op::i64_clz),
-    ("ctz", I64Op::i64_ctz),
-    ("popcnt", I64Op::i64_popcnt),
-    ("add", I64Op::i64_add),
-    ("sub", I64Op::i64_sub),
-    ("mul", I64Op::i64_mul),
-    ("div_s", I64Op::i64_div_s),
-    ("div_u", I64Op::i64_div_u),
-    ("rem_s", I64Op::i64_rem_s),
-    ("rem_u", I64Op::i64_rem_u),
-    ("and", I64Op::i64_and),
-    ("or", I64Op::i64_or),
-    ("xor", I64Op::i64_xor),
-    ("shl", I64Op::i64_shl),
-    ("shr_s", I64Op::i64_shr_s),
-    ("shr_u", I64Op::i64_shr_u),
-    ("rotl", I64Op::i64_rotl),
-    ("rotr", I64Op::i64_rotr),
-    ("extend_i32_s", I64Op::i64_extend_i32_s),
-    ("extend_i32_u", I64Op::i64_extend_i32_u),
-    ("trunc_f32_s", I64Op::i64_trunc_f32_s),
-    ("trunc_f32_u", I64Op::i64_trunc_f32_u),
-    ("trunc_f64_s", I64Op::i64_trunc_f64_s),
-    ("trunc_f64_u", I64Op::i64_trunc_f64_u),
-    ("reinterpret_f64", I64Op::i64_reinterpret_f64),
-    ("extend8_s", I64Op::i64_extend8_s),
-    ("extend16_s", I64Op::i64_extend16_s),
-    ("extend32_s", I64Op::i64_extend32_s),
-    ("trunc_sat_f32_s", I64Op::i64_trunc_sat_f32_s),
-    ("trunc_sat_f32_u", I64Op::i64_trunc_sat_f32_u),
-    ("trunc_sat_f64_s", I64Op::i64_trunc_sat_f64_s),
-    ("trunc_sat_f64_u", I64Op::i64_trunc_sat_f64_u),
-];
-
-static I64_MEM: [(&str, (MemOp, u64)); 11] = [
-    ("load", (MemOp::i64_load, 8)),
-    ("load8_s", (MemOp::i64_load8_s, 1)),
-    ("load8_u", (MemOp::i64_load8_u, 1)),
-    ("load16_s", (MemOp::i64_load16_s, 2)),
-    ("load16_u", (MemOp::i64_load16_u, 2)),
-    ("load32_s", (MemOp::i64_load32_s, 4)),
-    ("load32_u", (MemOp::i64_load32_u, 4)),
-    ("store", (MemOp::i64_store, 8)),
-    ("store8", (MemOp::i64_store8, 1)),
-    ("store16", (MemOp::i64_store16, 2)),
-    ("store32", (MemOp::i64_store32, 4)),
-];
-
-static I64_OTHERS: [(&str, Word); 5] = [
-    ("const", Word::Own(OwnOp::i64_const)),
-    ("add128", Word::Beyond),
-    ("sub128", Word::Beyond),
-    ("mul_wide_s", Word::Beyond),
-    ("mul_wide_u", Word::Beyond),
-];
-
-/// The word `i64.` and a name.
-fn i64_word(name: &str) -> Option<Word> {
-    if let Some(op) = find(&I64_PLAIN, name) {
-        return Some(Word::Plain(Plain::I64(op)));
-    }
-    if let Some((op, align)) = find(&I64_MEM, name) {
-        return Some(Word::Mem(op, align));
-    }
-    find(&I64_OTHERS, name)
-}
-
-static F32_PLAIN: [(&str, F32Op); 26] = [
-    ("eq", F32Op::f32_eq),
-    ("ne", F32Op::f32_ne),
-    ("lt", F32Op::f32_lt),
-    ("gt", F32Op::f32_gt),
-    ("le", F32Op::f32_le),
-    ("ge", F32Op::f32_ge),
-    ("abs", F32Op::f32_abs),
-    ("neg", F32Op::f32_neg),
-    ("ceil", F32Op::f32_ceil),
-    ("floor", F32Op::f32_floor),
-    ("trunc", F32Op::f32_trunc),
-    ("nearest", F32Op::f32_nearest),
-    ("sqrt", F32Op::f32_sqrt),
-    ("add", F32Op::f32_add),
-    ("sub", F32Op::f32_sub),
-    ("mul", F32Op::f32_mul),
-    ("div", F32Op::f32_div),
-    ("min", F32Op::f32_min),
-    ("max", F32Op::f32_max),
-    ("copysign", F32Op::f32_copysign),
-    ("convert_i32_s", F32Op::f32_convert_i32_s),
-    ("convert_i32_u", F32Op::f32_convert_i32_u),
-    ("convert_i64_s", F32Op::f32_convert_i64_s),
-    ("convert_i64_u", F32Op::f32_convert_i64_u),
-    ("demote_f64", F32Op::f32_demote_f64),
-    ("reinterpret_i32", F32Op::f32_reinterpret_i32),
-];
-
-static F32_MEM: [(&str, (MemOp, u64)); 2] = [
-    ("load", (MemOp::f32_load, 4)),
-    ("store", (MemOp::f32_store, 4)),
-];
-
-static F32_OTHERS: [(&str, Word); 1] = [("const", Word::Own(OwnOp::f32_const))];
-
-/// The word `f32.` and a name.
-fn f32_word(name: &str) -> Option<Word> {
-    if let Some(op) = find(&F32_PLAIN, name) {
-        return Some(Word::Plain(Plain::F32(op)));
-    }
-    if let Some((op, align)) = find(&F32_MEM, name) {
-        return Some(Word::Mem(op, align));
-    }
-    find(&F32_OTHERS, name)
-}
-
-static F64_PLAIN: [(&str, F64Op); 26] = [
-    ("eq", F64Op::f64_eq),
-    ("ne", F64Op::f64_ne),
-    ("lt", F64Op::f64_lt),
-    ("gt", F64Op::f64_gt),
-    ("le", F64Op::f64_le),
-    ("ge", F64Op::f64_ge),
-    ("abs", F64Op::f64_abs),
-    ("neg", F64Op::f64_neg),
-    ("ceil", F64Op::f64_ceil),
-    ("floor", F64Op::f64_floor),
-    ("trunc", F64Op::f64_trunc),
-    ("nearest", F64Op::f64_nearest),
-    ("sqrt", F64Op::f64_sqrt),
-    ("add", F64Op::f64_add),
-    ("sub", F64Op::f64_sub),
-    ("mul", F64Op::f64_mul),
-    ("div", F64Op::f64_div),
-    ("min", F64Op::f64_min),
-    ("max", F64Op::f64_max),
-    ("copysign", F64Op::f64_copysign),
-    ("convert_i32_s", F64Op::f64_convert_i32_s),
-    ("convert_i32_u", F64Op::f64_convert_i32_u),
-    ("convert_i64_s", F64Op::f64_convert_i64_s),
-    ("convert_i64_u", F64Op::f64_convert_i64_u),
-    ("promote_f32", F64Op::f64_promote_f32),
-    ("reinterpret_i64", F64Op::f64_reinterpret_i64),
-];
-
-static F64_MEM: [(&str, (MemOp, u64)); 2] = [
-    ("load", (MemOp::f64_load, 8)),
-    ("store", (MemOp::f64_store, 8)),
-];
-
-static F64_OTHERS: [(&str, Word); 1] = [("const", Word::Own(OwnOp::f64_const))];
-
-/// The word `f64.` and a name.
-fn f64_word(name: &str) -> Option<Word> {
-    if let Some(op) = find(&F64_PLAIN, name) {
-        return Some(Word::Plain(Plain::F64(op)));
-    }
-    if let Some((op, align)) = find(&F64_MEM, name) {
-        return Some(Word::Mem(op, align));
-    }
-    find(&F64_OTHERS, name)
-}
-
-static REF_PLAIN: [(&str, RefOp); 4] = [
-    ("is_null", RefOp::ref_is_null),
-    ("eq", RefOp::ref_eq),
-    ("as_non_null", RefOp::ref_as_non_null),
-    ("i31", RefOp::ref_i31),
-];
-
-static REF_OTHERS: [(&str, Word); 6] = [
-    ("func", Word::Index(IndexOp::ref_func)),
-    ("get_desc", Word::Index(IndexOp::ref_get_desc)),
-    ("null", Word::Own(OwnOp::ref_null)),
-    ("test", Word::Own(OwnOp::ref_test)),
-    ("cast", Word::Own(OwnOp::ref_cast)),
-    ("cast_desc_eq", Word::Own(OwnOp::ref_cast_desc_eq)),
-];
-
-/// The word `ref.` and a name.
-fn ref_word(name: &str) -> Option<Word> {
-    if let Some(op) = find(&REF_PLAIN, name) {
-        return Some(Word::Plain(Plain::Ref(op)));
-    }
-    find(&REF_OTHERS, name)
-}
-
-static ARRAY_PLAIN: [(&str, ArrayOp); 1] = [("len", ArrayOp::array_len)];
-
-static ARRAY_OTHERS: [(&str, Word); 13] = [
-    ("new", Word::Index(IndexOp::array_new)),
-    ("new_default", Word::Index(IndexOp::array_new_default)),
-    ("get", Word::Index(IndexOp::array_get)),
-    ("get_s", Word::Index(IndexOp::array_get_s)),
-    ("get_u", Word::Index(IndexOp::array_get_u)),
-    ("set", Word::Index(IndexOp::array_set)),
-    ("fill", Word::Index(IndexOp::array_fill)),
-    ("new_fixed", Word::Own(OwnOp::array_new_fixed)),
-    ("new_data", Word::Own(OwnOp::array_new_data)),
-    ("new_elem", Word::Own(OwnOp::array_new_elem)),
-    ("copy", Word::Own(OwnOp::array_copy)),
-    ("init_data", Word::Own(OwnOp::array_init_data)),
-    ("init_elem", Word::Own(OwnOp::array_init_elem)),
-];
-
-/// The word `array.` and a name.
-fn array_word(name: &str) -> Option<Word> {
-    if let Some(op) = find(&ARRAY_PLAIN, name) {
-        return Some(Word::Plain(Plain::Array(op)));
-    }
-    find(&ARRAY_OTHERS, name)
-}
-
-static ANY_PLAIN: [(&str, AnyOp); 1] = [("convert_extern", AnyOp::any_convert_extern)];
-
-/// The word `any.` and a name.
-fn any_word(name: &str) -> Option<Word> {
-    if let Some(op) = find(&ANY_PLAIN, name) {
-        return Some(Word::Plain(Plain::Any(op)));
-    }
-    None
-}
-
-static EXTERN_PLAIN: [(&str, ExternOp); 1] = [("convert_any", ExternOp::extern_convert_any)];
-
-/// The word `extern.` and a name.
-fn extern_word(name: &str) -> Option<Word> {
-    if let Some(op) = find(&EXTERN_PLAIN, name) {
-        return Some(Word::Plain(Plain::Extern(op)));
-    }
-    None
-}
-
-static I31_PLAIN: [(&str, I31Op); 2] = [("get_s", I31Op::i31_get_s), ("get_u", I31Op::i31_get_u)];
-
-/// The word `i31.` and a name.
-fn i31_word(name: &str) -> Option<Word> {
-    if let Some(op) = find(&I31_PLAIN, name) {
-        return Some(Word::Plain(Plain::I31(op)));
-    }
-    None
-}
-
-static V128_PLAIN: [(&str, V128Op); 7] = [
-    ("not", V128Op::v128_not),
-    ("and", V128Op::v128_and),
-    ("andnot", V128Op::v128_andnot),
-    ("or", V128Op::v128_or),
-    ("xor", V128Op::v128_xor),
-    ("bitselect", V128Op::v128_bitselect),
-    ("any_true", V128Op::v128_any_true),
-];
-
-static V128_MEM: [(&str, (MemOp, u64)); 14] = [
-    ("load", (MemOp::v128_load, 16)),
-    ("load8x8_s", (MemOp::v128_load8x8_s, 8)),
-    ("load8x8_u", (MemOp::v128_load8x8_u, 8)),
-    ("load16x4_s", (MemOp::v128_load16x4_s, 8)),
-    ("load16x4_u", (MemOp::v128_load16x4_u, 8)),
-    ("load32x2_s", (MemOp::v128_load32x2_s, 8)),
-    ("load32x2_u", (MemOp::v128_load32x2_u, 8)),
-    ("load8_splat", (MemOp::v128_load8_splat, 1)),
-    ("load16_splat", (MemOp::v128_load16_splat, 2)),
-    ("load32_splat", (MemOp::v128_load32_splat, 4)),
-    ("load64_splat", (MemOp::v128_load64_splat, 8)),
-    ("store", (MemOp::v128_store, 16)),
-    ("load32_zero", (MemOp::v128_load32_zero, 4)),
-    ("load64_zero", (MemOp::v128_load64_zero, 8)),
-];
-
-static V128_OTHERS: [(&str, Word); 9] = [
-    ("load8_lane", Word::MemLane(MemLaneOp::v128_load8_lane, 1)),
-    ("load16_lane", Word::MemLane(MemLaneOp::v128_load16_lane, 2)),
-    ("load32_lane", Word::MemLane(MemLaneOp::v128_load32_lane, 4)),
-    ("load64_lane", Word::MemLane(MemLaneOp::v128_load64_lane, 8)),
-    ("store8_lane", Word::MemLane(MemLaneOp::v128_store8_lane, 1)),
+static WORDS_0: [(&str, Word); 16] = [
+    ("table.set", Word::Table(TableOp::table_set)),
+    ("i32.load8_u", Word::Mem(MemOp::i32_load8_u, 1)),
+    ("i64.load8_u", Word::Mem(MemOp::i64_load8_u, 1)),
+    ("i32.clz", Word::Plain(Plain::I32(I32Op::i32_clz))),
+    ("i32.ctz", Word::Plain(Plain::I32(I32Op::i32_ctz))),
+    ("i32.add", Word::Plain(Plain::I32(I32Op::i32_add))),
+    ("i32.and", Word::Plain(Plain::I32(I32Op::i32_and))),
+    ("i64.clz", Word::Plain(Plain::I64(I64Op::i64_clz))),
+    ("i64.ctz", Word::Plain(Plain::I64(I64Op::i64_ctz))),
+    ("i64.add", Word::Plain(Plain::I64(I64Op::i64_add))),
+    ("i64.and", Word::Plain(Plain::I64(I64Op::i64_and))),
+    ("f32.add", Word::Plain(Plain::F32(F32Op::f32_add))),
+    ("f64.add", Word::Plain(Plain::F64(F64Op::f64_add))),
+    ("i31.get_u", Word::Plain(Plain::I31(I31Op::i31_get_u))),
     (
-        "store16_lane",
+        "f32x4.relaxed_max",
+        Word::Plain(Plain::F32x4(F32x4Op::f32x4_relaxed_max)),
+    ),
+    (
+        "i16x8.relaxed_q15mulr_s",
+        Word::Plain(Plain::I16x8(I16x8Op::i16x8_relaxed_q15mulr_s)),
+    ),
+];
+
+static WORDS_1: [(&str, Word); 9] = [
+    (
+        "struct.new_default_desc",
+        Word::Index(IndexOp::struct_new_default_desc),
+    ),
+    ("table.atomic.rmw.xchg", Word::Atomic(AtomicOp::Table)),
+    ("return", Word::Plain(Plain::Bare(BareOp::return_))),
+    ("f32.abs", Word::Plain(Plain::F32(F32Op::f32_abs))),
+    ("f64.abs", Word::Plain(Plain::F64(F64Op::f64_abs))),
+    ("i8x16.eq", Word::Plain(Plain::I8x16(I8x16Op::i8x16_eq))),
+    (
+        "i16x8.extend_low_i8x16_u",
+        Word::Plain(Plain::I16x8(I16x8Op::i16x8_extend_low_i8x16_u)),
+    ),
+    (
+        "i16x8.extmul_low_i8x16_u",
+        Word::Plain(Plain::I16x8(I16x8Op::i16x8_extmul_low_i8x16_u)),
+    ),
+    ("f32x4.pmin", Word::Plain(Plain::F32x4(F32x4Op::f32x4_pmin))),
+];
+
+static WORDS_2: [(&str, Word); 10] = [
+    ("delegate", Word::Index(IndexOp::delegate)),
+    (
+        "f32.convert_i64_s",
+        Word::Plain(Plain::F32(F32Op::f32_convert_i64_s)),
+    ),
+    (
+        "f64.convert_i64_s",
+        Word::Plain(Plain::F64(F64Op::f64_convert_i64_s)),
+    ),
+    ("i8x16.replace_lane", Word::Lane(LaneOp::i8x16_replace_lane)),
+    (
+        "i32x4.extend_high_i16x8_u",
+        Word::Plain(Plain::I32x4(I32x4Op::i32x4_extend_high_i16x8_u)),
+    ),
+    (
+        "i32x4.extmul_high_i16x8_u",
+        Word::Plain(Plain::I32x4(I32x4Op::i32x4_extmul_high_i16x8_u)),
+    ),
+    (
+        "i64x2.extend_high_i32x4_u",
+        Word::Plain(Plain::I64x2(I64x2Op::i64x2_extend_high_i32x4_u)),
+    ),
+    (
+        "i64x2.extmul_high_i32x4_u",
+        Word::Plain(Plain::I64x2(I64x2Op::i64x2_extmul_high_i32x4_u)),
+    ),
+    (
+        "f64x2.convert_low_i32x4_u",
+        Word::Plain(Plain::F64x2(F64x2Op::f64x2_convert_low_i32x4_u)),
+    ),
+    ("array", Word::Key(Key::Array)),
+];
+
+static WORDS_3: [(&str, Word); 10] = [
+    ("br_on_non_null", Word::Index(IndexOp::br_on_non_null)),
+    (
+        "v128.store16_lane",
         Word::MemLane(MemLaneOp::v128_store16_lane, 2),
     ),
     (
-        "store32_lane",
+        "v128.store32_lane",
         Word::MemLane(MemLaneOp::v128_store32_lane, 4),
     ),
     (
-        "store64_lane",
+        "v128.store64_lane",
         Word::MemLane(MemLaneOp::v128_store64_lane, 8),
     ),
-    ("const", Word::Own(OwnOp::v128_const)),
+    ("i64x2.lt_s", Word::Plain(Plain::I64x2(I64x2Op::i64x2_lt_s))),
+    ("i64x2.gt_s", Word::Plain(Plain::I64x2(I64x2Op::i64x2_gt_s))),
+    ("f64x2.sqrt", Word::Plain(Plain::F64x2(F64x2Op::f64x2_sqrt))),
+    ("item", Word::Key(Key::Item)),
+    ("eqref", Word::Key(Key::Eqref)),
+    ("acq_rel", Word::Key(Key::AcqRel)),
 ];
 
-/// The word `v128.` and a name.
-fn v128_word(name: &str) -> Option<Word> {
-    if let Some(op) = find(&V128_PLAIN, name) {
-        return Some(Word::Plain(Plain::V128(op)));
-    }
-    if let Some((op, align)) = find(&V128_MEM, name) {
-        return Some(Word::Mem(op, align));
-    }
-    find(&V128_OTHERS, name)
-}
-
-static I8X16_PLAIN: [(&str, I8x16Op); 35] = [
-    ("swizzle", I8x16Op::i8x16_swizzle),
-    ("splat", I8x16Op::i8x16_splat),
-    ("eq", I8x16Op::i8x16_eq),
-    ("ne", I8x16Op::i8x16_ne),
-    ("lt_s", I8x16Op::i8x16_lt_s),
-    ("lt_u", I8x16Op::i8x16_lt_u),
-    ("gt_s", I8x16Op::i8x16_gt_s),
-    ("gt_u", I8x16Op::i8x16_gt_u),
-    ("le_s", I8x16Op::i8x16_le_s),
-    ("le_u", I8x16Op::i8x16_le_u),
-    ("ge_s", I8x16Op::i8x16_ge_s),
-    ("ge_u", I8x16Op::i8x16_ge_u),
-    ("abs", I8x16Op::i8x16_abs),
-    ("neg", I8x16Op::i8x16_neg),
-    ("popcnt", I8x16Op::i8x16_popcnt),
-    ("all_true", I8x16Op::i8x16_all_true),
-    ("bitmask", I8x16Op::i8x16_bitmask),
-    ("narrow_i16x8_s", I8x16Op::i8x16_narrow_i16x8_s),
-    ("narrow_i16x8_u", I8x16Op::i8x16_narrow_i16x8_u),
-    ("shl", I8x16Op::i8x16_shl),
-    ("shr_s", I8x16Op::i8x16_shr_s),
-    ("shr_u", I8x16Op::i8x16_shr_u),
-    ("add", I8x16Op::i8x16_add),
-    ("add_sat_s", I8x16Op::i8x16_add_sat_s),
-    ("add_sat_u", I8x16Op::i8x16_add_sat_u),
-    ("sub", I8x16Op::i8x16_sub),
-    ("sub_sat_s", I8x16Op::i8x16_sub_sat_s),
-    ("sub_sat_u", I8x16Op::i8x16_sub_sat_u),
-    ("min_s", I8x16Op::i8x16_min_s),
-    ("min_u", I8x16Op::i8x16_min_u),
-    ("max_s", I8x16Op::i8x16_max_s),
-    ("max_u", I8x16Op::i8x16_max_u),
-    ("avgr_u", I8x16Op::i8x16_avgr_u),
-    ("relaxed_swizzle", I8x16Op::i8x16_relaxed_swizzle),
-    ("relaxed_laneselect", I8x16Op::i8x16_relaxed_laneselect),
-];
-
-static I8X16_OTHERS: [(&str, Word); 4] = [
-    ("extract_lane_s", Word::Lane(LaneOp::i8x16_extract_lane_s)),
-    ("extract_lane_u", Word::Lane(LaneOp::i8x16_extract_lane_u)),
-    ("replace_lane", Word::Lane(LaneOp::i8x16_replace_lane)),
-    ("shuffle", Word::Own(OwnOp::i8x16_shuffle)),
-];
-
-/// The word `i8x16.` and a name.
-fn i8x16_word(name: &str) -> Option<Word> {
-    if let Some(op) = find(&I8X16_PLAIN, name) {
-        return Some(Word::Plain(Plain::I8x16(op)));
-    }
-    find(&I8X16_OTHERS, name)
-}
-
-static I16X8_PLAIN: [(&str, I16x8Op); 46] = [
-    ("splat", I16x8Op::i16x8_splat),
-    ("eq", I16x8Op::i16x8_eq),
-    ("ne", I16x8Op::i16x8_ne),
-    ("lt_s", I16x8Op::i16x8_lt_s),
-    ("lt_u", I16x8Op::i16x8_lt_u),
-    ("gt_s", I16x8Op::i16x8_gt_s),
-    ("gt_u", I16x8Op::i16x8_gt_u),
-    ("le_s", I16x8Op::i16x8_le_s),
-    ("le_u", I16x8Op::i16x8_le_u),
-    ("ge_s", I16x8Op::i16x8_ge_s),
-    ("ge_u", I16x8Op::i16x8_ge_u),
+static WORDS_4: [(&str, Word); 13] = [
+    ("br_if", Word::Index(IndexOp::br_if)),
+    ("table.get", Word::Table(TableOp::table_get)),
+    ("memory.grow", Word::Memory(MemoryOp::memory_grow)),
+    ("cont.bind", Word::Own(OwnOp::cont_bind)),
+    ("f32.floor", Word::Plain(Plain::F32(F32Op::f32_floor))),
+    ("f64.floor", Word::Plain(Plain::F64(F64Op::f64_floor))),
     (
-        "extadd_pairwise_i8x16_s",
-        I16x8Op::i16x8_extadd_pairwise_i8x16_s,
+        "f32.reinterpret_i32",
+        Word::Plain(Plain::F32(F32Op::f32_reinterpret_i32)),
+    ),
+    ("i32x4.le_s", Word::Plain(Plain::I32x4(I32x4Op::i32x4_le_s))),
+    ("i32x4.ge_s", Word::Plain(Plain::I32x4(I32x4Op::i32x4_ge_s))),
+    (
+        "i8x16.add_sat_u",
+        Word::Plain(Plain::I8x16(I8x16Op::i8x16_add_sat_u)),
     ),
     (
-        "extadd_pairwise_i8x16_u",
-        I16x8Op::i16x8_extadd_pairwise_i8x16_u,
+        "i8x16.sub_sat_u",
+        Word::Plain(Plain::I8x16(I8x16Op::i8x16_sub_sat_u)),
     ),
-    ("abs", I16x8Op::i16x8_abs),
-    ("neg", I16x8Op::i16x8_neg),
-    ("q15mulr_sat_s", I16x8Op::i16x8_q15mulr_sat_s),
-    ("all_true", I16x8Op::i16x8_all_true),
-    ("bitmask", I16x8Op::i16x8_bitmask),
-    ("narrow_i32x4_s", I16x8Op::i16x8_narrow_i32x4_s),
-    ("narrow_i32x4_u", I16x8Op::i16x8_narrow_i32x4_u),
-    ("extend_low_i8x16_s", I16x8Op::i16x8_extend_low_i8x16_s),
-    ("extend_high_i8x16_s", I16x8Op::i16x8_extend_high_i8x16_s),
-    ("extend_low_i8x16_u", I16x8Op::i16x8_extend_low_i8x16_u),
-    ("extend_high_i8x16_u", I16x8Op::i16x8_extend_high_i8x16_u),
-    ("shl", I16x8Op::i16x8_shl),
-    ("shr_s", I16x8Op::i16x8_shr_s),
-    ("shr_u", I16x8Op::i16x8_shr_u),
-    ("add", I16x8Op::i16x8_add),
-    ("add_sat_s", I16x8Op::i16x8_add_sat_s),
-    ("add_sat_u", I16x8Op::i16x8_add_sat_u),
-    ("sub", I16x8Op::i16x8_sub),
-    ("sub_sat_s", I16x8Op::i16x8_sub_sat_s),
-    ("sub_sat_u", I16x8Op::i16x8_sub_sat_u),
-    ("mul", I16x8Op::i16x8_mul),
-    ("min_s", I16x8Op::i16x8_min_s),
-    ("min_u", I16x8Op::i16x8_min_u),
-    ("max_s", I16x8Op::i16x8_max_s),
-    ("max_u", I16x8Op::i16x8_max_u),
-    ("avgr_u", I16x8Op::i16x8_avgr_u),
-    ("extmul_low_i8x16_s", I16x8Op::i16x8_extmul_low_i8x16_s),
-    ("extmul_high_i8x16_s", I16x8Op::i16x8_extmul_high_i8x16_s),
-    ("extmul_low_i8x16_u", I16x8Op::i16x8_extmul_low_i8x16_u),
-    ("extmul_high_i8x16_u", I16x8Op::i16x8_extmul_high_i8x16_u),
-    ("relaxed_laneselect", I16x8Op::i16x8_relaxed_laneselect),
-    ("relaxed_q15mulr_s", I16x8Op::i16x8_relaxed_q15mulr_s),
-    (
-        "relaxed_dot_i8x16_i7x16_s",
-        I16x8Op::i16x8_relaxed_dot_i8x16_i7x16_s,
-    ),
+    ("type", Word::Key(Key::Ty)),
+    ("i16", Word::Key(Key::I16)),
 ];
 
-static I16X8_OTHERS: [(&str, Word); 3] = [
-    ("extract_lane_s", Word::Lane(LaneOp::i16x8_extract_lane_s)),
-    ("extract_lane_u", Word::Lane(LaneOp::i16x8_extract_lane_u)),
-    ("replace_lane", Word::Lane(LaneOp::i16x8_replace_lane)),
-];
-
-/// The word `i16x8.` and a name.
-fn i16x8_word(name: &str) -> Option<Word> {
-    if let Some(op) = find(&I16X8_PLAIN, name) {
-        return Some(Word::Plain(Plain::I16x8(op)));
-    }
-    find(&I16X8_OTHERS, name)
-}
-
-static I32X4_PLAIN: [(&str, I32x4Op); 46] = [
-    ("splat", I32x4Op::i32x4_splat),
-    ("eq", I32x4Op::i32x4_eq),
-    ("ne", I32x4Op::i32x4_ne),
-    ("lt_s", I32x4Op::i32x4_lt_s),
-    ("lt_u", I32x4Op::i32x4_lt_u),
-    ("gt_s", I32x4Op::i32x4_gt_s),
-    ("gt_u", I32x4Op::i32x4_gt_u),
-    ("le_s", I32x4Op::i32x4_le_s),
-    ("le_u", I32x4Op::i32x4_le_u),
-    ("ge_s", I32x4Op::i32x4_ge_s),
-    ("ge_u", I32x4Op::i32x4_ge_u),
+static WORDS_5: [(&str, Word); 13] = [
+    ("elem.drop", Word::Index(IndexOp::elem_drop)),
+    ("data.drop", Word::Index(IndexOp::data_drop)),
+    ("resume_throw", Word::Own(OwnOp::resume_throw)),
+    ("i32.load16_u", Word::Mem(MemOp::i32_load16_u, 2)),
+    ("i64.load16_u", Word::Mem(MemOp::i64_load16_u, 2)),
+    ("f32.ge", Word::Plain(Plain::F32(F32Op::f32_ge))),
+    ("f64.ge", Word::Plain(Plain::F64(F64Op::f64_ge))),
     (
-        "extadd_pairwise_i16x8_s",
-        I32x4Op::i32x4_extadd_pairwise_i16x8_s,
+        "i32x4.splat",
+        Word::Plain(Plain::I32x4(I32x4Op::i32x4_splat)),
     ),
     (
-        "extadd_pairwise_i16x8_u",
-        I32x4Op::i32x4_extadd_pairwise_i16x8_u,
-    ),
-    ("abs", I32x4Op::i32x4_abs),
-    ("neg", I32x4Op::i32x4_neg),
-    ("all_true", I32x4Op::i32x4_all_true),
-    ("bitmask", I32x4Op::i32x4_bitmask),
-    ("extend_low_i16x8_s", I32x4Op::i32x4_extend_low_i16x8_s),
-    ("extend_high_i16x8_s", I32x4Op::i32x4_extend_high_i16x8_s),
-    ("extend_low_i16x8_u", I32x4Op::i32x4_extend_low_i16x8_u),
-    ("extend_high_i16x8_u", I32x4Op::i32x4_extend_high_i16x8_u),
-    ("shl", I32x4Op::i32x4_shl),
-    ("shr_s", I32x4Op::i32x4_shr_s),
-    ("shr_u", I32x4Op::i32x4_shr_u),
-    ("add", I32x4Op::i32x4_add),
-    ("sub", I32x4Op::i32x4_sub),
-    ("mul", I32x4Op::i32x4_mul),
-    ("min_s", I32x4Op::i32x4_min_s),
-    ("min_u", I32x4Op::i32x4_min_u),
-    ("max_s", I32x4Op::i32x4_max_s),
-    ("max_u", I32x4Op::i32x4_max_u),
-    ("dot_i16x8_s", I32x4Op::i32x4_dot_i16x8_s),
-    ("extmul_low_i16x8_s", I32x4Op::i32x4_extmul_low_i16x8_s),
-    ("extmul_high_i16x8_s", I32x4Op::i32x4_extmul_high_i16x8_s),
-    ("extmul_low_i16x8_u", I32x4Op::i32x4_extmul_low_i16x8_u),
-    ("extmul_high_i16x8_u", I32x4Op::i32x4_extmul_high_i16x8_u),
-    ("trunc_sat_f32x4_s", I32x4Op::i32x4_trunc_sat_f32x4_s),
-    ("trunc_sat_f32x4_u", I32x4Op::i32x4_trunc_sat_f32x4_u),
-    (
-        "trunc_sat_f64x2_s_zero",
-        I32x4Op::i32x4_trunc_sat_f64x2_s_zero,
+        "f32x4.splat",
+        Word::Plain(Plain::F32x4(F32x4Op::f32x4_splat)),
     ),
     (
-        "trunc_sat_f64x2_u_zero",
-        I32x4Op::i32x4_trunc_sat_f64x2_u_zero,
+        "i8x16.narrow_i16x8_s",
+        Word::Plain(Plain::I8x16(I8x16Op::i8x16_narrow_i16x8_s)),
     ),
     (
-        "relaxed_trunc_f32x4_s",
-        I32x4Op::i32x4_relaxed_trunc_f32x4_s,
+        "i32x4.relaxed_laneselect",
+        Word::Plain(Plain::I32x4(I32x4Op::i32x4_relaxed_laneselect)),
     ),
-    (
-        "relaxed_trunc_f32x4_u",
-        I32x4Op::i32x4_relaxed_trunc_f32x4_u,
-    ),
-    (
-        "relaxed_trunc_f64x2_s_zero",
-        I32x4Op::i32x4_relaxed_trunc_f64x2_s_zero,
-    ),
-    (
-        "relaxed_trunc_f64x2_u_zero",
-        I32x4Op::i32x4_relaxed_trunc_f64x2_u_zero,
-    ),
-    ("relaxed_laneselect", I32x4Op::i32x4_relaxed_laneselect),
-    (
-        "relaxed_dot_i8x16_i7x16_add_s",
-        I32x4Op::i32x4_relaxed_dot_i8x16_i7x16_add_s,
-    ),
-];
-
-static I32X4_OTHERS: [(&str, Word); 2] = [
-    ("extract_lane", Word::Lane(LaneOp::i32x4_extract_lane)),
-    ("replace_lane", Word::Lane(LaneOp::i32x4_replace_lane)),
-];
-
-/// The word `i32x4.` and a name.
-fn i32x4_word(name: &str) -> Option<Word> {
-    if let Some(op) = find(&I32X4_PLAIN, name) {
-        return Some(Word::Plain(Plain::I32x4(op)));
-    }
-    find(&I32X4_OTHERS, name)
-}
-
-static I64X2_PLAIN: [(&str, I64x2Op); 26] = [
-    ("splat", I64x2Op::i64x2_splat),
-    ("abs", I64x2Op::i64x2_abs),
-    ("neg", I64x2Op::i64x2_neg),
-    ("all_true", I64x2Op::i64x2_all_true),
-    ("bitmask", I64x2Op::i64x2_bitmask),
-    ("extend_low_i32x4_s", I64x2Op::i64x2_extend_low_i32x4_s),
-    ("extend_high_i32x4_s", I64x2Op::i64x2_extend_high_i32x4_s),
-    ("extend_low_i32x4_u", I64x2Op::i64x2_extend_low_i32x4_u),
-    ("extend_high_i32x4_u", I64x2Op::i64x2_extend_high_i32x4_u),
-    ("shl", I64x2Op::i64x2_shl),
-    ("shr_s", I64x2Op::i64x2_shr_s),
-    ("shr_u", I64x2Op::i64x2_shr_u),
-    ("add", I64x2Op::i64x2_add),
-    ("sub", I64x2Op::i64x2_sub),
-    ("mul", I64x2Op::i64x2_mul),
-    ("eq", I64x2Op::i64x2_eq),
-    ("ne", I64x2Op::i64x2_ne),
-    ("lt_s", I64x2Op::i64x2_lt_s),
-    ("gt_s", I64x2Op::i64x2_gt_s),
-    ("le_s", I64x2Op::i64x2_le_s),
-    ("ge_s", I64x2Op::i64x2_ge_s),
-    ("extmul_low_i32x4_s", I64x2Op::i64x2_extmul_low_i32x4_s),
-    ("extmul_high_i32x4_s", I64x2Op::i64x2_extmul_high_i32x4_s),
-    ("extmul_low_i32x4_u", I64x2Op::i64x2_extmul_low_i32x4_u),
-    ("extmul_high_i32x4_u", I64x2Op::i64x2_extmul_high_i32x4_u),
-    ("relaxed_laneselect", I64x2Op::i64x2_relaxed_laneselect),
-];
-
-static I64X2_OTHERS: [(&str, Word); 2] = [
-    ("extract_lane", Word::Lane(LaneOp::i64x2_extract_lane)),
-    ("replace_lane", Word::Lane(LaneOp::i64x2_replace_lane)),
-];
-
-/// The word `i64x2.` and a name.
-fn i64x2_word(name: &str) -> Option<Word> {
-    if let Some(op) = find(&I64X2_PLAIN, name) {
-        return Some(Word::Plain(Plain::I64x2(op)));
-    }
-    find(&I64X2_OTHERS, name)
-}
-
-static F32X4_PLAIN: [(&str, F32x4Op); 29] = [
-    ("splat", F32x4Op::f32x4_splat),
-    ("eq", F32x4Op::f32x4_eq),
-    ("ne", F32x4Op::f32x4_ne),
-    ("lt", F32x4Op::f32x4_lt),
-    ("gt", F32x4Op::f32x4_gt),
-    ("le", F32x4Op::f32x4_le),
-    ("ge", F32x4Op::f32x4_ge),
-    ("demote_f64x2_zero", F32x4Op::f32x4_demote_f64x2_zero),
-    ("ceil", F32x4Op::f32x4_ceil),
-    ("floor", F32x4Op::f32x4_floor),
-    ("trunc", F32x4Op::f32x4_trunc),
-    ("nearest", F32x4Op::f32x4_nearest),
-    ("abs", F32x4Op::f32x4_abs),
-    ("neg", F32x4Op::f32x4_neg),
-    ("sqrt", F32x4Op::f32x4_sqrt),
-    ("add", F32x4Op::f32x4_add),
-    ("sub", F32x4Op::f32x4_sub),
-    ("mul", F32x4Op::f32x4_mul),
-    ("div", F32x4Op::f32x4_div),
-    ("min", F32x4Op::f32x4_min),
-    ("max", F32x4Op::f32x4_max),
-    ("pmin", F32x4Op::f32x4_pmin),
-    ("pmax", F32x4Op::f32x4_pmax),
-    ("convert_i32x4_s", F32x4Op::f32x4_convert_i32x4_s),
-    ("convert_i32x4_u", F32x4Op::f32x4_convert_i32x4_u),
-    ("relaxed_madd", F32x4Op::f32x4_relaxed_madd),
-    ("relaxed_nmadd", F32x4Op::f32x4_relaxed_nmadd),
-    ("relaxed_min", F32x4Op::f32x4_relaxed_min),
-    ("relaxed_max", F32x4Op::f32x4_relaxed_max),
-];
-
-static F32X4_OTHERS: [(&str, Word); 2] = [
-    ("extract_lane", Word::Lane(LaneOp::f32x4_extract_lane)),
-    ("replace_lane", Word::Lane(LaneOp::f32x4_replace_lane)),
-];
-
-/// The word `f32x4.` and a name.
-fn f32x4_word(name: &str) -> Option<Word> {
-    if let Some(op) = find(&F32X4_PLAIN, name) {
-        return Some(Word::Plain(Plain::F32x4(op)));
-    }
-    find(&F32X4_OTHERS, name)
-}
-
-static F64X2_PLAIN: [(&str, F64x2Op); 29] = [
-    ("splat", F64x2Op::f64x2_splat),
-    ("eq", F64x2Op::f64x2_eq),
-    ("ne", F64x2Op::f64x2_ne),
-    ("lt", F64x2Op::f64x2_lt),
-    ("gt", F64x2Op::f64x2_gt),
-    ("le", F64x2Op::f64x2_le),
-    ("ge", F64x2Op::f64x2_ge),
-    ("promote_low_f32x4", F64x2Op::f64x2_promote_low_f32x4),
-    ("ceil", F64x2Op::f64x2_ceil),
-    ("floor", F64x2Op::f64x2_floor),
-    ("trunc", F64x2Op::f64x2_trunc),
-    ("nearest", F64x2Op::f64x2_nearest),
-    ("abs", F64x2Op::f64x2_abs),
-    ("neg", F64x2Op::f64x2_neg),
-    ("sqrt", F64x2Op::f64x2_sqrt),
-    ("add", F64x2Op::f64x2_add),
-    ("sub", F64x2Op::f64x2_sub),
-    ("mul", F64x2Op::f64x2_mul),
-    ("div", F64x2Op::f64x2_div),
-    ("min", F64x2Op::f64x2_min),
-    ("max", F64x2Op::f64x2_max),
-    ("pmin", F64x2Op::f64x2_pmin),
-    ("pmax", F64x2Op::f64x2_pmax),
-    ("convert_low_i32x4_s", F64x2Op::f64x2_convert_low_i32x4_s),
-    ("convert_low_i32x4_u", F64x2Op::f64x2_convert_low_i32x4_u),
-    ("relaxed_madd", F64x2Op::f64x2_relaxed_madd),
-    ("relaxed_nmadd", F64x2Op::f64x2_relaxed_nmadd),
-    ("relaxed_min", F64x2Op::f64x2_relaxed_min),
-    ("relaxed_max", F64x2Op::f64x2_relaxed_max),
-];
-
-static F64X2_OTHERS: [(&str, Word); 2] = [
-    ("extract_lane", Word::Lane(LaneOp::f64x2_extract_lane)),
-    ("replace_lane", Word::Lane(LaneOp::f64x2_replace_lane)),
-];
-
-/// The word `f64x2.` and a name.
-fn f64x2_word(name: &str) -> Option<Word> {
-    if let Some(op) = find(&F64X2_PLAIN, name) {
-        return Some(Word::Plain(Plain::F64x2(op)));
-    }
-    find(&F64X2_OTHERS, name)
-}
-
-static MEMORY_ATOMIC_MEM: [(&str, (MemOp, u64)); 3] = [
-    ("notify", (MemOp::memory_atomic_notify, 4)),
-    ("wait32", (MemOp::memory_atomic_wait32, 4)),
-    ("wait64", (MemOp::memory_atomic_wait64, 8)),
-];
-
-/// The word `memory.atomic.` and a name.
-fn memory_atomic_word(name: &str) -> Option<Word> {
-    if let Some((op, align)) = find(&MEMORY_ATOMIC_MEM, name) {
-        return Some(Word::Mem(op, align));
-    }
-    None
-}
-
-static I32_ATOMIC_MEM: [(&str, (MemOp, u64)); 27] = [
-    ("load", (MemOp::i32_atomic_load, 4)),
-    ("load8_u", (MemOp::i32_atomic_load8_u, 1)),
-    ("load16_u", (MemOp::i32_atomic_load16_u, 2)),
-    ("store", (MemOp::i32_atomic_store, 4)),
-    ("store8", (MemOp::i32_atomic_store8, 1)),
-    ("store16", (MemOp::i32_atomic_store16, 2)),
-    ("rmw.add", (MemOp::i32_atomic_rmw_add, 4)),
-    ("rmw8.add_u", (MemOp::i32_atomic_rmw8_add_u, 1)),
-    ("rmw16.add_u", (MemOp::i32_atomic_rmw16_add_u, 2)),
-    ("rmw.sub", (MemOp::i32_atomic_rmw_sub, 4)),
-    ("rmw8.sub_u", (MemOp::i32_atomic_rmw8_sub_u, 1)),
-    ("rmw16.sub_u", (MemOp::i32_atomic_rmw16_sub_u, 2)),
-    ("rmw.and", (MemOp::i32_atomic_rmw_and, 4)),
-    ("rmw8.and_u", (MemOp::i32_atomic_rmw8_and_u, 1)),
-    ("rmw16.and_u", (MemOp::i32_atomic_rmw16_and_u, 2)),
-    ("rmw.or", (MemOp::i32_atomic_rmw_or, 4)),
-    ("rmw8.or_u", (MemOp::i32_atomic_rmw8_or_u, 1)),
-    ("rmw16.or_u", (MemOp::i32_atomic_rmw16_or_u, 2)),
-    ("rmw.xor", (MemOp::i32_atomic_rmw_xor, 4)),
-    ("rmw8.xor_u", (MemOp::i32_atomic_rmw8_xor_u, 1)),
-    ("rmw16.xor_u", (MemOp::i32_atomic_rmw16_xor_u, 2)),
-    ("rmw.xchg", (MemOp::i32_atomic_rmw_xchg, 4)),
-    ("rmw8.xchg_u", (MemOp::i32_atomic_rmw8_xchg_u, 1)),
-    ("rmw16.xchg_u", (MemOp::i32_atomic_rmw16_xchg_u, 2)),
-    ("rmw.cmpxchg", (MemOp::i32_atomic_rmw_cmpxchg, 4)),
-    ("rmw8.cmpxchg_u", (MemOp::i32_atomic_rmw8_cmpxchg_u, 1)),
-    ("rmw16.cmpxchg_u", (MemOp::i32_atomic_rmw16_cmpxchg_u, 2)),
-];
-
-/// The word `i32.atomic.` and a name.
-fn i32_atomic_word(name: &str) -> Option<Word> {
-    if let Some((op, align)) = find(&I32_ATOMIC_MEM, name) {
-        return Some(Word::Mem(op, align));
-    }
-    None
-}
-
-static I64_ATOMIC_MEM: [(&str, (MemOp, u64)); 36] = [
-    ("load", (MemOp::i64_atomic_load, 8)),
-    ("load8_u", (MemOp::i64_atomic_load8_u, 1)),
-    ("load16_u", (MemOp::i64_atomic_load16_u, 2)),
-    ("load32_u", (MemOp::i64_atomic_load32_u, 4)),
-    ("store", (MemOp::i64_atomic_store, 8)),
-    ("store8", (MemOp::i64_atomic_store8, 1)),
-    ("store16", (MemOp::i64_atomic_store16, 2)),
-    ("store32", (MemOp::i64_atomic_store32, 4)),
-    ("rmw.add", (MemOp::i64_atomic_rmw_add, 8)),
-    ("rmw8.add_u", (MemOp::i64_atomic_rmw8_add_u, 1)),
-    ("rmw16.add_u", (MemOp::i64_atomic_rmw16_add_u, 2)),
-    ("rmw32.add_u", (MemOp::i64_atomic_rmw32_add_u, 4)),
-    ("rmw.sub", (MemOp::i64_atomic_rmw_sub, 8)),
-    ("rmw8.sub_u", (MemOp::i64_atomic_rmw8_sub_u, 1)),
-    ("rmw16.sub_u", (MemOp::i64_atomic_rmw16_sub_u, 2)),
-    ("rmw32.sub_u", (MemOp::i64_atomic_rmw32_sub_u, 4)),
-    ("rmw.and", (MemOp::i64_atomic_rmw_and, 8)),
-    ("rmw8.and_u", (MemOp::i64_atomic_rmw8_and_u, 1)),
-    ("rmw16.and_u", (MemOp::i64_atomic_rmw16_and_u, 2)),
-    ("rmw32.and_u", (MemOp::i64_atomic_rmw32_and_u, 4)),
-    ("rmw.or", (MemOp::i64_atomic_rmw_or, 8)),
-    ("rmw8.or_u", (MemOp::i64_atomic_rmw8_or_u, 1)),
-    ("rmw16.or_u", (MemOp::i64_atomic_rmw16_or_u, 2)),
-    ("rmw32.or_u", (MemOp::i64_atomic_rmw32_or_u, 4)),
-    ("rmw.xor", (MemOp::i64_atomic_rmw_xor, 8)),
-    ("rmw8.xor_u", (MemOp::i64_atomic_rmw8_xor_u, 1)),
-    ("rmw16.xor_u", (MemOp::i64_atomic_rmw16_xor_u, 2)),
-    ("rmw32.xor_u", (MemOp::i64_atomic_rmw32_xor_u, 4)),
-    ("rmw.xchg", (MemOp::i64_atomic_rmw_xchg, 8)),
-    ("rmw8.xchg_u", (MemOp::i64_atomic_rmw8_xchg_u, 1)),
-    ("rmw16.xchg_u", (MemOp::i64_atomic_rmw16_xchg_u, 2)),
-    ("rmw32.xchg_u", (MemOp::i64_atomic_rmw32_xchg_u, 4)),
-    ("rmw.cmpxchg", (MemOp::i64_atomic_rmw_cmpxchg, 8)),
-    ("rmw8.cmpxchg_u", (MemOp::i64_atomic_rmw8_cmpxchg_u, 1)),
-    ("rmw16.cmpxchg_u", (MemOp::i64_atomic_rmw16_cmpxchg_u, 2)),
-    ("rmw32.cmpxchg_u", (MemOp::i64_atomic_rmw32_cmpxchg_u, 4)),
-];
-
-/// The word `i64.atomic.` and a name.
-fn i64_atomic_word(name: &str) -> Option<Word> {
-    if let Some((op, align)) = find(&I64_ATOMIC_MEM, name) {
-        return Some(Word::Mem(op, align));
-    }
-    None
-}
-
-static LOCAL_OTHERS: [(&str, Word); 3] = [
-    ("get", Word::Index(IndexOp::local_get)),
-    ("set", Word::Index(IndexOp::local_set)),
-    ("tee", Word::Index(IndexOp::local_tee)),
-];
-
-/// The word `local.` and a name.
-fn local_word(name: &str) -> Option<Word> {
-    find(&LOCAL_OTHERS, name)
-}
-
-static GLOBAL_OTHERS: [(&str, Word); 2] = [
-    ("get", Word::Index(IndexOp::global_get)),
-    ("set", Word::Index(IndexOp::global_set)),
-];
-
-/// The word `global.` and a name.
-fn global_word(name: &str) -> Option<Word> {
-    find(&GLOBAL_OTHERS, name)
-}
-
-static ELEM_OTHERS: [(&str, Word); 1] = [("drop", Word::Index(IndexOp::elem_drop))];
-
-/// The word `elem.` and a name.
-fn elem_word(name: &str) -> Option<Word> {
-    find(&ELEM_OTHERS, name)
-}
-
-static DATA_OTHERS: [(&str, Word); 1] = [("drop", Word::Index(IndexOp::data_drop))];
-
-/// The word `data.` and a name.
-fn data_word(name: &str) -> Option<Word> {
-    find(&DATA_OTHERS, name)
-}
-
-static STRUCT_OTHERS: [(&str, Word); 8] = [
-    ("new", Word::Index(IndexOp::struct_new)),
-    ("new_default", Word::Index(IndexOp::struct_new_default)),
-    ("new_desc", Word::Index(IndexOp::struct_new_desc)),
-    (
-        "new_default_desc",
-        Word::Index(IndexOp::struct_new_default_desc),
-    ),
-    ("get", Word::Struct(StructOp::struct_get)),
-    ("get_s", Word::Struct(StructOp::struct_get_s)),
-    ("get_u", Word::Struct(StructOp::struct_get_u)),
-    ("set", Word::Struct(StructOp::struct_set)),
-];
-
-/// The word `struct.` and a name.
-fn struct_word(name: &str) -> Option<Word> {
-    find(&STRUCT_OTHERS, name)
-}
-
-static CONT_OTHERS: [(&str, Word); 2] = [
-    ("new", Word::Index(IndexOp::cont_new)),
-    ("bind", Word::Own(OwnOp::cont_bind)),
-];
-
-/// The word `cont.` and a name.
-fn cont_word(name: &str) -> Option<Word> {
-    find(&CONT_OTHERS, name)
-}
-
-static TABLE_OTHERS: [(&str, Word); 7] = [
-    ("get", Word::Table(TableOp::table_get)),
-    ("set", Word::Table(TableOp::table_set)),
-    ("grow", Word::Table(TableOp::table_grow)),
-    ("size", Word::Table(TableOp::table_size)),
-    ("fill", Word::Table(TableOp::table_fill)),
-    ("init", Word::Own(OwnOp::table_init)),
-    ("copy", Word::Own(OwnOp::table_copy)),
-];
-
-/// The word `table.` and a name.
-fn table_word(name: &str) -> Option<Word> {
-    find(&TABLE_OTHERS, name)
-}
-
-static MEMORY_OTHERS: [(&str, Word); 6] = [
-    ("size", Word::Memory(MemoryOp::memory_size)),
-    ("grow", Word::Memory(MemoryOp::memory_grow)),
-    ("fill", Word::Memory(MemoryOp::memory_fill)),
-    ("discard", Word::Memory(MemoryOp::memory_discard)),
-    ("init", Word::Own(OwnOp::memory_init)),
-    ("copy", Word::Own(OwnOp::memory_copy)),
-];
-
-/// The word `memory.` and a name.
-fn memory_word(name: &str) -> Option<Word> {
-    find(&MEMORY_OTHERS, name)
-}
-
-static ATOMIC_OTHERS: [(&str, Word); 1] = [("fence", Word::Own(OwnOp::atomic_fence))];
-
-/// The word `atomic.` and a name.
-fn atomic_word(name: &str) -> Option<Word> {
-    find(&ATOMIC_OTHERS, name)
-}
-
-static GLOBAL_ATOMIC_OTHERS: [(&str, Word); 9] = [
-    ("get", Word::Atomic(AtomicOp::Global)),
-    ("set", Word::Atomic(AtomicOp::Global)),
-    ("rmw.add", Word::Atomic(AtomicOp::Global)),
-    ("rmw.sub", Word::Atomic(AtomicOp::Global)),
-    ("rmw.and", Word::Atomic(AtomicOp::Global)),
-    ("rmw.or", Word::Atomic(AtomicOp::Global)),
-    ("rmw.xor", Word::Atomic(AtomicOp::Global)),
-    ("rmw.xchg", Word::Atomic(AtomicOp::Global)),
-    ("rmw.cmpxchg", Word::Atomic(AtomicOp::Global)),
-];
-
-/// The word `global.atomic.` and a name.
-fn global_atomic_word(name: &str) -> Option<Word> {
-    find(&GLOBAL_ATOMIC_OTHERS, name)
-}
-
-static TABLE_ATOMIC_OTHERS: [(&str, Word); 4] = [
-    ("get", Word::Atomic(AtomicOp::Table)),
-    ("set", Word::Atomic(AtomicOp::Table)),
-    ("rmw.xchg", Word::Atomic(AtomicOp::Table)),
-    ("rmw.cmpxchg", Word::Atomic(AtomicOp::Table)),
-];
-
-/// The word `table.atomic.` and a name.
-fn table_atomic_word(name: &str) -> Option<Word> {
-    find(&TABLE_ATOMIC_OTHERS, name)
-}
-
-static STRUCT_ATOMIC_OTHERS: [(&str, Word); 11] = [
-    ("get", Word::Atomic(AtomicOp::Struct)),
-    ("get_s", Word::Atomic(AtomicOp::Struct)),
-    ("get_u", Word::Atomic(AtomicOp::Struct)),
-    ("set", Word::Atomic(AtomicOp::Struct)),
-    ("rmw.add", Word::Atomic(AtomicOp::Struct)),
-    ("rmw.sub", Word::Atomic(AtomicOp::Struct)),
-    ("rmw.and", Word::Atomic(AtomicOp::Struct)),
-    ("rmw.or", Word::Atomic(AtomicOp::Struct)),
-    ("rmw.xor", Word::Atomic(AtomicOp::Struct)),
-    ("rmw.xchg", Word::Atomic(AtomicOp::Struct)),
-    ("rmw.cmpxchg", Word::Atomic(AtomicOp::Struct)),
-];
-
-/// The word `struct.atomic.` and a name.
-fn struct_atomic_word(name: &str) -> Option<Word> {
-    find(&STRUCT_ATOMIC_OTHERS, name)
-}
-
-static ARRAY_ATOMIC_OTHERS: [(&str, Word); 11] = [
-    ("get", Word::Atomic(AtomicOp::Array)),
-    ("get_s", Word::Atomic(AtomicOp::Array)),
-    ("get_u", Word::Atomic(AtomicOp::Array)),
-    ("set", Word::Atomic(AtomicOp::Array)),
-    ("rmw.add", Word::Atomic(AtomicOp::Array)),
-    ("rmw.sub", Word::Atomic(AtomicOp::Array)),
-    ("rmw.and", Word::Atomic(AtomicOp::Array)),
-    ("rmw.or", Word::Atomic(AtomicOp::Array)),
-    ("rmw.xor", Word::Atomic(AtomicOp::Array)),
-    ("rmw.xchg", Word::Atomic(AtomicOp::Array)),
-    ("rmw.cmpxchg", Word::Atomic(AtomicOp::Array)),
-];
-
-/// The word `array.atomic.` and a name.
-fn array_atomic_word(name: &str) -> Option<Word> {
-    find(&ARRAY_ATOMIC_OTHERS, name)
-}
-
-static OF_ELEVEN_PLAIN: [(&str, BareOp); 1] = [("unreachable", BareOp::unreachable)];
-
-static OF_ELEVEN_OTHERS: [(&str, Word); 6] = [
-    ("return_call", Word::Index(IndexOp::return_call)),
-    ("nullfuncref", Word::Key(Key::Nullfuncref)),
-    ("nullcontref", Word::Key(Key::Nullcontref)),
-    ("export-info", Word::Key(Key::ExportInfo)),
-    ("import-info", Word::Key(Key::ImportInfo)),
+    ("nullexternref", Word::Key(Key::Nullexternref)),
     ("target-arch", Word::Key(Key::TargetArch)),
 ];
 
-/// The word of eleven letters.
-fn of_eleven(name: &str) -> Option<Word> {
-    if let Some(op) = find(&OF_ELEVEN_PLAIN, name) {
-        return Some(Word::Plain(Plain::Bare(op)));
-    }
-    find(&OF_ELEVEN_OTHERS, name)
-}
-
-static OF_THREE_PLAIN: [(&str, BareOp); 1] = [("nop", BareOp::nop)];
-
-static OF_THREE_OTHERS: [(&str, Word); 17] = [
-    ("try", Word::Block(BlockOp::try_)),
-    ("end", Word::Own(OwnOp::end_)),
-    ("rec", Word::Key(Key::Rec)),
-    ("sub", Word::Key(Key::Sub)),
-    ("mut", Word::Key(Key::Mut)),
-    ("tag", Word::Key(Key::Tag)),
-    ("i16", Word::Key(Key::I16)),
-    ("i32", Word::Key(Key::I32)),
-    ("i64", Word::Key(Key::I64)),
-    ("f32", Word::Key(Key::F32)),
-    ("f64", Word::Key(Key::F64)),
-    ("ref", Word::Key(Key::Ref)),
-    ("exn", Word::Key(Key::Exn)),
-    ("any", Word::Key(Key::Any)),
-    ("i31", Word::Key(Key::I31)),
-    ("sdk", Word::Key(Key::Sdk)),
-    ("tls", Word::Key(Key::Tls)),
-];
-
-/// The word of three letters.
-fn of_three(name: &str) -> Option<Word> {
-    if let Some(op) = find(&OF_THREE_PLAIN, name) {
-        return Some(Word::Plain(Plain::Bare(op)));
-    }
-    find(&OF_THREE_OTHERS, name)
-}
-
-static OF_NINE_PLAIN: [(&str, BareOp); 2] = [
-    ("throw_ref", BareOp::throw_ref),
-    ("catch_all", BareOp::catch_all),
-];
-
-static OF_NINE_OTHERS: [(&str, Word); 6] = [
-    ("try_table", Word::Block(BlockOp::try_table)),
-    ("describes", Word::Key(Key::Describes)),
-    ("catch_ref", Word::Key(Key::CatchRef)),
-    ("externref", Word::Key(Key::Externref)),
-    ("structref", Word::Key(Key::Structref)),
-    ("undefined", Word::Key(Key::Undefined)),
-];
-
-/// The word of nine letters.
-fn of_nine(name: &str) -> Option<Word> {
-    if let Some(op) = find(&OF_NINE_PLAIN, name) {
-        return Some(Word::Plain(Plain::Bare(op)));
-    }
-    find(&OF_NINE_OTHERS, name)
-}
-
-static OF_SIX_PLAIN: [(&str, BareOp); 1] = [("return", BareOp::return_)];
-
-static OF_SIX_OTHERS: [(&str, Word); 21] = [
-    ("select", Word::Own(OwnOp::select)),
-    ("switch", Word::Own(OwnOp::switch)),
-    ("resume", Word::Own(OwnOp::resume)),
-    ("module", Word::Key(Key::Module)),
-    ("binary", Word::Key(Key::Binary)),
-    ("shared", Word::Key(Key::Shared)),
-    ("struct", Word::Key(Key::Struct)),
-    ("result", Word::Key(Key::Result)),
-    ("import", Word::Key(Key::Import)),
-    ("export", Word::Key(Key::Export)),
-    ("memory", Word::Key(Key::Memory)),
-    ("global", Word::Key(Key::Global)),
-    ("offset", Word::Key(Key::Offset)),
-    ("before", Word::Key(Key::Before)),
-    ("extern", Word::Key(Key::Extern)),
-    ("nofunc", Word::Key(Key::Nofunc)),
-    ("nocont", Word::Key(Key::Nocont)),
-    ("exnref", Word::Key(Key::Exnref)),
-    ("anyref", Word::Key(Key::Anyref)),
-    ("i31ref", Word::Key(Key::I31ref)),
-    ("needed", Word::Key(Key::Needed)),
-];
-
-/// The word of six letters.
-fn of_six(name: &str) -> Option<Word> {
-    if let Some(op) = find(&OF_SIX_PLAIN, name) {
-        return Some(Word::Plain(Plain::Bare(op)));
-    }
-    find(&OF_SIX_OTHERS, name)
-}
-
-static OF_FOUR_PLAIN: [(&str, BareOp); 1] = [("drop", BareOp::drop)];
-
-static OF_FOUR_OTHERS: [(&str, Word); 15] = [
-    ("call", Word::Index(IndexOp::call)),
-    ("loop", Word::Block(BlockOp::loop_)),
-    ("else", Word::Own(OwnOp::else_)),
-    ("type", Word::Key(Key::Ty)),
-    ("func", Word::Key(Key::Func)),
-    ("cont", Word::Key(Key::Cont)),
-    ("elem", Word::Key(Key::Elem)),
-    ("data", Word::Key(Key::Data)),
-    ("item", Word::Key(Key::Item)),
-    ("then", Word::Key(Key::Then)),
-    ("last", Word::Key(Key::Last)),
-    ("code", Word::Key(Key::Code)),
-    ("v128", Word::Key(Key::V128)),
-    ("null", Word::Key(Key::Null)),
-    ("none", Word::Key(Key::None)),
-];
-
-/// The word of four letters.
-fn of_four(name: &str) -> Option<Word> {
-    if let Some(op) = find(&OF_FOUR_PLAIN, name) {
-        return Some(Word::Plain(Plain::Bare(op)));
-    }
-    find(&OF_FOUR_OTHERS, name)
-}
-
-static OF_EIGHT_OTHERS: [(&str, Word); 11] = [
-    ("delegate", Word::Index(IndexOp::delegate)),
-    ("call_ref", Word::Index(IndexOp::call_ref)),
-    ("br_table", Word::Own(OwnOp::br_table)),
-    ("pagesize", Word::Key(Key::Pagesize)),
-    ("noextern", Word::Key(Key::Noextern)),
-    ("arrayref", Word::Key(Key::Arrayref)),
-    ("language", Word::Key(Key::Language)),
-    ("mem-info", Word::Key(Key::MemInfo)),
-    ("exported", Word::Key(Key::Exported)),
-    ("no-strip", Word::Key(Key::NoStrip)),
-    ("absolute", Word::Key(Key::Absolute)),
-];
-
-/// The word of eight letters.
-fn of_eight(name: &str) -> Option<Word> {
-    find(&OF_EIGHT_OTHERS, name)
-}
-
-static OF_TWO_OTHERS: [(&str, Word); 6] = [
-    ("br", Word::Index(IndexOp::br)),
-    ("if", Word::Block(BlockOp::if_)),
-    ("do", Word::Key(Key::Do)),
-    ("on", Word::Key(Key::On)),
-    ("i8", Word::Key(Key::I8)),
-    ("eq", Word::Key(Key::Eq)),
-];
-
-/// The word of two letters.
-fn of_two(name: &str) -> Option<Word> {
-    find(&OF_TWO_OTHERS, name)
-}
-
-static OF_FIVE_OTHERS: [(&str, Word); 23] = [
-    ("br_if", Word::Index(IndexOp::br_if)),
-    ("catch", Word::Index(IndexOp::catch)),
-    ("throw", Word::Index(IndexOp::throw)),
-    ("block", Word::Block(BlockOp::block)),
-    ("quote", Word::Key(Key::Quote)),
-    ("final", Word::Key(Key::Final)),
-    ("exact", Word::Key(Key::Exact)),
-    ("array", Word::Key(Key::Array)),
-    ("field", Word::Key(Key::Field)),
+static WORDS_6: [(&str, Word); 13] = [
+    ("array.init_elem", Word::Own(OwnOp::array_init_elem)),
+    ("i64.mul_wide_s", Word::Beyond),
+    ("drop", Word::Plain(Plain::Bare(BareOp::drop))),
+    ("i32.ge_u", Word::Plain(Plain::I32(I32Op::i32_ge_u))),
+    ("i64.ge_u", Word::Plain(Plain::I64(I64Op::i64_ge_u))),
+    ("f32.gt", Word::Plain(Plain::F32(F32Op::f32_gt))),
+    ("f64.gt", Word::Plain(Plain::F64(F64Op::f64_gt))),
+    (
+        "i32.extend8_s",
+        Word::Plain(Plain::I32(I32Op::i32_extend8_s)),
+    ),
+    (
+        "i64.extend8_s",
+        Word::Plain(Plain::I64(I64Op::i64_extend8_s)),
+    ),
+    (
+        "i8x16.extract_lane_s",
+        Word::Lane(LaneOp::i8x16_extract_lane_s),
+    ),
+    ("i64x2.shl", Word::Plain(Plain::I64x2(I64x2Op::i64x2_shl))),
+    ("f64x2.min", Word::Plain(Plain::F64x2(F64x2Op::f64x2_min))),
     ("param", Word::Key(Key::Param)),
-    ("local", Word::Key(Key::Local)),
-    ("table", Word::Key(Key::Table)),
-    ("start", Word::Key(Key::Start)),
+];
+
+static WORDS_7: [(&str, Word); 10] = [
+    ("br_on_null", Word::Index(IndexOp::br_on_null)),
+    (
+        "i32.atomic.store16",
+        Word::Mem(MemOp::i32_atomic_store16, 2),
+    ),
+    (
+        "i64.atomic.store16",
+        Word::Mem(MemOp::i64_atomic_store16, 2),
+    ),
+    ("f32.ceil", Word::Plain(Plain::F32(F32Op::f32_ceil))),
+    ("f64.ceil", Word::Plain(Plain::F64(F64Op::f64_ceil))),
+    ("i32.wrap_i64", Word::Plain(Plain::I32(I32Op::i32_wrap_i64))),
+    ("i16x8.lt_s", Word::Plain(Plain::I16x8(I16x8Op::i16x8_lt_s))),
+    ("i16x8.gt_s", Word::Plain(Plain::I16x8(I16x8Op::i16x8_gt_s))),
+    (
+        "f64x2.trunc",
+        Word::Plain(Plain::F64x2(F64x2Op::f64x2_trunc)),
+    ),
+    ("externref", Word::Key(Key::Externref)),
+];
+
+static WORDS_8: [(&str, Word); 13] = [
+    ("rethrow", Word::Index(IndexOp::rethrow)),
+    (
+        "memory.atomic.wait64",
+        Word::Mem(MemOp::memory_atomic_wait64, 8),
+    ),
+    (
+        "i64.atomic.load32_u",
+        Word::Mem(MemOp::i64_atomic_load32_u, 4),
+    ),
+    ("i32.sub", Word::Plain(Plain::I32(I32Op::i32_sub))),
+    ("i64.sub", Word::Plain(Plain::I64(I64Op::i64_sub))),
+    ("f32.sub", Word::Plain(Plain::F32(F32Op::f32_sub))),
+    ("f64.sub", Word::Plain(Plain::F64(F64Op::f64_sub))),
+    ("ref.is_null", Word::Plain(Plain::Ref(RefOp::ref_is_null))),
+    ("i8x16.sub", Word::Plain(Plain::I8x16(I8x16Op::i8x16_sub))),
+    (
+        "i16x8.max_u",
+        Word::Plain(Plain::I16x8(I16x8Op::i16x8_max_u)),
+    ),
+    (
+        "i64x2.shr_s",
+        Word::Plain(Plain::I64x2(I64x2Op::i64x2_shr_s)),
+    ),
+    ("f32x4.max", Word::Plain(Plain::F32x4(F32x4Op::f32x4_max))),
+    ("i32", Word::Key(Key::I32)),
+];
+
+static WORDS_9: [(&str, Word); 9] = [
+    ("struct.new_desc", Word::Index(IndexOp::struct_new_desc)),
+    ("i32.atomic.rmw.or", Word::Mem(MemOp::i32_atomic_rmw_or, 4)),
+    ("i64.atomic.rmw.or", Word::Mem(MemOp::i64_atomic_rmw_or, 8)),
     ("after", Word::Key(Key::After)),
     ("first", Word::Key(Key::First)),
-    ("i8x16", Word::Key(Key::I8x16)),
-    ("i16x8", Word::Key(Key::I16x8)),
     ("i32x4", Word::Key(Key::I32x4)),
     ("i64x2", Word::Key(Key::I64x2)),
     ("f32x4", Word::Key(Key::F32x4)),
     ("f64x2", Word::Key(Key::F64x2)),
+];
+
+static WORDS_10: [(&str, Word); 12] = [
+    ("return_call", Word::Index(IndexOp::return_call)),
+    ("v128.load32x2_u", Word::Mem(MemOp::v128_load32x2_u, 8)),
+    (
+        "i32.atomic.rmw.xor",
+        Word::Mem(MemOp::i32_atomic_rmw_xor, 4),
+    ),
+    (
+        "i64.atomic.rmw.xor",
+        Word::Mem(MemOp::i64_atomic_rmw_xor, 8),
+    ),
+    ("i32.div_s", Word::Plain(Plain::I32(I32Op::i32_div_s))),
+    ("i64.div_s", Word::Plain(Plain::I64(I64Op::i64_div_s))),
+    (
+        "i32.trunc_sat_f32_u",
+        Word::Plain(Plain::I32(I32Op::i32_trunc_sat_f32_u)),
+    ),
+    (
+        "i64.trunc_sat_f32_u",
+        Word::Plain(Plain::I64(I64Op::i64_trunc_sat_f32_u)),
+    ),
+    ("i16x8.shl", Word::Plain(Plain::I16x8(I16x8Op::i16x8_shl))),
+    (
+        "f64x2.relaxed_nmadd",
+        Word::Plain(Plain::F64x2(F64x2Op::f64x2_relaxed_nmadd)),
+    ),
+    ("sub", Word::Key(Key::Sub)),
     ("noexn", Word::Key(Key::Noexn)),
-    ("eqref", Word::Key(Key::Eqref)),
 ];
 
-/// The word of five letters.
-fn of_five(name: &str) -> Option<Word> {
-    find(&OF_FIVE_OTHERS, name)
-}
+static WORDS_11: [(&str, Word); 10] = [
+    ("atomic.fence", Word::Own(OwnOp::atomic_fence)),
+    (
+        "i64.atomic.store32",
+        Word::Mem(MemOp::i64_atomic_store32, 4),
+    ),
+    (
+        "i32.atomic.rmw.xchg",
+        Word::Mem(MemOp::i32_atomic_rmw_xchg, 4),
+    ),
+    (
+        "i64.atomic.rmw.xchg",
+        Word::Mem(MemOp::i64_atomic_rmw_xchg, 8),
+    ),
+    (
+        "i32.atomic.rmw8.cmpxchg_u",
+        Word::Mem(MemOp::i32_atomic_rmw8_cmpxchg_u, 1),
+    ),
+    (
+        "i64.atomic.rmw8.cmpxchg_u",
+        Word::Mem(MemOp::i64_atomic_rmw8_cmpxchg_u, 1),
+    ),
+    (
+        "i32.extend16_s",
+        Word::Plain(Plain::I32(I32Op::i32_extend16_s)),
+    ),
+    (
+        "i64.extend16_s",
+        Word::Plain(Plain::I64(I64Op::i64_extend16_s)),
+    ),
+    ("v128.andnot", Word::Plain(Plain::V128(V128Op::v128_andnot))),
+    (
+        "f32x4.demote_f64x2_zero",
+        Word::Plain(Plain::F32x4(F32x4Op::f32x4_demote_f64x2_zero)),
+    ),
+];
 
-static OF_TEN_OTHERS: [(&str, Word); 4] = [
-    ("br_on_null", Word::Index(IndexOp::br_on_null)),
-    ("br_on_cast", Word::Own(OwnOp::br_on_cast)),
+static WORDS_12: [(&str, Word); 15] = [
+    ("br", Word::Index(IndexOp::br)),
+    ("array.new", Word::Index(IndexOp::array_new)),
+    ("array.get_s", Word::Index(IndexOp::array_get_s)),
+    ("resume", Word::Own(OwnOp::resume)),
+    ("ref.cast_desc_eq", Word::Own(OwnOp::ref_cast_desc_eq)),
+    ("struct.atomic.set", Word::Atomic(AtomicOp::Struct)),
+    ("v128.load8_splat", Word::Mem(MemOp::v128_load8_splat, 1)),
+    ("i8x16.add", Word::Plain(Plain::I8x16(I8x16Op::i8x16_add))),
+    (
+        "i8x16.min_s",
+        Word::Plain(Plain::I8x16(I8x16Op::i8x16_min_s)),
+    ),
+    (
+        "i16x8.extadd_pairwise_i8x16_u",
+        Word::Plain(Plain::I16x8(I16x8Op::i16x8_extadd_pairwise_i8x16_u)),
+    ),
+    (
+        "i16x8.shr_s",
+        Word::Plain(Plain::I16x8(I16x8Op::i16x8_shr_s)),
+    ),
+    (
+        "i8x16.relaxed_swizzle",
+        Word::Plain(Plain::I8x16(I8x16Op::i8x16_relaxed_swizzle)),
+    ),
+    (
+        "i32x4.relaxed_trunc_f32x4_u",
+        Word::Plain(Plain::I32x4(I32x4Op::i32x4_relaxed_trunc_f32x4_u)),
+    ),
+    (
+        "i16x8.relaxed_dot_i8x16_i7x16_s",
+        Word::Plain(Plain::I16x8(I16x8Op::i16x8_relaxed_dot_i8x16_i7x16_s)),
+    ),
+    ("binding-local", Word::Key(Key::BindingLocal)),
+];
+
+static WORDS_13: [(&str, Word); 15] = [
+    ("block", Word::Block(BlockOp::block)),
+    ("i32.eq", Word::Plain(Plain::I32(I32Op::i32_eq))),
+    ("i64.eq", Word::Plain(Plain::I64(I64Op::i64_eq))),
+    ("f32.eq", Word::Plain(Plain::F32(F32Op::f32_eq))),
+    ("f64.eq", Word::Plain(Plain::F64(F64Op::f64_eq))),
+    ("ref.eq", Word::Plain(Plain::Ref(RefOp::ref_eq))),
+    ("i8x16.ne", Word::Plain(Plain::I8x16(I8x16Op::i8x16_ne))),
+    ("i32x4.lt_u", Word::Plain(Plain::I32x4(I32x4Op::i32x4_lt_u))),
+    ("i32x4.gt_u", Word::Plain(Plain::I32x4(I32x4Op::i32x4_gt_u))),
+    ("v128.and", Word::Plain(Plain::V128(V128Op::v128_and))),
+    ("i8x16.abs", Word::Plain(Plain::I8x16(I8x16Op::i8x16_abs))),
+    (
+        "i8x16.avgr_u",
+        Word::Plain(Plain::I8x16(I8x16Op::i8x16_avgr_u)),
+    ),
+    ("final", Word::Key(Key::Final)),
+    ("last", Word::Key(Key::Last)),
+    ("undefined", Word::Key(Key::Undefined)),
+];
+
+static WORDS_14: [(&str, Word); 11] = [
+    ("global.atomic.rmw.sub", Word::Atomic(AtomicOp::Global)),
+    (
+        "i32.trunc_f32_u",
+        Word::Plain(Plain::I32(I32Op::i32_trunc_f32_u)),
+    ),
+    (
+        "i64.trunc_f32_u",
+        Word::Plain(Plain::I64(I64Op::i64_trunc_f32_u)),
+    ),
+    ("i8x16.le_u", Word::Plain(Plain::I8x16(I8x16Op::i8x16_le_u))),
+    ("i8x16.ge_u", Word::Plain(Plain::I8x16(I8x16Op::i8x16_ge_u))),
+    (
+        "i16x8.q15mulr_sat_s",
+        Word::Plain(Plain::I16x8(I16x8Op::i16x8_q15mulr_sat_s)),
+    ),
+    ("i32x4.neg", Word::Plain(Plain::I32x4(I32x4Op::i32x4_neg))),
+    ("f32x4.neg", Word::Plain(Plain::F32x4(F32x4Op::f32x4_neg))),
+    ("table", Word::Key(Key::Table)),
+    ("global", Word::Key(Key::Global)),
+    ("tls", Word::Key(Key::Tls)),
+];
+
+static WORDS_15: [(&str, Word); 5] = [
+    ("array.atomic.rmw.sub", Word::Atomic(AtomicOp::Array)),
+    ("i32.rem_u", Word::Plain(Plain::I32(I32Op::i32_rem_u))),
+    ("i64.rem_u", Word::Plain(Plain::I64(I64Op::i64_rem_u))),
+    ("f64x2.ceil", Word::Plain(Plain::F64x2(F64x2Op::f64x2_ceil))),
+    (
+        "i32x4.all_true",
+        Word::Plain(Plain::I32x4(I32x4Op::i32x4_all_true)),
+    ),
+];
+
+static WORDS_16: [(&str, Word); 9] = [
+    ("struct.atomic.get", Word::Atomic(AtomicOp::Struct)),
+    ("unreachable", Word::Plain(Plain::Bare(BareOp::unreachable))),
+    ("catch_all", Word::Plain(Plain::Bare(BareOp::catch_all))),
+    (
+        "i16x8.extract_lane_u",
+        Word::Lane(LaneOp::i16x8_extract_lane_u),
+    ),
+    (
+        "i16x8.extend_high_i8x16_u",
+        Word::Plain(Plain::I16x8(I16x8Op::i16x8_extend_high_i8x16_u)),
+    ),
+    (
+        "i16x8.extmul_high_i8x16_u",
+        Word::Plain(Plain::I16x8(I16x8Op::i16x8_extmul_high_i8x16_u)),
+    ),
+    (
+        "i32x4.trunc_sat_f32x4_u",
+        Word::Plain(Plain::I32x4(I32x4Op::i32x4_trunc_sat_f32x4_u)),
+    ),
+    ("data", Word::Key(Key::Data)),
+    ("on", Word::Key(Key::On)),
+];
+
+static WORDS_17: [(&str, Word); 5] = [
+    ("struct.atomic.rmw.cmpxchg", Word::Atomic(AtomicOp::Struct)),
+    ("i32.popcnt", Word::Plain(Plain::I32(I32Op::i32_popcnt))),
+    ("i64.popcnt", Word::Plain(Plain::I64(I64Op::i64_popcnt))),
+    (
+        "i8x16.bitmask",
+        Word::Plain(Plain::I8x16(I8x16Op::i8x16_bitmask)),
+    ),
+    ("visibility-hidden", Word::Key(Key::VisibilityHidden)),
+];
+
+static WORDS_18: [(&str, Word); 12] = [
+    ("ref.func", Word::Index(IndexOp::ref_func)),
+    ("global.atomic.rmw.add", Word::Atomic(AtomicOp::Global)),
+    ("global.atomic.rmw.and", Word::Atomic(AtomicOp::Global)),
+    (
+        "i16x8.add_sat_s",
+        Word::Plain(Plain::I16x8(I16x8Op::i16x8_add_sat_s)),
+    ),
+    (
+        "i16x8.sub_sat_s",
+        Word::Plain(Plain::I16x8(I16x8Op::i16x8_sub_sat_s)),
+    ),
+    (
+        "i32x4.shr_u",
+        Word::Plain(Plain::I32x4(I32x4Op::i32x4_shr_u)),
+    ),
+    (
+        "i32x4.max_s",
+        Word::Plain(Plain::I32x4(I32x4Op::i32x4_max_s)),
+    ),
+    (
+        "i32x4.relaxed_trunc_f64x2_s_zero",
+        Word::Plain(Plain::I32x4(I32x4Op::i32x4_relaxed_trunc_f64x2_s_zero)),
+    ),
+    (
+        "i32x4.relaxed_trunc_f64x2_u_zero",
+        Word::Plain(Plain::I32x4(I32x4Op::i32x4_relaxed_trunc_f64x2_u_zero)),
+    ),
+    ("func", Word::Key(Key::Func)),
+    ("code", Word::Key(Key::Code)),
+    ("none", Word::Key(Key::None)),
+];
+
+static WORDS_19: [(&str, Word); 10] = [
+    ("array.atomic.get_u", Word::Atomic(AtomicOp::Array)),
+    ("array.atomic.rmw.add", Word::Atomic(AtomicOp::Array)),
+    ("array.atomic.rmw.and", Word::Atomic(AtomicOp::Array)),
+    ("i64.load32_s", Word::Mem(MemOp::i64_load32_s, 4)),
+    ("i32.gt_s", Word::Plain(Plain::I32(I32Op::i32_gt_s))),
+    ("i64.gt_s", Word::Plain(Plain::I64(I64Op::i64_gt_s))),
+    ("f32.le", Word::Plain(Plain::F32(F32Op::f32_le))),
+    ("f64.le", Word::Plain(Plain::F64(F64Op::f64_le))),
+    ("cont", Word::Key(Key::Cont)),
+    ("offset", Word::Key(Key::Offset)),
+];
+
+static WORDS_20: [(&str, Word); 17] = [
+    ("v128.load16x4_u", Word::Mem(MemOp::v128_load16x4_u, 8)),
+    ("i32.le_u", Word::Plain(Plain::I32(I32Op::i32_le_u))),
+    ("i64.le_u", Word::Plain(Plain::I64(I64Op::i64_le_u))),
+    ("f32.lt", Word::Plain(Plain::F32(F32Op::f32_lt))),
+    ("f64.lt", Word::Plain(Plain::F64(F64Op::f64_lt))),
+    (
+        "ref.as_non_null",
+        Word::Plain(Plain::Ref(RefOp::ref_as_non_null)),
+    ),
+    (
+        "i32.trunc_sat_f64_u",
+        Word::Plain(Plain::I32(I32Op::i32_trunc_sat_f64_u)),
+    ),
+    (
+        "i64.trunc_sat_f64_u",
+        Word::Plain(Plain::I64(I64Op::i64_trunc_sat_f64_u)),
+    ),
+    (
+        "i8x16.swizzle",
+        Word::Plain(Plain::I8x16(I8x16Op::i8x16_swizzle)),
+    ),
+    ("i32x4.mul", Word::Plain(Plain::I32x4(I32x4Op::i32x4_mul))),
+    ("f32x4.mul", Word::Plain(Plain::F32x4(F32x4Op::f32x4_mul))),
+    (
+        "f32x4.convert_i32x4_s",
+        Word::Plain(Plain::F32x4(F32x4Op::f32x4_convert_i32x4_s)),
+    ),
+    (
+        "f64x2.relaxed_max",
+        Word::Plain(Plain::F64x2(F64x2Op::f64x2_relaxed_max)),
+    ),
+    ("rec", Word::Key(Key::Rec)),
     ("descriptor", Word::Key(Key::Descriptor)),
-    ("nullexnref", Word::Key(Key::Nullexnref)),
+    ("exact", Word::Key(Key::Exact)),
+    ("start", Word::Key(Key::Start)),
 ];
 
-/// The word of ten letters.
-fn of_ten(name: &str) -> Option<Word> {
-    find(&OF_TEN_OTHERS, name)
-}
+static WORDS_21: [(&str, Word); 15] = [
+    ("call", Word::Index(IndexOp::call)),
+    ("struct.get_u", Word::Struct(StructOp::struct_get_u)),
+    ("ref.test", Word::Own(OwnOp::ref_test)),
+    ("throw_ref", Word::Plain(Plain::Bare(BareOp::throw_ref))),
+    ("f32.trunc", Word::Plain(Plain::F32(F32Op::f32_trunc))),
+    ("f64.trunc", Word::Plain(Plain::F64(F64Op::f64_trunc))),
+    (
+        "i64.extend_i32_s",
+        Word::Plain(Plain::I64(I64Op::i64_extend_i32_s)),
+    ),
+    (
+        "i32.reinterpret_f32",
+        Word::Plain(Plain::I32(I32Op::i32_reinterpret_f32)),
+    ),
+    ("i32x4.eq", Word::Plain(Plain::I32x4(I32x4Op::i32x4_eq))),
+    ("f32x4.eq", Word::Plain(Plain::F32x4(F32x4Op::f32x4_eq))),
+    (
+        "i32x4.extend_low_i16x8_s",
+        Word::Plain(Plain::I32x4(I32x4Op::i32x4_extend_low_i16x8_s)),
+    ),
+    (
+        "i32x4.extmul_low_i16x8_s",
+        Word::Plain(Plain::I32x4(I32x4Op::i32x4_extmul_low_i16x8_s)),
+    ),
+    (
+        "i64x2.extend_low_i32x4_s",
+        Word::Plain(Plain::I64x2(I64x2Op::i64x2_extend_low_i32x4_s)),
+    ),
+    (
+        "i64x2.extmul_low_i32x4_s",
+        Word::Plain(Plain::I64x2(I64x2Op::i64x2_extmul_low_i32x4_s)),
+    ),
+    ("f64x2.pmin", Word::Plain(Plain::F64x2(F64x2Op::f64x2_pmin))),
+];
 
-static OF_MORE_OTHERS: [(&str, Word); 17] = [
-    ("br_on_non_null", Word::Index(IndexOp::br_on_non_null)),
-    ("return_call_ref", Word::Index(IndexOp::return_call_ref)),
-    ("call_indirect", Word::Own(OwnOp::call_indirect)),
+static WORDS_22: [(&str, Word); 16] = [
+    ("table.init", Word::Own(OwnOp::table_init)),
+    (
+        "i32.atomic.rmw8.sub_u",
+        Word::Mem(MemOp::i32_atomic_rmw8_sub_u, 1),
+    ),
+    (
+        "i64.atomic.rmw8.sub_u",
+        Word::Mem(MemOp::i64_atomic_rmw8_sub_u, 1),
+    ),
+    (
+        "f32.convert_i32_u",
+        Word::Plain(Plain::F32(F32Op::f32_convert_i32_u)),
+    ),
+    (
+        "f64.convert_i32_u",
+        Word::Plain(Plain::F64(F64Op::f64_convert_i32_u)),
+    ),
+    (
+        "extern.convert_any",
+        Word::Plain(Plain::Extern(ExternOp::extern_convert_any)),
+    ),
+    ("i32x4.extract_lane", Word::Lane(LaneOp::i32x4_extract_lane)),
+    ("i32x4.replace_lane", Word::Lane(LaneOp::i32x4_replace_lane)),
+    ("f32x4.extract_lane", Word::Lane(LaneOp::f32x4_extract_lane)),
+    ("f32x4.replace_lane", Word::Lane(LaneOp::f32x4_replace_lane)),
+    (
+        "f32x4.floor",
+        Word::Plain(Plain::F32x4(F32x4Op::f32x4_floor)),
+    ),
+    (
+        "i16x8.min_u",
+        Word::Plain(Plain::I16x8(I16x8Op::i16x8_min_u)),
+    ),
+    (
+        "i32x4.trunc_sat_f64x2_s_zero",
+        Word::Plain(Plain::I32x4(I32x4Op::i32x4_trunc_sat_f64x2_s_zero)),
+    ),
+    (
+        "i32x4.trunc_sat_f64x2_u_zero",
+        Word::Plain(Plain::I32x4(I32x4Op::i32x4_trunc_sat_f64x2_u_zero)),
+    ),
+    (
+        "i32x4.relaxed_dot_i8x16_i7x16_add_s",
+        Word::Plain(Plain::I32x4(I32x4Op::i32x4_relaxed_dot_i8x16_i7x16_add_s)),
+    ),
+    ("module", Word::Key(Key::Module)),
+];
+
+static WORDS_23: [(&str, Word); 8] = [
+    ("catch", Word::Index(IndexOp::catch)),
+    ("loop", Word::Block(BlockOp::loop_)),
+    (
+        "i32.atomic.load8_u",
+        Word::Mem(MemOp::i32_atomic_load8_u, 1),
+    ),
+    (
+        "i64.atomic.load8_u",
+        Word::Mem(MemOp::i64_atomic_load8_u, 1),
+    ),
+    (
+        "i32.atomic.rmw8.or_u",
+        Word::Mem(MemOp::i32_atomic_rmw8_or_u, 1),
+    ),
+    (
+        "i64.atomic.rmw8.or_u",
+        Word::Mem(MemOp::i64_atomic_rmw8_or_u, 1),
+    ),
+    ("f32x4.pmax", Word::Plain(Plain::F32x4(F32x4Op::f32x4_pmax))),
+    ("result", Word::Key(Key::Result)),
+];
+
+static WORDS_24: [(&str, Word); 11] = [
+    ("if", Word::Block(BlockOp::if_)),
+    ("switch", Word::Own(OwnOp::switch)),
+    ("i32.or", Word::Plain(Plain::I32(I32Op::i32_or))),
+    ("i64.or", Word::Plain(Plain::I64(I64Op::i64_or))),
+    (
+        "i32.trunc_f64_u",
+        Word::Plain(Plain::I32(I32Op::i32_trunc_f64_u)),
+    ),
+    (
+        "i64.trunc_f64_u",
+        Word::Plain(Plain::I64(I64Op::i64_trunc_f64_u)),
+    ),
+    ("i64x2.le_s", Word::Plain(Plain::I64x2(I64x2Op::i64x2_le_s))),
+    ("i64x2.ge_s", Word::Plain(Plain::I64x2(I64x2Op::i64x2_ge_s))),
+    ("field", Word::Key(Key::Field)),
+    ("nullexnref", Word::Key(Key::Nullexnref)),
+    ("binding-weak", Word::Key(Key::BindingWeak)),
+];
+
+static WORDS_25: [(&str, Word); 7] = [
+    ("v128.load8x8_u", Word::Mem(MemOp::v128_load8x8_u, 8)),
+    (
+        "i64x2.splat",
+        Word::Plain(Plain::I64x2(I64x2Op::i64x2_splat)),
+    ),
+    (
+        "f64x2.splat",
+        Word::Plain(Plain::F64x2(F64x2Op::f64x2_splat)),
+    ),
+    (
+        "i64x2.relaxed_laneselect",
+        Word::Plain(Plain::I64x2(I64x2Op::i64x2_relaxed_laneselect)),
+    ),
+    ("f32", Word::Key(Key::F32)),
+    ("v128", Word::Key(Key::V128)),
+    ("i31", Word::Key(Key::I31)),
+];
+
+static WORDS_26: [(&str, Word); 9] = [
+    ("i32.store8", Word::Mem(MemOp::i32_store8, 1)),
+    ("i64.store8", Word::Mem(MemOp::i64_store8, 1)),
+    (
+        "i32.atomic.rmw16.cmpxchg_u",
+        Word::Mem(MemOp::i32_atomic_rmw16_cmpxchg_u, 2),
+    ),
+    (
+        "i64.atomic.rmw16.cmpxchg_u",
+        Word::Mem(MemOp::i64_atomic_rmw16_cmpxchg_u, 2),
+    ),
+    (
+        "i64.atomic.rmw32.cmpxchg_u",
+        Word::Mem(MemOp::i64_atomic_rmw32_cmpxchg_u, 4),
+    ),
+    ("f32.min", Word::Plain(Plain::F32(F32Op::f32_min))),
+    ("f64.min", Word::Plain(Plain::F64(F64Op::f64_min))),
+    ("describes", Word::Key(Key::Describes)),
+    ("tag", Word::Key(Key::Tag)),
+];
+
+static WORDS_27: [(&str, Word); 15] = [
+    ("br_on_cast", Word::Own(OwnOp::br_on_cast)),
+    ("i32.const", Word::Own(OwnOp::i32_const)),
+    ("i64.const", Word::Own(OwnOp::i64_const)),
+    ("f32.const", Word::Own(OwnOp::f32_const)),
+    ("f64.const", Word::Own(OwnOp::f64_const)),
+    ("array.new_fixed", Word::Own(OwnOp::array_new_fixed)),
+    ("v128.load16_splat", Word::Mem(MemOp::v128_load16_splat, 2)),
+    ("v128.load32_splat", Word::Mem(MemOp::v128_load32_splat, 4)),
+    ("v128.load64_splat", Word::Mem(MemOp::v128_load64_splat, 8)),
+    ("f32.sqrt", Word::Plain(Plain::F32(F32Op::f32_sqrt))),
+    ("f64.sqrt", Word::Plain(Plain::F64(F64Op::f64_sqrt))),
+    ("array.len", Word::Plain(Plain::Array(ArrayOp::array_len))),
+    ("i8x16.lt_s", Word::Plain(Plain::I8x16(I8x16Op::i8x16_lt_s))),
+    ("i8x16.gt_s", Word::Plain(Plain::I8x16(I8x16Op::i8x16_gt_s))),
+    ("elem", Word::Key(Key::Elem)),
+];
+
+static WORDS_28: [(&str, Word); 13] = [
+    ("table.size", Word::Table(TableOp::table_size)),
+    (
+        "memory.atomic.notify",
+        Word::Mem(MemOp::memory_atomic_notify, 4),
+    ),
+    (
+        "i32.atomic.load16_u",
+        Word::Mem(MemOp::i32_atomic_load16_u, 2),
+    ),
+    (
+        "i64.atomic.load16_u",
+        Word::Mem(MemOp::i64_atomic_load16_u, 2),
+    ),
+    ("i16x8.le_s", Word::Plain(Plain::I16x8(I16x8Op::i16x8_le_s))),
+    ("i16x8.ge_s", Word::Plain(Plain::I16x8(I16x8Op::i16x8_ge_s))),
+    (
+        "i8x16.max_u",
+        Word::Plain(Plain::I8x16(I8x16Op::i8x16_max_u)),
+    ),
+    ("i32x4.sub", Word::Plain(Plain::I32x4(I32x4Op::i32x4_sub))),
+    ("f32x4.sub", Word::Plain(Plain::F32x4(F32x4Op::f32x4_sub))),
+    ("f64x2.max", Word::Plain(Plain::F64x2(F64x2Op::f64x2_max))),
+    ("exnref", Word::Key(Key::Exnref)),
+    ("anyref", Word::Key(Key::Anyref)),
+    ("i31ref", Word::Key(Key::I31ref)),
+];
+
+static WORDS_29: [(&str, Word); 9] = [
+    ("array.fill", Word::Index(IndexOp::array_fill)),
     (
         "return_call_indirect",
         Word::Own(OwnOp::return_call_indirect),
     ),
-    ("resume_throw", Word::Own(OwnOp::resume_throw)),
+    (
+        "i16x8.splat",
+        Word::Plain(Plain::I16x8(I16x8Op::i16x8_splat)),
+    ),
+    (
+        "i16x8.narrow_i32x4_s",
+        Word::Plain(Plain::I16x8(I16x8Op::i16x8_narrow_i32x4_s)),
+    ),
+    ("f32x4.div", Word::Plain(Plain::F32x4(F32x4Op::f32x4_div))),
+    (
+        "i16x8.relaxed_laneselect",
+        Word::Plain(Plain::I16x8(I16x8Op::i16x8_relaxed_laneselect)),
+    ),
+    ("eq", Word::Key(Key::Eq)),
+    ("structref", Word::Key(Key::Structref)),
+    ("nullfuncref", Word::Key(Key::Nullfuncref)),
+];
+
+static WORDS_30: [(&str, Word); 10] = [
+    ("local.tee", Word::Index(IndexOp::local_tee)),
+    ("array.copy", Word::Own(OwnOp::array_copy)),
+    ("v128.load32_zero", Word::Mem(MemOp::v128_load32_zero, 4)),
+    ("v128.load64_zero", Word::Mem(MemOp::v128_load64_zero, 8)),
+    (
+        "i32.atomic.rmw8.xchg_u",
+        Word::Mem(MemOp::i32_atomic_rmw8_xchg_u, 1),
+    ),
+    (
+        "i64.atomic.rmw8.xchg_u",
+        Word::Mem(MemOp::i64_atomic_rmw8_xchg_u, 1),
+    ),
+    ("i32.shl", Word::Plain(Plain::I32(I32Op::i32_shl))),
+    ("i64.shl", Word::Plain(Plain::I64(I64Op::i64_shl))),
+    ("v128.not", Word::Plain(Plain::V128(V128Op::v128_not))),
+    ("i8x16.shl", Word::Plain(Plain::I8x16(I8x16Op::i8x16_shl))),
+];
+
+static WORDS_31: [(&str, Word); 6] = [
+    ("i32.store", Word::Mem(MemOp::i32_store, 4)),
+    ("i64.store", Word::Mem(MemOp::i64_store, 8)),
+    ("f32.store", Word::Mem(MemOp::f32_store, 4)),
+    ("f64.store", Word::Mem(MemOp::f64_store, 8)),
+    ("f32.div", Word::Plain(Plain::F32(F32Op::f32_div))),
+    ("f64.div", Word::Plain(Plain::F64(F64Op::f64_div))),
+];
+
+static WORDS_32: [(&str, Word); 17] = [
+    ("global.atomic.set", Word::Atomic(AtomicOp::Global)),
+    ("struct.atomic.get_s", Word::Atomic(AtomicOp::Struct)),
+    ("v128.store", Word::Mem(MemOp::v128_store, 16)),
+    (
+        "i32.atomic.rmw8.add_u",
+        Word::Mem(MemOp::i32_atomic_rmw8_add_u, 1),
+    ),
+    (
+        "i64.atomic.rmw8.add_u",
+        Word::Mem(MemOp::i64_atomic_rmw8_add_u, 1),
+    ),
+    (
+        "i32.atomic.rmw8.and_u",
+        Word::Mem(MemOp::i32_atomic_rmw8_and_u, 1),
+    ),
+    (
+        "i64.atomic.rmw8.and_u",
+        Word::Mem(MemOp::i64_atomic_rmw8_and_u, 1),
+    ),
+    ("i32.shr_s", Word::Plain(Plain::I32(I32Op::i32_shr_s))),
+    ("i64.shr_s", Word::Plain(Plain::I64(I64Op::i64_shr_s))),
+    (
+        "f32.convert_i64_u",
+        Word::Plain(Plain::F32(F32Op::f32_convert_i64_u)),
+    ),
+    (
+        "f64.convert_i64_u",
+        Word::Plain(Plain::F64(F64Op::f64_convert_i64_u)),
+    ),
+    (
+        "f32x4.nearest",
+        Word::Plain(Plain::F32x4(F32x4Op::f32x4_nearest)),
+    ),
+    (
+        "i8x16.shr_s",
+        Word::Plain(Plain::I8x16(I8x16Op::i8x16_shr_s)),
+    ),
+    (
+        "i32x4.extadd_pairwise_i16x8_s",
+        Word::Plain(Plain::I32x4(I32x4Op::i32x4_extadd_pairwise_i16x8_s)),
+    ),
+    ("i32x4.add", Word::Plain(Plain::I32x4(I32x4Op::i32x4_add))),
+    (
+        "i32x4.min_s",
+        Word::Plain(Plain::I32x4(I32x4Op::i32x4_min_s)),
+    ),
+    ("f32x4.add", Word::Plain(Plain::F32x4(F32x4Op::f32x4_add))),
+];
+
+static WORDS_33: [(&str, Word); 14] = [
+    ("return_call_ref", Word::Index(IndexOp::return_call_ref)),
+    ("select", Word::Own(OwnOp::select)),
+    ("array.atomic.set", Word::Atomic(AtomicOp::Array)),
+    (
+        "i32.atomic.rmw.sub",
+        Word::Mem(MemOp::i32_atomic_rmw_sub, 4),
+    ),
+    (
+        "i64.atomic.rmw.sub",
+        Word::Mem(MemOp::i64_atomic_rmw_sub, 8),
+    ),
+    ("i32.lt_s", Word::Plain(Plain::I32(I32Op::i32_lt_s))),
+    ("i64.lt_s", Word::Plain(Plain::I64(I64Op::i64_lt_s))),
+    ("i32x4.ne", Word::Plain(Plain::I32x4(I32x4Op::i32x4_ne))),
+    ("f32x4.ne", Word::Plain(Plain::F32x4(F32x4Op::f32x4_ne))),
+    ("f32x4.le", Word::Plain(Plain::F32x4(F32x4Op::f32x4_le))),
+    ("f32x4.ge", Word::Plain(Plain::F32x4(F32x4Op::f32x4_ge))),
+    ("i32x4.abs", Word::Plain(Plain::I32x4(I32x4Op::i32x4_abs))),
+    ("f32x4.abs", Word::Plain(Plain::F32x4(F32x4Op::f32x4_abs))),
+    ("ref", Word::Key(Key::Ref)),
+];
+
+static WORDS_34: [(&str, Word); 15] = [
+    ("end", Word::Own(OwnOp::end_)),
     ("resume_throw_ref", Word::Own(OwnOp::resume_throw_ref)),
-    ("br_on_cast_fail", Word::Own(OwnOp::br_on_cast_fail)),
-    ("br_on_cast_desc_eq", Word::Own(OwnOp::br_on_cast_desc_eq)),
+    ("struct.atomic.rmw.or", Word::Atomic(AtomicOp::Struct)),
+    ("i32.load8_s", Word::Mem(MemOp::i32_load8_s, 1)),
+    ("i64.load8_s", Word::Mem(MemOp::i64_load8_s, 1)),
+    ("v128.load", Word::Mem(MemOp::v128_load, 16)),
+    (
+        "f64.reinterpret_i64",
+        Word::Plain(Plain::F64(F64Op::f64_reinterpret_i64)),
+    ),
+    ("i31.get_s", Word::Plain(Plain::I31(I31Op::i31_get_s))),
+    ("i32x4.le_u", Word::Plain(Plain::I32x4(I32x4Op::i32x4_le_u))),
+    ("i32x4.ge_u", Word::Plain(Plain::I32x4(I32x4Op::i32x4_ge_u))),
+    ("f32x4.lt", Word::Plain(Plain::F32x4(F32x4Op::f32x4_lt))),
+    ("f32x4.gt", Word::Plain(Plain::F32x4(F32x4Op::f32x4_gt))),
+    ("i64x2.neg", Word::Plain(Plain::I64x2(I64x2Op::i64x2_neg))),
+    ("f64x2.neg", Word::Plain(Plain::F64x2(F64x2Op::f64x2_neg))),
+    ("binary", Word::Key(Key::Binary)),
+];
+
+static WORDS_35: [(&str, Word); 12] = [
+    ("struct.set", Word::Struct(StructOp::struct_set)),
+    ("else", Word::Own(OwnOp::else_)),
+    ("br_table", Word::Own(OwnOp::br_table)),
+    ("memory.init", Word::Own(OwnOp::memory_init)),
+    ("struct.atomic.rmw.xor", Word::Atomic(AtomicOp::Struct)),
+    ("nop", Word::Plain(Plain::Bare(BareOp::nop))),
+    ("i32.rotl", Word::Plain(Plain::I32(I32Op::i32_rotl))),
+    ("i64.rotl", Word::Plain(Plain::I64(I64Op::i64_rotl))),
+    (
+        "i8x16.narrow_i16x8_u",
+        Word::Plain(Plain::I8x16(I8x16Op::i8x16_narrow_i16x8_u)),
+    ),
+    (
+        "i16x8.extend_low_i8x16_s",
+        Word::Plain(Plain::I16x8(I16x8Op::i16x8_extend_low_i8x16_s)),
+    ),
+    (
+        "i16x8.extmul_low_i8x16_s",
+        Word::Plain(Plain::I16x8(I16x8Op::i16x8_extmul_low_i8x16_s)),
+    ),
+    (
+        "i64x2.all_true",
+        Word::Plain(Plain::I64x2(I64x2Op::i64x2_all_true)),
+    ),
+];
+
+static WORDS_36: [(&str, Word); 11] = [
+    ("global.atomic.get", Word::Atomic(AtomicOp::Global)),
+    ("struct.atomic.rmw.xchg", Word::Atomic(AtomicOp::Struct)),
+    ("i64.mul_wide_u", Word::Beyond),
+    (
+        "i8x16.extract_lane_u",
+        Word::Lane(LaneOp::i8x16_extract_lane_u),
+    ),
+    (
+        "i32x4.extend_high_i16x8_s",
+        Word::Plain(Plain::I32x4(I32x4Op::i32x4_extend_high_i16x8_s)),
+    ),
+    (
+        "i32x4.extmul_high_i16x8_s",
+        Word::Plain(Plain::I32x4(I32x4Op::i32x4_extmul_high_i16x8_s)),
+    ),
+    (
+        "i64x2.extend_high_i32x4_s",
+        Word::Plain(Plain::I64x2(I64x2Op::i64x2_extend_high_i32x4_s)),
+    ),
+    (
+        "i64x2.extmul_high_i32x4_s",
+        Word::Plain(Plain::I64x2(I64x2Op::i64x2_extmul_high_i32x4_s)),
+    ),
+    (
+        "f64x2.convert_low_i32x4_s",
+        Word::Plain(Plain::F64x2(F64x2Op::f64x2_convert_low_i32x4_s)),
+    ),
+    ("nofunc", Word::Key(Key::Nofunc)),
+    ("exported", Word::Key(Key::Exported)),
+];
+
+static WORDS_37: [(&str, Word); 17] = [
+    (
+        "struct.new_default",
+        Word::Index(IndexOp::struct_new_default),
+    ),
+    ("table.fill", Word::Table(TableOp::table_fill)),
+    ("global.atomic.rmw.cmpxchg", Word::Atomic(AtomicOp::Global)),
+    ("array.atomic.get", Word::Atomic(AtomicOp::Array)),
+    (
+        "i32.atomic.rmw.add",
+        Word::Mem(MemOp::i32_atomic_rmw_add, 4),
+    ),
+    (
+        "i64.atomic.rmw.add",
+        Word::Mem(MemOp::i64_atomic_rmw_add, 8),
+    ),
+    (
+        "i32.atomic.rmw16.sub_u",
+        Word::Mem(MemOp::i32_atomic_rmw16_sub_u, 2),
+    ),
+    (
+        "i64.atomic.rmw16.sub_u",
+        Word::Mem(MemOp::i64_atomic_rmw16_sub_u, 2),
+    ),
+    (
+        "i64.atomic.rmw32.sub_u",
+        Word::Mem(MemOp::i64_atomic_rmw32_sub_u, 4),
+    ),
+    (
+        "i32.atomic.rmw.and",
+        Word::Mem(MemOp::i32_atomic_rmw_and, 4),
+    ),
+    (
+        "i64.atomic.rmw.and",
+        Word::Mem(MemOp::i64_atomic_rmw_and, 8),
+    ),
+    ("i16x8.lt_u", Word::Plain(Plain::I16x8(I16x8Op::i16x8_lt_u))),
+    ("i16x8.gt_u", Word::Plain(Plain::I16x8(I16x8Op::i16x8_gt_u))),
+    (
+        "v128.load8_lane",
+        Word::MemLane(MemLaneOp::v128_load8_lane, 1),
+    ),
+    (
+        "i32x4.bitmask",
+        Word::Plain(Plain::I32x4(I32x4Op::i32x4_bitmask)),
+    ),
+    ("nocont", Word::Key(Key::Nocont)),
+    ("mem-info", Word::Key(Key::MemInfo)),
+];
+
+static WORDS_38: [(&str, Word); 15] = [
     (
         "br_on_cast_desc_eq_fail",
         Word::Own(OwnOp::br_on_cast_desc_eq_fail),
     ),
+    ("table.copy", Word::Own(OwnOp::table_copy)),
+    ("array.atomic.rmw.cmpxchg", Word::Atomic(AtomicOp::Array)),
+    (
+        "i32.atomic.rmw16.or_u",
+        Word::Mem(MemOp::i32_atomic_rmw16_or_u, 2),
+    ),
+    (
+        "i64.atomic.rmw16.or_u",
+        Word::Mem(MemOp::i64_atomic_rmw16_or_u, 2),
+    ),
+    (
+        "i64.atomic.rmw32.or_u",
+        Word::Mem(MemOp::i64_atomic_rmw32_or_u, 4),
+    ),
+    (
+        "i32.atomic.rmw8.xor_u",
+        Word::Mem(MemOp::i32_atomic_rmw8_xor_u, 1),
+    ),
+    (
+        "i64.atomic.rmw8.xor_u",
+        Word::Mem(MemOp::i64_atomic_rmw8_xor_u, 1),
+    ),
+    (
+        "i8x16.add_sat_s",
+        Word::Plain(Plain::I8x16(I8x16Op::i8x16_add_sat_s)),
+    ),
+    (
+        "i8x16.sub_sat_s",
+        Word::Plain(Plain::I8x16(I8x16Op::i8x16_sub_sat_s)),
+    ),
+    ("i16x8.neg", Word::Plain(Plain::I16x8(I16x8Op::i16x8_neg))),
+    (
+        "i64x2.shr_u",
+        Word::Plain(Plain::I64x2(I64x2Op::i64x2_shr_u)),
+    ),
+    ("i8", Word::Key(Key::I8)),
+    ("i64", Word::Key(Key::I64)),
+    ("seq_cst", Word::Key(Key::SeqCst)),
+];
+
+static WORDS_39: [(&str, Word); 10] = [
+    ("struct.get", Word::Struct(StructOp::struct_get)),
+    ("i32.load", Word::Mem(MemOp::i32_load, 4)),
+    ("i64.load", Word::Mem(MemOp::i64_load, 8)),
+    ("f32.load", Word::Mem(MemOp::f32_load, 4)),
+    ("f64.load", Word::Mem(MemOp::f64_load, 8)),
+    ("i32.load16_s", Word::Mem(MemOp::i32_load16_s, 2)),
+    ("i64.load16_s", Word::Mem(MemOp::i64_load16_s, 2)),
+    (
+        "i16x8.all_true",
+        Word::Plain(Plain::I16x8(I16x8Op::i16x8_all_true)),
+    ),
+    (
+        "f32x4.relaxed_madd",
+        Word::Plain(Plain::F32x4(F32x4Op::f32x4_relaxed_madd)),
+    ),
     ("catch_all_ref", Word::Key(Key::CatchAllRef)),
-    ("nullexternref", Word::Key(Key::Nullexternref)),
-    ("processed-by", Word::Key(Key::ProcessedBy)),
+];
+
+static WORDS_40: [(&str, Word); 8] = [
+    ("try", Word::Block(BlockOp::try_)),
+    ("i32.ge_s", Word::Plain(Plain::I32(I32Op::i32_ge_s))),
+    ("i64.ge_s", Word::Plain(Plain::I64(I64Op::i64_ge_s))),
+    ("i32.div_u", Word::Plain(Plain::I32(I32Op::i32_div_u))),
+    ("i64.div_u", Word::Plain(Plain::I64(I64Op::i64_div_u))),
+    ("i64x2.mul", Word::Plain(Plain::I64x2(I64x2Op::i64x2_mul))),
+    ("f64x2.mul", Word::Plain(Plain::F64x2(F64x2Op::f64x2_mul))),
+    ("memory", Word::Key(Key::Memory)),
+];
+
+static WORDS_41: [(&str, Word); 10] = [
+    ("memory.size", Word::Memory(MemoryOp::memory_size)),
+    ("ref.null", Word::Own(OwnOp::ref_null)),
+    ("table.atomic.set", Word::Atomic(AtomicOp::Table)),
+    ("i64.add128", Word::Beyond),
+    ("f64x2.eq", Word::Plain(Plain::F64x2(F64x2Op::f64x2_eq))),
+    ("i64x2.eq", Word::Plain(Plain::I64x2(I64x2Op::i64x2_eq))),
+    ("any", Word::Key(Key::Any)),
+    ("funcref", Word::Key(Key::Funcref)),
+    ("nullref", Word::Key(Key::Nullref)),
+    ("contref", Word::Key(Key::Contref)),
+];
+
+static WORDS_42: [(&str, Word); 13] = [
+    ("array.get_u", Word::Index(IndexOp::array_get_u)),
+    ("i32.store16", Word::Mem(MemOp::i32_store16, 2)),
+    ("i64.store16", Word::Mem(MemOp::i64_store16, 2)),
+    (
+        "memory.atomic.wait32",
+        Word::Mem(MemOp::memory_atomic_wait32, 4),
+    ),
+    ("i64x2.extract_lane", Word::Lane(LaneOp::i64x2_extract_lane)),
+    ("i64x2.replace_lane", Word::Lane(LaneOp::i64x2_replace_lane)),
+    ("f64x2.extract_lane", Word::Lane(LaneOp::f64x2_extract_lane)),
+    ("f64x2.replace_lane", Word::Lane(LaneOp::f64x2_replace_lane)),
+    (
+        "f64x2.floor",
+        Word::Plain(Plain::F64x2(F64x2Op::f64x2_floor)),
+    ),
+    (
+        "i8x16.min_u",
+        Word::Plain(Plain::I8x16(I8x16Op::i8x16_min_u)),
+    ),
+    (
+        "i16x8.shr_u",
+        Word::Plain(Plain::I16x8(I16x8Op::i16x8_shr_u)),
+    ),
+    (
+        "i16x8.max_s",
+        Word::Plain(Plain::I16x8(I16x8Op::i16x8_max_s)),
+    ),
+    (
+        "f32x4.relaxed_min",
+        Word::Plain(Plain::F32x4(F32x4Op::f32x4_relaxed_min)),
+    ),
+];
+
+static WORDS_43: [(&str, Word); 6] = [
+    ("cont.new", Word::Index(IndexOp::cont_new)),
+    ("ref.cast", Word::Own(OwnOp::ref_cast)),
+    (
+        "v128.bitselect",
+        Word::Plain(Plain::V128(V128Op::v128_bitselect)),
+    ),
+    (
+        "f64x2.promote_low_f32x4",
+        Word::Plain(Plain::F64x2(F64x2Op::f64x2_promote_low_f32x4)),
+    ),
+    ("f64x2.pmax", Word::Plain(Plain::F64x2(F64x2Op::f64x2_pmax))),
+    ("catch_ref", Word::Key(Key::CatchRef)),
+];
+
+static WORDS_44: [(&str, Word); 9] = [
+    ("suspend", Word::Index(IndexOp::suspend)),
+    ("array.new_data", Word::Own(OwnOp::array_new_data)),
+    ("v128.load32x2_s", Word::Mem(MemOp::v128_load32x2_s, 8)),
+    ("f32.neg", Word::Plain(Plain::F32(F32Op::f32_neg))),
+    ("f64.neg", Word::Plain(Plain::F64(F64Op::f64_neg))),
+    (
+        "i32.trunc_sat_f32_s",
+        Word::Plain(Plain::I32(I32Op::i32_trunc_sat_f32_s)),
+    ),
+    (
+        "i64.trunc_sat_f32_s",
+        Word::Plain(Plain::I64(I64Op::i64_trunc_sat_f32_s)),
+    ),
+    ("i16x8.mul", Word::Plain(Plain::I16x8(I16x8Op::i16x8_mul))),
+    (
+        "i32x4.dot_i16x8_s",
+        Word::Plain(Plain::I32x4(I32x4Op::i32x4_dot_i16x8_s)),
+    ),
+];
+
+static WORDS_45: [(&str, Word); 7] = [
+    ("table.atomic.get", Word::Atomic(AtomicOp::Table)),
+    (
+        "i32.atomic.rmw16.xchg_u",
+        Word::Mem(MemOp::i32_atomic_rmw16_xchg_u, 2),
+    ),
+    (
+        "i64.atomic.rmw16.xchg_u",
+        Word::Mem(MemOp::i64_atomic_rmw16_xchg_u, 2),
+    ),
+    (
+        "i64.atomic.rmw32.xchg_u",
+        Word::Mem(MemOp::i64_atomic_rmw32_xchg_u, 4),
+    ),
+    (
+        "f64.promote_f32",
+        Word::Plain(Plain::F64(F64Op::f64_promote_f32)),
+    ),
+    ("i16x8.eq", Word::Plain(Plain::I16x8(I16x8Op::i16x8_eq))),
+    ("anyfunc", Word::Key(Key::Anyfunc)),
+];
+
+static WORDS_46: [(&str, Word); 6] = [
+    ("br_on_cast_fail", Word::Own(OwnOp::br_on_cast_fail)),
+    ("table.atomic.rmw.cmpxchg", Word::Atomic(AtomicOp::Table)),
+    ("i64.store32", Word::Mem(MemOp::i64_store32, 4)),
+    ("i16x8.replace_lane", Word::Lane(LaneOp::i16x8_replace_lane)),
+    (
+        "i16x8.extadd_pairwise_i8x16_s",
+        Word::Plain(Plain::I16x8(I16x8Op::i16x8_extadd_pairwise_i8x16_s)),
+    ),
+    (
+        "i32x4.relaxed_trunc_f32x4_s",
+        Word::Plain(Plain::I32x4(I32x4Op::i32x4_relaxed_trunc_f32x4_s)),
+    ),
+];
+
+static WORDS_47: [(&str, Word); 11] = [
+    (
+        "i32.atomic.rmw16.add_u",
+        Word::Mem(MemOp::i32_atomic_rmw16_add_u, 2),
+    ),
+    (
+        "i64.atomic.rmw16.add_u",
+        Word::Mem(MemOp::i64_atomic_rmw16_add_u, 2),
+    ),
+    (
+        "i64.atomic.rmw32.add_u",
+        Word::Mem(MemOp::i64_atomic_rmw32_add_u, 4),
+    ),
+    (
+        "i32.atomic.rmw16.and_u",
+        Word::Mem(MemOp::i32_atomic_rmw16_and_u, 2),
+    ),
+    (
+        "i64.atomic.rmw16.and_u",
+        Word::Mem(MemOp::i64_atomic_rmw16_and_u, 2),
+    ),
+    (
+        "i64.atomic.rmw32.and_u",
+        Word::Mem(MemOp::i64_atomic_rmw32_and_u, 4),
+    ),
+    ("i32x4.lt_s", Word::Plain(Plain::I32x4(I32x4Op::i32x4_lt_s))),
+    ("i32x4.gt_s", Word::Plain(Plain::I32x4(I32x4Op::i32x4_gt_s))),
+    ("f32x4.sqrt", Word::Plain(Plain::F32x4(F32x4Op::f32x4_sqrt))),
+    ("quote", Word::Key(Key::Quote)),
+    ("declare", Word::Key(Key::Declare)),
+];
+
+static WORDS_48: [(&str, Word); 12] = [
+    ("i8x16.shuffle", Word::Own(OwnOp::i8x16_shuffle)),
+    ("f32.max", Word::Plain(Plain::F32(F32Op::f32_max))),
+    ("f64.max", Word::Plain(Plain::F64(F64Op::f64_max))),
+    (
+        "i32.trunc_f32_s",
+        Word::Plain(Plain::I32(I32Op::i32_trunc_f32_s)),
+    ),
+    (
+        "i64.trunc_f32_s",
+        Word::Plain(Plain::I64(I64Op::i64_trunc_f32_s)),
+    ),
+    ("i8x16.le_s", Word::Plain(Plain::I8x16(I8x16Op::i8x16_le_s))),
+    ("i8x16.ge_s", Word::Plain(Plain::I8x16(I8x16Op::i8x16_ge_s))),
+    (
+        "i16x8.add_sat_u",
+        Word::Plain(Plain::I16x8(I16x8Op::i16x8_add_sat_u)),
+    ),
+    (
+        "i16x8.sub_sat_u",
+        Word::Plain(Plain::I16x8(I16x8Op::i16x8_sub_sat_u)),
+    ),
+    (
+        "i32x4.max_u",
+        Word::Plain(Plain::I32x4(I32x4Op::i32x4_max_u)),
+    ),
+    ("i64x2.sub", Word::Plain(Plain::I64x2(I64x2Op::i64x2_sub))),
+    ("f64x2.sub", Word::Plain(Plain::F64x2(F64x2Op::f64x2_sub))),
+];
+
+static WORDS_49: [(&str, Word); 14] = [
+    ("i64.load32_u", Word::Mem(MemOp::i64_load32_u, 4)),
+    ("i32.gt_u", Word::Plain(Plain::I32(I32Op::i32_gt_u))),
+    ("i64.gt_u", Word::Plain(Plain::I64(I64Op::i64_gt_u))),
+    ("i32.rem_s", Word::Plain(Plain::I32(I32Op::i32_rem_s))),
+    ("i64.rem_s", Word::Plain(Plain::I64(I64Op::i64_rem_s))),
+    (
+        "i8x16.splat",
+        Word::Plain(Plain::I8x16(I8x16Op::i8x16_splat)),
+    ),
+    ("v128.or", Word::Plain(Plain::V128(V128Op::v128_or))),
+    ("f64x2.div", Word::Plain(Plain::F64x2(F64x2Op::f64x2_div))),
+    (
+        "i8x16.relaxed_laneselect",
+        Word::Plain(Plain::I8x16(I8x16Op::i8x16_relaxed_laneselect)),
+    ),
+    ("struct", Word::Key(Key::Struct)),
+    ("i8x16", Word::Key(Key::I8x16)),
+    ("i16x8", Word::Key(Key::I16x8)),
+    ("extern", Word::Key(Key::Extern)),
+    ("sdk", Word::Key(Key::Sdk)),
+];
+
+static WORDS_50: [(&str, Word); 12] = [
+    ("memory.fill", Word::Memory(MemoryOp::memory_fill)),
+    ("call_indirect", Word::Own(OwnOp::call_indirect)),
+    (
+        "i16x8.extract_lane_s",
+        Word::Lane(LaneOp::i16x8_extract_lane_s),
+    ),
+    ("v128.xor", Word::Plain(Plain::V128(V128Op::v128_xor))),
+    (
+        "i16x8.extend_high_i8x16_s",
+        Word::Plain(Plain::I16x8(I16x8Op::i16x8_extend_high_i8x16_s)),
+    ),
+    (
+        "i16x8.extmul_high_i8x16_s",
+        Word::Plain(Plain::I16x8(I16x8Op::i16x8_extmul_high_i8x16_s)),
+    ),
+    ("i32x4.shl", Word::Plain(Plain::I32x4(I32x4Op::i32x4_shl))),
+    ("f32x4.min", Word::Plain(Plain::F32x4(F32x4Op::f32x4_min))),
+    (
+        "i32x4.trunc_sat_f32x4_s",
+        Word::Plain(Plain::I32x4(I32x4Op::i32x4_trunc_sat_f32x4_s)),
+    ),
+    (
+        "f32x4.convert_i32x4_u",
+        Word::Plain(Plain::F32x4(F32x4Op::f32x4_convert_i32x4_u)),
+    ),
+    ("pagesize", Word::Key(Key::Pagesize)),
+    ("arrayref", Word::Key(Key::Arrayref)),
+];
+
+static WORDS_51: [(&str, Word); 9] = [
+    ("memory.copy", Word::Own(OwnOp::memory_copy)),
+    (
+        "i64.extend_i32_u",
+        Word::Plain(Plain::I64(I64Op::i64_extend_i32_u)),
+    ),
+    (
+        "i64.reinterpret_f64",
+        Word::Plain(Plain::I64(I64Op::i64_reinterpret_f64)),
+    ),
+    (
+        "i8x16.popcnt",
+        Word::Plain(Plain::I8x16(I8x16Op::i8x16_popcnt)),
+    ),
+    (
+        "f32x4.trunc",
+        Word::Plain(Plain::F32x4(F32x4Op::f32x4_trunc)),
+    ),
+    (
+        "i32x4.extend_low_i16x8_u",
+        Word::Plain(Plain::I32x4(I32x4Op::i32x4_extend_low_i16x8_u)),
+    ),
+    (
+        "i32x4.extmul_low_i16x8_u",
+        Word::Plain(Plain::I32x4(I32x4Op::i32x4_extmul_low_i16x8_u)),
+    ),
+    (
+        "i64x2.extend_low_i32x4_u",
+        Word::Plain(Plain::I64x2(I64x2Op::i64x2_extend_low_i32x4_u)),
+    ),
+    (
+        "i64x2.extmul_low_i32x4_u",
+        Word::Plain(Plain::I64x2(I64x2Op::i64x2_extmul_low_i32x4_u)),
+    ),
+];
+
+static WORDS_52: [(&str, Word); 13] = [
+    ("ref.get_desc", Word::Index(IndexOp::ref_get_desc)),
+    ("try_table", Word::Block(BlockOp::try_table)),
+    (
+        "f32.demote_f64",
+        Word::Plain(Plain::F32(F32Op::f32_demote_f64)),
+    ),
+    (
+        "v128.load16_lane",
+        Word::MemLane(MemLaneOp::v128_load16_lane, 2),
+    ),
+    (
+        "v128.load32_lane",
+        Word::MemLane(MemLaneOp::v128_load32_lane, 4),
+    ),
+    (
+        "v128.load64_lane",
+        Word::MemLane(MemLaneOp::v128_load64_lane, 8),
+    ),
+    (
+        "v128.store8_lane",
+        Word::MemLane(MemLaneOp::v128_store8_lane, 1),
+    ),
+    ("i16x8.sub", Word::Plain(Plain::I16x8(I16x8Op::i16x8_sub))),
+    (
+        "f64x2.nearest",
+        Word::Plain(Plain::F64x2(F64x2Op::f64x2_nearest)),
+    ),
+    (
+        "i32x4.shr_s",
+        Word::Plain(Plain::I32x4(I32x4Op::i32x4_shr_s)),
+    ),
+    ("i64x2.add", Word::Plain(Plain::I64x2(I64x2Op::i64x2_add))),
+    ("f64x2.add", Word::Plain(Plain::F64x2(F64x2Op::f64x2_add))),
+    ("absolute", Word::Key(Key::Absolute)),
+];
+
+static WORDS_53: [(&str, Word); 13] = [
+    ("array.atomic.get_s", Word::Atomic(AtomicOp::Array)),
+    ("i64.sub128", Word::Beyond),
+    (
+        "i32.atomic.rmw16.xor_u",
+        Word::Mem(MemOp::i32_atomic_rmw16_xor_u, 2),
+    ),
+    (
+        "i64.atomic.rmw16.xor_u",
+        Word::Mem(MemOp::i64_atomic_rmw16_xor_u, 2),
+    ),
+    (
+        "i64.atomic.rmw32.xor_u",
+        Word::Mem(MemOp::i64_atomic_rmw32_xor_u, 4),
+    ),
+    ("f32.copysign", Word::Plain(Plain::F32(F32Op::f32_copysign))),
+    ("f64.copysign", Word::Plain(Plain::F64(F64Op::f64_copysign))),
+    ("f64x2.ne", Word::Plain(Plain::F64x2(F64x2Op::f64x2_ne))),
+    ("f64x2.le", Word::Plain(Plain::F64x2(F64x2Op::f64x2_le))),
+    ("f64x2.ge", Word::Plain(Plain::F64x2(F64x2Op::f64x2_ge))),
+    ("i64x2.abs", Word::Plain(Plain::I64x2(I64x2Op::i64x2_abs))),
+    ("i64x2.ne", Word::Plain(Plain::I64x2(I64x2Op::i64x2_ne))),
+    ("f64x2.abs", Word::Plain(Plain::F64x2(F64x2Op::f64x2_abs))),
+];
+
+static WORDS_54: [(&str, Word); 15] = [
+    ("call_ref", Word::Index(IndexOp::call_ref)),
+    ("global.atomic.rmw.or", Word::Atomic(AtomicOp::Global)),
+    ("v128.load16x4_s", Word::Mem(MemOp::v128_load16x4_s, 8)),
+    ("i32.eqz", Word::Plain(Plain::I32(I32Op::i32_eqz))),
+    ("i32.le_s", Word::Plain(Plain::I32(I32Op::i32_le_s))),
+    ("i64.eqz", Word::Plain(Plain::I64(I64Op::i64_eqz))),
+    ("i64.le_s", Word::Plain(Plain::I64(I64Op::i64_le_s))),
+    (
+        "i32.trunc_sat_f64_s",
+        Word::Plain(Plain::I32(I32Op::i32_trunc_sat_f64_s)),
+    ),
+    (
+        "i64.trunc_sat_f64_s",
+        Word::Plain(Plain::I64(I64Op::i64_trunc_sat_f64_s)),
+    ),
+    ("f64x2.lt", Word::Plain(Plain::F64x2(F64x2Op::f64x2_lt))),
+    ("f64x2.gt", Word::Plain(Plain::F64x2(F64x2Op::f64x2_gt))),
+    (
+        "f32x4.relaxed_nmadd",
+        Word::Plain(Plain::F32x4(F32x4Op::f32x4_relaxed_nmadd)),
+    ),
+    ("local", Word::Key(Key::Local)),
+    ("then", Word::Key(Key::Then)),
+    ("language", Word::Key(Key::Language)),
+];
+
+static WORDS_55: [(&str, Word); 12] = [
+    ("global.set", Word::Index(IndexOp::global_set)),
+    ("struct.new", Word::Index(IndexOp::struct_new)),
+    ("table.grow", Word::Table(TableOp::table_grow)),
+    ("struct.get_s", Word::Struct(StructOp::struct_get_s)),
+    ("array.new_elem", Word::Own(OwnOp::array_new_elem)),
+    ("global.atomic.rmw.xor", Word::Atomic(AtomicOp::Global)),
+    ("array.atomic.rmw.or", Word::Atomic(AtomicOp::Array)),
+    ("i32.atomic.store8", Word::Mem(MemOp::i32_atomic_store8, 1)),
+    ("i64.atomic.store8", Word::Mem(MemOp::i64_atomic_store8, 1)),
+    (
+        "i64.extend32_s",
+        Word::Plain(Plain::I64(I64Op::i64_extend32_s)),
+    ),
+    ("f64", Word::Key(Key::F64)),
     ("runtime-path", Word::Key(Key::RuntimePath)),
-    ("binding-weak", Word::Key(Key::BindingWeak)),
-    ("binding-local", Word::Key(Key::BindingLocal)),
-    ("visibility-hidden", Word::Key(Key::VisibilityHidden)),
+];
+
+static WORDS_56: [(&str, Word); 14] = [
+    ("throw", Word::Index(IndexOp::throw)),
+    ("array.set", Word::Index(IndexOp::array_set)),
+    ("global.atomic.rmw.xchg", Word::Atomic(AtomicOp::Global)),
+    ("array.atomic.rmw.xor", Word::Atomic(AtomicOp::Array)),
+    (
+        "i32.atomic.rmw.cmpxchg",
+        Word::Mem(MemOp::i32_atomic_rmw_cmpxchg, 4),
+    ),
+    (
+        "i64.atomic.rmw.cmpxchg",
+        Word::Mem(MemOp::i64_atomic_rmw_cmpxchg, 8),
+    ),
+    (
+        "f32.convert_i32_s",
+        Word::Plain(Plain::F32(F32Op::f32_convert_i32_s)),
+    ),
+    (
+        "f64.convert_i32_s",
+        Word::Plain(Plain::F64(F64Op::f64_convert_i32_s)),
+    ),
+    ("i16x8.add", Word::Plain(Plain::I16x8(I16x8Op::i16x8_add))),
+    (
+        "i16x8.min_s",
+        Word::Plain(Plain::I16x8(I16x8Op::i16x8_min_s)),
+    ),
+    ("exn", Word::Key(Key::Exn)),
+    ("needed", Word::Key(Key::Needed)),
+    ("export-info", Word::Key(Key::ExportInfo)),
+    ("import-info", Word::Key(Key::ImportInfo)),
+];
+
+static WORDS_57: [(&str, Word); 9] = [
+    ("array.atomic.rmw.xchg", Word::Atomic(AtomicOp::Array)),
+    ("i8x16.lt_u", Word::Plain(Plain::I8x16(I8x16Op::i8x16_lt_u))),
+    ("i8x16.gt_u", Word::Plain(Plain::I8x16(I8x16Op::i8x16_gt_u))),
+    ("i16x8.ne", Word::Plain(Plain::I16x8(I16x8Op::i16x8_ne))),
+    ("i16x8.abs", Word::Plain(Plain::I16x8(I16x8Op::i16x8_abs))),
+    (
+        "i16x8.avgr_u",
+        Word::Plain(Plain::I16x8(I16x8Op::i16x8_avgr_u)),
+    ),
+    (
+        "i64x2.bitmask",
+        Word::Plain(Plain::I64x2(I64x2Op::i64x2_bitmask)),
+    ),
+    ("null", Word::Key(Key::Null)),
     ("explicit-name", Word::Key(Key::ExplicitName)),
 ];
 
-/// The word of twelve letters and more.
-fn of_more(name: &str) -> Option<Word> {
-    find(&OF_MORE_OTHERS, name)
-}
-
-static OF_SEVEN_OTHERS: [(&str, Word); 9] = [
-    ("rethrow", Word::Index(IndexOp::rethrow)),
-    ("suspend", Word::Index(IndexOp::suspend)),
-    ("declare", Word::Key(Key::Declare)),
-    ("funcref", Word::Key(Key::Funcref)),
-    ("anyfunc", Word::Key(Key::Anyfunc)),
-    ("nullref", Word::Key(Key::Nullref)),
-    ("contref", Word::Key(Key::Contref)),
-    ("seq_cst", Word::Key(Key::SeqCst)),
-    ("acq_rel", Word::Key(Key::AcqRel)),
+static WORDS_58: [(&str, Word); 11] = [
+    ("local.set", Word::Index(IndexOp::local_set)),
+    ("array.new_default", Word::Index(IndexOp::array_new_default)),
+    ("struct.atomic.rmw.sub", Word::Atomic(AtomicOp::Struct)),
+    (
+        "i32.trunc_f64_s",
+        Word::Plain(Plain::I32(I32Op::i32_trunc_f64_s)),
+    ),
+    (
+        "i64.trunc_f64_s",
+        Word::Plain(Plain::I64(I64Op::i64_trunc_f64_s)),
+    ),
+    ("i16x8.le_u", Word::Plain(Plain::I16x8(I16x8Op::i16x8_le_u))),
+    ("i16x8.ge_u", Word::Plain(Plain::I16x8(I16x8Op::i16x8_ge_u))),
+    ("i8x16.neg", Word::Plain(Plain::I8x16(I8x16Op::i8x16_neg))),
+    ("mut", Word::Key(Key::Mut)),
+    ("processed-by", Word::Key(Key::ProcessedBy)),
+    ("no-strip", Word::Key(Key::NoStrip)),
 ];
 
-/// The word of seven letters.
-fn of_seven(name: &str) -> Option<Word> {
-    find(&OF_SEVEN_OTHERS, name)
-}
+static WORDS_59: [(&str, Word); 11] = [
+    ("global.get", Word::Index(IndexOp::global_get)),
+    ("array.init_data", Word::Own(OwnOp::array_init_data)),
+    ("v128.load8x8_s", Word::Mem(MemOp::v128_load8x8_s, 8)),
+    (
+        "any.convert_extern",
+        Word::Plain(Plain::Any(AnyOp::any_convert_extern)),
+    ),
+    ("ref.i31", Word::Plain(Plain::Ref(RefOp::ref_i31))),
+    (
+        "i8x16.all_true",
+        Word::Plain(Plain::I8x16(I8x16Op::i8x16_all_true)),
+    ),
+    ("f32x4.ceil", Word::Plain(Plain::F32x4(F32x4Op::f32x4_ceil))),
+    (
+        "i16x8.narrow_i32x4_u",
+        Word::Plain(Plain::I16x8(I16x8Op::i16x8_narrow_i32x4_u)),
+    ),
+    (
+        "f64x2.relaxed_madd",
+        Word::Plain(Plain::F64x2(F64x2Op::f64x2_relaxed_madd)),
+    ),
+    ("noextern", Word::Key(Key::Noextern)),
+    ("nullcontref", Word::Key(Key::Nullcontref)),
+];
 
-/// The word `first.atomic.` and a name.
-fn dotted_atomic(first: &str, name: &str) -> Option<Word> {
-    match first {
-        "memory" => memory_atomic_word(name),
-        "i32" => i32_atomic_word(name),
-        "i64" => i64_atomic_word(name),
-        "global" => global_atomic_word(name),
-        "table" => table_atomic_word(name),
-        "struct" => struct_atomic_word(name),
-        "array" => array_atomic_word(name),
+static WORDS_60: [(&str, Word); 11] = [
+    ("array.get", Word::Index(IndexOp::array_get)),
+    ("br_on_cast_desc_eq", Word::Own(OwnOp::br_on_cast_desc_eq)),
+    ("v128.const", Word::Own(OwnOp::v128_const)),
+    ("i32.atomic.store", Word::Mem(MemOp::i32_atomic_store, 4)),
+    ("i64.atomic.store", Word::Mem(MemOp::i64_atomic_store, 8)),
+    ("i32.mul", Word::Plain(Plain::I32(I32Op::i32_mul))),
+    ("i64.mul", Word::Plain(Plain::I64(I64Op::i64_mul))),
+    ("f32.mul", Word::Plain(Plain::F32(F32Op::f32_mul))),
+    ("f64.mul", Word::Plain(Plain::F64(F64Op::f64_mul))),
+    (
+        "v128.any_true",
+        Word::Plain(Plain::V128(V128Op::v128_any_true)),
+    ),
+    ("before", Word::Key(Key::Before)),
+];
+
+static WORDS_61: [(&str, Word); 5] = [
+    ("i32.rotr", Word::Plain(Plain::I32(I32Op::i32_rotr))),
+    ("i64.rotr", Word::Plain(Plain::I64(I64Op::i64_rotr))),
+    (
+        "i16x8.bitmask",
+        Word::Plain(Plain::I16x8(I16x8Op::i16x8_bitmask)),
+    ),
+    ("import", Word::Key(Key::Import)),
+    ("export", Word::Key(Key::Export)),
+];
+
+static WORDS_62: [(&str, Word); 16] = [
+    ("local.get", Word::Index(IndexOp::local_get)),
+    ("struct.atomic.get_u", Word::Atomic(AtomicOp::Struct)),
+    ("struct.atomic.rmw.add", Word::Atomic(AtomicOp::Struct)),
+    ("struct.atomic.rmw.and", Word::Atomic(AtomicOp::Struct)),
+    ("i32.atomic.load", Word::Mem(MemOp::i32_atomic_load, 4)),
+    ("i64.atomic.load", Word::Mem(MemOp::i64_atomic_load, 8)),
+    ("i32.shr_u", Word::Plain(Plain::I32(I32Op::i32_shr_u))),
+    ("i64.shr_u", Word::Plain(Plain::I64(I64Op::i64_shr_u))),
+    ("f32.nearest", Word::Plain(Plain::F32(F32Op::f32_nearest))),
+    ("f64.nearest", Word::Plain(Plain::F64(F64Op::f64_nearest))),
+    (
+        "i8x16.shr_u",
+        Word::Plain(Plain::I8x16(I8x16Op::i8x16_shr_u)),
+    ),
+    (
+        "i8x16.max_s",
+        Word::Plain(Plain::I8x16(I8x16Op::i8x16_max_s)),
+    ),
+    (
+        "i32x4.extadd_pairwise_i16x8_u",
+        Word::Plain(Plain::I32x4(I32x4Op::i32x4_extadd_pairwise_i16x8_u)),
+    ),
+    (
+        "i32x4.min_u",
+        Word::Plain(Plain::I32x4(I32x4Op::i32x4_min_u)),
+    ),
+    (
+        "f64x2.relaxed_min",
+        Word::Plain(Plain::F64x2(F64x2Op::f64x2_relaxed_min)),
+    ),
+    ("shared", Word::Key(Key::Shared)),
+];
+
+static WORDS_63: [(&str, Word); 10] = [
+    ("memory.discard", Word::Memory(MemoryOp::memory_discard)),
+    ("i32.ne", Word::Plain(Plain::I32(I32Op::i32_ne))),
+    ("i32.lt_u", Word::Plain(Plain::I32(I32Op::i32_lt_u))),
+    ("i64.ne", Word::Plain(Plain::I64(I64Op::i64_ne))),
+    ("i64.lt_u", Word::Plain(Plain::I64(I64Op::i64_lt_u))),
+    ("f32.ne", Word::Plain(Plain::F32(F32Op::f32_ne))),
+    ("f64.ne", Word::Plain(Plain::F64(F64Op::f64_ne))),
+    ("i32.xor", Word::Plain(Plain::I32(I32Op::i32_xor))),
+    ("i64.xor", Word::Plain(Plain::I64(I64Op::i64_xor))),
+    ("do", Word::Key(Key::Do)),
+];
+
+/// The word of a name in one of the first 32 tables.
+fn find_low(table: usize, name: &str) -> Option<Word> {
+    match table {
+        0 => find(&WORDS_0, name),
+        1 => find(&WORDS_1, name),
+        2 => find(&WORDS_2, name),
+        3 => find(&WORDS_3, name),
+        4 => find(&WORDS_4, name),
+        5 => find(&WORDS_5, name),
+        6 => find(&WORDS_6, name),
+        7 => find(&WORDS_7, name),
+        8 => find(&WORDS_8, name),
+        9 => find(&WORDS_9, name),
+        10 => find(&WORDS_10, name),
+        11 => find(&WORDS_11, name),
+        12 => find(&WORDS_12, name),
+        13 => find(&WORDS_13, name),
+        14 => find(&WORDS_14, name),
+        15 => find(&WORDS_15, name),
+        16 => find(&WORDS_16, name),
+        17 => find(&WORDS_17, name),
+        18 => find(&WORDS_18, name),
+        19 => find(&WORDS_19, name),
+        20 => find(&WORDS_20, name),
+        21 => find(&WORDS_21, name),
+        22 => find(&WORDS_22, name),
+        23 => find(&WORDS_23, name),
+        24 => find(&WORDS_24, name),
+        25 => find(&WORDS_25, name),
+        26 => find(&WORDS_26, name),
+        27 => find(&WORDS_27, name),
+        28 => find(&WORDS_28, name),
+        29 => find(&WORDS_29, name),
+        30 => find(&WORDS_30, name),
+        31 => find(&WORDS_31, name),
         _ => None,
     }
 }
 
-/// The word `first.` and a name.
-fn dotted(first: &str, name: &str) -> Option<Word> {
-    match first {
-        "i32" => i32_word(name),
-        "i64" => i64_word(name),
-        "f32" => f32_word(name),
-        "f64" => f64_word(name),
-        "ref" => ref_word(name),
-        "array" => array_word(name),
-        "any" => any_word(name),
-        "extern" => extern_word(name),
-        "i31" => i31_word(name),
-        "v128" => v128_word(name),
-        "i8x16" => i8x16_word(name),
-        "i16x8" => i16x8_word(name),
-        "i32x4" => i32x4_word(name),
-        "i64x2" => i64x2_word(name),
-        "f32x4" => f32x4_word(name),
-        "f64x2" => f64x2_word(name),
-        "local" => local_word(name),
-        "global" => global_word(name),
-        "elem" => elem_word(name),
-        "data" => data_word(name),
-        "struct" => struct_word(name),
-        "cont" => cont_word(name),
-        "table" => table_word(name),
-        "memory" => memory_word(name),
-        "atomic" => atomic_word(name),
+/// The word of a name in one of the other 32 tables.
+fn find_high(table: usize, name: &str) -> Option<Word> {
+    match table {
+        32 => find(&WORDS_32, name),
+        33 => find(&WORDS_33, name),
+        34 => find(&WORDS_34, name),
+        35 => find(&WORDS_35, name),
+        36 => find(&WORDS_36, name),
+        37 => find(&WORDS_37, name),
+        38 => find(&WORDS_38, name),
+        39 => find(&WORDS_39, name),
+        40 => find(&WORDS_40, name),
+        41 => find(&WORDS_41, name),
+        42 => find(&WORDS_42, name),
+        43 => find(&WORDS_43, name),
+        44 => find(&WORDS_44, name),
+        45 => find(&WORDS_45, name),
+        46 => find(&WORDS_46, name),
+        47 => find(&WORDS_47, name),
+        48 => find(&WORDS_48, name),
+        49 => find(&WORDS_49, name),
+        50 => find(&WORDS_50, name),
+        51 => find(&WORDS_51, name),
+        52 => find(&WORDS_52, name),
+        53 => find(&WORDS_53, name),
+        54 => find(&WORDS_54, name),
+        55 => find(&WORDS_55, name),
+        56 => find(&WORDS_56, name),
+        57 => find(&WORDS_57, name),
+        58 => find(&WORDS_58, name),
+        59 => find(&WORDS_59, name),
+        60 => find(&WORDS_60, name),
+        61 => find(&WORDS_61, name),
+        62 => find(&WORDS_62, name),
+        63 => find(&WORDS_63, name),
         _ => None,
     }
 }
 
-/// The word that is one name.
-fn bare(name: &str) -> Option<Word> {
-    match name.len() {
-        0 | 1 => None,
-        2 => of_two(name),
-        3 => of_three(name),
-        4 => of_four(name),
-        5 => of_five(name),
-        6 => of_six(name),
-        7 => of_seven(name),
-        8 => of_eight(name),
-        9 => of_nine(name),
-        10 => of_ten(name),
-        11 => of_eleven(name),
-        _ => of_more(name),
+/// The byte at a place, or 0.
+fn letter(name: &str, place: usize) -> usize {
+    match name.as_bytes().get(place) {
+        Some(byte) => *byte as usize,
+        None => 0,
     }
+}
+
+/// The table that a name stands in, among 64.
+fn place(name: &str) -> usize {
+    let length = name.len();
+    let last = letter(name, length.wrapping_sub(1)).wrapping_mul(47);
+    let third = letter(name, length.wrapping_sub(3)).wrapping_mul(37);
+    let fifth = letter(name, 4).wrapping_mul(54);
+    let sum = length.wrapping_mul(15).wrapping_add(fifth);
+    sum.wrapping_add(last).wrapping_add(third) & 63
 }
 
 /// What a name means, where it means something of its own (text format, keywords). It takes no memory.
 pub fn look_up(name: &str) -> Option<Word> {
-    let Some((first, rest)) = name.split_once('.') else {
-        return bare(name);
-    };
-    match rest.strip_prefix("atomic.") {
-        Some(rest) => dotted_atomic(first, rest),
-        None => dotted(first, rest),
+    let table = place(name);
+    if table < 32 {
+        return find_low(table, name);
     }
+    find_high(table, name)
 }
