@@ -1,15 +1,14 @@
 //! Trees of ids whose names are empty, which no text has.
 
-use crate::around::Around::Function;
-use crate::bodies::To::Name;
-use crate::bodies::Word::Br;
-use crate::lines::has_lines;
 use crate::made::{at, has_bytes, module, ready};
+use crate::parts::{body_of, of_instruction};
 use std::alloc::Global;
 use wast_core::{Module, ModuleKind, discard_module};
+use wast_rows::run;
 use wast_tree::{
     BareOp, BlockKind, BlockType, Error, Export, ExportKind, Func, FunctionType, Gensym, Id, Index,
-    Instruction, Local, Maker, ModuleField, Plain, Seq, Type, TypeDef, TypeUse, ValType,
+    Instruction, Local, Maker, ModuleField, Plain, Seq, TryTableCatch, TryTableCatchKind, Type,
+    TypeDef, TypeUse, ValType,
 };
 
 /// An id whose name is empty, and which is written as `$` here.
@@ -22,15 +21,19 @@ fn by_empty<'a>(offset: usize) -> Index<'a> {
     Index::Id(empty(offset))
 }
 
-/// `block $ br $ end local.get $ drop call $`
-fn instructions<'a>(alloc: Global, maker: &mut Maker) -> Seq<Instruction<'a>> {
-    let block = BlockType {
-        label: Some(empty(94)),
+/// What is written of a block without a type: its label.
+fn labelled<'a>(offset: usize) -> BlockType<'a> {
+    BlockType {
+        label: Some(empty(offset)),
         label_name: None,
         ty: TypeUse::none(),
-    };
+    }
+}
+
+/// `block $ br $ end local.get $ drop call $`
+fn instructions<'a>(alloc: Global, maker: &mut Maker) -> Seq<Instruction<'a>> {
     let mut instrs = Seq::new(alloc);
-    maker.push_block(&mut instrs, BlockKind::Block, block);
+    maker.push_block(&mut instrs, BlockKind::Block, labelled(94));
     maker.push_instruction(&mut instrs, Instruction::br(by_empty(99)));
     maker.push_instruction(&mut instrs, Instruction::end_(None));
     maker.push_instruction(&mut instrs, Instruction::local_get(by_empty(115)));
@@ -82,15 +85,41 @@ fn empty_names_are_names(rt: HostRuntime) {
     discard_module(module);
 }
 
+/// `(module (func try_table $ (catch_all $) end))`: the clause is looked up outside of its block.
+fn caught<'a>(alloc: Global) -> Result<Module<'a>, Error<'a>> {
+    let mut maker = Maker::new(alloc);
+    let clause = TryTableCatch {
+        kind: TryTableCatchKind::CatchAll,
+        label: by_empty(37),
+    };
+    let catches = maker.catches(&[clause]);
+    let mut instrs = Seq::new(alloc);
+    maker.push_try_table(&mut instrs, labelled(24), catches);
+    maker.push_instruction(&mut instrs, Instruction::end_(None));
+    body_of(alloc, maker, instrs)
+}
+
+/// `(module (func br $))`, and the module above.
+fn denoting_nothing<'a>(alloc: Global, n: u32) -> Option<Result<Module<'a>, Error<'a>>> {
+    match n {
+        0 => Some(of_instruction(alloc, Instruction::br(by_empty(17)))),
+        _ => Some(caught(alloc)),
+    }
+}
+
 #[test]
 fn an_empty_name_can_denote_nothing(rt: HostRuntime) {
-    has_lines(
-        &rt,
-        rt.alloc(),
-        &[(
-            Function,
-            &[Br(Name("", 17))],
-            "fault at 17: unknown label: failed to find name `$`",
-        )],
+    let alloc = rt.alloc();
+    let mut input = &b"0\n1\n"[..];
+    let mut output = Vec::new(alloc);
+    let result = run(
+        alloc,
+        &mut input,
+        &mut output,
+        |n| denoting_nothing(alloc, n),
     );
+    assert!(rt; result == Ok(()));
+    let want =
+        "fault at 17: unknown label: failed to find name `$`\nfault at 37: unknown label: failed to find name `$`\n";
+    assert!(rt; output.as_slice() == want.as_bytes());
 }

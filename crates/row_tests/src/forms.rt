@@ -1,11 +1,6 @@
-//! Modules with forms that no encoder covers: alone in each place where one can stand, beside another, beside a fault of the
-//! text, and beside more than a module can hold.
+//! Modules with forms that no encoder covers: alone in each place where one can stand, and beside more than a module can hold.
 
-use crate::around::Around::Function;
-use crate::bodies::To::Name;
-use crate::bodies::Word::{Beyond, Br, Fence};
 use crate::holders::{Held, Whole, with_field, with_group, with_type};
-use crate::lines::has_lines;
 use crate::made::{at, module, ready};
 use crate::parts::global;
 use crate::uncovered::{Spot, Uncovered, with_instruction};
@@ -239,31 +234,6 @@ fn fields_are_refused_as_a_whole(rt: HostRuntime) {
     ] {
         is_refused(&rt, alloc, with_field(alloc, whole), text);
     }
-}
-
-#[test]
-fn faults_of_the_text_and_forms_that_stand_first_are_told(rt: HostRuntime) {
-    has_lines(
-        &rt,
-        rt.alloc(),
-        &[
-            (
-                Function,
-                &[Fence(Some(Ordering::AcqRel)), Beyond("i64.add128")],
-                "refused: uncovered form: memory ordering",
-            ),
-            (
-                Function,
-                &[Beyond("i64.add128"), Fence(Some(Ordering::AcqRel))],
-                "refused: uncovered form: instruction beyond the table",
-            ),
-            (
-                Function,
-                &[Beyond("i64.add128"), Br(Name("a", 28))],
-                "fault at 28: unknown label: failed to find name `$a`",
-            ),
-        ],
-    );
 }
 
 /// The first answer is this fault at this place.

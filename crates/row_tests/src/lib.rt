@@ -3,13 +3,7 @@
 #![tactic(auto)]
 
 #[cfg(test)]
-mod accesses;
-#[cfg(test)]
 mod ample;
-#[cfg(test)]
-mod around;
-#[cfg(test)]
-mod bodies;
 #[cfg(test)]
 mod bounds;
 #[cfg(test)]
@@ -20,10 +14,6 @@ mod control;
 mod forms;
 #[cfg(test)]
 mod holders;
-#[cfg(test)]
-mod immediates;
-#[cfg(test)]
-mod lines;
 #[cfg(test)]
 mod made;
 #[cfg(test)]

@@ -110,3 +110,24 @@ pub(crate) fn module_of<'a>(
         Err(refused) => Err(refused),
     }
 }
+
+/// `(module (func ..))`
+pub(crate) fn body_of<'a>(
+    alloc: Global,
+    maker: Maker,
+    instrs: Seq<Instruction<'a>>,
+) -> Result<Module<'a>, Error<'a>> {
+    let field = func(alloc, TypeUse::none(), Seq::new(alloc), instrs);
+    module_of(alloc, maker, field)
+}
+
+/// The same, of one instruction.
+pub(crate) fn of_instruction<'a>(
+    alloc: Global,
+    instruction: Instruction<'a>,
+) -> Result<Module<'a>, Error<'a>> {
+    let mut maker = Maker::new(alloc);
+    let mut instrs = Seq::new(alloc);
+    maker.push_instruction(&mut instrs, instruction);
+    body_of(alloc, maker, instrs)
+}

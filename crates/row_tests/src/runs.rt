@@ -1,14 +1,15 @@
 //! Runs over rows that are no worked ones. What is told of the worked rows stands beside the program `wastrow`.
 
-use crate::around::Around::Function;
-use crate::bodies::Word::Load;
-use crate::bodies::made;
 use crate::made::{at, module};
+use crate::parts::{of_instruction, zero};
 use std::alloc::Global;
 use std::test::Fail;
 use wast_core::{Module, ModuleKind};
 use wast_rows::{RunError, run};
-use wast_tree::{Error, Fault, FunctionType, Gensym, Maker, ModuleField, Seq, Type, TypeDef};
+use wast_tree::{
+    Error, Fault, FunctionType, Gensym, Instruction, Maker, MemArg, MemArgTarget, MemOp,
+    ModuleField, Seq, Type, TypeDef,
+};
 
 // A module of one type that bears a generated id.
 fn generated_module<'a>(alloc: Global) -> Result<Module<'a>, Error<'a>> {
@@ -24,11 +25,22 @@ fn generated_module<'a>(alloc: Global) -> Result<Module<'a>, Error<'a>> {
     }
 }
 
+// A module of a load whose alignment is no power of two.
+fn unaligned_module<'a>(alloc: Global) -> Result<Module<'a>, Error<'a>> {
+    let arg = MemArg {
+        align: 3,
+        offset: 0,
+        target: MemArgTarget::Memory(zero()),
+        ordering: None,
+    };
+    of_instruction(alloc, Instruction::Mem(MemOp::i32_load, arg))
+}
+
 // Rows that are no worked ones.
 fn odd_row<'a>(alloc: Global, n: u32) -> Option<Result<Module<'a>, Error<'a>>> {
     match n {
         0 => Some(Err(Error::refusal(Fault::Component))),
-        1 => Some(made(alloc, Function, &[Load(3, 0)])),
+        1 => Some(unaligned_module(alloc)),
         2 => Some(generated_module(alloc)),
         3 => Some(Ok(module(ModuleKind::Refused(Error::refusal(Fault::Component))))),
         4 => Some(Ok(module(ModuleKind::Refused(Error::refusal(Fault::Memory))))),

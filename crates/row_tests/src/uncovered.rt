@@ -103,7 +103,7 @@ fn lane_of<'a>(memarg: MemArg<'a>) -> Instruction<'a> {
 pub(crate) type Named<'a> = [Index<'a>; 4];
 
 /// A reference to the type at an index.
-pub(crate) fn to<'a>(index: Index<'a>) -> RefType<'a> {
+fn to<'a>(index: Index<'a>) -> RefType<'a> {
     RefType {
         nullable: true,
         heap: HeapType::Concrete(index),
