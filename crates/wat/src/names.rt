@@ -17,10 +17,11 @@ fn is_id_byte(byte: u8) -> bool {
 fn print_name(rt: &HostRuntime, denoted: &Denoted<'_>) -> io::Result<()> {
     let (space, number) = (denoted.space, denoted.number);
     let name = denoted.id.name();
-    match name.as_bytes().iter().any(|byte| !is_id_byte(*byte)) {
-        true => println!(rt; "{space} ${name:?} {number}"),
-        false => println!(rt; "{space} ${name} {number}"),
+    if name.as_bytes().iter().all(|byte| is_id_byte(*byte)) {
+        return println!(rt; "{space} ${name} {number}");
     }
+    let escaped = name.escape_default();
+    println!(rt; "{space} $\"{escaped}\" {number}")
 }
 
 /// Prints what ids denote, a line for each.
