@@ -141,18 +141,20 @@ impl<'a> Labels<'a> {
         Some((self.open.len() - 1 - place) as u32)
     }
 
-    /// What a label denotes, where one of the innermost open blocks, at most 16, has it.
+    /// What a label denotes, where one of the innermost open blocks has it: of those that are not indexed, at most 16.
     fn near(&self, id: &Id<'a>) -> Option<u32>
         ensures { IfSome result (λ n. denotes (name_of id.now) self.now ≡ Some n) }
     {
         let open = self.open.as_slice();
-        let (_, nearest) = open.split_at(open.len().saturating_sub(NEAR));
+        let first = open.len().saturating_sub(NEAR).max(self.outer.len());
+        let (_, nearest) = open.split_at(first);
         let steps = steps_back(nearest, id)?;
         Some(steps as u32)
     }
 
     /// Numbers a label index, as [`Labels::number`] does, where that takes few steps: where it is a number, or one of the
-    /// innermost open blocks, at most 16, has it. Whether it did; else the index stays. It takes no memory.
+    /// innermost open blocks has it, of those that are not indexed and at most 16. Whether it did; else the index stays. It takes
+    /// no memory.
     pub fn try_number(&self, idx: &mut Index<'a>) -> bool
         ensures met { IsTrue result → first_unmet (known_index (number_among self.now) (codes "label") idx.old) ≡ None }
         ensures index { IsTrue result → idx.new ≡ numbered (number_among self.now) idx.old }
