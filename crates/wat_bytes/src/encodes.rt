@@ -1,7 +1,10 @@
 //! A text is read and encoded.
 
-ghost use Rattle.std.specs.Prelude.{◌≡◌};
+ghost use Rattle.std.specs.Prelude.{◌≡◌, ⊤, None, IfOk, IfErr, option_map};
 ghost use Rattle.wast_core.specs.Modules.{IsReady};
+ghost use Rattle.wast_core.specs.Headline.{Encodes};
+ghost use Rattle.wast_core.specs.declared.module.ModuleKind.TheVariants as kind;
+ghost use Rattle.wat_bytes.specs.Texts.{AreBytes, IsNoBytes, IsWhy, Tells, fields_of, first_form};
 
 use std::alloc::Global;
 use std::fmt;
@@ -20,7 +23,25 @@ pub enum Refused<'a> {
     Uncovered(Uncovered),
 }
 
+/// The number of E11.
+const UNCOVERED: u32 = 11;
+
+/// The number of E12.
+const MEMORY: u32 = 12;
+
 impl Refused<'_> {
+    /// The number of the fault, 1 for E1 and so on to 13; `None` where the text is no well formed module. It takes no memory.
+    pub fn number(&self) -> Option<u32> {
+        match self {
+            Refused::Text(error) => match error.fault {
+                TextFault::Memory => Some(MEMORY),
+                _ => None,
+            },
+            Refused::Module(error) => Some(error.number()),
+            Refused::Uncovered(_) => Some(UNCOVERED),
+        }
+    }
+
     /// The place in the text, where there is one. It takes no memory.
     pub fn span(&self) -> Option<Span> {
         match self {
@@ -46,7 +67,10 @@ impl fmt::Display for Refused<'_> {
 
 /// The first form of a module that no encoder covers. It is lent the module to change, and leaves it: where it was lent to be
 /// read, the prover would compare the type of the whole tree with itself.
-fn first_form(module: &mut Module<'_>) -> Option<Uncovered> {
+fn first_form(module: &mut Module<'_>) -> Option<Uncovered>
+    ensures form { option_map (λ u. u.form) result ≡ first_form «module».old.kind }
+    ensures stays { «module».new ≡ «module».old }
+{
     match &module.kind {
         ModuleKind::Text(fields) => first_uncovered(fields.as_slice()),
         ModuleKind::Binary(_) | ModuleKind::Refused(_) => None,
@@ -54,7 +78,9 @@ fn first_form(module: &mut Module<'_>) -> Option<Uncovered> {
 }
 
 /// Why a module has no bytes, with the place of a form that no encoder covers.
-fn refusal<'a>(module: &mut Module<'_>, error: Error<'a>) -> Refused<'a> {
+fn refusal<'a>(module: &mut Module<'_>, error: Error<'a>) -> Refused<'a>
+    ensures { Tells «module».old.kind error.entry result }
+{
     let first = match error.fault() {
         Fault::Uncovered(_) => first_form(module),
         _ => None,
@@ -65,13 +91,17 @@ fn refusal<'a>(module: &mut Module<'_>, error: Error<'a>) -> Refused<'a> {
     }
 }
 
-/// The bytes of a module that is ready.
+/// The bytes of a module of fields that is ready.
 fn encoded<'a>(
     alloc: Global,
     module: &mut Module<'a>,
     gensym: &mut Gensym,
 ) -> Result<Vec<u8>, Refused<'a>>
-    requires { IsReady «module».old gensym.old }
+    requires ready { IsReady «module».old gensym.old }
+    requires counter { gensym.old ≡ 1 }
+    requires text { «module».old.kind ≡ kind.Text (fields_of «module».old.kind) }
+    ensures bytes { IfOk result (λ bytes. AreBytes bytes.items) }
+    ensures refusal { IfErr result IsWhy }
 {
     let answer = EncodeOptions::new().encode_module(alloc, module, gensym);
     match answer {
@@ -81,7 +111,9 @@ fn encoded<'a>(
 }
 
 /// The module that was read.
-pub(crate) fn module_of<'a>(text: TextModule<'a>) -> Module<'a> {
+pub(crate) fn module_of<'a>(text: TextModule<'a>) -> Module<'a>
+    ensures { result.kind ≡ kind.Text (fields_of result.kind) }
+{
     let TextModule {
         span,
         id,
@@ -98,7 +130,10 @@ pub(crate) fn module_of<'a>(text: TextModule<'a>) -> Module<'a> {
 }
 
 /// The bytes of a module that was read. No text has a generated id.
-fn encoded_text<'a>(alloc: Global, text: TextModule<'a>) -> Result<Vec<u8>, Refused<'a>> {
+fn encoded_text<'a>(alloc: Global, text: TextModule<'a>) -> Result<Vec<u8>, Refused<'a>>
+    ensures bytes { IfOk result (λ bytes. AreBytes bytes.items) }
+    ensures refusal { IfErr result IsWhy }
+{
     let mut module = module_of(text);
     let mut gensym = Gensym::new(1);
     let is_ready = module.well_formed() && module.gensym_bound() < gensym.peek();
@@ -111,13 +146,17 @@ fn encoded_text<'a>(alloc: Global, text: TextModule<'a>) -> Result<Vec<u8>, Refu
 }
 
 /// Reads a module in the text format, resolves it, and gives its bytes (text format, modules; binary format, modules). Strings
-/// with escapes are kept in `strings`. It takes memory. Else it answers why there are no bytes: what
+/// with escapes are kept in `strings`. It takes memory. The bytes are read as what some well formed module means, and as no
+/// other; that it is the module of the text is tested. Else it answers why there are no bytes: what
 /// [`read`](wat_text::read) or `encode_module` of wast_core answers, E11 with the nearest place.
 pub fn encode_text<'a>(
     alloc: Global,
     text: &'a str,
     strings: &'a Strings,
-) -> Result<Vec<u8>, Refused<'a>> {
+) -> Result<Vec<u8>, Refused<'a>>
+    ensures bytes { IfOk result (λ bytes. AreBytes bytes.items) }
+    ensures refusal { IfErr result IsWhy }
+{
     match read(alloc, text, strings) {
         Ok(module) => encoded_text(alloc, module),
         Err(error) => Err(Refused::Text(error)),

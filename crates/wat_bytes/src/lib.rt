@@ -9,4 +9,4 @@ mod names;
 mod tests;
 
 pub use encodes::{Refused, encode_text};
-pub use names::{Denoted, names_of_text};
+pub use names::{Denoted, names_of_text, number_in_text};

@@ -1,6 +1,6 @@
 //! What the ids of a text denote, and where a form stands that no encoder covers.
 
-use crate::{Refused, encode_text, names_of_text};
+use crate::{Refused, encode_text, names_of_text, number_in_text};
 use wast_tree::Space;
 use wat_text::Strings;
 
@@ -37,4 +37,14 @@ fn a_form_that_is_not_covered_has_a_place(rt: HostRuntime) {
     };
     assert!(rt; uncovered.span.offset == 33);
     assert!(rt; names_of_text(rt.alloc(), text, &strings).is_ok());
+}
+
+#[test]
+fn one_name_has_its_number_in_its_space(rt: HostRuntime) {
+    let strings = Strings::new(rt.alloc());
+    let text = "(module (func) (func $f))";
+    let found = number_in_text(rt.alloc(), text, &strings, Space::Func, "f").expect(&rt, "names");
+    assert!(rt; found == Some(1));
+    let found = number_in_text(rt.alloc(), text, &strings, Space::Table, "f").expect(&rt, "names");
+    assert!(rt; found.is_none());
 }
