@@ -1,0 +1,39 @@
+/* Prints the bytes of the modules of texts in hexadecimal, or their faults with line and column: example TEXT.. */
+#include "rigyomad.h"
+
+#include <stdio.h>
+#include <string.h>
+
+static uint32_t print_fault(const char *text) {
+    struct rigyomad_diagnosis at;
+    char message[256];
+    uint32_t status = rigyomad_fault(text, strlen(text), message, sizeof message, &at);
+    if (status == RIGYOMAD_FAULT) {
+        int shown = (int)(at.size < sizeof message ? at.size : sizeof message);
+        printf("%zu:%zu: %.*s\n", at.line, at.column, shown, message);
+    }
+    return status;
+}
+
+static uint32_t convert(const char *text) {
+    uint8_t bytes[4096];
+    size_t size = 0;
+    uint32_t status = rigyomad_encode(text, strlen(text), bytes, sizeof bytes, &size);
+    for (size_t i = 0; status == RIGYOMAD_DONE && i < size; i++) {
+        printf("%02x%s", bytes[i], i + 1 < size ? "" : "\n");
+    }
+    return status == RIGYOMAD_FAULT ? print_fault(text) : status;
+}
+
+int main(int count, char **words) {
+    if (rigyomad_version() != RIGYOMAD_VERSION) {
+        return 100;
+    }
+    for (int i = 1; i < count; i++) {
+        uint32_t status = convert(words[i]);
+        if (status != RIGYOMAD_DONE && status != RIGYOMAD_FAULT) {
+            return (int)status;
+        }
+    }
+    return 0;
+}

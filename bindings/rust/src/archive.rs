@@ -1,0 +1,69 @@
+//! The calls of the archive. A reference is never null, and a slice has its length, so that they need no test.
+
+/// What was asked for is there.
+pub(crate) const DONE: u32 = 0;
+
+/// It does not fit.
+pub(crate) const SHORT: u32 = 1;
+
+/// The text has a fault.
+pub(crate) const FAULT: u32 = 2;
+
+/// Nothing has the name.
+pub(crate) const UNKNOWN: u32 = 5;
+
+/// What is wrong with a text, and where.
+#[repr(C)]
+#[derive(Default)]
+pub(crate) struct Diagnosis {
+    pub(crate) number: u32,
+    pub(crate) offset: usize,
+    pub(crate) line: usize,
+    pub(crate) column: usize,
+    pub(crate) size: usize,
+}
+
+extern "C" {
+    fn rigyomad_c_version() -> u32;
+    fn rigyomad_c_encode(text: *const u8, text_size: usize, out: *mut u8, out_size: usize, size: *mut usize) -> u32;
+    fn rigyomad_c_fault(text: *const u8, text_size: usize, message: *mut u8, message_size: usize, diagnosis: *mut Diagnosis)
+        -> u32;
+    fn rigyomad_c_resolve(
+        text: *const u8,
+        text_size: usize,
+        space: u32,
+        name: *const u8,
+        name_size: usize,
+        number: *mut u32,
+    ) -> u32;
+}
+
+pub(crate) fn version() -> u32 {
+    // SAFETY: it takes nothing.
+    unsafe { rigyomad_c_version() }
+}
+
+/// The status, and the size of the bytes.
+pub(crate) fn encode(text: &str, out: &mut [u8]) -> (u32, usize) {
+    let mut size = 0;
+    // SAFETY: the pointers are those of slices and of a place, which last for the call; the ones that are written to are lent to
+    // nobody else.
+    let status = unsafe { rigyomad_c_encode(text.as_ptr(), text.len(), out.as_mut_ptr(), out.len(), &mut size) };
+    (status, size)
+}
+
+/// The status, and what is wrong.
+pub(crate) fn fault(text: &str, message: &mut [u8]) -> (u32, Diagnosis) {
+    let mut at = Diagnosis::default();
+    // SAFETY: as in `encode`.
+    let status = unsafe { rigyomad_c_fault(text.as_ptr(), text.len(), message.as_mut_ptr(), message.len(), &mut at) };
+    (status, at)
+}
+
+/// The status, and the number.
+pub(crate) fn resolve(text: &str, space: u32, name: &str) -> (u32, u32) {
+    let mut number = 0;
+    // SAFETY: as in `encode`.
+    let status = unsafe { rigyomad_c_resolve(text.as_ptr(), text.len(), space, name.as_ptr(), name.len(), &mut number) };
+    (status, number)
+}

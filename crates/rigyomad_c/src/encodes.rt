@@ -1,0 +1,87 @@
+//! Texts become bytes.
+
+ghost use Rattle.std.specs.Prelude.{◌≡◌, ◌<◌, ◌≤◌, ◌++◌, length, drop, IsTrue, IsFalse};
+ghost use Rattle.rigyomad_c.specs.Answers.{Encodes, IsPlaced};
+
+use crate::diagnosis::Diagnosis;
+use crate::statuses::Status;
+use std::alloc::Global;
+use std::str;
+use wat_bytes::encode_text;
+use wat_text::Strings;
+
+/// Copies bytes to the front of a slice, where they fit. Whether they do; else the slice stays.
+fn put(bytes: &[u8], out: &mut [u8]) -> bool
+    ensures fits { IsTrue result → (length bytes.now ≤ length out.old) × (out.new ≡ bytes.now ++ drop (length bytes.now) out.old) }
+    ensures stays { IsFalse result → (length out.old < length bytes.now) × (out.new ≡ out.old) }
+{
+    let does_fit = bytes.len() <= out.len();
+    if does_fit {
+        let (front, _behind) = out.split_at_mut(bytes.len());
+        front.copy_from_slice(bytes);
+    }
+    does_fit
+}
+
+/// Puts the bytes of the module of a text into a slice.
+fn encode_text_into(alloc: Global, text: &str, out: &mut [u8], size: &mut usize) -> Status
+    requires { size.old ≡ 0 }
+    ensures { Encodes size.new out.old out.new result }
+{
+    let strings = Strings::new(alloc);
+    match encode_text(alloc, text, &strings) {
+        Ok(bytes) => {
+            *size = bytes.len();
+            match put(bytes.as_slice(), out) {
+                true => Status::Done,
+                false => Status::Short,
+            }
+        }
+        Err(refused) => Status::of(&refused),
+    }
+}
+
+/// Puts the bytes of the module of a text into a slice, where they fit, and tells how many they are. Else the slice stays.
+pub(crate) fn encode_into(alloc: Global, text: &[u8], out: &mut [u8], size: &mut usize) -> Status
+    ensures { Encodes size.new out.old out.new result }
+{
+    *size = 0;
+    match str::from_utf8(text) {
+        Ok(text) => encode_text_into(alloc, text, out, size),
+        Err(_) => Status::Utf8,
+    }
+}
+
+/// Why the module of a text has no bytes.
+fn diagnose_text(alloc: Global, text: &str, out: &mut [u8], diagnosis: &mut Diagnosis) -> Status
+    requires { diagnosis.old.line ≡ 0 }
+    ensures { IsPlaced text.now diagnosis.new }
+{
+    let strings = Strings::new(alloc);
+    match encode_text(alloc, text, &strings) {
+        Ok(_) => Status::Done,
+        Err(refused) => {
+            *diagnosis = Diagnosis::of(text, &refused, out);
+            Status::of(&refused)
+        }
+    }
+}
+
+/// Tells why the module of a text has no bytes, and where; as much of a message as fits is put into a slice.
+pub(crate) fn diagnose(
+    alloc: Global,
+    text: &[u8],
+    message: &mut [u8],
+    diagnosis: &mut Diagnosis,
+) -> Status
+    ensures { IsPlaced text.now diagnosis.new }
+{
+    *diagnosis = Diagnosis::none();
+    match str::from_utf8(text) {
+        Ok(text) => diagnose_text(alloc, text, message, diagnosis),
+        Err(error) => {
+            *diagnosis = Diagnosis::of_bytes(error, message);
+            Status::Utf8
+        }
+    }
+}

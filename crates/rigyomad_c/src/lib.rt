@@ -1,0 +1,73 @@
+//! The bytes of modules in the text format of WebAssembly, for callers in C.
+//!
+//! Each call stands alone: it keeps nothing, so that calls in threads of their own do not meet. It reads and writes the slices
+//! that it is lent and nothing else; what it takes from the allocator it gives back before it answers.
+//! `bindings/c/rigyomad.h` declares the calls, and sees that no pointer is null.
+#![tactic(auto)]
+
+ghost use Rattle.std.specs.Prelude.{◌≡◌};
+ghost use Rattle.rigyomad_c.specs.Answers.{Answers, Encodes, Denotes, IsPlaced};
+
+mod diagnosis;
+mod encodes;
+mod looks_up;
+mod messages;
+mod statuses;
+#[cfg(test)]
+mod tests;
+
+use diagnosis::Diagnosis;
+use encodes::{diagnose, encode_into};
+use looks_up::look_up;
+use std::alloc::Global;
+
+/// The number of these declarations: another one is given where a call takes or gives something else.
+const VERSION: u32 = 1;
+
+/// The number of these declarations, to compare with that of the header.
+#[unsafe(no_mangle)]
+pub extern "C" fn rigyomad_c_version() -> u32
+    ensures { result ≡ 1 }
+{
+    VERSION
+}
+
+/// Puts the bytes of the module of a text into a slice, where they fit, and tells how many they are. Else the slice stays.
+#[unsafe(no_mangle)]
+pub extern "C" fn rigyomad_c_encode(
+    alloc: Global,
+    text: &[u8],
+    out: &mut [u8],
+    size: &mut usize,
+) -> u32
+    ensures { Answers (Encodes size.new out.old out.new) result }
+{
+    encode_into(alloc, text, out, size).code()
+}
+
+/// Tells why the module of a text has no bytes, and where; as much of a message as fits is put into a slice.
+#[unsafe(no_mangle)]
+pub extern "C" fn rigyomad_c_fault(
+    alloc: Global,
+    text: &[u8],
+    message: &mut [u8],
+    diagnosis: &mut Diagnosis,
+) -> u32
+    ensures { IsPlaced text.now diagnosis.new }
+{
+    diagnose(alloc, text, message, diagnosis).code()
+}
+
+/// Tells the number of what a name denotes in an index space of the module of a text.
+#[unsafe(no_mangle)]
+pub extern "C" fn rigyomad_c_resolve(
+    alloc: Global,
+    text: &[u8],
+    space: u32,
+    name: &[u8],
+    number: &mut u32,
+) -> u32
+    ensures { Answers (Denotes space name.now number.old number.new) result }
+{
+    look_up(alloc, text, space, name, number).code()
+}

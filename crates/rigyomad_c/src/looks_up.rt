@@ -1,0 +1,63 @@
+//! Names are looked up.
+
+ghost use Rattle.std.specs.Prelude.{◌≡◌, IfSome};
+ghost use Rattle.wast_base.specs.Spaces.{rank_of};
+ghost use Rattle.rigyomad_c.specs.Answers.{Denotes};
+
+use crate::statuses::Status;
+use std::alloc::Global;
+use std::str;
+use wast_tree::Space;
+use wat_bytes::number_in_text;
+use wat_text::Strings;
+
+/// The index space of a number.
+fn space_at(space: u32) -> Option<Space>
+    ensures { IfSome result (λ s. rank_of s ≡ space) }
+{
+    match space {
+        0 => Some(Space::Func),
+        1 => Some(Space::Table),
+        2 => Some(Space::Memory),
+        3 => Some(Space::Global),
+        4 => Some(Space::Tag),
+        5 => Some(Space::Elem),
+        6 => Some(Space::Data),
+        7 => Some(Space::Ty),
+        _ => None,
+    }
+}
+
+/// The number of what a name denotes in a space of the module of a text.
+fn look_up_in(alloc: Global, text: &str, space: Space, name: &str, number: &mut u32) -> Status
+    ensures { Denotes (rank_of space) name.now number.old number.new result }
+{
+    let strings = Strings::new(alloc);
+    match number_in_text(alloc, text, &strings, space, name) {
+        Ok(Some(found)) => {
+            *number = found;
+            Status::Done
+        }
+        Ok(None) => Status::Unknown,
+        Err(refused) => Status::of(&refused),
+    }
+}
+
+/// Tells the number of what a name denotes in an index space of the module of a text.
+pub(crate) fn look_up(
+    alloc: Global,
+    text: &[u8],
+    space: u32,
+    name: &[u8],
+    number: &mut u32,
+) -> Status
+    ensures { Denotes space name.now number.old number.new result }
+{
+    let Some(space) = space_at(space) else {
+        return Status::Unknown;
+    };
+    match (str::from_utf8(text), str::from_utf8(name)) {
+        (Ok(text), Ok(name)) => look_up_in(alloc, text, space, name, number),
+        _ => Status::Utf8,
+    }
+}
