@@ -111,6 +111,30 @@ impl<'a> Shape<'a> {
         assert!(rt; bytes.len() > COUNT);
         discard_module(module);
     }
+
+    /// Sees that the fields are well formed. It is a call of its own, so that it is counted alone.
+    #[inline(never)]
+    fn is_seen(self, rt: &impl Abort) {
+        let Shape {
+            alloc: _,
+            maker,
+            fields,
+        } = self;
+        let fields = maker.finish(fields).expect(rt, "memory");
+        let module = Module::new(fields);
+        assert!(rt; module.well_formed());
+        discard_module(module);
+    }
+}
+
+/// Ids that a counter gives, in their order.
+fn generated<'a>(rt: &impl Abort) -> [Id<'a>; COUNT] {
+    let mut gensym = Gensym::new(1);
+    let mut ids = [id(0); COUNT];
+    for i in 0..COUNT {
+        ids[i] = gensym.generate(at(i)).expect(rt, "counter");
+    }
+    ids
 }
 
 /// An id, a name annotation and a type.
@@ -275,4 +299,18 @@ fn plain_instructions(rt: HostRuntime) {
     }
     shape.push_func(0, TypeUse::none(), instrs);
     shape.encodes(&rt);
+}
+
+#[test]
+fn generated_ids_in_any_order(rt: HostRuntime) {
+    let mut shape = Shape::new(rt.alloc());
+    let ids = generated(&rt);
+    for i in 0..COUNT {
+        let instrs = shape.calling(Index::Id(ids[31 * i % COUNT]));
+        let locals = Seq::new(shape.alloc);
+        let own = Some(ids[i]);
+        let func = Func::new(shape.alloc, at(i), own, TypeUse::none(), locals, instrs);
+        shape.push(ModuleField::Func(func));
+    }
+    shape.is_seen(&rt);
 }

@@ -68,9 +68,9 @@ impl<'a> IsItem for (&'a str, ItemSig<'a>) {
 #[derive(Clone, Copy)]
 pub(crate) struct Look {
     /// How many items the field has.
-    items: usize,
+    pub(crate) items: usize,
     /// Whether the item has the id.
-    found: bool,
+    pub(crate) found: bool,
 }
 
 impl Look {
@@ -127,6 +127,33 @@ fn look_among(items: FieldItems<'_, '_>, item: usize, space: Space, id: &Id<'_>)
     }
 }
 
+/// The generation of an optional id of an item, where the item stands in the space and the id is generated; else 0.
+fn generation_in(own: Space, bearer: &Option<Id<'_>>, space: Space) -> u64 {
+    match bearer {
+        Some(id) if space.is(own) => id.generation(),
+        _ => 0,
+    }
+}
+
+/// The same of an item of those that are read from something.
+fn generation_among(items: FieldItems<'_, '_>, item: usize, space: Space) -> u64 {
+    match items {
+        FieldItems::Nothing => 0,
+        FieldItems::Lone(own, bearer) => generation_in(own, bearer, space),
+        FieldItems::Type(ty) => generation_in(Space::Ty, &ty.id, space),
+        FieldItems::Types(types) => match types.get(item) {
+            Some(ty) => generation_in(Space::Ty, &ty.id, space),
+            None => 0,
+        },
+        FieldItems::Signature(sig) => generation_in(sig.kind.space(), &sig.id, space),
+        FieldItems::Signatures(items) => match items.get(item) {
+            Some(named) => generation_in(named.1.kind.space(), &named.1.id, space),
+            None => 0,
+        },
+        FieldItems::Shared(sig, _) => generation_in(sig.kind.space(), &sig.id, space),
+    }
+}
+
 /// A field, of which its items are read. What looks for an id is generic in it: a proof would else compare the type of the
 /// whole tree with itself at each list of fields that is held or cut.
 pub(crate) trait HasItems {
@@ -138,6 +165,10 @@ pub(crate) trait HasItems {
     fn look(&self, item: usize, space: Space, id: &Id<'_>) -> Look
         ensures items { result.items ≡ length (items self.now) }
         ensures found { result.found ≡ bears_at space (name_of id.now) (items self.now) item };
+
+    /// The generation of the id of the item at an index, where it stands in the space and its id is generated; else 0. Where
+    /// no item is, it may be any.
+    fn generation(&self, item: usize, space: Space) -> u64;
 }
 
 impl HasItems for ModuleField<'_> {
@@ -146,15 +177,19 @@ impl HasItems for ModuleField<'_> {
     fn look(&self, item: usize, space: Space, id: &Id<'_>) -> Look {
         look_among(items_of(self), item, space, id)
     }
+
+    fn generation(&self, item: usize, space: Space) -> u64 {
+        generation_among(items_of(self), item, space)
+    }
 }
 
 /// A place among the items of a list of fields: before an item of a field, or behind its last one.
 #[derive(Clone, Copy)]
 pub(crate) struct Place {
     /// The index of the field.
-    field: usize,
+    pub(crate) field: usize,
     /// The index of the item among those of the field.
-    item: usize,
+    pub(crate) item: usize,
 }
 
 impl Place {

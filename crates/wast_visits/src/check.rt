@@ -125,11 +125,12 @@ fn least_failing_own<T: HasItems + Visit>(parts: &[T]) -> Option<u8>
 /// another than that of its block (E8), and two parameters and locals of a function (E2), or two fields of a struct (E3), may
 /// have one id. A form may be one that no encoder covers, as [`uncovered`](crate::uncovered) tells.
 ///
-/// Its time is linear in the size of the fields, and a generated id that stands for an index adds to it as many steps as fields
-/// and items stand, on both sides, as far as its item from the item of the last such id of its space. So it is quick where they
-/// stand in the order of their items or in the reverse order, in groups too; in another order each may be looked for through
-/// all the fields. Once a clause fails, no more ids are looked for. [`first_ill_formed`](crate::first_ill_formed) tells a place
-/// too.
+/// Its time is linear in the size of the fields, and a generated id that stands for an index adds to it. Where it was generated
+/// at most 16 ids before or after the last one that was found in its space, it is looked for from that one on, outward on both
+/// sides. Else its item is found by halving the fields, if the generations in its space rise in the order of its items, as a
+/// counter gives them, and, but for at most 15 places, few other fields, at most 63, stand from one such item to the next; so a
+/// list of n fields takes no more than n log n steps. In another order each may be looked for through all the fields. Once a
+/// clause fails, no more ids are looked for. [`first_ill_formed`](crate::first_ill_formed) tells a place too.
 pub fn ill_formed(fields: &[ModuleField<'_>]) -> Option<u8>
     ensures least { result ≡ ill_formed fields.now }
     ensures none { is_none result ≡ is_well_formed fields.now }

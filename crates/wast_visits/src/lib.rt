@@ -14,6 +14,7 @@ mod field_visits;
 mod first_failing;
 mod forms;
 mod generations;
+mod halving;
 mod settling;
 mod uncovered_places;
 mod visits;

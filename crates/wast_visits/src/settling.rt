@@ -7,6 +7,7 @@ ghost use Rattle.wast_nodes.specs.Known.{Known, known, names_in};
 ghost use Rattle.wast_nodes.specs.WellFormed.{is_written_index};
 
 use crate::bearers::{HasItems, Place, nearest_bearer};
+use crate::halving::{Stretches, halved_place};
 use wast_base::{Id, Index, Space};
 
 /// Who tells whether a generated id is that of an item.
@@ -20,14 +21,42 @@ pub(crate) trait Settler {
         ensures stays { known self.new ≡ known self.old };
 }
 
+/// Ids whose generations differ by so much at most are looked for from one to the other.
+const NEAR: u64 = 16;
+
+/// Where the search for the next id of a space may begin.
+#[derive(Clone, Copy)]
+struct Found {
+    /// The place behind the item that was found last; at first before all items.
+    place: Place,
+    /// The generation of its id; at first 0.
+    generation: u64,
+    /// The stretches of the fields that bear generated ids of the space, once they are known.
+    stretches: Option<Stretches>,
+}
+
+impl Found {
+    /// Nothing was found yet.
+    const NOTHING: Found = Found {
+        place: Place::START,
+        generation: 0,
+        stretches: None,
+    };
+
+    /// Whether an id was generated soon before or after the last one that was found.
+    fn is_near(&self, id: &Id<'_>) -> bool {
+        self.generation.abs_diff(id.generation()) <= NEAR
+    }
+}
+
 /// The fields, whose items bear ids.
 ///
-/// Where an id was found, the search for the next one of its space begins, and goes on outward on both sides: so it takes as
-/// long as the two items stand apart, whether the next one stands behind the last or before it.
+/// Where an id was found, the search for the next one of its space begins, and goes on outward on both sides, where the two
+/// were generated one soon after the other; else at the place that halving the fields gives, if the item there has the id.
 #[derive(Drop)]
 pub(crate) struct Bearers<'f, T> {
     fields: &'f [T],
-    places: [Place; 8],
+    found: [Found; 8],
 }
 
 impl<'f, T: HasItems> Bearers<'f, T> {
@@ -37,7 +66,26 @@ impl<'f, T: HasItems> Bearers<'f, T> {
     {
         Bearers {
             fields,
-            places: [Place::START; 8],
+            found: [Found::NOTHING; 8],
+        }
+    }
+
+    /// Where the search for an id begins.
+    fn start(&mut self, space: Space, id: &Id<'_>) -> Place
+        ensures { self.new.fields ≡ self.old.fields }
+    {
+        let found = &mut self.found[space.rank()];
+        if found.is_near(id) {
+            return found.place;
+        }
+        if found.stretches.is_none() {
+            found.stretches = Some(Stretches::of(self.fields, space));
+        }
+        match &found.stretches {
+            Some(stretches) => {
+                halved_place(self.fields, stretches, space, id).unwrap_or(found.place)
+            }
+            None => found.place,
         }
     }
 
@@ -46,10 +94,12 @@ impl<'f, T: HasItems> Bearers<'f, T> {
         ensures borne { result ≡ is_borne (name_of id.now) (names_in space (flat_map T.items self.old.fields.now)) }
         ensures fields { self.new.fields ≡ self.old.fields }
     {
-        let rank = space.rank();
-        match nearest_bearer(self.fields, self.places[rank], space, id) {
+        let start = self.start(space, id);
+        match nearest_bearer(self.fields, start, space, id) {
             Some(place) => {
-                self.places[rank] = place;
+                let found = &mut self.found[space.rank()];
+                found.place = place;
+                found.generation = id.generation();
                 true
             }
             None => false,
