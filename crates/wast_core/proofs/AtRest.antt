@@ -1,5 +1,5 @@
 -- A module that is resolved is at rest.
-use Rattle.std.proofs.Common.{◌≡◌, ℕ, ◌+◌, ◌<◌, Bool, true, ◌&&◌, List, [], ◌∷◌, ◌++◌, map, append-nil, Option, Some, None, Result, Ok, Err, is_some, refl, sym, ap, ◌∙◌, subst, inl, inr, ◌⊎◌, arith}
+use Rattle.std.proofs.Common.{◌≡◌, ℕ, ◌+◌, ◌<◌, Bool, true, List, [], ◌∷◌, ◌++◌, map, append-nil, Option, Some, None, Result, Ok, Err, is_some, refl, sym, ap, ◌∙◌, subst, inl, inr, arith}
 use Rattle.std.specs.Bool.{⊤}
 use Rattle.std.specs.List.{list_all}
 use Rattle.std.specs.Cmp.{first_so, second_so}
@@ -7,7 +7,7 @@ use Rattle.std.specs.Global.{Vec}
 use Rattle.wast_base.specs.declared.faults.Error.{Error}
 use Rattle.wast_base.specs.declared.faults.Fault.{Fault}
 use Rattle.wast_base.specs.declared.faults.Fault.TheVariants as fault
-use Rattle.wast_base.specs.Faults.{cause_of, told_at, told, out_of_memory, too_large}
+use Rattle.wast_base.specs.Faults.{cause_of, told_at, told}
 use Rattle.wast_base.specs.declared.ids.Span.{Span}
 use Rattle.wast_base.specs.Ids.{name_of, place_of}
 use Rattle.wast_base.specs.Spaces.{is_settled_index}
@@ -31,10 +31,9 @@ use Rattle.wast_core.specs.declared.module.ModuleKind.{ModuleKind}
 use Rattle.wast_core.specs.declared.module.ModuleKind.TheVariants as kind
 use Rattle.wast_core.specs.AtRest.{StartsLast, NumbersLast, IsWithheld, RestsWithheld, ResolvesAgain, SecondResolve, EncodesAgain, SecondEncoding}
 use Rattle.wast_core.specs.Bounded.{IsBounded}
-use Rattle.wast_core.specs.Headline.{IsMet, ResolvesKind, Counts, Resolves, IsUnwritten, IsUnencoded, EncodesKind}
+use Rattle.wast_core.specs.Headline.{IsMet, ResolvesKind, Counts, IsUnwritten, IsUnencoded, EncodesKind}
 use Rattle.wast_core.specs.Laws.{MeansWhatIsWritten, TooLargeIsUnbounded}
 use Rattle.wast_core.specs.Meaning.{parts, meaning}
-use Rattle.wast_core.specs.Modules.{bound_of_kind}
 use Rattle.wast_core.specs.Uncovered.{first, uncovered_forms, IsCovered}
 use Rattle.wast_core.proofs.Swapped.{parts_swapped}
 

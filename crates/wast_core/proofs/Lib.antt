@@ -1,4 +1,5 @@
 pub mod Counting
+pub mod DataAsked
 pub mod Stripping
 pub mod ByPosition
 pub mod Encoded

@@ -29,7 +29,6 @@ use Rattle.wast_core.specs.Tree.space
 use Rattle.wast_core.specs.Tree.export
 use Rattle.wast_core.specs.Tree.memory
 use Rattle.wast_core.specs.Tree.field
-use Rattle.wast_core.specs.declared.slots.SectionKind.TheVariants as kind
 use Rattle.wast_core.specs.declared.slots.Slot.TheVariants as slot
 use Rattle.wast_core.specs.Meaning.{entries_in, entries, listed}
 use Rattle.wast_core.specs.Bounded.{InRangeModule}

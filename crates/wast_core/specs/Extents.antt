@@ -47,6 +47,10 @@ abbrev pub is_counted : List ModuleField → Bool → Bool
 is_counted fields true = needs_count fields
 is_counted fields false = not (needs_count fields)
 
+-- where no index of a data segment is asked for, as it is told, no body needs a data count
+abbrev pub may_be_counted : List ModuleField → Bool → Bool
+may_be_counted fields has_data_index = has_data_index || not (needs_count fields)
+
 -- how long a section is, of how long its payload is
 abbrev pub section_size : ℕ → ℕ
 section_size n = if n == 0 then 0 else 1 + (length (unsigned n) + n)

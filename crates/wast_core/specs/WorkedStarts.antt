@@ -1,5 +1,5 @@
 -- Worked modules with start fields put last, and what they mean, computed. A text may lie anywhere in memory.
-use Rattle.std.specs.Prelude.{◌≡◌, ℕ, List, [], ◌∷◌, ◌++◌, None, codes}
+use Rattle.std.specs.Prelude.{◌≡◌, List, [], ◌∷◌, ◌++◌, None, codes}
 use Rattle.wast_nodes.specs.WorkedModules.{Address, by_id, by_number, row27}
 use Rattle.wast_demands.specs.Finished.{finished}
 use Rattle.wast_demands.specs.WorkedBodies.{catching}

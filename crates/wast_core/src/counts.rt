@@ -5,7 +5,7 @@ ghost use Rattle.std.specs.List.{flat_map, list_any};
 ghost use Rattle.wasm_ops.specs.Sinks.{Writes};
 ghost use Rattle.wasm_out.specs.Parts.{part, InRangePart};
 ghost use Rattle.wast_core.specs.DataCounts.{body_needs_count, needs_count, count_parts};
-ghost use Rattle.wast_core.specs.Extents.{is_counted};
+ghost use Rattle.wast_core.specs.Extents.{is_counted, may_be_counted};
 ghost use Rattle.wast_nodes.specs.Instrs.{needs_data_count};
 ghost use Rattle.wast_reach.specs.Reaches.{are_reaches};
 
@@ -50,11 +50,16 @@ fn functions<'b, 'a>(fields: &'b [ModuleField<'a>], reaches: &Reaches) -> &'b [M
     reaches.of_kind(FieldKind::Func).of(fields)
 }
 
-/// Whether a body of these fields needs a data count. It needs where in these fields the functions stand.
-pub(crate) fn is_counted(fields: &[ModuleField], reaches: &Reaches) -> bool
-    requires { IsTrue (are_reaches fields.now reaches.now) }
+/// Whether a body of these fields needs a data count. It needs where in these fields the functions stand, and whether an
+/// index of a data segment stands in them: where none does, it does not walk over them.
+pub(crate) fn is_counted(fields: &[ModuleField], reaches: &Reaches, has_data_index: bool) -> bool
+    requires reaches { IsTrue (are_reaches fields.now reaches.now) }
+    requires data { IsTrue (may_be_counted fields.now has_data_index) }
     ensures { IsTrue (is_counted fields.now result) }
 {
+    if !has_data_index {
+        return false;
+    }
     needs_count(functions(fields, reaches))
 }
 

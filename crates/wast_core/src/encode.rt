@@ -6,6 +6,7 @@ ghost use Rattle.wasm_out.specs.Built.{IsRefused};
 ghost use Rattle.wasm_out.specs.Reads.{Reads};
 ghost use Rattle.wast_core.specs.Bounded.{IsWritable};
 ghost use Rattle.wast_conv.specs.Encodable.{is_encodable, is_at_rest};
+ghost use Rattle.wast_core.specs.Extents.{may_be_counted};
 ghost use Rattle.wast_core.specs.Headline.{Encodes, joined, name_of_module};
 ghost use Rattle.wast_core.specs.Meaning.{parts};
 ghost use Rattle.wast_core.specs.Modules.{IsReady};
@@ -22,20 +23,23 @@ use wast_base::{Error, Fault, Gensym};
 use wast_names::given_name;
 use wast_nodes::ModuleField;
 use wast_resolve::{discard_names, resolved_laws};
-use wast_visits::uncovered;
+use wast_visits::survey;
 
-/// The bytes of a module with this name, of these resolved fields. It needs names that are UTF-8.
+/// The bytes of a module with this name, of these resolved fields. It needs names that are UTF-8, and whether an index of a data
+/// segment stands in the fields.
 fn encode_fields<'e>(
     alloc: Global,
     fields: &[ModuleField],
     name: Option<&str>,
+    has_data_index: bool,
 ) -> Result<Vec<u8>, Error<'e>>
     requires encodable { IsTrue (is_encodable fields.now) }
+    requires data { IsTrue (may_be_counted fields.now has_data_index) }
     requires names { All HasUtf8Names fields.now }
     ensures bytes { IfOk result (λ v. Reads v.items (parts (text_seen name.entry) fields.now)) }
     ensures refusal { IfErr result (IsRefused (IsWritable (text_seen name.entry) fields.now)) }
 {
-    let measures = measure(fields, name)?;
+    let measures = measure(fields, name, has_data_index)?;
     let mut room = Room::reserve(alloc, size(fields, name, &measures)? as usize)?;
     put_measured(fields, name, &measures, &mut room)?;
     let bytes = room.finish();
@@ -51,10 +55,11 @@ fn put_fields<'e, S: Sink>(
     requires { IsTrue (is_at_rest fields.now) }
     ensures { PutsFields S.rules (text_seen name.entry) fields.now out.old out.new result }
 {
-    match uncovered(fields) {
+    let seen = survey(fields);
+    match seen.uncovered {
         Some(form) => Err(Error::refusal(Fault::Uncovered(form))),
         None => {
-            let measures = measure(fields, name)?;
+            let measures = measure(fields, name, seen.has_data_index)?;
             Ok(put_measured(fields, name, &measures, out)?)
         }
     }
@@ -69,11 +74,12 @@ fn encode_covered<'e>(
     requires { IsTrue (is_at_rest fields.now) }
     ensures { EncodesFields (text_seen name.entry) fields.now result }
 {
-    match uncovered(fields) {
+    let seen = survey(fields);
+    match seen.uncovered {
         Some(form) => Err(Error::refusal(Fault::Uncovered(form))),
         None => {
             names_law(fields);
-            encode_fields(alloc, fields, name)
+            encode_fields(alloc, fields, name, seen.has_data_index)
         }
     }
 }

@@ -7,7 +7,7 @@ ghost use Rattle.wasm_ops.specs.declared.sink.Refusal.TheVariants as refusal;
 ghost use Rattle.wasm_out.specs.Parts.{part};
 ghost use Rattle.wast_core.specs.Bounded.{bytes_of, InRangeSlot, InRangeModule};
 ghost use Rattle.wast_conv.specs.Encodable.{is_encodable};
-ghost use Rattle.wast_core.specs.Extents.{IsExtent, section_size, is_names_extent};
+ghost use Rattle.wast_core.specs.Extents.{IsExtent, section_size, is_names_extent, may_be_counted};
 ghost use Rattle.wast_reach.specs.Reaches.{are_reaches};
 ghost use Rattle.wast_core.specs.Measured.{are_measures};
 ghost use Rattle.wast_core.specs.Tree.{ModuleField};
@@ -60,13 +60,18 @@ fn section_size(payload: u32) -> u64
 }
 
 /// What is measured of a module of this name and these resolved fields: its fields of each kind are found, and its sections
-/// are counted and measured, once. It takes no memory, and refuses as too large, where a number, count or length in the
-/// module is out of range.
+/// are counted and measured, once. It needs whether an index of a data segment stands in them. It takes no memory, and refuses
+/// as too large, where a number, count or length in the module is out of range.
 ///
 /// The fields stand first, here and in all that they are handed to: so a callee has their lifetimes at the places at which its
 /// caller has them, and the prover does not compare the whole tree.
-pub(crate) fn measure(fields: &[ModuleField], name: Option<&str>) -> Result<Measures, Refusal>
-    requires { IsTrue (is_encodable fields.now) }
+pub(crate) fn measure(
+    fields: &[ModuleField],
+    name: Option<&str>,
+    has_data_index: bool,
+) -> Result<Measures, Refusal>
+    requires encodable { IsTrue (is_encodable fields.now) }
+    requires data { IsTrue (may_be_counted fields.now has_data_index) }
     ensures ok { IfOk result (λ m. IsTrue (are_measures (text_seen name.entry) fields.now m)) }
     ensures err { IfErr result (λ e. (e ≡ refusal.TooLarge) × (InRangeModule (text_seen name.entry) fields.now → ⊥)) }
 {
@@ -84,7 +89,7 @@ pub(crate) fn measure(fields: &[ModuleField], name: Option<&str>) -> Result<Meas
         elements: extent_of(SectionKind::Elements, fields, &reaches)?,
         code: extent_of(SectionKind::Code, fields, &reaches)?,
         data: extent_of(SectionKind::Data, fields, &reaches)?,
-        is_counted: is_counted(fields, &reaches),
+        is_counted: is_counted(fields, &reaches, has_data_index),
         hints: hints_extent(fields, &reaches)?,
         names: given_extent(fields, name, &reaches)?,
     })

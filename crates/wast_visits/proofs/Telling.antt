@@ -1,5 +1,7 @@
 -- What a visitor has made out of all that it was told.
-use Rattle.std.proofs.Common.{◌≡◌, ℕ, Option, Some, None, List, [], ◌∷◌, ◌++◌, flat_map, refl, sym, ap, ◌∙◌, arith}
+use Rattle.std.proofs.Common.{◌≡◌, ℕ, Bool, true, false, ◌||◌, Option, Some, None, List, [], ◌∷◌, ◌++◌, flat_map, refl, sym, ap, ◌∙◌, arith}
+use Rattle.std.specs.List.{list_any}
+use Rattle.std.proofs.Math.Bool.{or-false}
 use Rattle.std.specs.Prelude.{map, max}
 use Rattle.wast_nodes.specs.Generations.{greatest}
 use Rattle.wast_nodes.specs.Uncovered.{first_of}
@@ -30,3 +32,32 @@ first_each of g a b (x ∷ xs) h =
 -- the first of what was told
 pub first_told : {V A F : Type 0} (of : V → Option F) (g : A → List F) {a b : V} {xs : List A} → Visits (λ old x new. of new ≡ first_of (of old) (g x)) a xs b → of b ≡ first_of (of a) (flat_map g xs)
 first_told of g {a} {b} {xs} h = first_each of g a b xs h.tells
+
+any_behind : (a b c : Bool) → ((a || b) || c) ≡ (a || (b || c))
+any_behind true b c = refl
+any_behind false b c = refl
+
+any_each : {V A : Type 0} (of : V → Bool) (p : A → Bool) (a b : V) (xs : List A) → Tells (λ old x new. of new ≡ (of old || p x)) a xs b → of b ≡ (of a || list_any p xs)
+any_each of p a b [] h = ap of h ∙ sym (or-false (of a))
+any_each of p a b (x ∷ xs) h =
+    any_each of p h.0 b xs h.1.1 ∙ (ap (λ o. o || list_any p xs) h.1.0 ∙ any_behind (of a) (p x) (list_any p xs))
+
+-- whether any of what was told passes a test
+pub any_told : {V A : Type 0} (of : V → Bool) (p : A → Bool) {a b : V} {xs : List A} → Visits (λ old x new. of new ≡ (of old || p x)) a xs b → of b ≡ (of a || list_any p xs)
+any_told of p {a} {b} {xs} h = any_each of p a b xs h.tells
+
+-- of two things that are told, each alone
+module _ {V A : Type 0} (one other : V → A → V → Type 0) where
+  first_of_each : (a b : V) (xs : List A) → Tells (λ old x new. one old x new × other old x new) a xs b → Tells one a xs b
+  first_of_each a b [] h = h
+  first_of_each a b (x ∷ xs) h = (h.0, (h.1.0.0, first_of_each h.0 b xs h.1.1))
+
+  second_of_each : (a b : V) (xs : List A) → Tells (λ old x new. one old x new × other old x new) a xs b → Tells other a xs b
+  second_of_each a b [] h = h
+  second_of_each a b (x ∷ xs) h = (h.0, (h.1.0.1, second_of_each h.0 b xs h.1.1))
+
+  pub told_first : {a b : V} {xs : List A} → Visits (λ old x new. one old x new × other old x new) a xs b → Visits one a xs b
+  told_first {a} {b} {xs} h = record { tells = first_of_each a b xs h.tells }
+
+  pub told_second : {a b : V} {xs : List A} → Visits (λ old x new. one old x new × other old x new) a xs b → Visits other a xs b
+  told_second {a} {b} {xs} h = record { tells = second_of_each a b xs h.tells }

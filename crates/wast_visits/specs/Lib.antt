@@ -3,5 +3,6 @@
 pub mod FirstUncovered
 pub mod IllFormed
 pub mod Private
+pub mod Surveys
 pub mod Tree
 pub mod Visits

@@ -1,22 +1,38 @@
-//! Which forms no encoder covers.
+//! What is asked of fields before they are encoded: which forms no encoder covers, and whether an index of a data segment
+//! stands there.
 
-ghost use Rattle.std.specs.Prelude.{◌≡◌};
+ghost use Rattle.std.specs.Prelude.{◌≡◌, ◌||◌};
+ghost use Rattle.std.specs.List.{list_any};
+ghost use Rattle.wast_nodes.specs.Sites.{in_module, asked};
 ghost use Rattle.wast_nodes.specs.Uncovered.{uncovered_in, uncovered_forms, first, first_of};
+ghost use Rattle.wast_visits.specs.Surveys.{is_of_data};
 
 use crate::visits::{Visitor, visit_fields};
 use wast_base::{Form, Id, Index, Space};
 use wast_nodes::ModuleField;
 
-/// The first form that it was told of and that no encoder covers.
-#[derive(Drop)]
-struct Finder {
-    form: Option<Form>,
+/// What is seen of fields before they are encoded.
+#[derive(Clone, Copy, Debug, PartialEq, Eq)]
+pub struct Surveyed {
+    /// The first form that no encoder covers, where one stands there.
+    pub uncovered: Option<Form>,
+    /// Whether an index of a data segment stands there.
+    pub has_data_index: bool,
 }
 
-impl Visitor for Finder {
-    ghost told = { λ old a new. new.form ≡ first_of old.form (uncovered_in a) };
+/// What it was told of.
+#[derive(Drop)]
+struct Surveyor {
+    uncovered: Option<Form>,
+    has_data_index: bool,
+}
 
-    fn index(&mut self, _space: Space, _index: &Index<'_>) {}
+impl Visitor for Surveyor {
+    ghost told = { λ old a new. (new.uncovered ≡ first_of old.uncovered (uncovered_in a)) × (new.has_data_index ≡ (old.has_data_index || is_of_data a)) };
+
+    fn index(&mut self, space: Space, _index: &Index<'_>) {
+        self.has_data_index = self.has_data_index || space.is(Space::Data);
+    }
 
     fn within(&mut self, _index: &Index<'_>) {}
 
@@ -25,9 +41,27 @@ impl Visitor for Finder {
     fn clause(&mut self, _number: u8, _holds: bool) {}
 
     fn covered(&mut self, form: Form, holds: bool) {
-        if self.form.is_none() && !holds {
-            self.form = Some(form);
+        if self.uncovered.is_none() && !holds {
+            self.uncovered = Some(form);
         }
+    }
+}
+
+/// What is seen of fields before they are encoded, in one walk: the first form that no encoder covers, as [`uncovered`] tells
+/// it, and whether an index of a data segment stands there, without which no body needs a data count (binary format, data
+/// count section). It takes no memory.
+pub fn survey(fields: &[ModuleField<'_>]) -> Surveyed
+    ensures uncovered { result.uncovered ≡ first (uncovered_forms fields.now) }
+    ensures data { result.has_data_index ≡ list_any is_of_data (asked (in_module fields.now)) }
+{
+    let mut surveyor = Surveyor {
+        uncovered: None,
+        has_data_index: false,
+    };
+    visit_fields(fields, &mut surveyor);
+    Surveyed {
+        uncovered: surveyor.uncovered,
+        has_data_index: surveyor.has_data_index,
     }
 }
 
@@ -41,7 +75,5 @@ impl Visitor for Finder {
 pub fn uncovered(fields: &[ModuleField<'_>]) -> Option<Form>
     ensures { result ≡ first (uncovered_forms fields.now) }
 {
-    let mut finder = Finder { form: None };
-    visit_fields(fields, &mut finder);
-    finder.form
+    survey(fields).uncovered
 }

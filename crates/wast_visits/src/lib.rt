@@ -21,7 +21,7 @@ mod visits;
 
 pub use check::{ill_formed, well_formed};
 pub use first_failing::{IllFormed, first_ill_formed};
-pub use forms::uncovered;
+pub use forms::{Surveyed, survey, uncovered};
 pub use generations::gensym_bound;
 pub use uncovered_places::{Uncovered, first_uncovered};
 pub use visits::{ItemVisitor, Visitor, visit_fields, visit_items};

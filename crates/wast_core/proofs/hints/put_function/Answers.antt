@@ -1,4 +1,4 @@
-use Rattle.std.proofs.Common.{[], true, refl, inr, arith, sym, ◌∙◌, Ok, Err}
+use Rattle.std.proofs.Common.{[], refl, inr, arith, sym, ◌∙◌, Ok, Err}
 use Rattle.std.proofs.lemmas.List.Elements.{All-nil, All-head}
 use Rattle.std.proofs.lemmas.Result.{err_from_is_err_and}
 use Rattle.wasm_ops.specs.Spelling.{InRangeU32}
