@@ -142,7 +142,8 @@ pub fn encode(text: &str) -> Result<Vec<u8>, Fault> {
                 return Ok(bytes);
             }
             archive::SHORT => room = size,
-            _ => return Err(fault(text)),
+            archive::FAULT => return Err(fault(text)),
+            _ => return Err(Fault::out_of_memory()),
         }
     }
 }
@@ -158,7 +159,8 @@ pub fn resolve(text: &str, space: Space, name: &str) -> Result<Option<u32>, Faul
     match status {
         archive::DONE => Ok(Some(number)),
         archive::UNKNOWN => Ok(None),
-        _ => Err(fault(text)),
+        archive::FAULT => Err(fault(text)),
+        _ => Err(Fault::out_of_memory()),
     }
 }
 

@@ -1,9 +1,12 @@
 -- What the calls of C answer.
-use Rattle.std.specs.Prelude.{◌≡◌, ℕ, ◌<◌, ◌≤◌, ◌⊎◌, List, length, drop, ◌++◌}
+use Rattle.std.specs.Prelude.{◌≡◌, ℕ, ◌==◌, ◌<◌, ◌≤◌, if◌then◌else◌, List, length, drop, ◌++◌, Option, Some, None}
+use Rattle.std.specs.Option.{unwrap_or}
+use Rattle.wast_base.specs.declared.ids.Span.{Span}
 use Rattle.wast_base.specs.declared.spaces.Space.{Space}
 use Rattle.wast_base.specs.Spaces.{rank_of}
 use Rattle.wast_base.specs.Lines.{line_of, column_of}
-use Rattle.wat_bytes.specs.Texts.{AreBytes, IsNumber}
+use Rattle.wat_bytes.specs.Texts.{AreBytes, IsWhy, IsNumber, number_of, place_of}
+use Rattle.wat_bytes.specs.declared.encodes.Refused.{Refused}
 use Rattle.rigyomad_c.specs.declared.statuses.Status.{Status}
 use Rattle.rigyomad_c.specs.declared.statuses.Status.TheVariants as status
 use Rattle.rigyomad_c.specs.declared.diagnosis.Diagnosis.{Diagnosis}
@@ -23,15 +26,21 @@ pub record Answers (is_answered : Status → Type 0) (number : ℕ) : Type 0 whe
   pub numbered : number ≡ code_of status
   pub answered : is_answered status
 
--- a status that tells why a text has no bytes
-abbrev pub IsFault : Status → Type 0
-IsFault s = (s ≡ status.Fault) ⊎ (s ≡ status.Memory)
+-- the status of why a text has no bytes, by its number: that of memory for E12
+abbrev pub status_of : Option ℕ → Status
+status_of None = status.Fault
+status_of (Some n) = if n == 12 then status.Memory else status.Fault
 
 -- Bytes of this size that a well formed module gives.
 pub record HasBytes (size : ℕ) : Type 0 where
   pub bytes : List ℕ
   pub given : AreBytes bytes
   pub counted : size ≡ length bytes
+
+-- bytes of some size
+pub record HasSomeBytes : Type 0 where
+  pub size : ℕ
+  pub has : HasBytes size
 
 -- they stand at the front of a slice, and what is behind them stays
 pub record StandsIn (size : ℕ) (old new : List ℕ) : Type 0 where
@@ -63,7 +72,28 @@ Denotes rank name old new status.Utf8 = new ≡ old
 Denotes rank name old new status.Memory = new ≡ old
 Denotes rank name old new status.Unknown = new ≡ old
 
--- a place with its line and column; or none, with line 0
-abbrev pub IsPlaced : List ℕ → Diagnosis → Type 0
-IsPlaced text d =
-    (d.line ≡ 0) ⊎ ((d.line ≡ line_of text (record { offset = d.offset })) × (d.column ≡ column_of text (record { offset = d.offset })))
+-- a place of a text, with its line and column; where there is none, all are 0
+abbrev pub IsPlaced : List ℕ → Option Span → Diagnosis → Type 0
+IsPlaced text None d = (d.offset ≡ 0) × (d.line ≡ 0) × (d.column ≡ 0)
+IsPlaced text (Some place) d = (d.offset ≡ place.offset) × (d.line ≡ line_of text place) × (d.column ≡ column_of text place)
+
+-- why a text has no bytes, as it is told: with its status, its number, 0 where it has none, and its place
+pub record IsTold (text : List ℕ) (d : Diagnosis) (status : Status) : Type 0 where
+  pub refused : Refused
+  pub why : IsWhy refused
+  pub answered : status ≡ status_of (number_of refused)
+  pub numbered : d.number ≡ unwrap_or (number_of refused) 0
+  pub placed : IsPlaced text (place_of refused) d
+
+-- nothing is wrong
+abbrev pub nothing_wrong : Diagnosis
+nothing_wrong = record { number = 0; offset = 0; line = 0; column = 0; size = 0 }
+
+-- Telling why a text has no bytes.
+abbrev pub Diagnoses : List ℕ → Diagnosis → Status → Type 0
+Diagnoses text d status.Done = (d ≡ nothing_wrong) × HasSomeBytes
+Diagnoses text d status.Short = ⊥
+Diagnoses text d status.Fault = IsTold text d status.Fault
+Diagnoses text d status.Utf8 = (d.number ≡ 0) × (d.line ≡ 0) × (d.column ≡ 0)
+Diagnoses text d status.Memory = IsTold text d status.Memory
+Diagnoses text d status.Unknown = ⊥

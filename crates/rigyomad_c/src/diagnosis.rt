@@ -1,7 +1,9 @@
 //! Where a text has a fault, and which.
 
 ghost use Rattle.std.specs.Prelude.{◌≡◌};
-ghost use Rattle.rigyomad_c.specs.Answers.{IsPlaced};
+ghost use Rattle.std.specs.Option.{unwrap_or};
+ghost use Rattle.rigyomad_c.specs.Answers.{IsPlaced, nothing_wrong};
+ghost use Rattle.wat_bytes.specs.Texts.{number_of, place_of};
 
 use crate::messages::Message;
 use std::fmt::Write;
@@ -28,7 +30,7 @@ pub struct Diagnosis {
 impl Diagnosis {
     /// Nothing is wrong.
     pub(crate) fn none() -> Diagnosis
-        ensures { result.line ≡ 0 }
+        ensures { result ≡ nothing_wrong }
     {
         Diagnosis {
             number: 0,
@@ -41,7 +43,8 @@ impl Diagnosis {
 
     /// A fault at a place of a text, where it has one, and the size of its message.
     fn new(number: u32, text: &str, place: Option<Span>, size: usize) -> Diagnosis
-        ensures { IsPlaced text.now result }
+        ensures numbered { result.number ≡ number }
+        ensures placed { IsPlaced text.now place result }
     {
         let mut diagnosis = Diagnosis::none();
         diagnosis.number = number;
@@ -57,7 +60,8 @@ impl Diagnosis {
 
     /// Why a text has no bytes; the message is put into a slice.
     pub(crate) fn of(text: &str, refused: &Refused<'_>, out: &mut [u8]) -> Diagnosis
-        ensures { IsPlaced text.now result }
+        ensures numbered { result.number ≡ unwrap_or (number_of refused.now) 0 }
+        ensures placed { IsPlaced text.now (place_of refused.now) result }
     {
         let mut message = Message::new(out);
         let _written = write!(message, "{refused}");
@@ -67,7 +71,8 @@ impl Diagnosis {
 
     /// Bytes are no UTF-8; the message is put into a slice. The place has no line.
     pub(crate) fn of_bytes(error: Utf8Error, out: &mut [u8]) -> Diagnosis
-        ensures { result.line ≡ 0 }
+        ensures numbered { result.number ≡ 0 }
+        ensures placed { (result.line ≡ 0) × (result.column ≡ 0) }
     {
         let mut message = Message::new(out);
         let _written = write!(message, "malformed UTF-8 encoding");

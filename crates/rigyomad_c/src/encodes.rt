@@ -1,7 +1,7 @@
 //! Texts become bytes.
 
 ghost use Rattle.std.specs.Prelude.{◌≡◌, ◌<◌, ◌≤◌, ◌++◌, length, drop, IsTrue, IsFalse};
-ghost use Rattle.rigyomad_c.specs.Answers.{Encodes, IsPlaced};
+ghost use Rattle.rigyomad_c.specs.Answers.{Encodes, Diagnoses, nothing_wrong};
 
 use crate::diagnosis::Diagnosis;
 use crate::statuses::Status;
@@ -54,8 +54,8 @@ pub(crate) fn encode_into(alloc: Global, text: &[u8], out: &mut [u8], size: &mut
 
 /// Why the module of a text has no bytes.
 fn diagnose_text(alloc: Global, text: &str, out: &mut [u8], diagnosis: &mut Diagnosis) -> Status
-    requires { diagnosis.old.line ≡ 0 }
-    ensures { IsPlaced text.now diagnosis.new }
+    requires { diagnosis.old ≡ nothing_wrong }
+    ensures { Diagnoses text.now diagnosis.new result }
 {
     let strings = Strings::new(alloc);
     match encode_text(alloc, text, &strings) {
@@ -74,7 +74,7 @@ pub(crate) fn diagnose(
     message: &mut [u8],
     diagnosis: &mut Diagnosis,
 ) -> Status
-    ensures { IsPlaced text.now diagnosis.new }
+    ensures { Diagnoses text.now diagnosis.new result }
 {
     *diagnosis = Diagnosis::none();
     match str::from_utf8(text) {

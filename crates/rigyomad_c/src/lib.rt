@@ -6,7 +6,7 @@
 #![tactic(auto)]
 
 ghost use Rattle.std.specs.Prelude.{◌≡◌};
-ghost use Rattle.rigyomad_c.specs.Answers.{Answers, Encodes, Denotes, IsPlaced};
+ghost use Rattle.rigyomad_c.specs.Answers.{Answers, Encodes, Diagnoses, Denotes};
 
 mod diagnosis;
 mod encodes;
@@ -53,7 +53,7 @@ pub extern "C" fn rigyomad_c_fault(
     message: &mut [u8],
     diagnosis: &mut Diagnosis,
 ) -> u32
-    ensures { IsPlaced text.now diagnosis.new }
+    ensures { Answers (Diagnoses text.now diagnosis.new) result }
 {
     diagnose(alloc, text, message, diagnosis).code()
 }

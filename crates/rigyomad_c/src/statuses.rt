@@ -1,7 +1,8 @@
 //! What a call answers.
 
 ghost use Rattle.std.specs.Prelude.{◌≡◌};
-ghost use Rattle.rigyomad_c.specs.Answers.{IsFault, code_of};
+ghost use Rattle.rigyomad_c.specs.Answers.{status_of, code_of};
+ghost use Rattle.wat_bytes.specs.Texts.{number_of};
 
 use wat_bytes::Refused;
 
@@ -28,7 +29,7 @@ pub(crate) enum Status {
 impl Status {
     /// The status of a text that has no bytes.
     pub(crate) fn of(refused: &Refused<'_>) -> Status
-        ensures { IsFault result }
+        ensures { result ≡ status_of (number_of refused.now) }
     {
         match refused.number() {
             Some(OUT_OF_MEMORY) => Status::Memory,

@@ -1,25 +1,23 @@
 -- What a module of fields that is ready answers is an answer of a text.
-use Rattle.std.proofs.Common.{◌≡◌, ◌∙◌, ℕ, List, Option, Some, None, Result, Ok, Err, refl, sym, ap, subst, inl, inr, IsTrue, IfSome}
+use Rattle.std.proofs.Common.{◌≡◌, ◌∙◌, ℕ, List, [], Option, Some, None, Result, Ok, Err, refl, sym, ap, subst, inl, inr, IsTrue, IfSome}
 use Rattle.std.specs.Global.{Vec}
 use Rattle.wast_base.specs.declared.faults.Error.{Error}
 use Rattle.wast_base.specs.declared.faults.Fault.TheVariants as fault
 use Rattle.wast_base.specs.declared.faults.Form.{Form}
-use Rattle.wast_base.specs.Faults.{refused}
+use Rattle.wast_base.specs.Faults.{refused, out_of_memory}
 use Rattle.wast_base.specs.Ids.{Written}
 use Rattle.wast_nodes.specs.Tree.{Space}
-use Rattle.wast_demands.specs.Finished.{finished}
 use Rattle.wast_passes.specs.Resolvers.{KnownNames, known_to}
 use Rattle.wast_core.specs.Tree.{ModuleField}
-use Rattle.wast_core.specs.Uncovered.{first, uncovered_forms}
 use Rattle.wast_core.specs.Bounded.{IsBounded}
-use Rattle.wast_core.specs.Modules.{is_well_formed, is_well_formed_kind, IsReady}
+use Rattle.wast_core.specs.Modules.{is_well_formed_kind, IsReady}
 use Rattle.wast_core.specs.declared.module.Module.{Module}
 use Rattle.wast_core.specs.declared.module.ModuleKind.{ModuleKind}
 use Rattle.wast_core.specs.declared.module.ModuleKind.TheVariants as kind
 use Rattle.wast_core.specs.Headline.{ResolvesKind, EncodesKind, IsUnencoded, IsUnwritten, name_of_module}
 use Rattle.wat_bytes.specs.declared.encodes.Refused.{Refused}
 use Rattle.wat_bytes.specs.declared.encodes.Refused.TheVariants as answer
-use Rattle.wat_bytes.specs.Texts.{AreBytes, IsNoBytes, IsWhy, IsNoNames, IsWhyUnresolved, AreNames, IsNumber, fields_of, first_form, Tells}
+use Rattle.wat_bytes.specs.Texts.{AreBytes, IsNoBytes, IsWhy, IsNoNames, AreNames, IsNumber, fields_of, first_form, Tells}
 
 none_found : {A : Type 0} {x : A} {B : Type 0} → None ≡ Some x → B
 none_found h = absurd cc
@@ -69,3 +67,7 @@ pub number_in : (names : KnownNames) (space : Space) (name : List ℕ) (found : 
 number_in names space name None are h = tt
 number_in names space name (Some n) are h =
     record { fields = are.fields; well_formed = are.well_formed; met = are.met; denotes = sym (ap (λ k. k.number space (Written name)) are.known) ∙ h }
+
+-- where memory is refused, the names of any module do not resolve
+pub no_memory : (e : Error) → e ≡ out_of_memory → IsNoNames e
+no_memory e is = subst IsNoNames (sym is) (record { fields = []; well_formed = refl; unresolved = tt })

@@ -3,8 +3,11 @@ use Rattle.std.specs.Prelude.{◌≡◌, ℕ, List, [], Option, Some, None, ⊤,
 use Rattle.wast_base.specs.declared.faults.Error.{Error}
 use Rattle.wast_base.specs.declared.faults.Fault.TheVariants as fault
 use Rattle.wast_base.specs.declared.faults.Form.{Form}
-use Rattle.wast_base.specs.Faults.{refused}
-use Rattle.wast_base.specs.Ids.{Name, Written}
+use Rattle.wast_base.specs.Faults.{refused, fault_of, fault_number, span_of}
+use Rattle.wast_base.specs.declared.ids.Span.{Span}
+use Rattle.wast_base.specs.Ids.{Written}
+use Rattle.wat_tokens.specs.declared.faults.TextFault.{TextFault}
+use Rattle.wat_tokens.specs.declared.faults.TextFault.TheVariants as text
 use Rattle.wast_nodes.specs.Tree.{Space}
 use Rattle.wast_nodes.specs.Known.{known}
 use Rattle.wast_nodes.specs.Items.{items}
@@ -45,6 +48,23 @@ abbrev pub IsWhy : Refused → Type 0
 IsWhy (answer.Text e) = ⊤
 IsWhy (answer.Module e) = IsNoBytes e
 IsWhy (answer.Uncovered u) = IsNoBytes (refused (fault.Uncovered u.form))
+
+-- the number of a fault of a text: that of memory, where it was refused, and else none
+abbrev pub number_of_text : TextFault → Option ℕ
+number_of_text text.Memory = Some 12
+number_of_text f = None
+
+-- the number of why a text has no bytes
+abbrev pub number_of : Refused → Option ℕ
+number_of (answer.Text e) = number_of_text e.fault
+number_of (answer.Module e) = Some (fault_number (fault_of e))
+number_of (answer.Uncovered u) = Some 11
+
+-- its place, where it has one
+abbrev pub place_of : Refused → Option Span
+place_of (answer.Text e) = Some e.span
+place_of (answer.Module e) = span_of e
+place_of (answer.Uncovered u) = Some u.span
 
 -- why the names of a well formed module do not resolve
 pub record IsNoNames (e : Error) : Type 0 where

@@ -1,10 +1,9 @@
 //! A text is read and encoded.
 
-ghost use Rattle.std.specs.Prelude.{◌≡◌, ⊤, None, IfOk, IfErr, option_map};
+ghost use Rattle.std.specs.Prelude.{◌≡◌, IfOk, IfErr, option_map};
 ghost use Rattle.wast_core.specs.Modules.{IsReady};
-ghost use Rattle.wast_core.specs.Headline.{Encodes};
 ghost use Rattle.wast_core.specs.declared.module.ModuleKind.TheVariants as kind;
-ghost use Rattle.wat_bytes.specs.Texts.{AreBytes, IsNoBytes, IsWhy, Tells, fields_of, first_form};
+ghost use Rattle.wat_bytes.specs.Texts.{AreBytes, IsWhy, Tells, fields_of, first_form, number_of, place_of};
 
 use std::alloc::Global;
 use std::fmt;
@@ -30,8 +29,11 @@ const UNCOVERED: u32 = 11;
 const MEMORY: u32 = 12;
 
 impl Refused<'_> {
-    /// The number of the fault, 1 for E1 and so on to 13; `None` where the text is no well formed module. It takes no memory.
-    pub fn number(&self) -> Option<u32> {
+    /// The number of the fault, 1 for E1 and so on to 13; `None` where the text is no well formed module. Where memory was
+    /// refused it is that of E12, also before the text was read. It takes no memory.
+    pub fn number(&self) -> Option<u32>
+        ensures { result ≡ number_of self.now }
+    {
         match self {
             Refused::Text(error) => match error.fault {
                 TextFault::Memory => Some(MEMORY),
@@ -43,7 +45,9 @@ impl Refused<'_> {
     }
 
     /// The place in the text, where there is one. It takes no memory.
-    pub fn span(&self) -> Option<Span> {
+    pub fn span(&self) -> Option<Span>
+        ensures { result ≡ place_of self.now }
+    {
         match self {
             Refused::Text(error) => Some(error.span),
             Refused::Module(error) => error.span(),

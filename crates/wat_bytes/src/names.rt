@@ -114,7 +114,9 @@ pub fn names_of_text<'a>(
     alloc: Global,
     text: &'a str,
     strings: &'a Strings,
-) -> Result<Vec<Denoted<'a>>, Refused<'a>> {
+) -> Result<Vec<Denoted<'a>>, Refused<'a>>
+    ensures { IfErr result IsWhyUnresolved }
+{
     let names = read_names(alloc, text, strings)?;
     let answer = all_written(alloc, &names);
     discard_names(names);

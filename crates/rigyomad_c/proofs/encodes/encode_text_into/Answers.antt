@@ -1,4 +1,5 @@
 use Rattle.std.proofs.Common.{◌≡◌, ◌∙◌, ◌≤◌, ◌++◌, length, drop, refl, ap, subst, sym}
+use Rattle.wat_bytes.specs.Texts.{number_of}
 use Rattle.rigyomad_c.specs.Answers.{Encodes}
 use Rattle.rigyomad_c.proofs.Faults.{nothing_put}
 use Rattle.rigyomad_c.proofs.encodes.encode_text_into.Goals as goal
@@ -16,4 +17,7 @@ returns-in-true c =
     }
 
 pub returns : goal.returns
-returns c = subst (λ n. Encodes n c.args.out.now c.args.out.now c.of.result) (sym c.requires) (nothing_put c.args.out.now c.of.result c.of.ensures)
+returns c =
+    let out = c.args.out.now in
+    let number = number_of c.in-Err.refused in
+    subst (λ n. Encodes n out out c.of.result) (sym c.requires) (subst (Encodes 0 out out) (sym c.of.ensures) (nothing_put out number))
