@@ -21,15 +21,15 @@ TOLD = r"""
 (module (func block $a br_table $a ^$x $y end))	fault at ^: unknown label: failed to find name `$x`
 (module (func block $a br_table $a $a ^$z end))	fault at ^: unknown label: failed to find name `$z`
 (module (func block $a block br_table $a 0 $a end end))	0061736d01000000010401600000030201000a0f010d00024002400e020100010b0b0b000d046e616d650306010001000161
-(module (func delegate 0))	0061736d01000000010401600000030201000a0601040018000b
+(module (func ^delegate 0))	not read at ^: unexpected `delegate`
 (module (func block $m block end ^$m end))	fault at ^: mismatching labels between end and block
 (module (func if $l else ^$m end))	fault at ^: mismatching labels between end and block
 (module (func block $l end $l block end ^$l))	fault at ^: mismatching labels between end and block
-(module (func end $m))	0061736d01000000010401600000030201000a050103000b0b
-(module (func block $l end end $m))	0061736d01000000010401600000030201000a0801060002400b0b0b000d046e616d65030601000100016c
+(module (func ^end $m))	not read at ^: unexpected `end`
+(module (func block $l end ^end $m))	not read at ^: unexpected `end`
 (module (func if $l else $l end $l))	0061736d01000000010401600000030201000a080106000440050b0b000d046e616d65030601000100016c
-(module (func else $m))	0061736d01000000010401600000030201000a05010300050b
-(module (func block else end))	0061736d01000000010401600000030201000a080106000240050b0b
+(module (func ^else $m))	not read at ^: unexpected `else`
+(module (func block ^else end))	not read at ^: unexpected `else`
 (module (global i32 i32.const 0 end))	ill formed: 5
 (module (global i32 end block i32.const 0))	ill formed: 5
 (module (global i32 local.get ^$x))	fault at ^: unknown local: failed to find name `$x`
@@ -189,7 +189,9 @@ def table():
     rows.sort(key=lambda row: row[0].split(".")[0])
     for _, group in itertools.groupby(rows, key=lambda row: row[0].split(".")[0]):
         group = list(group)
-        yield " ".join(text for text, _ in group), b"".join(code for _, code in group).hex()
+        # `catch_all` is a part of a `try`.
+        front, back = (("try ", b"\6\x40"), (" end", b"\x0b")) if ("catch_all", b"\x19") in group else (("", b""), ("", b""))
+        yield front[0] + " ".join(text for text, _ in group) + back[0], (front[1] + b"".join(code for _, code in group) + back[1]).hex()
 
 
 # What stands behind the names of instructions that no encoder covers, by their kinds, and the forms.

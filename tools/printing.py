@@ -20,6 +20,7 @@ REFERENCES = dict(
     Func="funcref", Extern="externref", Exn="exnref", NoExn="nullexnref", Any="anyref", Eq="eqref", Struct="structref", Array="arrayref",
     NoFunc="nullfuncref", NoExtern="nullexternref", None_="nullref", I31="i31ref", Cont="contref", NoCont="nullcontref",
 )
+FUNCREF = ["1", "Abstract", "0", "Func"]
 LANES = {"I8x16": 16, "I16x8": 8, "I32x4": 4, "I64x2": 2, "F32x4": 4, "F64x2": 2}
 FLAGS = {1: "binding-weak", 2: "binding-local", 4: "visibility-hidden", 16: "undefined", 32: "exported", 64: "explicit-name", 128: "no-strip"}
 PLAIN_ID = re.compile(r"[!#-'*+\-./0-9:<=>?@A-Z\\^_`a-z|~]+")
@@ -36,8 +37,39 @@ WITH_ZERO = {"table_get", "table_set", "table_grow", "table_size", "table_fill",
 ATOMIC = {"GlobalAtomic": "global.atomic.", "TableAtomic": "table.atomic.", "ArrayAtomic": "array.atomic.", "StructAtomic": "struct.atomic."}
 
 
+# The blocks that are open after the parts of a block, by the part and by what is open: what a text has to balance.
+PARTS = {
+    "end": {"block": None, "loop": None, "if": None, "try": None, "try_table": None, "arms": None, "catch": None},
+    "else": {"if": "arms"},
+    "catch": {"try": "catch", "catch": "catch"},
+    "catch_all": {"try": "arms", "catch": "arms"},
+    "delegate": {"try": None},
+}
+
+
 class NoText(Exception):
     """The module is none that a text stands for."""
+
+
+class Blocks:
+    """The blocks that are open in an expression. A text closes each of them, because its grammar pairs `block` with `end`."""
+
+    def __init__(self):
+        self.open = []
+
+    def step(self, word):
+        if word in ("block", "loop", "if", "try", "try_table"):
+            self.open.append(word)
+        elif word in PARTS:
+            last = self.open.pop() if self.open else None
+            if last not in PARTS[word]:
+                raise NoText("a part of a block that is not open")
+            if PARTS[word][last]:
+                self.open.append(PARTS[word][last])
+
+    def finish(self):
+        if self.open:
+            raise NoText("a block without an end")
 
 
 def instruction_name(word):
@@ -610,12 +642,15 @@ class Printer:
             if list(hints) != sorted(hints) or any(at >= self.instructions_read for at in hints):
                 raise NoText("hints that are none")
             self.at = start + 1
+        blocks = Blocks()
         for place in range(self.number()):
             if place in hints:
                 self.open("@metadata.code.branch_hint")
                 self.token(f'"\\0{hints[place]}"')
                 self.close()
+            blocks.step(instruction_name(self.words[self.at]))
             self.instruction()
+        blocks.finish()
         if is_hinted:
             self.at = end
 
@@ -663,19 +698,21 @@ class Printer:
         self.many("local", self.number(), self.named_value)
         self.expression()
 
-    def payload(self, ty=None):
-        """Elements, in place where a type of theirs is given, as words."""
+    def payload(self, ty=None, is_first=False):
+        """Elements, inline in a table if its type is given, as words; whether they are for the first table without its number."""
         if self.word() == "Indices":
             if ty is None:
                 self.token("func")
-            elif self.next_is("0") and ty != ["1", "Abstract", "0", "Func"]:
-                raise NoText("no functions in a table of another type")
+            elif ty != FUNCREF:
+                raise NoText("functions in a table of another type")
             self.indices()
             return
         start = self.skipped(self.reference)
+        if is_first and self.words[start : self.at] != FUNCREF:
+            raise NoText("elements of another type without a table")
         if ty is None:
             self.again(start, self.reference)
-        elif self.words[start : self.at] != ty or self.next_is("0") and ty == ["1", "Abstract", "0", "Func"]:
+        elif self.words[start : self.at] != ty or self.next_is("0") and ty == FUNCREF:
             raise NoText("elements in place of a type of their own")
         for _ in range(self.number()):
             self.open("item")
@@ -775,15 +812,17 @@ class Printer:
         self.id()
         self.name()
         kind = self.word()
+        is_first = False
         if kind == "Declared":
             self.token("declare")
         elif kind == "Active":
-            if self.some():
+            is_first = not self.some()
+            if not is_first:
                 self.open("table")
                 self.index()
                 self.close()
             self.offset()
-        self.payload()
+        self.payload(is_first=is_first)
         self.close()
 
     def data(self):
@@ -861,8 +900,24 @@ class Printer:
         else:
             self.token(self.integer(flags))
 
-    def subsection(self):
+    def infos(self, kind):
+        """A subsection of infos: a form for each of them."""
+        count = self.number()
+        if count == 0:
+            raise NoText("a subsection without infos")
+        for at in range(count):
+            if at:
+                self.close()
+                self.open(kind)
+            for _ in range(2 if kind == "import-info" else 1):
+                self.text()
+            self.flags()
+
+    def subsection(self, before):
+        """A subsection after one of a kind; its kind."""
         kind = self.word()
+        if kind == before and kind in ("ExportInfo", "ImportInfo"):
+            raise NoText("infos in neighbouring subsections")
         self.open(re.sub(r"(?<=[a-z])(?=[A-Z])", "-", kind).lower())
         if kind == "MemInfo":
             for word in ("memory", "table"):
@@ -876,12 +931,9 @@ class Printer:
         elif kind == "TargetArch":
             self.text()
         else:
-            if self.number() != 1:
-                raise NoText("a subsection of several infos")
-            for _ in range(2 if kind == "ImportInfo" else 1):
-                self.text()
-            self.flags()
+            self.infos(re.sub(r"(?<=[a-z])(?=[A-Z])", "-", kind).lower())
         self.close()
+        return kind
 
     def producers(self):
         self.open("@producers")
@@ -906,8 +958,9 @@ class Printer:
             return
         if kind == "Dylink0":
             self.open("@dylink.0")
+            kind = None
             for _ in range(self.number()):
-                self.subsection()
+                kind = self.subsection(kind)
             self.close()
             return
         self.open()

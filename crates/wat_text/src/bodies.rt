@@ -527,8 +527,8 @@ impl<'a> Reader<'a> {
             Level::Block | Level::Then | Level::Do | Level::Catch | Level::Last => {
                 self.put(body, Instruction::end_(None));
             }
-            Level::Condition => self.expected("`(then`"),
-            Level::Try => self.expected("`(do`"),
+            Level::Condition => self.expected("`then`"),
+            Level::Try => self.expected("`do`"),
             Level::Delegated | Level::Arm => {}
             Level::Plain | Level::PlainIf | Level::PlainTry | Level::PlainCatch => {
                 self.unclosed(body, open.place);
@@ -597,7 +597,11 @@ impl<'a> Reader<'a> {
                 self.hint(body, place);
             }
             _ if body.takes_plain() => self.plain(body),
-            _ => self.expected("`(` or `)`"),
+            _ => match body.level() {
+                Some(Level::Condition | Level::Try) => self.expected("`(`"),
+                Some(Level::Last | Level::Delegated) => self.expected("`)`"),
+                _ => self.expected("`(` or `)`"),
+            },
         }
     }
 
