@@ -134,8 +134,8 @@ EDGES = r"""
 (module (func v128.const i32x4 1 2 3^))	not read at ^: expected a number
 (module (func i32.load offset=1 ^offset=2))	not read at ^: unknown operator or unexpected token
 (module (func i32.load align=4 ^offset=2))	not read at ^: unknown operator or unexpected token
-(module (func i32.load offset=4294967296 ^align=0))	ill formed: 1 at ^
-(module (memory 1) (func (drop (i32.load ^align=0 (i32.const 0)))))	ill formed: 1 at ^
+(module (func i32.load offset=4294967296 ^align=0))	not read at ^: alignment must be a power of two
+(module (memory 1) (func (drop (i32.load ^align=0 (i32.const 0)))))	not read at ^: alignment must be a power of two
 (module (memory i64 1) (func (drop (i32.load offset=0x1_0000_0000 (i64.const 0)))))	0061736d010000000104016000000302010005030104010a0e010c004200280280808080101a0b
 (module (memory 1) (memory 1) (data "a") (func (memory.init 1 0 (i32.const 0) (i32.const 0) (i32.const 0))))	0061736d0100000001040160000003020100050502000100010c01010a0e010c00410041004100fc0800010b0b0401010161
 (module (table 1 funcref) (table 1 funcref) (func (table.copy 0 1 (i32.const 0) (i32.const 0) (i32.const 0))))	0061736d01000000010401600000030201000407027000017000010a0e010c00410041004100fc0e00010b

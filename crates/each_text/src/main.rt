@@ -10,17 +10,13 @@ use std::alloc::{AllocError, Global};
 use std::io::{self, BufRead, BufReader};
 use std::str;
 use wat_bytes::{Refused, encode_text};
-use wat_text::{Strings, TextFault};
+use wat_text::Strings;
 
 /// Prints why a text has no bytes.
 fn print_refusal(rt: &impl Print, refused: Refused<'_>) -> io::Result<()> {
     if let Refused::Text(error) = refused {
         let offset = error.span.offset;
-        return match error.fault {
-            TextFault::Alignment => println!(rt; "ill formed: 1"),
-            TextFault::IllFormed(clause) => println!(rt; "ill formed: {clause}"),
-            fault => println!(rt; "not read at {offset}: {fault}"),
-        };
+        return println!(rt; "not read at {offset}: {error}");
     }
     match refused.span() {
         Some(span) if !matches!(refused, Refused::Uncovered(_)) => {
