@@ -1,9 +1,10 @@
-//! A test of the reader: prints a line for each line of its input, which is a module in the text format. The line is the bytes
-//! of the module in hexadecimal, or the error and its offset.
+//! A test of the reader: prints a line for each line of its input, which is a module in the text
+//! format. The line is the bytes of the module in hexadecimal, or the error and its offset.
 //!
-//! A text that has line feeds or control characters is stored with escapes. Its line begins with `\`, and after this `\n` is a
-//! line feed, `\r` a carriage return, `\t` a tab, `\\` a backslash, and two hexadecimal digits after a backslash are a byte.
-//! For example `\(module\n)` is a module of two lines.
+//! A text that has line feeds or control characters is stored with escapes, because a line is one
+//! text. Its line begins with `\`. After this `\n` is a line feed, `\r` a carriage return, `\t` a tab,
+//! `\\` a backslash, and a backslash with two hexadecimal digits is a byte. For example `\(module\n)`
+//! is a module of two lines.
 #![tactic(auto)]
 
 use std::alloc::{AllocError, Global};
