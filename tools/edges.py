@@ -17,7 +17,7 @@ EDGES = r"""
 # White space, comments and tokens (text format, lexical format). A form feed is no white space.
 # `(;)` opens a comment, since `(;` is read first. Parentheses, comments and white space end a
 # token, and two tokens may not touch.
-\(module^\0c(func))	not read at ^: unexpected character
+\(^module\0c(func))	not read at ^: expected a blank or a parenthesis
 (module (;) ;) (func))	0061736d01000000010401600000030201000a040102000b
 (module (; (; ;) ;) (func))	0061736d01000000010401600000030201000a040102000b
 (module (func ^(;))	not read at ^: comment without an end
