@@ -30,8 +30,8 @@ TOLD = r"""
 (module (func if $l else $l end $l))	0061736d01000000010401600000030201000a080106000440050b0b000d046e616d65030601000100016c
 (module (func ^else $m))	not read at ^: unexpected `else`
 (module (func block ^else end))	not read at ^: unexpected `else`
-(module (global i32 i32.const 0 end))	ill formed: 5
-(module (global i32 end block i32.const 0))	ill formed: 5
+(module (global i32 i32.const 0 ^end))	not read at ^: a constant expression closes other blocks than it opens
+(module (global i32 ^end block i32.const 0))	not read at ^: a constant expression closes other blocks than it opens
 (module (global i32 local.get ^$x))	fault at ^: unknown local: failed to find name `$x`
 (module (type $t (func (param $p i32))) (func (type $t) local.get ^$p))	fault at ^: unknown local: failed to find name `$p`
 (module (type (struct)) (func block (type ^0) (result i32) end))	fault at ^: invalid type: not a function type
@@ -43,8 +43,8 @@ TOLD = r"""
 (module (func block (type 5) end))	0061736d01000000010401600000030201000a0701050002050b0b
 (module (type (func)) (func block (type 0) end))	0061736d01000000010401600000030201000a0701050002000b0b
 (module (func block (result i32) end))	0061736d01000000010401600000030201000a07010500027f0b0b
-(module (func i32.load align=0))	ill formed: 1
-(module (func i32.load align=3))	ill formed: 1
+(module (func i32.load ^align=0))	not read at ^: alignment must be a power of two
+(module (func i32.load ^align=3))	not read at ^: alignment must be a power of two
 (module (func i32.load align=9223372036854775808))	0061736d01000000010401600000030201000a07010500283f000b
 (module (func i32.load offset=18446744073709551615))	0061736d01000000010401600000030201000a10010e002802ffffffffffffffffff010b
 (module (func select))	0061736d01000000010401600000030201000a050103001b0b
@@ -189,9 +189,7 @@ def table():
     rows.sort(key=lambda row: row[0].split(".")[0])
     for _, group in itertools.groupby(rows, key=lambda row: row[0].split(".")[0]):
         group = list(group)
-        # `catch_all` is a part of a `try`.
-        front, back = (("try ", b"\6\x40"), (" end", b"\x0b")) if ("catch_all", b"\x19") in group else (("", b""), ("", b""))
-        yield front[0] + " ".join(text for text, _ in group) + back[0], (front[1] + b"".join(code for _, code in group) + back[1]).hex()
+        yield " ".join(text for text, _ in group), b"".join(code for _, code in group).hex()
 
 
 # What stands behind the names of instructions that no encoder covers, by their kinds, and the forms.
@@ -243,7 +241,7 @@ def lines(body):
     for text, form in uncovered():
         yield f"(module (func {text}))", f"refused: uncovered form: {form}"
     for align in (0, 3, 5, 6, 7, (1 << 64) - 1):
-        yield f"(module (func i32.atomic.load align={align}))", "ill formed: 1"
+        yield f"(module (func i32.atomic.load align={align}))", "not read at 30: alignment must be a power of two"
     many = "(module (type (func (param" + " i32" * 300 + "))) (func (type 0) (local $l i32) local.get "
     yield many + "$x))", f"fault at {len(many)}: unknown local: failed to find name `$x`"
     tail = "030201000a09010701017f20ac020b000e046e616d650207010001ac02016c"

@@ -20,7 +20,6 @@ REFERENCES = dict(
     Func="funcref", Extern="externref", Exn="exnref", NoExn="nullexnref", Any="anyref", Eq="eqref", Struct="structref", Array="arrayref",
     NoFunc="nullfuncref", NoExtern="nullexternref", None_="nullref", I31="i31ref", Cont="contref", NoCont="nullcontref",
 )
-FUNCREF = ["1", "Abstract", "0", "Func"]
 LANES = {"I8x16": 16, "I16x8": 8, "I32x4": 4, "I64x2": 2, "F32x4": 4, "F64x2": 2}
 FLAGS = {1: "binding-weak", 2: "binding-local", 4: "visibility-hidden", 16: "undefined", 32: "exported", 64: "explicit-name", 128: "no-strip"}
 PLAIN_ID = re.compile(r"[!#-'*+\-./0-9:<=>?@A-Z\\^_`a-z|~]+")
@@ -37,39 +36,31 @@ WITH_ZERO = {"table_get", "table_set", "table_grow", "table_size", "table_fill",
 ATOMIC = {"GlobalAtomic": "global.atomic.", "TableAtomic": "table.atomic.", "ArrayAtomic": "array.atomic.", "StructAtomic": "struct.atomic."}
 
 
-# The blocks that are open after the parts of a block, by the part and by what is open: what a text has to balance.
-PARTS = {
-    "end": {"block": None, "loop": None, "if": None, "try": None, "try_table": None, "arms": None, "catch": None},
-    "else": {"if": "arms"},
-    "catch": {"try": "catch", "catch": "catch"},
-    "catch_all": {"try": "arms", "catch": "arms"},
-    "delegate": {"try": None},
-}
-
-
 class NoText(Exception):
     """The module is none that a text stands for."""
 
 
-class Blocks:
-    """The blocks that are open in an expression. A text closes each of them, because its grammar pairs `block` with `end`."""
+# What an instruction makes of the block that was opened last, by the kind of this block: another kind, or None if it ends the block.
+PARTS = {
+    "end_": {"block": None, "if": None, "try": None, "catch": None},
+    "else_": {"if": "block"},
+    "catch": {"try": "catch", "catch": "catch"},
+    "catch_all": {"try": "block", "catch": "block"},
+    "delegate": {"try": None},
+}
+OPENERS = {"block": "block", "loop_": "block", "try_table": "block", "if_": "if", "try_": "try"}
 
-    def __init__(self):
-        self.open = []
 
-    def step(self, word):
-        if word in ("block", "loop", "if", "try", "try_table"):
-            self.open.append(word)
-        elif word in PARTS:
-            last = self.open.pop() if self.open else None
-            if last not in PARTS[word]:
-                raise NoText("a part of a block that is not open")
-            if PARTS[word][last]:
-                self.open.append(PARTS[word][last])
-
-    def finish(self):
-        if self.open:
-            raise NoText("a block without an end")
+def follow_block(blocks, word):
+    """Changes the list of open blocks by an instruction (text format, control instructions)."""
+    if word in OPENERS:
+        blocks.append(OPENERS[word])
+    elif word in PARTS:
+        last = blocks.pop() if blocks else ""
+        if last not in PARTS[word]:
+            raise NoText("a part of a block that is not open")
+        if PARTS[word][last]:
+            blocks.append(PARTS[word][last])
 
 
 def instruction_name(word):
@@ -108,6 +99,11 @@ def float_text(bits, width):
     return f"{sign}0x{fraction | 1 << fraction_bits:x}p{exponent - bias - fraction_bits}"
 
 
+def subsection_word(kind):
+    """The word of a subsection of `dylink.0` in the text format."""
+    return re.sub(r"(?<=[a-z])(?=[A-Z])", "-", kind).lower()
+
+
 class Printer:
     """The words of a module, how far they are read, and the text that is written."""
 
@@ -115,6 +111,7 @@ class Printer:
         self.words, self.at = line.split(), 0
         self.choose = random.Random(line)
         self.out, self.length, self.places = [], 0, []
+        self.misaligned = None
 
     def finish(self):
         self.module()
@@ -501,7 +498,10 @@ class Printer:
         if offset or self.choose.random() < 0.1:
             self.token(f"offset={self.integer(offset)}")
         if align != natural_align or self.choose.random() < 0.1:
-            self.token(f"align={self.integer(align)}")
+            text = f"align={self.integer(align)}"
+            self.token(text)
+            if align.bit_count() != 1 and self.misaligned is None:
+                self.misaligned = self.length - len(text)
 
     def word_of_ordering(self):
         return {"SeqCst": "seq_cst", "AcqRel": "acq_rel"}[self.word()]
@@ -642,15 +642,16 @@ class Printer:
             if list(hints) != sorted(hints) or any(at >= self.instructions_read for at in hints):
                 raise NoText("hints that are none")
             self.at = start + 1
-        blocks = Blocks()
+        blocks = []
         for place in range(self.number()):
             if place in hints:
                 self.open("@metadata.code.branch_hint")
                 self.token(f'"\\0{hints[place]}"')
                 self.close()
-            blocks.step(instruction_name(self.words[self.at]))
+            follow_block(blocks, self.words[self.at])
             self.instruction()
-        blocks.finish()
+        if blocks:
+            raise NoText("a block without an end")
         if is_hinted:
             self.at = end
 
@@ -698,21 +699,21 @@ class Printer:
         self.many("local", self.number(), self.named_value)
         self.expression()
 
-    def payload(self, ty=None, is_first=False):
-        """Elements, inline in a table if its type is given, as words; whether they are for the first table without its number."""
+    def payload(self, ty=None):
+        """Elements, in place where a type of theirs is given, as words."""
         if self.word() == "Indices":
             if ty is None:
                 self.token("func")
-            elif ty != FUNCREF:
+            elif ty != ["1", "Abstract", "0", "Func"]:
                 raise NoText("functions in a table of another type")
             self.indices()
             return
         start = self.skipped(self.reference)
-        if is_first and self.words[start : self.at] != FUNCREF:
-            raise NoText("elements of another type without a table")
         if ty is None:
+            if self.is_short and self.words[start : self.at] != ["1", "Abstract", "0", "Func"]:
+                raise NoText("elements of another type in a segment without a table")
             self.again(start, self.reference)
-        elif self.words[start : self.at] != ty or self.next_is("0") and ty == FUNCREF:
+        elif self.words[start : self.at] != ty or self.next_is("0") and ty == ["1", "Abstract", "0", "Func"]:
             raise NoText("elements in place of a type of their own")
         for _ in range(self.number()):
             self.open("item")
@@ -812,17 +813,17 @@ class Printer:
         self.id()
         self.name()
         kind = self.word()
-        is_first = False
+        self.is_short = False
         if kind == "Declared":
             self.token("declare")
         elif kind == "Active":
-            is_first = not self.some()
-            if not is_first:
+            self.is_short = self.next_is("-")
+            if self.some():
                 self.open("table")
                 self.index()
                 self.close()
             self.offset()
-        self.payload(is_first=is_first)
+        self.payload()
         self.close()
 
     def data(self):
@@ -900,25 +901,9 @@ class Printer:
         else:
             self.token(self.integer(flags))
 
-    def infos(self, kind):
-        """A subsection of infos: a form for each of them."""
-        count = self.number()
-        if count == 0:
-            raise NoText("a subsection without infos")
-        for at in range(count):
-            if at:
-                self.close()
-                self.open(kind)
-            for _ in range(2 if kind == "import-info" else 1):
-                self.text()
-            self.flags()
-
-    def subsection(self, before):
-        """A subsection after one of a kind; its kind."""
+    def subsection(self):
         kind = self.word()
-        if kind == before and kind in ("ExportInfo", "ImportInfo"):
-            raise NoText("infos in neighbouring subsections")
-        self.open(re.sub(r"(?<=[a-z])(?=[A-Z])", "-", kind).lower())
+        self.open(subsection_word(kind))
         if kind == "MemInfo":
             for word in ("memory", "table"):
                 self.open(word)
@@ -931,9 +916,22 @@ class Printer:
         elif kind == "TargetArch":
             self.text()
         else:
-            self.infos(re.sub(r"(?<=[a-z])(?=[A-Z])", "-", kind).lower())
+            self.infos(kind)
+        self.kind_before = kind
         self.close()
-        return kind
+
+    def infos(self, kind):
+        """The entries of a subsection, each in a form of its own; one form is open."""
+        count = self.number()
+        if count == 0 or kind == self.kind_before:
+            raise NoText("no entries, or a subsection that is one with its neighbour")
+        for n in range(count):
+            for _ in range(2 if kind == "ImportInfo" else 1):
+                self.text()
+            self.flags()
+            if n + 1 < count:
+                self.close()
+                self.open(subsection_word(kind))
 
     def producers(self):
         self.open("@producers")
@@ -958,9 +956,9 @@ class Printer:
             return
         if kind == "Dylink0":
             self.open("@dylink.0")
-            kind = None
+            self.kind_before = None
             for _ in range(self.number()):
-                kind = self.subsection(kind)
+                self.subsection()
             self.close()
             return
         self.open()
@@ -1000,6 +998,10 @@ def printed(line, answer):
     """The text of a module, and its answer with places of that text."""
     printer = Printer(line)
     text = printer.finish()
+    if printer.misaligned is not None:
+        return text, f"not read at {printer.misaligned}: alignment must be a power of two"
+    if answer.startswith("ill formed"):
+        raise NoText("what is not well formed for another reason than an alignment")
     found = re.fullmatch(r"fault at (\d+): (.*)", answer)
     if found:
         places = [place for before, place in printer.places if before == int(found[1])]
