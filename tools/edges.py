@@ -221,7 +221,7 @@ EDGES = r"""
 (module (table funcref (elem $f 0)) (func $f))	0061736d010000000104016000000302010004050170010202090a01020041000b000200000a040102000b000b046e616d65010401000166
 (module (type $t (func)) (table i64 (ref null $t) (elem $f)) (func $f (type $t)))	0061736d01000000010401600000030201000406016300050101090c01060042000b630001d2000b0a040102000b0011046e616d65010401000166040401000174
 (module (type $t (func)) (table (ref null $t) (elem (ref.func $f))) (func $f (type $t)))	0061736d01000000010401600000030201000406016300010101090c01060041000b630001d2000b0a040102000b0011046e616d65010401000166040401000174
-(module (table anyref (elem (item ref.null any) (ref.i31 (i32.const 1)))))	0061736d010000000405016e010202091001060041000b6e02d06e0b4101fb1c0b
+(module (table anyref (elem (item ref.null any) (ref.i31 (i32.const 1)))))	0061736d01000000040601636e010202091101060041000b636e02d06e0b4101fb1c0b
 (module (type $t (func)) (table (ref $t) (elem ^$g)) (func $f (type $t)))	fault at ^: unknown func: failed to find name `$g`
 
 # Active segments without a table use whose elements are not `funcref`: the table is the first one,
@@ -240,7 +240,7 @@ EDGES = r"""
 (module (@dylink.0 (export-info "a" 1)) (@dylink.0 (export-info "b" 2)))	0061736d01000000000f0864796c696e6b2e30030401016101000f0864796c696e6b2e30030401016202
 (module (@dylink.0 (needed "a") (needed "b") (runtime-path "c") (runtime-path "d")))	0061736d01000000001d0864796c696e6b2e300203010161020301016205030101630503010164
 (module (@dylink.0 (export-info "a" binding-weak) (export-info "b" binding-local) (export-info "c" visibility-hidden) (export-info "d" undefined) (export-info "e" exported) (export-info "f" explicit-name) (export-info "g" no-strip) (export-info "h" tls) (export-info "i" absolute)))	0061736d01000000002a0864796c696e6b2e30031f09016101016202016304016410016520016640016780010168800201698004
-(module (@dylink.0 (export-info "a" ^hidden)))	not read at ^: expected a number
+(module (@dylink.0 (export-info "a" ^hidden)))	not read at ^: invalid number
 
 # Blocks that are not closed have the offset of the word that opened them; an `end`, an `else` or a
 # part of a `try` that no open block takes has its own (text format, control instructions).
@@ -353,7 +353,7 @@ EDGES = r"""
 (module (@x "a^\q") (func))	not read at ^: invalid string element
 \(module (@x "^\7f") (func))	not read at ^: invalid string element
 \(module (@x ^\7f) (func))	not read at ^: unexpected character
-(module (@x (func))^	not read at ^: annotation without a name or an end
+(module (@x (func)^	not read at ^: annotation without a name or an end
 (module (@x ^(; ) (func))	not read at ^: comment without an end
 
 # Offsets in strings: a wrong escape has its own, and a character that no string holds too. Line
@@ -399,7 +399,7 @@ EDGES = r"""
 (module quote "(func nop" " " ^"end)")	not read at ^: unexpected `end`
 (module quote ^"(func call $x)")	fault at ^: unknown func: failed to find name `$x`
 (module quote "(func)" ^"(data \"\\q\")")	not read at ^: invalid string element
-(module quote "(func)" ^"(func" )	not read at ^: expected `)`
+(module quote ^"(func)" "(func" )	not read at ^: expected `)`
 (module quote ^func)	not read at ^: expected a string
 (module quote ^"(func) \ff")	not read at ^: malformed UTF-8 encoding
 
