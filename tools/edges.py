@@ -406,6 +406,19 @@ EDGES = r"""
 # A custom section before and after each section, and before and after all.
 (module (@custom "bf" (before first) "") (@custom "al" (after last) "") (@custom "b1" (before type) "") (@custom "a1" (after type) "") (@custom "b2" (before import) "") (@custom "a2" (after import) "") (@custom "b3" (before func) "") (@custom "a3" (after func) "") (@custom "b4" (before table) "") (@custom "a4" (after table) "") (@custom "b5" (before memory) "") (@custom "a5" (after memory) "") (@custom "bd" (before tag) "") (@custom "ad" (after tag) "") (@custom "b6" (before global) "") (@custom "a6" (after global) "") (@custom "b7" (before export) "") (@custom "a7" (after export) "") (@custom "b8" (before start) "") (@custom "a8" (after start) "") (@custom "b9" (before elem) "") (@custom "a9" (after elem) "") (@custom "ba" (before code) "") (@custom "aa" (after code) "") (@custom "bb" (before data) "") (@custom "ab" (after data) "") (import "a" "b" (func)) (func (export "f")) (table 1 funcref) (memory 1) (tag) (global i32 i32.const 0) (start 0) (elem (i32.const 0) 0) (data (i32.const 0) "x"))	0061736d010000000003026266000302623101040160000000030261310003026232020701016101620000000302613200030262330302010000030261330003026234040401700001000302613400030262350503010001000302613500030262640d03010000000302616400030262360606017f0041000b000302613600030262370705010166000100030261370003026238080100000302613800030262390907010041000b0100000302613900030262610a040102000b000302616100030262620b07010041000b01780003026162000302616c
 (module (@producers (processed-by "b" "2") (language "c" "3") (sdk "a" "1") (language "d" "4")))	0061736d0100000000380970726f64756365727303086c616e67756167650201630133016401340373646b01016101310c70726f6365737365642d62790101620132
+
+# Forms that no encoder covers are read, and refused when they are encoded. The first function is
+# not the one that has the form.
+(module (func $a) (func $b i64.add128))	refused: uncovered form: instruction beyond the table
+(module (func) (func (drop (ref.test nullcontref (ref.null cont)))))	refused: uncovered form: stack switching
+(module (func) (func (local (ref null (shared any)))))	refused: uncovered form: shared type
+(module (func) (func atomic.fence acq_rel))	refused: uncovered form: memory ordering
+
+# Characters that change the direction of a line may be in comments, strings and quoted ids (text
+# format, characters). The crate refuses them; the bytes are those of wat2wasm.
+\(module ;; \e2\80\ae) \e2\81\a6\n(func) (; \e2\80\ab ;))	0061736d01000000010401600000030201000a040102000b
+\(module (data "\e2\80\ae\e2\80\8f"))	0061736d010000000b09010106e280aee2808f
+\(module (func $"\e2\80\ae"))	0061736d01000000010401600000030201000a040102000b000d046e616d650106010003e280ae
 """
 
 
