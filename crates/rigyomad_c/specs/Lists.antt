@@ -1,5 +1,5 @@
 -- Lists of all names of a text, as C has them: a record of each name, and the bytes of all of them one after another.
-use Rattle.std.specs.Prelude.{◌≡◌, ℕ, ◌+◌, ◌<=◌, ◌&&◌, Bool, IsTrue, IsFalse, List, [], ◌∷◌, length, drop, ◌++◌}
+use Rattle.std.specs.Prelude.{◌≡◌, ℕ, ◌+◌, nat_le, ◌&&◌, Bool, IsTrue, IsFalse, List, [], ◌∷◌, length, drop, ◌++◌}
 use Rattle.wast_base.specs.Spaces.{rank_of}
 use Rattle.wast_base.specs.Ids.{text_of, name_of}
 use Rattle.wat_bytes.specs.declared.names.Denoted.{Denoted}
@@ -36,7 +36,7 @@ room_of all = record { names = length all; bytes = length (bytes_of all) }
 
 -- whether two slices have room for so many names and bytes
 abbrev pub do_fit : ℕ → ℕ → List Name → List ℕ → Bool
-do_fit count size names bytes = (count <= length names) && (size <= length bytes)
+do_fit count size names bytes = nat_le count (length names) && nat_le size (length bytes)
 
 -- whether two slices have the room that names need
 abbrev pub have_room : List Denoted → List Name → List ℕ → Bool
