@@ -21,17 +21,17 @@ TOLD = r"""
 (module (func block $a br_table $a ^$x $y end))	fault at ^: unknown label: failed to find name `$x`
 (module (func block $a br_table $a $a ^$z end))	fault at ^: unknown label: failed to find name `$z`
 (module (func block $a block br_table $a 0 $a end end))	0061736d01000000010401600000030201000a0f010d00024002400e020100010b0b0b000d046e616d650306010001000161
-(module (func delegate 0))	0061736d01000000010401600000030201000a0601040018000b
+(module (func ^delegate 0))	not read at ^: unexpected `delegate`
 (module (func block $m block end ^$m end))	fault at ^: mismatching labels between end and block
 (module (func if $l else ^$m end))	fault at ^: mismatching labels between end and block
 (module (func block $l end $l block end ^$l))	fault at ^: mismatching labels between end and block
-(module (func end $m))	0061736d01000000010401600000030201000a050103000b0b
-(module (func block $l end end $m))	0061736d01000000010401600000030201000a0801060002400b0b0b000d046e616d65030601000100016c
+(module (func ^end $m))	not read at ^: unexpected `end`
+(module (func block $l end ^end $m))	not read at ^: unexpected `end`
 (module (func if $l else $l end $l))	0061736d01000000010401600000030201000a080106000440050b0b000d046e616d65030601000100016c
-(module (func else $m))	0061736d01000000010401600000030201000a05010300050b
-(module (func block else end))	0061736d01000000010401600000030201000a080106000240050b0b
-(module (global i32 i32.const 0 end))	ill formed: 5
-(module (global i32 end block i32.const 0))	ill formed: 5
+(module (func ^else $m))	not read at ^: unexpected `else`
+(module (func block ^else end))	not read at ^: unexpected `else`
+(module (global i32 i32.const 0 ^end))	not read at ^: a constant expression closes other blocks than it opens
+(module (global i32 ^end block i32.const 0))	not read at ^: a constant expression closes other blocks than it opens
 (module (global i32 local.get ^$x))	fault at ^: unknown local: failed to find name `$x`
 (module (type $t (func (param $p i32))) (func (type $t) local.get ^$p))	fault at ^: unknown local: failed to find name `$p`
 (module (type (struct)) (func block (type ^0) (result i32) end))	fault at ^: invalid type: not a function type
@@ -43,8 +43,8 @@ TOLD = r"""
 (module (func block (type 5) end))	0061736d01000000010401600000030201000a0701050002050b0b
 (module (type (func)) (func block (type 0) end))	0061736d01000000010401600000030201000a0701050002000b0b
 (module (func block (result i32) end))	0061736d01000000010401600000030201000a07010500027f0b0b
-(module (func i32.load align=0))	ill formed: 1
-(module (func i32.load align=3))	ill formed: 1
+(module (func i32.load ^align=0))	not read at ^: alignment must be a power of two
+(module (func i32.load ^align=3))	not read at ^: alignment must be a power of two
 (module (func i32.load align=9223372036854775808))	0061736d01000000010401600000030201000a07010500283f000b
 (module (func i32.load offset=18446744073709551615))	0061736d01000000010401600000030201000a10010e002802ffffffffffffffffff010b
 (module (func select))	0061736d01000000010401600000030201000a050103001b0b
@@ -241,7 +241,7 @@ def lines(body):
     for text, form in uncovered():
         yield f"(module (func {text}))", f"refused: uncovered form: {form}"
     for align in (0, 3, 5, 6, 7, (1 << 64) - 1):
-        yield f"(module (func i32.atomic.load align={align}))", "ill formed: 1"
+        yield f"(module (func i32.atomic.load align={align}))", "not read at 30: alignment must be a power of two"
     many = "(module (type (func (param" + " i32" * 300 + "))) (func (type 0) (local $l i32) local.get "
     yield many + "$x))", f"fault at {len(many)}: unknown local: failed to find name `$x`"
     tail = "030201000a09010701017f20ac020b000e046e616d650207010001ac02016c"

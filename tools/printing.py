@@ -40,6 +40,29 @@ class NoText(Exception):
     """The module is none that a text stands for."""
 
 
+# What an instruction makes of the block that was opened last, by the kind of this block: another kind, or None if it ends the block.
+PARTS = {
+    "end_": {"block": None, "if": None, "try": None, "catch": None},
+    "else_": {"if": "block"},
+    "catch": {"try": "catch", "catch": "catch"},
+    "catch_all": {"try": "block", "catch": "block"},
+    "delegate": {"try": None},
+}
+OPENERS = {"block": "block", "loop_": "block", "try_table": "block", "if_": "if", "try_": "try"}
+
+
+def follow_block(blocks, word):
+    """Changes the list of open blocks by an instruction (text format, control instructions)."""
+    if word in OPENERS:
+        blocks.append(OPENERS[word])
+    elif word in PARTS:
+        last = blocks.pop() if blocks else ""
+        if last not in PARTS[word]:
+            raise NoText("a part of a block that is not open")
+        if PARTS[word][last]:
+            blocks.append(PARTS[word][last])
+
+
 def instruction_name(word):
     """The name of an instruction in the text format."""
     word = word.rstrip("_")
@@ -76,6 +99,11 @@ def float_text(bits, width):
     return f"{sign}0x{fraction | 1 << fraction_bits:x}p{exponent - bias - fraction_bits}"
 
 
+def subsection_word(kind):
+    """The word of a subsection of `dylink.0` in the text format."""
+    return re.sub(r"(?<=[a-z])(?=[A-Z])", "-", kind).lower()
+
+
 class Printer:
     """The words of a module, how far they are read, and the text that is written."""
 
@@ -83,6 +111,7 @@ class Printer:
         self.words, self.at = line.split(), 0
         self.choose = random.Random(line)
         self.out, self.length, self.places = [], 0, []
+        self.misaligned = None
 
     def finish(self):
         self.module()
@@ -469,7 +498,10 @@ class Printer:
         if offset or self.choose.random() < 0.1:
             self.token(f"offset={self.integer(offset)}")
         if align != natural_align or self.choose.random() < 0.1:
-            self.token(f"align={self.integer(align)}")
+            text = f"align={self.integer(align)}"
+            self.token(text)
+            if align.bit_count() != 1 and self.misaligned is None:
+                self.misaligned = self.length - len(text)
 
     def word_of_ordering(self):
         return {"SeqCst": "seq_cst", "AcqRel": "acq_rel"}[self.word()]
@@ -610,12 +642,16 @@ class Printer:
             if list(hints) != sorted(hints) or any(at >= self.instructions_read for at in hints):
                 raise NoText("hints that are none")
             self.at = start + 1
+        blocks = []
         for place in range(self.number()):
             if place in hints:
                 self.open("@metadata.code.branch_hint")
                 self.token(f'"\\0{hints[place]}"')
                 self.close()
+            follow_block(blocks, self.words[self.at])
             self.instruction()
+        if blocks:
+            raise NoText("a block without an end")
         if is_hinted:
             self.at = end
 
@@ -668,12 +704,14 @@ class Printer:
         if self.word() == "Indices":
             if ty is None:
                 self.token("func")
-            elif self.next_is("0") and ty != ["1", "Abstract", "0", "Func"]:
-                raise NoText("no functions in a table of another type")
+            elif ty != ["1", "Abstract", "0", "Func"]:
+                raise NoText("functions in a table of another type")
             self.indices()
             return
         start = self.skipped(self.reference)
         if ty is None:
+            if self.is_short and self.words[start : self.at] != ["1", "Abstract", "0", "Func"]:
+                raise NoText("elements of another type in a segment without a table")
             self.again(start, self.reference)
         elif self.words[start : self.at] != ty or self.next_is("0") and ty == ["1", "Abstract", "0", "Func"]:
             raise NoText("elements in place of a type of their own")
@@ -775,9 +813,11 @@ class Printer:
         self.id()
         self.name()
         kind = self.word()
+        self.is_short = False
         if kind == "Declared":
             self.token("declare")
         elif kind == "Active":
+            self.is_short = self.next_is("-")
             if self.some():
                 self.open("table")
                 self.index()
@@ -863,7 +903,7 @@ class Printer:
 
     def subsection(self):
         kind = self.word()
-        self.open(re.sub(r"(?<=[a-z])(?=[A-Z])", "-", kind).lower())
+        self.open(subsection_word(kind))
         if kind == "MemInfo":
             for word in ("memory", "table"):
                 self.open(word)
@@ -876,12 +916,22 @@ class Printer:
         elif kind == "TargetArch":
             self.text()
         else:
-            if self.number() != 1:
-                raise NoText("a subsection of several infos")
+            self.infos(kind)
+        self.kind_before = kind
+        self.close()
+
+    def infos(self, kind):
+        """The entries of a subsection, each in a form of its own; one form is open."""
+        count = self.number()
+        if count == 0 or kind == self.kind_before:
+            raise NoText("no entries, or a subsection that is one with its neighbour")
+        for n in range(count):
             for _ in range(2 if kind == "ImportInfo" else 1):
                 self.text()
             self.flags()
-        self.close()
+            if n + 1 < count:
+                self.close()
+                self.open(subsection_word(kind))
 
     def producers(self):
         self.open("@producers")
@@ -906,6 +956,7 @@ class Printer:
             return
         if kind == "Dylink0":
             self.open("@dylink.0")
+            self.kind_before = None
             for _ in range(self.number()):
                 self.subsection()
             self.close()
@@ -947,6 +998,10 @@ def printed(line, answer):
     """The text of a module, and its answer with places of that text."""
     printer = Printer(line)
     text = printer.finish()
+    if printer.misaligned is not None:
+        return text, f"not read at {printer.misaligned}: alignment must be a power of two"
+    if answer.startswith("ill formed"):
+        raise NoText("what is not well formed for another reason than an alignment")
     found = re.fullmatch(r"fault at (\d+): (.*)", answer)
     if found:
         places = [place for before, place in printer.places if before == int(found[1])]

@@ -1,21 +1,23 @@
-//! A test: a line is written for each line that is read, which is a module in the text format. It has the bytes of the module,
-//! in hexadecimal, or why there are none, and where.
+//! A test of the reader: prints a line for each line of its input, which is a module in the text
+//! format. The line is the bytes of the module in hexadecimal, or the error and its offset.
+//!
+//! A text that has line feeds or control characters is stored with escapes, because a line is one
+//! text. Its line begins with `\`. After this `\n` is a line feed, `\r` a carriage return, `\t` a tab,
+//! `\\` a backslash, and a backslash with two hexadecimal digits is a byte. For example `\(module\n)`
+//! is a module of two lines.
 #![tactic(auto)]
 
-use std::alloc::Global;
+use std::alloc::{AllocError, Global};
 use std::io::{self, BufRead, BufReader};
+use std::str;
 use wat_bytes::{Refused, encode_text};
-use wat_text::{Strings, TextFault};
+use wat_text::Strings;
 
 /// Prints why a text has no bytes.
 fn print_refusal(rt: &impl Print, refused: Refused<'_>) -> io::Result<()> {
     if let Refused::Text(error) = refused {
         let offset = error.span.offset;
-        return match error.fault {
-            TextFault::Alignment => println!(rt; "ill formed: 1"),
-            TextFault::IllFormed(clause) => println!(rt; "ill formed: {clause}"),
-            fault => println!(rt; "not read at {offset}: {fault}"),
-        };
+        return println!(rt; "not read at {offset}: {error}");
     }
     match refused.span() {
         Some(span) if !matches!(refused, Refused::Uncovered(_)) => {
@@ -35,11 +37,69 @@ fn print_answer(rt: &impl Print, alloc: Global, text: &str) -> io::Result<()> {
     }
 }
 
+/// How much of an escape is read.
+#[derive(Clone, Copy)]
+enum Escape {
+    /// Nothing.
+    None,
+    /// Its backslash.
+    Begun,
+    /// Its backslash and a hexadecimal digit of this value.
+    Digit(u8),
+}
+
+/// The value of a hexadecimal digit, or 0 of another character.
+fn hex_digit(byte: u8) -> u8 {
+    match byte {
+        b'0'..=b'9' => byte - b'0',
+        b'a'..=b'f' => byte - b'a' + 10,
+        _ => 0,
+    }
+}
+
+/// Reads a byte of a line with escapes, and appends the byte of the text that ends with it.
+fn read_byte(out: &mut Vec<u8>, escape: Escape, byte: u8) -> Result<Escape, AllocError> {
+    let stands_for = match (escape, byte) {
+        (Escape::None, b'\\') => return Ok(Escape::Begun),
+        (Escape::None, byte) => byte,
+        (Escape::Begun, b'n') => b'\n',
+        (Escape::Begun, b'r') => b'\r',
+        (Escape::Begun, b't') => b'\t',
+        (Escape::Begun, b'\\') => b'\\',
+        (Escape::Begun, digit) => return Ok(Escape::Digit(hex_digit(digit))),
+        (Escape::Digit(high), digit) => (high & 15) << 4 | hex_digit(digit),
+    };
+    out.push(stands_for)?;
+    Ok(Escape::None)
+}
+
+/// The text of a line with escapes, without the backslash at its start.
+fn unescaped(alloc: Global, line: &str) -> Result<Vec<u8>, AllocError> {
+    let mut out = Vec::new(alloc);
+    let mut escape = Escape::None;
+    for byte in line.as_bytes() {
+        escape = read_byte(&mut out, escape, *byte)?;
+    }
+    Ok(out)
+}
+
+/// Prints the answer to the text of a line with escapes.
+fn print_escaped(rt: &impl Print, alloc: Global, line: &str) -> io::Result<()> {
+    let bytes = unescaped(alloc, line)?;
+    match str::from_utf8(bytes.as_slice()) {
+        Ok(text) => print_answer(rt, alloc, text),
+        Err(_) => println!(rt; "the text of this line is not UTF-8"),
+    }
+}
+
 fn main(rt: HostRuntime) -> io::Result<()> {
     let alloc = rt.alloc();
     for line in BufReader::new(alloc, rt.reader())?.lines(alloc) {
         let line = line?;
-        print_answer(&rt, alloc, line.as_str())?;
+        match line.as_str().strip_prefix('\\') {
+            Some(escaped) => print_escaped(&rt, alloc, escaped)?,
+            None => print_answer(&rt, alloc, line.as_str())?,
+        }
     }
     Ok(())
 }

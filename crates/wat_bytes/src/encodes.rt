@@ -9,7 +9,7 @@ use std::alloc::Global;
 use std::fmt;
 use wast_core::{EncodeOptions, Module, ModuleKind, discard_module};
 use wast_tree::{Error, Fault, Gensym, Span, Uncovered, first_uncovered};
-use wat_text::{Strings, TextError, TextFault, TextModule, read};
+use wat_text::{Strings, TextError, TextFault, TextKind, TextModule, read};
 
 /// Why a text has no bytes. It is printed as what is wrong, without the place.
 #[derive(Clone, Copy, Debug, PartialEq, Eq)]
@@ -122,9 +122,12 @@ pub(crate) fn module_of<'a>(text: TextModule<'a>) -> Module<'a>
         span,
         id,
         name,
-        fields,
+        kind,
     } = text;
-    let kind = ModuleKind::Text(fields);
+    let kind = match kind {
+        TextKind::Fields(fields) => ModuleKind::Text(fields),
+        TextKind::Binary(pieces) => ModuleKind::Binary(pieces),
+    };
     Module {
         span,
         id,

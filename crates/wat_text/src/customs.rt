@@ -5,7 +5,7 @@ use wast_tree::{
     Custom, CustomPlace, CustomPlaceAnchor, Dylink0, Dylink0Subsection, Producers,
     RawCustomSection, Seq,
 };
-use wat_tokens::Key;
+use wat_tokens::{Key, Token};
 
 /// A section beside which a custom section can stand (text format, custom annotations).
 fn anchor(key: Key) -> Option<CustomPlaceAnchor> {
@@ -218,27 +218,52 @@ impl<'a> Reader<'a> {
         names
     }
 
-    /// `(export-info "a" 1)`, behind its key.
+    /// Goes on to the next form of the same key, if it comes next: the entries of neighbouring forms are one subsection.
+    fn accept_next(&mut self, key: Key) -> bool {
+        let is_next = matches!(self.look(0), Some(Token::Close))
+            && self.is_open(1)
+            && self.is_key(2, key);
+        if is_next {
+            self.skip();
+            self.skip();
+            self.skip();
+        }
+        is_next
+    }
+
+    /// Reads `(export-info "a" 1)` from its name on, and the forms of the same key that follow (tool conventions, dynamic
+    /// linking).
     fn export_info(&mut self) -> Dylink0Subsection<'a> {
         let mut items = Seq::new(self.alloc);
-        let name = self.text();
-        let flags = self.flags();
-        let pushed = items.push((name, flags));
-        self.took(pushed);
+        for _ in 0..self.left() {
+            let name = self.text();
+            let flags = self.flags();
+            let pushed = items.push((name, flags));
+            self.took(pushed);
+            if !self.accept_next(Key::ExportInfo) {
+                break;
+            }
+        }
         Dylink0Subsection::ExportInfo(items)
     }
 
-    /// `(import-info "a" "b" 1)`, behind its key.
+    /// Reads `(import-info "a" "b" 1)` from its names on, and the forms of the same key that follow (tool conventions, dynamic
+    /// linking).
     fn import_info(&mut self) -> Dylink0Subsection<'a> {
         let mut items = Seq::new(self.alloc);
-        let (module, name) = (self.text(), self.text());
-        let flags = self.flags();
-        let pushed = items.push((module, name, flags));
-        self.took(pushed);
+        for _ in 0..self.left() {
+            let (module, name) = (self.text(), self.text());
+            let flags = self.flags();
+            let pushed = items.push((module, name, flags));
+            self.took(pushed);
+            if !self.accept_next(Key::ImportInfo) {
+                break;
+            }
+        }
         Dylink0Subsection::ImportInfo(items)
     }
 
-    /// A subsection of `dylink.0` behind `(` (tool conventions, dynamic linking).
+    /// Reads a subsection of `dylink.0` after its `(` (tool conventions, dynamic linking).
     fn subsection(&mut self) -> Dylink0Subsection<'a> {
         let key = self.key(0);
         self.skip();

@@ -18,7 +18,7 @@ pub(crate) struct Head<'a> {
 }
 
 /// Whether it is `funcref`.
-fn is_funcref(ty: RefType<'_>) -> bool {
+pub(crate) fn is_funcref(ty: RefType<'_>) -> bool {
     let is_func = matches!(
         ty.heap,
         HeapType::Abstract {
@@ -131,15 +131,21 @@ impl<'a> Reader<'a> {
     /// The locals and the body of a function.
     fn func_body(&mut self) -> FuncKind<'a> {
         let locals = self.locals();
-        let expression = self.expression();
+        let expression = self.function_body();
         FuncKind::Inline { locals, expression }
     }
 
-    /// Elements in place, behind `(elem`: where none stands there, they are functions by the type alone.
-    fn elements_in_place(&mut self, ty: RefType<'a>) -> ElemPayload<'a> {
-        match self.is_open(0) || self.is_end() && !is_funcref(ty) {
-            true => self.expressions(ty),
-            false => ElemPayload::Indices(self.functions()),
+    /// Reads the elements inline in a table, after `(elem` (text format, tables: abbreviations).
+    ///
+    /// Functions by index are expressions of the type of the table if that is not `funcref`, because the bytes of a segment of
+    /// functions have no place for another type: `(table (ref $t) (elem $f))` has the element `ref.func $f`.
+    fn inline_elements(&mut self, ty: RefType<'a>) -> ElemPayload<'a> {
+        if self.is_open(0) {
+            return self.expressions(ty);
+        }
+        match is_funcref(ty) {
+            true => ElemPayload::Indices(self.functions()),
+            false => self.function_expressions(ty),
         }
     }
 
@@ -165,7 +171,7 @@ impl<'a> Reader<'a> {
         if !self.accept_form(Key::Elem) {
             self.expected("`(elem`");
         }
-        let payload = self.elements_in_place(elem);
+        let payload = self.inline_elements(elem);
         self.close();
         TableKind::Inline {
             elem,

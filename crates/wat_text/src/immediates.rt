@@ -151,18 +151,10 @@ impl<'a> Reader<'a> {
         Instruction::br_table(BrTableIndices { labels, default })
     }
 
-    /// The table and the type of an indirect call, in either order (text format, control instructions).
+    /// Reads the table and the type of an indirect call (text format, control instructions).
     fn call_indirect(&mut self) -> CallIndirect<'a> {
-        let place = self.place_before();
-        let before = self.optional_index();
+        let table = self.index_or_zero();
         let ty = self.type_use(false);
-        let table = match before {
-            Some(table) => table,
-            None => match self.optional_index() {
-                Some(table) => table,
-                None => Index::Num(0, place),
-            },
-        };
         CallIndirect { table, ty }
     }
 

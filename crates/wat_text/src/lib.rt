@@ -9,10 +9,11 @@ mod fields;
 mod immediates;
 mod modules;
 mod operators;
+mod quotes;
 mod reader;
 mod segments;
 mod types;
 mod vectors;
 
-pub use modules::{TextModule, read};
+pub use modules::{TextKind, TextModule, read};
 pub use wat_tokens::{Strings, TextError, TextFault};

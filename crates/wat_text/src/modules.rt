@@ -1,25 +1,43 @@
 //! Modules.
 
-ghost use Rattle.std.specs.Prelude.{◌≡◌, ◌≤◌, true, is_none, length, IfOk, IfErr};
+ghost use Rattle.std.specs.Prelude.{◌≡◌, ◌≤◌, true, is_none, length, IsTrue, IfOk, IfErr};
 ghost use Rattle.wast_nodes.specs.WellFormed.{is_well_formed};
+ghost use Rattle.wat_text.specs.Texts.{is_well_formed_text};
 
+use crate::quotes::{Quote, quoted_tokens};
 use crate::reader::Reader;
 use std::alloc::Global;
 use wast_tree::{
     Id, Index, ModuleField, NameAnnotation, Seq, Span, discard_fields, first_ill_formed,
 };
-use wat_tokens::{Annotation, Key, Strings, TextError, TextFault, Token, tokens_of};
+use wat_tokens::{Annotation, Key, Placed, Strings, TextError, TextFault, Token, tokens_of};
 
-/// A module of a text: its place, its id, its name annotation and its fields (text format, modules).
+/// What a module of a text holds (text format, modules).
+pub enum TextKind<'a> {
+    /// Its fields, in the order of the text.
+    Fields(Seq<ModuleField<'a>>),
+    /// The bytes of a binary module, in pieces: `(module binary "\00asm" "\01\00\00\00")`.
+    Binary(Seq<&'a [u8]>),
+}
+
+/// A module of a text: its place, its id, its name annotation and what it holds (text format, modules).
 pub struct TextModule<'a> {
-    /// The place of its keyword; where none is written, the start of the text.
+    /// The place of its keyword, or the start of the text if there is none.
     pub span: Span,
     /// Its id.
     pub id: Option<Id<'a>>,
     /// Its name annotation.
     pub name: Option<NameAnnotation<'a>>,
-    /// Its fields, in the order of the text.
-    pub fields: Seq<ModuleField<'a>>,
+    /// What it holds.
+    pub kind: TextKind<'a>,
+}
+
+/// What a module begins with: the place of its keyword, if it is in parentheses, its id and its name annotation.
+#[derive(Clone, Copy)]
+struct ModuleHead<'a> {
+    keyword: Option<Span>,
+    id: Option<Id<'a>>,
+    name: Option<NameAnnotation<'a>>,
 }
 
 impl<'a> Reader<'a> {
@@ -97,12 +115,44 @@ impl<'a> Reader<'a> {
         Some(span)
     }
 
-    /// The id and the name annotation of a module, where it is in parentheses.
-    fn module_name(&mut self, is_written: bool) -> (Option<Id<'a>>, Option<NameAnnotation<'a>>) {
-        if !is_written {
-            return (None, None);
+    /// Reads what a module begins with: `(module`, its id and its name annotation, if it is in parentheses.
+    fn module_head(&mut self) -> ModuleHead<'a> {
+        let keyword = self.module_keyword();
+        let (id, name) = match keyword {
+            Some(_) => (self.id(), self.name()),
+            None => (None, None),
+        };
+        ModuleHead { keyword, id, name }
+    }
+
+    /// Reads strings up to the end of the form: the pieces of a binary module.
+    fn pieces(&mut self) -> Seq<&'a [u8]> {
+        let mut pieces = Seq::new(self.alloc);
+        for _ in 0..self.left() {
+            if self.is_end() {
+                break;
+            }
+            let pushed = pieces.push(self.bytes());
+            self.took(pushed);
         }
-        (self.id(), self.name())
+        pieces
+    }
+
+    /// Reads strings up to the end of the form, each with its place: the pieces of a text in quotes.
+    fn quotes(&mut self) -> Vec<Quote<'a>> {
+        let mut quotes = Vec::new(self.alloc);
+        for _ in 0..self.left() {
+            if self.is_end() {
+                break;
+            }
+            let span = self.place();
+            let bytes = self.bytes();
+            let pushed = quotes.push(Quote { span, bytes }).is_ok();
+            if !pushed {
+                self.fail(TextFault::Memory);
+            }
+        }
+        quotes
     }
 
     /// The end of a module and of the text.
@@ -131,7 +181,7 @@ fn ill_formed<'a>(fields: &mut Seq<ModuleField<'a>>) -> Option<TextError>
     }
 }
 
-/// The fields, where they are well formed; else they are dropped.
+/// The fields if they are well formed; they are dropped otherwise.
 fn unless_ill_formed<'a>(fields: Seq<ModuleField<'a>>) -> Result<Seq<ModuleField<'a>>, TextError>
     ensures { IfOk result (λ fields. is_well_formed fields ≡ true) }
 {
@@ -145,7 +195,7 @@ fn unless_ill_formed<'a>(fields: Seq<ModuleField<'a>>) -> Result<Seq<ModuleField
     }
 }
 
-/// The fields, where nothing is wrong with them; else they are dropped.
+/// The fields if there is no fault and they are well formed; they are dropped otherwise.
 fn unless<'a>(
     fault: Option<TextError>,
     fields: Seq<ModuleField<'a>>,
@@ -161,46 +211,114 @@ fn unless<'a>(
     }
 }
 
-/// The module of a text, wherever its faults stand.
+/// The module at a place, of fields that are read up to the end of the text.
+fn module_of_fields<'a>(
+    reader: Reader<'a>,
+    span: Span,
+    head: ModuleHead<'a>,
+) -> Result<TextModule<'a>, TextError>
+    ensures { IfOk result (λ m. IsTrue (is_well_formed_text m.kind)) }
+{
+    let mut reader = reader;
+    let fields = reader.fields();
+    reader.module_end(head.keyword.is_some());
+    let fields = unless(reader.finish(), fields)?;
+    Ok(TextModule {
+        span,
+        id: head.id,
+        name: head.name,
+        kind: TextKind::Fields(fields),
+    })
+}
+
+/// The module of the pieces of a binary module, which are read from `binary` on.
+fn binary_module<'a>(
+    reader: Reader<'a>,
+    head: ModuleHead<'a>,
+) -> Result<TextModule<'a>, TextError>
+    ensures { IfOk result (λ m. IsTrue (is_well_formed_text m.kind)) }
+{
+    let mut reader = reader;
+    reader.skip();
+    let pieces = reader.pieces();
+    reader.module_end(true);
+    match reader.finish() {
+        Some(fault) => Err(fault),
+        None => Ok(TextModule {
+            span: head.keyword.unwrap_or_default(),
+            id: head.id,
+            name: head.name,
+            kind: TextKind::Binary(pieces),
+        }),
+    }
+}
+
+/// The module of the text in quotes, which is read from `quote` on. It has the place of the outer module, and its id and name
+/// annotation if it has any.
+fn quoted_module<'a>(
+    reader: Reader<'a>,
+    head: ModuleHead<'a>,
+    strings: &'a Strings,
+) -> Result<TextModule<'a>, TextError>
+    ensures { IfOk result (λ m. IsTrue (is_well_formed_text m.kind)) }
+{
+    let alloc = reader.alloc;
+    let mut reader = reader;
+    reader.skip();
+    let (place, quotes) = (reader.place(), reader.quotes());
+    reader.module_end(true);
+    if let Some(fault) = reader.finish() {
+        return Err(fault);
+    }
+    let tokens = quoted_tokens(alloc, quotes.as_slice(), place, strings)?;
+    let mut inner = Reader::new(alloc, tokens, place);
+    let ModuleHead { keyword, id, name } = inner.module_head();
+    let (id, name) = (head.id.or(id), head.name.or(name));
+    let span = head.keyword.unwrap_or_default();
+    module_of_fields(inner, span, ModuleHead { keyword, id, name })
+}
+
+/// The module of a text, wherever its faults are.
 fn read_module<'a>(
     alloc: Global,
     text: &'a str,
     strings: &'a Strings,
 ) -> Result<TextModule<'a>, TextError>
-    ensures { IfOk result (λ m. is_well_formed m.fields ≡ true) }
+    ensures { IfOk result (λ m. IsTrue (is_well_formed_text m.kind)) }
 {
     let tokens = tokens_of(alloc, text, strings)?;
     let end = Span { offset: text.len() };
     let mut reader = Reader::new(alloc, tokens, end);
-    let keyword = reader.module_keyword();
-    let (id, name) = reader.module_name(keyword.is_some());
-    let fields = reader.fields();
-    reader.module_end(keyword.is_some());
-    let fields = unless(reader.finish(), fields)?;
-    let span = keyword.unwrap_or_default();
-    Ok(TextModule {
-        span,
-        id,
-        name,
-        fields,
-    })
+    let head = reader.module_head();
+    match reader.key(0) {
+        Some(Key::Binary) if head.keyword.is_some() => binary_module(reader, head),
+        Some(Key::Quote) if head.keyword.is_some() => quoted_module(reader, head, strings),
+        _ => module_of_fields(reader, head.keyword.unwrap_or_default(), head),
+    }
 }
 
 /// Reads a module in the text format (text format, modules): its fields, with its id and its name annotation.
 ///
-/// The text has one module, in its parentheses or its fields alone. Strings with escapes are kept in `strings`, for as long as
-/// the tree lives. Places are offsets in the text: of a field that of its keyword, of an id and a number that of the first
-/// character.
+/// The text has one module, in parentheses or as its fields alone. `(module binary "..")` gives the bytes of a binary module,
+/// which are not looked at, and `(module quote "..")` gives the module of the text in its strings, which are read as one text.
+/// Strings with escapes, and the text in quotes, are kept in `strings` for as long as the tree lives. Positions are offsets in
+/// the text: of a field that of its keyword, of an id and a number that of the first character, and of all that is in quotes
+/// that of the string it is in.
 ///
-/// The fields that it gives are well formed, as [`ill_formed`](wast_tree::ill_formed) lists it. Else it answers why, and the
-/// place, which is one of the text or its end. It takes memory for the tokens and for the tree; where that is refused, the error
-/// is [`TextFault::Memory`]. However deep a text is nested, calls do not go deeper with it.
+/// It allocates memory for the tokens and for the tree. However deep a text is nested, calls do not nest as deeply.
+///
+/// # Errors
+/// A [`TextFault`] with its position, which is one of the text or its end: the text is not a module, or its fields are not well
+/// formed, as [`ill_formed`](wast_tree::ill_formed) lists it, or allocation failed ([`TextFault::Memory`]).
+///
+/// # Guarantees
+/// `well_formed`: the fields are well formed. `place`: the position of an error is in the text or at its end.
 pub fn read<'a>(
     alloc: Global,
     text: &'a str,
     strings: &'a Strings,
 ) -> Result<TextModule<'a>, TextError>
-    ensures well_formed { IfOk result (λ m. is_well_formed m.fields ≡ true) }
+    ensures well_formed { IfOk result (λ m. IsTrue (is_well_formed_text m.kind)) }
     ensures place { IfErr result (λ e. e.span.offset ≤ length text.now) }
 {
     match read_module(alloc, text, strings) {

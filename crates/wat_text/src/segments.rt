@@ -1,15 +1,30 @@
 //! Segments of elements and of data.
 
+use crate::fields::is_funcref;
 use crate::reader::Reader;
 use std::alloc::AllocError;
 use wast_tree::{
-    Data, DataKind, DataVal, Elem, ElemKind, ElemPayload, Expression, Index, RefType, Seq,
+    Data, DataKind, DataVal, Elem, ElemKind, ElemPayload, Expression, Index, Instruction, RefType,
+    Seq, Span,
 };
 use wat_tokens::Key;
 
 /// Puts bytes, the lowest first.
 fn put<const N: usize>(out: &mut Vec<u8>, bytes: [u8; N]) -> Result<(), AllocError> {
     out.extend_from_slice(&bytes)
+}
+
+/// The table of an active element segment: the one that is written, or the first if its elements are not of type `funcref`,
+/// because the bytes of a segment without a table have no place for another type. The first table is at the place given.
+fn number_or_first<'a>(
+    number: Option<Index<'a>>,
+    payload: &ElemPayload<'a>,
+    place: Span,
+) -> Option<Index<'a>> {
+    match (number, payload) {
+        (None, ElemPayload::Exprs { ty, .. }) if !is_funcref(*ty) => Some(Index::Num(0, place)),
+        (number, _) => number,
+    }
 }
 
 impl<'a> Reader<'a> {
@@ -59,52 +74,87 @@ impl<'a> Reader<'a> {
         ElemPayload::Exprs { ty, exprs }
     }
 
-    /// The elements of a segment (text format, element segments).
-    fn elements(&mut self) -> ElemPayload<'a> {
+    /// Reads functions up to the end of the form, as expressions of a type: `ref.func $f` for `$f`.
+    pub(crate) fn function_expressions(&mut self, ty: RefType<'a>) -> ElemPayload<'a> {
+        let mut exprs = Seq::new(self.alloc);
+        for _ in 0..self.left() {
+            if self.is_end() {
+                break;
+            }
+            let reference = Instruction::ref_func(self.index());
+            let expression = self.make.one_instruction(reference);
+            self.make.push_expression(&mut exprs, expression);
+        }
+        ElemPayload::Exprs { ty, exprs }
+    }
+
+    /// Reads a list of elements with its `func` or its type (text format, element segments).
+    fn element_list(&mut self) -> ElemPayload<'a> {
         if self.accept(Key::Func) {
             return ElemPayload::Indices(self.functions());
         }
-        if self.is_ref_type() {
-            let ty = self.ref_type();
-            return self.expressions(ty);
+        if !self.is_ref_type() {
+            self.expected("`func` or a reference type");
+        }
+        let ty = self.ref_type();
+        self.expressions(ty)
+    }
+
+    /// Reads the list of elements of an active segment whose table is not written as `(table ..)`, which may leave out its `func`
+    /// (text format, element segments: abbreviations).
+    fn short_element_list(&mut self) -> ElemPayload<'a> {
+        if self.is_key(0, Key::Func) || self.is_ref_type() {
+            return self.element_list();
         }
         ElemPayload::Indices(self.functions())
     }
 
-    /// `(table $t)`, or a number, where it stands there.
-    fn elem_table(&mut self) -> Option<Index<'a>> {
-        if self.accept_form(Key::Table) {
-            let index = self.index();
-            self.close();
-            return Some(index);
+    /// Reads `(table $t)`, if it is there.
+    fn table_use(&mut self) -> Option<Index<'a>> {
+        if !self.accept_form(Key::Table) {
+            return None;
         }
-        match self.is_number(0) {
+        let index = self.index();
+        self.close();
+        Some(index)
+    }
+
+    /// Reads an active element segment from its table on (text format, element segments).
+    fn active_elements(&mut self) -> (ElemKind<'a>, ElemPayload<'a>) {
+        let place = self.place_before();
+        if let Some(table) = self.table_use() {
+            let offset = self.segment_offset();
+            let table = Some(table);
+            return (ElemKind::Active { table, offset }, self.element_list());
+        }
+        let number = match self.is_number(0) {
             true => Some(self.index()),
             false => None,
-        }
+        };
+        let offset = self.segment_offset();
+        let payload = self.short_element_list();
+        let table = number_or_first(number, &payload, place);
+        (ElemKind::Active { table, offset }, payload)
     }
 
-    /// What becomes of an element segment (text format, element segments).
-    fn elem_kind(&mut self) -> ElemKind<'a> {
+    /// Reads what an element segment is for, and its elements (text format, element segments).
+    fn elem_kind(&mut self) -> (ElemKind<'a>, ElemPayload<'a>) {
         if self.accept(Key::Declare) {
-            return ElemKind::Declared;
+            return (ElemKind::Declared, self.element_list());
         }
         let is_active = self.is_number(0) || self.is_open(0) && !self.is_ref_type();
-        if !is_active {
-            return ElemKind::Passive;
+        match is_active {
+            true => self.active_elements(),
+            false => (ElemKind::Passive, self.element_list()),
         }
-        let table = self.elem_table();
-        let offset = self.segment_offset();
-        ElemKind::Active { table, offset }
     }
 
-    /// `(elem ..)` (text format, element segments).
+    /// Reads `(elem ..)` (text format, element segments).
     pub(crate) fn elem_field(&mut self) -> Elem<'a> {
         let span = self.place();
         self.skip();
         let (id, name) = (self.id(), self.name());
-        let kind = self.elem_kind();
-        let payload = self.elements();
+        let (kind, payload) = self.elem_kind();
         Elem {
             span,
             id,
@@ -174,7 +224,7 @@ impl<'a> Reader<'a> {
         self.is_open(0) && is_type
     }
 
-    /// The memory of a data segment, where one is written; else the first one.
+    /// Reads the memory of a data segment, `(memory $m)` or its number alone; the first memory if none is written.
     fn data_memory(&mut self) -> Index<'a> {
         let place = self.place_before();
         if self.accept_form(Key::Memory) {
@@ -182,9 +232,9 @@ impl<'a> Reader<'a> {
             self.close();
             return index;
         }
-        match self.optional_index() {
-            Some(index) => index,
-            None => Index::Num(0, place),
+        match self.is_number(0) {
+            true => self.index(),
+            false => Index::Num(0, place),
         }
     }
 

@@ -32,7 +32,7 @@ fn abstract_heap(key: Key) -> Option<AbstractHeapType> {
 /// The heap type that the word of a reference type stands for (text format, reference types: abbreviations).
 fn referred(key: Key) -> Option<AbstractHeapType> {
     match key {
-        Key::Funcref | Key::Anyfunc => Some(AbstractHeapType::Func),
+        Key::Funcref => Some(AbstractHeapType::Func),
         Key::Externref => Some(AbstractHeapType::Extern),
         Key::Exnref => Some(AbstractHeapType::Exn),
         Key::Nullexnref => Some(AbstractHeapType::NoExn),
@@ -227,18 +227,22 @@ impl<'a> Reader<'a> {
         let mut params = Seq::new(self.alloc);
         let mut results = Seq::new(self.alloc);
         for _ in 0..self.left() {
-            if self.accept_form(Key::Param) {
-                if !results.is_empty() {
-                    let place = self.place_before();
-                    self.fail_at(place, TextFault::ParamBehindResult);
-                }
-                self.params(&mut params, are_named);
-            } else if self.accept_form(Key::Result) {
-                self.values(&mut results);
-            } else {
+            if !self.accept_form(Key::Param) {
                 break;
             }
+            self.params(&mut params, are_named);
             self.close();
+        }
+        for _ in 0..self.left() {
+            if !self.accept_form(Key::Result) {
+                break;
+            }
+            self.values(&mut results);
+            self.close();
+        }
+        if self.is_form(Key::Param) {
+            self.skip();
+            self.fail(TextFault::ParamBehindResult);
         }
         FunctionType::new(params, results)
     }
@@ -415,10 +419,9 @@ impl<'a> Reader<'a> {
         self.value(place, unsigned64(text), 0)
     }
 
-    /// Whether indices have 64 bits: `i64` or `i32`, where one stands there.
+    /// Reads `i32` or `i64`, if one of them is there: whether indices have 64 bits (text format, address types).
     pub(crate) fn is64(&mut self) -> bool {
-        let _is32 = self.accept(Key::I32);
-        self.accept(Key::I64)
+        !self.accept(Key::I32) && self.accept(Key::I64)
     }
 
     /// Limits, with indices of 64 bits or of 32 (text format, limits).

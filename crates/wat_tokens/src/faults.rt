@@ -27,6 +27,8 @@ pub enum TextFault {
     Utf8,
     /// Something else was expected.
     Expected(&'static str),
+    /// This may not come here: an `end` of no block, a branch hint in a constant expression.
+    Unexpected(&'static str),
     /// A number is no number of its kind.
     Number,
     /// A number is out of the range of its kind.
@@ -72,7 +74,7 @@ impl TextFault {
             TextFault::OpenAnnotation => "annotation without a name or an end",
             TextFault::EmptyId => "empty identifier",
             TextFault::Utf8 => "malformed UTF-8 encoding",
-            TextFault::Expected(what) => what,
+            TextFault::Expected(what) | TextFault::Unexpected(what) => what,
             TextFault::Number => "invalid number",
             TextFault::Range => "constant out of range",
             TextFault::Operator => "unknown operator or unexpected token",
@@ -90,6 +92,7 @@ impl fmt::Display for TextFault {
     fn fmt<W: fmt::Write>(&self, f: &mut fmt::Formatter<W>) -> fmt::Result {
         match *self {
             TextFault::Expected(what) => write!(f, "expected {what}"),
+            TextFault::Unexpected(what) => write!(f, "unexpected {what}"),
             fault => f.write_str(fault.text()),
         }
     }

@@ -17,7 +17,7 @@ pub use faults::{TextError, TextFault};
 pub use floats::{float32, float64};
 pub use integers::{integer8, integer16, integer32, integer64, unsigned8, unsigned32, unsigned64};
 pub use scans::tokens_of;
-pub use strings::Strings;
+pub use strings::{StringError, Strings};
 pub use tokens::{Annotation, Placed, Token};
 pub use words::{
     AtomicOp, BlockOp, IndexOp, Key, MemoryOp, OwnOp, StructOp, TableOp, Word, look_up,

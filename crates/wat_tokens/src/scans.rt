@@ -131,6 +131,8 @@ struct Scan<'a> {
     rest: &'a str,
     /// How many parentheses are open since an annotation that means nothing.
     skipped: usize,
+    /// The place of a fault in a string.
+    wrong: Option<Span>,
     tokens: Vec<Placed<'a>>,
 }
 
@@ -217,9 +219,11 @@ impl<'a> Scan<'a> {
         self.put(place, Token::Close)
     }
 
-    /// Whether a token may end here.
+    /// Whether a token may end here. In an annotation that means nothing, tokens may stand side by side, because any tokens may
+    /// be there, reserved ones such as `x"y"2` too.
     fn ends(&self) -> Result<(), TextFault> {
         match self.byte(0) {
+            _ if self.skipped > 0 => Ok(()),
             None | Some(b'(' | b')' | b';') => Ok(()),
             Some(byte) if is_blank(byte) => Ok(()),
             _ => Err(TextFault::Adjacent),
@@ -230,9 +234,17 @@ impl<'a> Scan<'a> {
     fn bytes(&mut self) -> Result<&'a [u8], TextFault> {
         let _quote = self.take(1);
         let count = string_length(self.rest).ok_or(TextFault::OpenString)?;
+        let begin = self.place();
         let content = self.take(count);
         let _quote = self.take(1);
-        self.strings.read(self.alloc, content.as_bytes())
+        match self.strings.read(self.alloc, content.as_bytes()) {
+            Ok(bytes) => Ok(bytes),
+            Err(error) => {
+                let offset = begin.offset.saturating_add(error.offset);
+                self.wrong = Some(Span { offset });
+                Err(error.fault)
+            }
+        }
     }
 
     /// The name that a string is which the rest begins with.
@@ -266,6 +278,9 @@ impl<'a> Scan<'a> {
         let place = self.place();
         let count = word_length(self.rest);
         let word = self.take(count);
+        if self.skipped > 0 {
+            return Ok(());
+        }
         let token = match word.strip_prefix('$') {
             Some(name) => Token::Id(self.id(name)?),
             None => match look_up(word) {
@@ -294,6 +309,10 @@ impl<'a> Scan<'a> {
                 Ok(())
             }
             _ if is_word_byte(first) => self.word(),
+            b',' | b';' | b'[' | b']' | b'{' | b'}' if self.skipped > 0 => {
+                let _reserved = self.take(1);
+                Ok(())
+            }
             _ => Err(TextFault::Character),
         }
     }
@@ -306,7 +325,7 @@ impl<'a> Scan<'a> {
                 break;
             };
             if let Err(fault) = self.step(first) {
-                return Err(TextError::new(place, fault));
+                return Err(TextError::new(self.wrong.unwrap_or(place), fault));
             }
         }
         match self.skipped == 0 {
@@ -316,8 +335,12 @@ impl<'a> Scan<'a> {
     }
 }
 
-/// The tokens of a text, without blanks, comments and annotations that mean nothing (text format, tokens). Strings with escapes
-/// are kept in `strings`. It takes memory for the tokens.
+/// Returns the tokens of a text, without white space, comments and annotations that mean nothing (text format, tokens). Strings
+/// with escapes are kept in `strings`. It allocates memory for the tokens.
+///
+/// # Errors
+/// A [`TextFault`] with its position: that of the token or the comment that is wrong, and in a string that of the escape or the
+/// control character.
 pub fn tokens_of<'a>(
     alloc: Global,
     text: &'a str,
@@ -329,6 +352,7 @@ pub fn tokens_of<'a>(
         length: text.len(),
         rest: text,
         skipped: 0,
+        wrong: None,
         tokens: Vec::new(alloc),
     };
     scan.run()?;

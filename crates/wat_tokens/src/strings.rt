@@ -20,25 +20,46 @@ impl Strings {
         }
     }
 
-    /// Keeps bytes.
-    fn keep(&self, bytes: &[u8]) -> Result<&[u8], TextFault> {
+    /// Keeps a copy of bytes for as long as the strings live. It allocates memory for the copy.
+    ///
+    /// # Errors
+    /// [`TextFault::Memory`]: allocation failed.
+    pub fn keep(&self, bytes: &[u8]) -> Result<&[u8], TextFault> {
         let kept = self.bump.try_alloc_slice_copy(bytes)?;
         Ok(kept)
     }
 
-    /// The bytes of a string, of which this stands between the quotes (text format, strings): as it stands there, or kept here
-    /// where it has escapes, which takes memory. The error is [`TextFault::Escape`] where a control character or what is no
-    /// escape stands there, and [`TextFault::Memory`] where memory is refused.
-    pub fn read<'a>(&'a self, alloc: Global, content: &'a [u8]) -> Result<&'a [u8], TextFault> {
+    /// Returns the bytes of a string whose characters between the quotes are `content` (text format, strings): these characters,
+    /// or a copy that is kept here if there are escapes, which allocates memory.
+    ///
+    /// # Errors
+    /// [`TextFault::Escape`]: a control character or a wrong escape, with its offset in `content`. [`TextFault::Memory`]:
+    /// allocation failed.
+    pub fn read<'a>(&'a self, alloc: Global, content: &'a [u8]) -> Result<&'a [u8], StringError> {
         if content.contains(&b'\\') {
             let bytes = unescaped(alloc, content)?;
-            return self.keep(bytes.as_slice());
+            return match self.keep(bytes.as_slice()) {
+                Ok(kept) => Ok(kept),
+                Err(fault) => Err(StringError { fault, offset: 0 }),
+            };
         }
-        match content.iter().any(|byte| is_control(*byte)) {
-            true => Err(TextFault::Escape),
-            false => Ok(content),
+        match content.iter().position(|byte| is_control(*byte)) {
+            Some(offset) => Err(StringError {
+                fault: TextFault::Escape,
+                offset,
+            }),
+            None => Ok(content),
         }
     }
+}
+
+/// Why a string has no bytes (text format, strings).
+#[derive(Clone, Copy, Debug, PartialEq, Eq)]
+pub struct StringError {
+    /// What is wrong.
+    pub fault: TextFault,
+    /// How many bytes of the string come before the character or the escape that is wrong: 1 for the string `"a\q"`.
+    pub offset: usize,
 }
 
 /// Whether no string holds the character.
@@ -131,14 +152,25 @@ fn take(out: &mut Vec<u8>, escape: Escape, byte: u8) -> Result<Escape, TextFault
 }
 
 /// The bytes of a string that has escapes.
-fn unescaped(alloc: Global, content: &[u8]) -> Result<Vec<u8>, TextFault> {
+fn unescaped(alloc: Global, content: &[u8]) -> Result<Vec<u8>, StringError> {
     let mut out = Vec::new(alloc);
     let mut escape = Escape::None;
-    for byte in content {
-        escape = take(&mut out, escape, *byte)?;
+    // Where the escape begins that is read.
+    let mut begin = 0;
+    for (count, byte) in content.iter().enumerate() {
+        if let Escape::None = escape {
+            begin = count;
+        }
+        match take(&mut out, escape, *byte) {
+            Ok(next) => escape = next,
+            Err(fault) => return Err(StringError { fault, offset: begin }),
+        }
     }
     match escape {
         Escape::None => Ok(out),
-        _ => Err(TextFault::Escape),
+        _ => Err(StringError {
+            fault: TextFault::Escape,
+            offset: begin,
+        }),
     }
 }

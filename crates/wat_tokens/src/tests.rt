@@ -1,8 +1,8 @@
 //! Numbers and strings whose bits and bytes come from outside, and a text that is cut into tokens.
 
 use crate::{
-    Key, Strings, TextError, TextFault, Token, Word, float32, float64, integer32, tokens_of,
-    unsigned64,
+    Key, StringError, Strings, TextError, TextFault, Token, Word, float32, float64, integer32,
+    tokens_of, unsigned64,
 };
 use wast_base::Span;
 
@@ -44,7 +44,18 @@ fn strings_lose_their_escapes(rt: HostRuntime) {
         .read(rt.alloc(), br"a\n\u{1D_11E}\ff")
         .expect(&rt, "memory");
     assert!(rt; bytes == b"a\n\xf0\x9d\x84\x9e\xff".as_slice());
-    assert!(rt; strings.read(rt.alloc(), br"\q").is_err());
+    for (content, offset) in [
+        (br"ab\q".as_slice(), 2_usize),
+        (br"\t\u{110000}", 2),
+        (br"\u{1_}", 0),
+        (br"a\", 1),
+        (b"ab\x7f", 2),
+        (b"\\n\n", 2),
+    ] {
+        let error = strings.read(rt.alloc(), content).err();
+        let fault = TextFault::Escape;
+        assert!(rt; error == Some(StringError { fault, offset }));
+    }
 }
 
 #[test]
@@ -59,4 +70,17 @@ fn texts_are_cut_into_tokens(rt: HostRuntime) {
     assert!(rt; tokens[8].span.offset == text.len() - 4);
     let error = tokens_of(rt.alloc(), "(; (;;)", &strings).err();
     assert!(rt; error == Some(TextError::new(Span::default(), TextFault::OpenComment)));
+    let error = tokens_of(rt.alloc(), r#" "a\q""#, &strings).err();
+    assert!(rt; error == Some(TextError::new(Span { offset: 3 }, TextFault::Escape)));
+}
+
+#[test]
+fn any_tokens_are_skipped_in_an_unknown_annotation(rt: HostRuntime) {
+    let strings = Strings::new(rt.alloc());
+    let text = r#"(@x , ; [ ] { } x"y"2 $ (a"b"c)) "a""#;
+    let tokens = tokens_of(rt.alloc(), text, &strings).expect(&rt, "memory");
+    assert!(rt; tokens.len() == 1 && tokens[0].span.offset == text.len() - 3);
+    for text in ["(@)", "(@ x)", "(@x", "(@x \u{1})", "(@x \"\\q\")", ","] {
+        assert!(rt; tokens_of(rt.alloc(), text, &strings).is_err());
+    }
 }

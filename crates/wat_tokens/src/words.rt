@@ -414,8 +414,6 @@ pub enum Key {
     Nocont,
     /// `funcref`
     Funcref,
-    /// `anyfunc`
-    Anyfunc,
     /// `externref`
     Externref,
     /// `exnref`
@@ -850,8 +848,9 @@ static WORDS_13: [(&str, Word); 15] = [
     ("undefined", Word::Key(Key::Undefined)),
 ];
 
-static WORDS_14: [(&str, Word); 11] = [
+static WORDS_14: [(&str, Word); 12] = [
     ("global.atomic.rmw.sub", Word::Atomic(AtomicOp::Global)),
+    ("ref.i31_shared", Word::Beyond),
     (
         "i32.trunc_f32_u",
         Word::Plain(Plain::I32(I32Op::i32_trunc_f32_u)),
@@ -1630,7 +1629,7 @@ static WORDS_44: [(&str, Word); 9] = [
     ),
 ];
 
-static WORDS_45: [(&str, Word); 7] = [
+static WORDS_45: [(&str, Word); 6] = [
     ("table.atomic.get", Word::Atomic(AtomicOp::Table)),
     (
         "i32.atomic.rmw16.xchg_u",
@@ -1649,7 +1648,6 @@ static WORDS_45: [(&str, Word); 7] = [
         Word::Plain(Plain::F64(F64Op::f64_promote_f32)),
     ),
     ("i16x8.eq", Word::Plain(Plain::I16x8(I16x8Op::i16x8_eq))),
-    ("anyfunc", Word::Key(Key::Anyfunc)),
 ];
 
 static WORDS_46: [(&str, Word); 6] = [
