@@ -4,7 +4,7 @@
 //! at most some hundred columns, however long a line of the text or a name is, and the time is linear
 //! in the text.
 
-use crate::escapes::{Blanks, Escaped, SourceText, is_bidirectional_control};
+use crate::escapes::{Blanks, Escaped, Margin, SourceText, is_bidirectional_control};
 use crate::failures::Failure;
 use std::alloc::{AllocError, Global};
 use std::io;
@@ -16,6 +16,9 @@ const LINE: usize = 120;
 
 /// At most this many bytes of a message are printed, the first ones, because it may hold a name.
 const MESSAGE: usize = 240;
+
+/// The number of E12.
+const MEMORY: u32 = 12;
 
 /// The part of a source line that is printed.
 #[derive(Clone, Copy)]
@@ -79,17 +82,10 @@ fn excerpt_at(text: &str, offset: usize) -> Excerpt<'_> {
     }
 }
 
-/// Prints a place: the line of the text, and a caret under the place.
-fn print_place(
-    rt: &HostRuntime,
-    alloc: Global,
-    file: Escaped<'_>,
-    text: &str,
-    place: Span,
-) -> Result<(), AllocError> {
+/// Prints a place: the line of the text, and a caret under the place. Takes no memory.
+fn print_place(rt: &HostRuntime, file: Escaped<'_>, text: &str, place: Span) {
     let (number, column) = line_and_column(text, place);
-    let digits = format!(in alloc; "{number}")?;
-    let margin = Blanks(digits.as_str());
+    let margin = Margin(number);
     let Excerpt {
         head,
         before,
@@ -100,33 +96,16 @@ fn print_place(
     let (left, blanks) = (Blanks(head), Blanks(before));
     let _ = eprintln!(rt; "{margin}--> {file}:{number}:{column}");
     let _ = eprintln!(rt; "{margin} |");
-    let _ = eprintln!(rt; "{digits} | {head}{shown}{rest}{tail}");
+    let _ = eprintln!(rt; "{number} | {head}{shown}{rest}{tail}");
     let _ = eprintln!(rt; "{margin} | {left}{blanks}^");
-    Ok(())
 }
 
-/// Prints why a text has no bytes, and where.
-fn print_refused(
-    rt: &HostRuntime,
-    alloc: Global,
-    file: Escaped<'_>,
-    text: &str,
-    refused: &Refused<'_>,
-) -> Result<(), AllocError> {
-    let message = format!(in alloc; "{refused}")?;
-    let (shown, tail) = cut_after(message.as_str(), MESSAGE);
-    let shown = Escaped(shown);
-    let _ = eprintln!(rt; "error: {shown}{tail}");
-    match refused.span() {
-        Some(place) => print_place(rt, alloc, file, text, place),
-        None => {
-            let _ = eprintln!(rt; " --> {file}");
-            Ok(())
-        }
-    }
+/// Returns what is wrong with a text.
+fn message_of(alloc: Global, refused: &Refused<'_>) -> Result<String, AllocError> {
+    format!(in alloc; "{refused}")
 }
 
-/// Reports why a text has no bytes.
+/// Reports why a text has no bytes, and where.
 pub(crate) fn report(
     rt: &HostRuntime,
     alloc: Global,
@@ -134,28 +113,30 @@ pub(crate) fn report(
     text: &str,
     refused: &Refused<'_>,
 ) -> Failure {
-    if refused.number() == Some(12) {
+    if refused.number() == Some(MEMORY) {
         return Failure::memory(rt);
     }
-    match print_refused(rt, alloc, file, text, refused) {
-        Ok(()) => Failure::Text,
-        Err(_) => Failure::memory(rt),
+    let Ok(message) = message_of(alloc, refused) else {
+        return Failure::memory(rt);
+    };
+    let (shown, tail) = cut_after(message.as_str(), MESSAGE);
+    let shown = Escaped(shown);
+    let _ = eprintln!(rt; "error: {shown}{tail}");
+    match refused.span() {
+        Some(place) => print_place(rt, file, text, place),
+        None => {
+            let _ = eprintln!(rt; " --> {file}");
+        }
     }
+    Failure::Text
 }
 
 /// Reports that bytes are not UTF-8, of which those before the first wrong one are this text.
-pub(crate) fn report_malformed(
-    rt: &HostRuntime,
-    alloc: Global,
-    file: Escaped<'_>,
-    text: &str,
-) -> Failure {
+pub(crate) fn report_malformed(rt: &HostRuntime, file: Escaped<'_>, text: &str) -> Failure {
     let offset = text.len();
     let _ = eprintln!(rt; "error: malformed UTF-8 encoding at byte {offset}");
-    match print_place(rt, alloc, file, text, Span { offset }) {
-        Ok(()) => Failure::Text,
-        Err(_) => Failure::memory(rt),
-    }
+    print_place(rt, file, text, Span { offset });
+    Failure::Text
 }
 
 /// Returns the offset of the first bidirectional control character of a text.

@@ -33,6 +33,14 @@ fn write_escaped<W: fmt::Write>(f: &mut fmt::Formatter<W>, character: char) -> f
     f.write_char(character)
 }
 
+/// Writes this many blanks.
+fn write_columns<W: fmt::Write>(f: &mut fmt::Formatter<W>, count: usize) -> fmt::Result {
+    for _ in 0..count {
+        f.write_str(" ")?;
+    }
+    Ok(())
+}
+
 /// Writes as many blanks as a terminal shows columns for what `SourceText` prints of a character.
 fn write_blanks<W: fmt::Write>(f: &mut fmt::Formatter<W>, character: char) -> fmt::Result {
     if character == '\t' {
@@ -43,10 +51,7 @@ fn write_blanks<W: fmt::Write>(f: &mut fmt::Formatter<W>, character: char) -> fm
     } else {
         character.width().unwrap_or(1)
     };
-    for _ in 0..columns {
-        f.write_str(" ")?;
-    }
-    Ok(())
+    write_columns(f, columns)
 }
 
 /// Prints a text with its control characters as escapes: a line feed as `\n`, and an escape
@@ -91,5 +96,17 @@ impl fmt::Display for Blanks<'_> {
             write_blanks(f, character)?;
         }
         Ok(())
+    }
+}
+
+/// Prints as many blanks as a number has decimal digits.
+#[derive(Clone, Copy)]
+pub(crate) struct Margin(pub usize);
+
+impl fmt::Display for Margin {
+    fn fmt<W: fmt::Write>(&self, f: &mut fmt::Formatter<W>) -> fmt::Result {
+        let digits = self.0.checked_ilog10().unwrap_or(0) as usize;
+        write_columns(f, digits)?;
+        f.write_str(" ")
     }
 }

@@ -137,7 +137,7 @@ fn convert_input(rt: &HostRuntime, options: &Options) -> Result<(), Failure> {
         Ok(text) => convert(rt, options, text),
         Err(error) => {
             let text = text_before(bytes.as_slice(), error.valid_up_to());
-            Err(report_malformed(rt, rt.alloc(), options.name(), text))
+            Err(report_malformed(rt, options.name(), text))
         }
     }
 }
