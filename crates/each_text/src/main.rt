@@ -19,12 +19,16 @@ fn print_refusal(rt: &impl Print, refused: Refused<'_>) -> io::Result<()> {
         let offset = error.span.offset;
         return println!(rt; "not read at {offset}: {error}");
     }
+    if let Refused::Uncovered(uncovered) = refused {
+        let form = uncovered.form;
+        return println!(rt; "refused: uncovered form: {form}");
+    }
     match refused.span() {
-        Some(span) if !matches!(refused, Refused::Uncovered(_)) => {
+        Some(span) => {
             let offset = span.offset;
             println!(rt; "fault at {offset}: {refused}")
         }
-        _ => println!(rt; "refused: {refused}"),
+        None => println!(rt; "refused: {refused}"),
     }
 }
 

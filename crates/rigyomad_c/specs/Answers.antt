@@ -1,12 +1,15 @@
 -- What the calls of C answer.
-use Rattle.std.specs.Prelude.{◌≡◌, ℕ, ◌==◌, ◌<◌, ◌≤◌, if◌then◌else◌, List, length, drop, ◌++◌, Option, Some, None}
+use Rattle.std.specs.Prelude.{◌≡◌, ℕ, ◌==◌, ◌<◌, ◌≤◌, if◌then◌else◌, List, length, drop, ◌++◌, Option, Some, None, Result, Ok, Err, ◌⊎◌}
 use Rattle.std.specs.Option.{unwrap_or}
+use Rattle.std.specs.Global.{Vec}
+use Rattle.std.specs.Str.{IsUtf8}
 use Rattle.wast_base.specs.declared.ids.Span.{Span}
 use Rattle.wast_base.specs.declared.spaces.Space.{Space}
 use Rattle.wast_base.specs.Spaces.{rank_of}
 use Rattle.wast_base.specs.Lines.{line_of, column_of}
-use Rattle.wat_bytes.specs.Texts.{AreBytes, IsWhy, IsNumber, number_of, place_of}
-use Rattle.wat_bytes.specs.declared.encodes.Refused.{Refused}
+use Rattle.wat_bytes.specs.Names.{NumbersText}
+use Rattle.wat_bytes.specs.Texts.{EncodesText, OfText, number_of, place_of}
+use Rattle.wat_bytes.specs.declared.refusals.Refused.{Refused}
 use Rattle.rigyomad_c.specs.declared.statuses.Status.{Status}
 use Rattle.rigyomad_c.specs.declared.statuses.Status.TheVariants as status
 use Rattle.rigyomad_c.specs.declared.diagnosis.Diagnosis.{Diagnosis}
@@ -31,57 +34,71 @@ abbrev pub status_of : Option ℕ → Status
 status_of None = status.Fault
 status_of (Some n) = if n == 12 then status.Memory else status.Fault
 
--- Bytes of this size that a well formed module gives.
-pub record HasBytes (size : ℕ) : Type 0 where
-  pub bytes : List ℕ
-  pub given : AreBytes bytes
-  pub counted : size ≡ length bytes
+-- Putting bytes into a slice: they are at its front, and what is after them stays; or it is too short, and stays.
+abbrev pub PutsBytes : List ℕ → List ℕ → List ℕ → Status → Type 0
+PutsBytes bytes old new status.Done = (length bytes ≤ length old) × (new ≡ bytes ++ drop (length bytes) old)
+PutsBytes bytes old new status.Short = (length old < length bytes) × (new ≡ old)
+PutsBytes bytes old new status.Fault = ⊥
+PutsBytes bytes old new status.Utf8 = ⊥
+PutsBytes bytes old new status.Memory = ⊥
+PutsBytes bytes old new status.Unknown = ⊥
 
--- bytes of some size
-pub record HasSomeBytes : Type 0 where
-  pub size : ℕ
-  pub has : HasBytes size
+-- Putting what encoding answers into a slice. The size is that of the bytes, also if the slice is too short.
+abbrev pub PutsAnswer : Result (Vec ℕ) Refused → ℕ → List ℕ → List ℕ → Status → Type 0
+PutsAnswer (Ok bytes) size old new s = (size ≡ length bytes.items) × PutsBytes bytes.items old new s
+PutsAnswer (Err r) size old new s = (size ≡ 0) × (new ≡ old) × (s ≡ status_of (number_of r))
 
--- they stand at the front of a slice, and what is behind them stays
-pub record StandsIn (size : ℕ) (old new : List ℕ) : Type 0 where
-  pub has : HasBytes size
-  pub fits : size ≤ length old
-  pub put : new ≡ has.bytes ++ drop size old
+-- Encoding a text into a slice: what `encode_text` may answer for this text is put there.
+pub record EncodesRead (text : List ℕ) (size : ℕ) (old new : List ℕ) (s : Status) : Type 0 where
+  pub answer : Result (Vec ℕ) Refused
+  pub encoded : OfText EncodesText text answer
+  pub put : PutsAnswer answer size old new s
 
--- Encoding into a slice: the bytes stand there where they fit; else it stays, and the size tells what is wanted.
-abbrev pub Encodes : ℕ → List ℕ → List ℕ → Status → Type 0
-Encodes size old new status.Done = StandsIn size old new
-Encodes size old new status.Short = HasBytes size × (length old < size) × (new ≡ old)
-Encodes size old new status.Fault = (size ≡ 0) × (new ≡ old)
-Encodes size old new status.Utf8 = (size ≡ 0) × (new ≡ old)
-Encodes size old new status.Memory = (size ≡ 0) × (new ≡ old)
-Encodes size old new status.Unknown = ⊥
+-- Bytes that are no UTF-8 are no text.
+abbrev pub IsNoText : List ℕ → Type 0
+IsNoText text = IsUtf8 text → ⊥
 
--- the number of what a name denotes in the space of a number
-pub record IsNumberAt (rank : ℕ) (name : List ℕ) (number : ℕ) : Type 0 where
+-- Encoding into a slice.
+abbrev pub Encodes : List ℕ → ℕ → List ℕ → List ℕ → Status → Type 0
+Encodes text size old new status.Utf8 = IsNoText text × (size ≡ 0) × (new ≡ old)
+Encodes text size old new s = EncodesRead text size old new s
+
+-- What looking a name up answers: the number that it denotes; else the number stays.
+abbrev pub TellsNumber : Result (Option ℕ) Refused → ℕ → ℕ → Status → Type 0
+TellsNumber (Ok None) old new s = (new ≡ old) × (s ≡ status.Unknown)
+TellsNumber (Ok (Some n)) old new s = (new ≡ n) × (s ≡ status.Done)
+TellsNumber (Err r) old new s = (new ≡ old) × (s ≡ status_of (number_of r))
+
+-- Looking a name up in a space of a text: what `number_in_text` may answer for this text, name and space is told.
+pub record DenotesRead (text : List ℕ) (space : Space) (name : List ℕ) (old new : ℕ) (s : Status) : Type 0 where
+  pub answer : Result (Option ℕ) Refused
+  pub denoted : OfText (NumbersText space name) text answer
+  pub told : TellsNumber answer old new s
+
+-- the same in the space of a number
+pub record DenotesAt (text : List ℕ) (rank : ℕ) (name : List ℕ) (old new : ℕ) (s : Status) : Type 0 where
   pub space : Space
   pub ranked : rank_of space ≡ rank
-  pub denoted : IsNumber space name number
+  pub denotes : DenotesRead text space name old new s
 
--- Looking a name up: the number is what it denotes; else the number stays.
-abbrev pub Denotes : ℕ → List ℕ → ℕ → ℕ → Status → Type 0
-Denotes rank name old new status.Done = IsNumberAt rank name new
-Denotes rank name old new status.Short = ⊥
-Denotes rank name old new status.Fault = new ≡ old
-Denotes rank name old new status.Utf8 = new ≡ old
-Denotes rank name old new status.Memory = new ≡ old
-Denotes rank name old new status.Unknown = new ≡ old
+-- no space has this number
+abbrev pub IsNoSpace : ℕ → Type 0
+IsNoSpace rank = 8 ≤ rank
+
+-- Looking a name up.
+abbrev pub Denotes : List ℕ → ℕ → List ℕ → ℕ → ℕ → Status → Type 0
+Denotes text rank name old new status.Utf8 = (IsNoText text ⊎ IsNoText name) × (new ≡ old)
+Denotes text rank name old new status.Unknown = (IsNoSpace rank × (new ≡ old)) ⊎ DenotesAt text rank name old new status.Unknown
+Denotes text rank name old new s = DenotesAt text rank name old new s
 
 -- a place of a text, with its line and column; where there is none, all are 0
 abbrev pub IsPlaced : List ℕ → Option Span → Diagnosis → Type 0
 IsPlaced text None d = (d.offset ≡ 0) × (d.line ≡ 0) × (d.column ≡ 0)
 IsPlaced text (Some place) d = (d.offset ≡ place.offset) × (d.line ≡ line_of text place) × (d.column ≡ column_of text place)
 
--- why a text has no bytes, as it is told: with its status, its number, 0 where it has none, and its place
-pub record IsTold (text : List ℕ) (d : Diagnosis) (status : Status) : Type 0 where
-  pub refused : Refused
-  pub why : IsWhy refused
-  pub answered : status ≡ status_of (number_of refused)
+-- why a text has no bytes, as it is told: with its status, its number, 0 if it has none, and its position
+pub record IsTold (text : List ℕ) (refused : Refused) (d : Diagnosis) (s : Status) : Type 0 where
+  pub answered : s ≡ status_of (number_of refused)
   pub numbered : d.number ≡ unwrap_or (number_of refused) 0
   pub placed : IsPlaced text (place_of refused) d
 
@@ -89,11 +106,18 @@ pub record IsTold (text : List ℕ) (d : Diagnosis) (status : Status) : Type 0 w
 abbrev pub nothing_wrong : Diagnosis
 nothing_wrong = record { number = 0; offset = 0; line = 0; column = 0; size = 0 }
 
--- Telling why a text has no bytes.
+-- what encoding answers, as it is told
+abbrev pub TellsAnswer : List ℕ → Result (Vec ℕ) Refused → Diagnosis → Status → Type 0
+TellsAnswer text (Ok bytes) d s = (d ≡ nothing_wrong) × (s ≡ status.Done)
+TellsAnswer text (Err r) d s = IsTold text r d s
+
+-- Telling why a text has no bytes: what `encode_text` may answer for this text is told.
+pub record DiagnosesRead (text : List ℕ) (d : Diagnosis) (s : Status) : Type 0 where
+  pub answer : Result (Vec ℕ) Refused
+  pub encoded : OfText EncodesText text answer
+  pub told : TellsAnswer text answer d s
+
+-- Telling why bytes are no module. Of bytes that are no UTF-8 the position has no line.
 abbrev pub Diagnoses : List ℕ → Diagnosis → Status → Type 0
-Diagnoses text d status.Done = (d ≡ nothing_wrong) × HasSomeBytes
-Diagnoses text d status.Short = ⊥
-Diagnoses text d status.Fault = IsTold text d status.Fault
-Diagnoses text d status.Utf8 = (d.number ≡ 0) × (d.line ≡ 0) × (d.column ≡ 0)
-Diagnoses text d status.Memory = IsTold text d status.Memory
-Diagnoses text d status.Unknown = ⊥
+Diagnoses text d status.Utf8 = IsNoText text × (d.number ≡ 0) × (d.line ≡ 0) × (d.column ≡ 0)
+Diagnoses text d s = DiagnosesRead text d s

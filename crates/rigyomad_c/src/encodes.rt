@@ -1,7 +1,7 @@
 //! Texts become bytes.
 
 ghost use Rattle.std.specs.Prelude.{◌≡◌, ◌<◌, ◌≤◌, ◌++◌, length, drop, IsTrue, IsFalse};
-ghost use Rattle.rigyomad_c.specs.Answers.{Encodes, Diagnoses, nothing_wrong};
+ghost use Rattle.rigyomad_c.specs.Answers.{Encodes, EncodesRead, Diagnoses, DiagnosesRead, nothing_wrong};
 
 use crate::diagnosis::Diagnosis;
 use crate::statuses::Status;
@@ -34,7 +34,7 @@ fn put(bytes: &[u8], out: &mut [u8]) -> bool
 /// Puts the bytes of the module of a text into a slice.
 fn encode_text_into(alloc: Global, text: &str, out: &mut [u8], size: &mut usize) -> Status
     requires { size.old ≡ 0 }
-    ensures { Encodes size.new out.old out.new result }
+    ensures { EncodesRead text.now size.new out.old out.new result }
 {
     let strings = Strings::new(alloc);
     match encode_text(alloc, text, &strings) {
@@ -51,7 +51,7 @@ fn encode_text_into(alloc: Global, text: &str, out: &mut [u8], size: &mut usize)
 
 /// Puts the bytes of the module of a text into a slice, where they fit, and tells how many they are. Else the slice stays.
 pub(crate) fn encode_into(alloc: Global, text: &[u8], out: &mut [u8], size: &mut usize) -> Status
-    ensures { Encodes size.new out.old out.new result }
+    ensures { Encodes text.now size.new out.old out.new result }
 {
     *size = 0;
     match str::from_utf8(text) {
@@ -63,7 +63,7 @@ pub(crate) fn encode_into(alloc: Global, text: &[u8], out: &mut [u8], size: &mut
 /// Why the module of a text has no bytes.
 fn diagnose_text(alloc: Global, text: &str, out: &mut [u8], diagnosis: &mut Diagnosis) -> Status
     requires { diagnosis.old ≡ nothing_wrong }
-    ensures { Diagnoses text.now diagnosis.new result }
+    ensures { DiagnosesRead text.now diagnosis.new result }
 {
     let strings = Strings::new(alloc);
     match encode_text(alloc, text, &strings) {

@@ -43,7 +43,7 @@ pub extern "C" fn rigyomad_c_encode(
     out: &mut [u8],
     size: &mut usize,
 ) -> u32
-    ensures { Answers (Encodes size.new out.old out.new) result }
+    ensures { Answers (Encodes text.now size.new out.old out.new) result }
 {
     encode_into(alloc, text, out, size).code()
 }
@@ -70,7 +70,7 @@ pub extern "C" fn rigyomad_c_resolve(
     name: &[u8],
     number: &mut u32,
 ) -> u32
-    ensures { Answers (Denotes space name.now number.old number.new) result }
+    ensures { Answers (Denotes text.now space name.now number.old number.new) result }
 {
     look_up(alloc, text, space, name, number).code()
 }
@@ -85,7 +85,7 @@ pub extern "C" fn rigyomad_c_names(
     bytes: &mut [u8],
     room: &mut Room,
 ) -> u32
-    ensures { Answers (Lists room.new names.old names.new bytes.old bytes.new) result }
+    ensures { Answers (Lists text.now room.new names.old names.new bytes.old bytes.new) result }
 {
     list_names(alloc, text, names, bytes, room).code()
 }

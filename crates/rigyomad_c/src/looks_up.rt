@@ -1,8 +1,8 @@
 //! Names are looked up.
 
-ghost use Rattle.std.specs.Prelude.{◌≡◌, IfSome};
+ghost use Rattle.std.specs.Prelude.{◌≡◌, IfSome, IsTrue, is_none};
 ghost use Rattle.wast_base.specs.Spaces.{rank_of};
-ghost use Rattle.rigyomad_c.specs.Answers.{Denotes};
+ghost use Rattle.rigyomad_c.specs.Answers.{Denotes, DenotesRead, IsNoSpace};
 
 use crate::statuses::Status;
 use std::alloc::Global;
@@ -13,7 +13,8 @@ use wat_text::Strings;
 
 /// The index space of a number.
 fn space_at(space: u32) -> Option<Space>
-    ensures { IfSome result (λ s. rank_of s ≡ space) }
+    ensures space { IfSome result (λ s. rank_of s ≡ space) }
+    ensures none { IsTrue (is_none result) → IsNoSpace space }
 {
     match space {
         0 => Some(Space::Func),
@@ -30,7 +31,7 @@ fn space_at(space: u32) -> Option<Space>
 
 /// The number of what a name denotes in a space of the module of a text.
 fn look_up_in(alloc: Global, text: &str, space: Space, name: &str, number: &mut u32) -> Status
-    ensures { Denotes (rank_of space) name.now number.old number.new result }
+    ensures { DenotesRead text.now space name.now number.old number.new result }
 {
     let strings = Strings::new(alloc);
     match number_in_text(alloc, text, &strings, space, name) {
@@ -51,13 +52,16 @@ pub(crate) fn look_up(
     name: &[u8],
     number: &mut u32,
 ) -> Status
-    ensures { Denotes space name.now number.old number.new result }
+    ensures { Denotes text.now space name.now number.old number.new result }
 {
     let Some(space) = space_at(space) else {
         return Status::Unknown;
     };
-    match (str::from_utf8(text), str::from_utf8(name)) {
-        (Ok(text), Ok(name)) => look_up_in(alloc, text, space, name, number),
-        _ => Status::Utf8,
-    }
+    let Ok(text) = str::from_utf8(text) else {
+        return Status::Utf8;
+    };
+    let Ok(name) = str::from_utf8(name) else {
+        return Status::Utf8;
+    };
+    look_up_in(alloc, text, space, name, number)
 }

@@ -1,55 +1,89 @@
--- What a text answers: what some well formed module, whose ids are all written, answers to resolving and encoding.
-use Rattle.std.specs.Prelude.{◌≡◌, ℕ, List, [], Option, Some, None, ⊤, IsTrue}
+-- What the bytes of a text are: what encoding answers for a module that reading it may give.
+use Rattle.std.specs.Prelude.{◌≡◌, ℕ, ◌≤◌, List, length, Option, Some, None, Result, Ok, Err, ⊤, IsTrue}
+use Rattle.std.specs.Option.{unwrap_or}
+use Rattle.std.specs.Global.{Vec}
 use Rattle.wast_base.specs.declared.faults.Error.{Error}
 use Rattle.wast_base.specs.declared.faults.Fault.TheVariants as fault
 use Rattle.wast_base.specs.declared.faults.Form.{Form}
 use Rattle.wast_base.specs.Faults.{refused, fault_of, fault_number, span_of}
 use Rattle.wast_base.specs.declared.ids.Span.{Span}
-use Rattle.wast_base.specs.Ids.{Written}
+use Rattle.wast_base.specs.Ids.{start}
+use Rattle.wat_tokens.specs.declared.faults.TextError.{TextError}
 use Rattle.wat_tokens.specs.declared.faults.TextFault.{TextFault}
 use Rattle.wat_tokens.specs.declared.faults.TextFault.TheVariants as text
-use Rattle.wast_nodes.specs.Tree.{Space}
-use Rattle.wast_nodes.specs.Known.{known}
-use Rattle.wast_nodes.specs.Items.{items}
-use Rattle.wast_nodes.specs.WellFormed.{is_well_formed}
-use Rattle.wasm_out.specs.Reads.{Reads}
-use Rattle.wast_demands.specs.Demands.{IsUnresolved}
-use Rattle.wast_demands.specs.Explicit.{explicit_from}
-use Rattle.wast_demands.specs.Finished.{finished}
-use Rattle.wast_passes.specs.Resolvers.{KnownNames, known_to}
-use Rattle.wast_core.specs.Tree.{ModuleField}
-use Rattle.wast_core.specs.Meaning.{meaning}
-use Rattle.wast_core.specs.Uncovered.{first, uncovered_forms, IsCovered}
+use Rattle.wat_text.specs.declared.modules.TextKind.{TextKind}
+use Rattle.wat_text.specs.declared.modules.TextKind.TheVariants as held
+use Rattle.wat_text.specs.declared.modules.TextModule.{TextModule}
+use Rattle.wat_text.specs.Texts.{is_well_formed_text}
+use Rattle.wast_core.specs.Uncovered.{first, uncovered_forms}
+use Rattle.wast_core.specs.declared.module.Module.{Module}
 use Rattle.wast_core.specs.declared.module.ModuleKind.{ModuleKind}
 use Rattle.wast_core.specs.declared.module.ModuleKind.TheVariants as kind
-use Rattle.wast_core.specs.Headline.{IsMet, IsUnencoded}
-use Rattle.wat_bytes.specs.declared.encodes.Refused.{Refused}
-use Rattle.wat_bytes.specs.declared.encodes.Refused.TheVariants as answer
+use Rattle.wast_core.specs.Modules.{IsReady, ill_formed}
+use Rattle.wast_core.specs.Headline.{EncodesKind, name_of_module}
+use Rattle.wat_bytes.specs.declared.refusals.Refused.{Refused}
+use Rattle.wat_bytes.specs.declared.refusals.Refused.TheVariants as answer
 
--- Bytes of a well formed module of which each demand is met and each form covered: they are read as what it means.
-pub record AreBytes (bytes : List ℕ) : Type 0 where
-  pub name : Option (List ℕ)
-  pub fields : List ModuleField
-  pub well_formed : IsTrue (is_well_formed fields)
-  pub met : IsMet fields
-  pub covered : IsCovered (finished 1 fields)
-  pub reads : Reads bytes (meaning name fields)
+-- What a module that was read holds, as what a module of wast_core holds: its fields, or the bytes of a binary module.
+abbrev pub kind_of : TextKind → ModuleKind
+kind_of (held.Fields fields) = kind.Text fields
+kind_of (held.Binary pieces) = kind.Binary pieces
 
--- why a well formed module has no bytes
-pub record IsNoBytes (e : Error) : Type 0 where
-  pub name : Option (List ℕ)
-  pub fields : List ModuleField
+-- A module that was read, as a module of wast_core.
+abbrev pub module_of : TextModule → Module
+module_of t = record { span = t.span; id = t.id; name = t.name; kind = kind_of t.kind }
+
+-- Why a module that is not ready is refused: the least clause of "well formed" that fails, and else clause 6, on generated ids.
+abbrev pub unready : Module → TextError
+unready m = record { fault = text.IllFormed (unwrap_or (ill_formed m) 6); span = start }
+
+-- A module that is not ready, and why.
+pub record IsUnready (m : Module) (e : TextError) : Type 0 where
+  pub is_not_ready : IsReady m 1 → ⊥
+  pub why : e ≡ unready m
+
+-- What encoding a module that is ready answers, as the headline theorem has it, with the id counter at 1.
+pub record EncodesReady (m : Module) (r : Result (Vec ℕ) Error) : Type 0 where
+  pub ready : IsReady m 1
   pub left : ModuleKind
-  pub well_formed : IsTrue (is_well_formed fields)
-  pub unencoded : IsUnencoded 1 name fields e left
+  pub encodes : EncodesKind 1 (name_of_module m) m.kind r left
 
--- Why a text has no bytes: where it is a well formed module, what that answers.
-abbrev pub IsWhy : Refused → Type 0
-IsWhy (answer.Text e) = ⊤
-IsWhy (answer.Module e) = IsNoBytes e
-IsWhy (answer.Uncovered u) = IsNoBytes (refused (fault.Uncovered u.form))
+-- What encoding a module answers. The text of a form that no encoder covers is not part of it, since a module has no text.
+abbrev pub EncodesModule : Module → Result (Vec ℕ) Refused → Type 0
+EncodesModule m (Ok bytes) = EncodesReady m (Ok bytes)
+EncodesModule m (Err (answer.Text e)) = IsUnready m e
+EncodesModule m (Err (answer.Module e)) = EncodesReady m (Err e)
+EncodesModule m (Err (answer.Uncovered u)) = EncodesReady m (Err (refused (fault.Uncovered u.form)))
 
--- the number of a fault of a text: that of memory, where it was refused, and else none
+-- What encoding a module that was read answers.
+abbrev pub EncodesText : TextModule → Result (Vec ℕ) Refused → Type 0
+EncodesText t r = EncodesModule (module_of t) r
+
+-- What reading a text may give: a module whose fields are well formed, or an error with a position in the text. Reading itself is
+-- not proved, so more than this is not known. The definition is shut, and only the proof of `read_text` opens it: a function has
+-- no proof of "reading may give it" unless it calls `read_text` with this text.
+unfoldable pub IsRead : List ℕ → Result TextModule TextError → Type 0
+IsRead bytes (Ok t) = IsTrue (is_well_formed_text t.kind)
+IsRead bytes (Err e) = e.span.offset ≤ length bytes
+
+-- What is answered after reading: what is answered for the module, or the error of reading.
+abbrev pub AfterReading : {A : Type 0} → (TextModule → Result A Refused → Type 0) → Result TextModule TextError → Result A Refused → Type 0
+AfterReading is_answer (Ok t) r = is_answer t r
+AfterReading is_answer (Err e) r = r ≡ Err (answer.Text e)
+
+-- What is answered for a text: what is answered after reading it.
+pub record OfText {A : Type 0} (is_answer : TextModule → Result A Refused → Type 0) (bytes : List ℕ) (r : Result A Refused) : Type 0 where
+  pub read : Result TextModule TextError
+  pub is_read : IsRead bytes read
+  pub answered : AfterReading is_answer read r
+
+-- An error of a text is in the text or at its end.
+abbrev pub IsPlaced : List ℕ → Refused → Type 0
+IsPlaced bytes (answer.Text e) = e.span.offset ≤ length bytes
+IsPlaced bytes (answer.Module e) = ⊤
+IsPlaced bytes (answer.Uncovered u) = ⊤
+
+-- the number of a fault of a text: 12 if an allocation failed, and else none
 abbrev pub number_of_text : TextFault → Option ℕ
 number_of_text text.Memory = Some 12
 number_of_text f = None
@@ -60,43 +94,11 @@ number_of (answer.Text e) = number_of_text e.fault
 number_of (answer.Module e) = Some (fault_number (fault_of e))
 number_of (answer.Uncovered u) = Some 11
 
--- its place, where it has one
+-- its position, if it has one
 abbrev pub place_of : Refused → Option Span
 place_of (answer.Text e) = Some e.span
 place_of (answer.Module e) = span_of e
 place_of (answer.Uncovered u) = Some u.span
-
--- why the names of a well formed module do not resolve
-pub record IsNoNames (e : Error) : Type 0 where
-  pub fields : List ModuleField
-  pub well_formed : IsTrue (is_well_formed fields)
-  pub unresolved : IsUnresolved 1 fields e
-
--- Why the names of a text do not resolve: where it is a well formed module, what that answers.
-abbrev pub IsWhyUnresolved : Refused → Type 0
-IsWhyUnresolved (answer.Text e) = ⊤
-IsWhyUnresolved (answer.Module e) = IsNoNames e
-IsWhyUnresolved (answer.Uncovered u) = ⊥
-
--- the names of a well formed module of which each demand is met
-pub record AreNames (names : KnownNames) : Type 0 where
-  pub fields : List ModuleField
-  pub well_formed : IsTrue (is_well_formed fields)
-  pub met : IsMet fields
-  pub known : known_to names ≡ known (items (explicit_from 1 fields))
-
--- the number of what a name denotes in a space of a well formed module of which each demand is met
-pub record IsNumber (space : Space) (name : List ℕ) (number : ℕ) : Type 0 where
-  pub fields : List ModuleField
-  pub well_formed : IsTrue (is_well_formed fields)
-  pub met : IsMet fields
-  pub denotes : (known (items (explicit_from 1 fields))).number space (Written name) ≡ Some number
-
--- the fields that a module holds
-abbrev pub fields_of : ModuleKind → List ModuleField
-fields_of (kind.Text fields) = fields
-fields_of (kind.Binary pieces) = []
-fields_of (kind.Refused e) = []
 
 -- the first form that no encoder covers in what a module holds
 abbrev pub first_form : ModuleKind → Option Form

@@ -4,9 +4,13 @@
 #![tactic(auto)]
 
 mod encodes;
+mod modules;
 mod names;
+mod refusals;
 #[cfg(test)]
 mod tests;
+mod uncovered;
 
-pub use encodes::{Refused, encode_text};
-pub use names::{Denoted, names_of_text, number_in_text};
+pub use encodes::{encode_text, encoded_text};
+pub use names::{Denoted, names_of, names_of_text, number_in, number_in_text};
+pub use refusals::{Refused, UncoveredForm};

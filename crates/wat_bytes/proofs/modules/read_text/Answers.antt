@@ -1,0 +1,5 @@
+use Rattle.wat_bytes.proofs.Texts.{is_read}
+use Rattle.wat_bytes.proofs.modules.read_text.Goals as goal
+
+pub returns-clause-read : goal.returns-clause-read
+returns-clause-read c = is_read c.args.text.now c.read.result c.read.ensures.well_formed c.read.ensures.place
