@@ -2,6 +2,7 @@
 
 use crate::archive::{self, Room};
 use crate::{fault, room, Fault};
+use std::fmt;
 
 /// An index space of a module (text format, indices).
 #[derive(Clone, Copy, Debug, PartialEq, Eq, Hash)]
@@ -36,6 +37,26 @@ impl Space {
         Space::Data,
         Space::Type,
     ];
+
+    /// Returns the word for an item of the space, as messages have it: `func`, .., `type`.
+    pub fn word(self) -> &'static str {
+        match self {
+            Space::Func => "func",
+            Space::Table => "table",
+            Space::Memory => "memory",
+            Space::Global => "global",
+            Space::Tag => "tag",
+            Space::Elem => "elem",
+            Space::Data => "data",
+            Space::Type => "type",
+        }
+    }
+}
+
+impl fmt::Display for Space {
+    fn fmt(&self, f: &mut fmt::Formatter<'_>) -> fmt::Result {
+        f.pad(self.word())
+    }
 }
 
 /// A name of a text, and what it denotes (text format, indices).

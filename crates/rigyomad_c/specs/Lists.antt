@@ -1,10 +1,15 @@
 -- Lists of all names of a text, as C has them: a record of each name, and the bytes of all of them one after another.
-use Rattle.std.specs.Prelude.{◌≡◌, ℕ, ◌+◌, nat_le, ◌&&◌, Bool, IsTrue, IsFalse, List, [], ◌∷◌, length, drop, ◌++◌}
+use Rattle.std.specs.Prelude.{Result, Ok, Err, ◌≡◌, ℕ, ◌+◌, nat_le, ◌&&◌, Bool, IsTrue, IsFalse, List, [], ◌∷◌, length, drop, ◌++◌}
+use Rattle.std.specs.Global.{Vec}
 use Rattle.wast_base.specs.Spaces.{rank_of}
 use Rattle.wast_base.specs.Ids.{text_of, name_of}
+use Rattle.wat_bytes.specs.Texts.{OfText, number_of}
+use Rattle.wat_bytes.specs.Names.{ListsText}
 use Rattle.wat_bytes.specs.declared.names.Denoted.{Denoted}
+use Rattle.wat_bytes.specs.declared.refusals.Refused.{Refused}
 use Rattle.rigyomad_c.specs.declared.statuses.Status.{Status}
 use Rattle.rigyomad_c.specs.declared.statuses.Status.TheVariants as status
+use Rattle.rigyomad_c.specs.Answers.{status_of, IsNoText}
 use Rattle.rigyomad_c.specs.declared.lists.Name.{Name}
 use Rattle.rigyomad_c.specs.declared.lists.Room.{Room}
 
@@ -57,16 +62,18 @@ Puts all room names names_new bytes bytes_new status.Fault = ⊥
 Puts all room names names_new bytes bytes_new status.Utf8 = ⊥
 Puts all room names names_new bytes bytes_new status.Unknown = ⊥
 
--- some names, which are put so
-pub record PutsSome (room : Room) (names names_new : List Name) (bytes bytes_new : List ℕ) (s : Status) : Type 0 where
-  pub all : List Denoted
-  pub put : Puts all room names names_new bytes bytes_new s
+-- Putting what listing answers into two slices.
+abbrev pub PutsList : Result (Vec Denoted) Refused → Room → List Name → List Name → List ℕ → List ℕ → Status → Type 0
+PutsList (Ok all) room names names_new bytes bytes_new s = Puts all.items room names names_new bytes bytes_new s
+PutsList (Err r) room names names_new bytes bytes_new s = (room ≡ no_room) × (names_new ≡ names) × (bytes_new ≡ bytes) × (s ≡ status_of (number_of r))
 
--- Listing the names of a text: they are in both slices if these have room; else both stay, and the room says what is needed.
-abbrev pub Lists : Room → List Name → List Name → List ℕ → List ℕ → Status → Type 0
-Lists room names names_new bytes bytes_new status.Done = PutsSome room names names_new bytes bytes_new status.Done
-Lists room names names_new bytes bytes_new status.Short = PutsSome room names names_new bytes bytes_new status.Short
-Lists room names names_new bytes bytes_new status.Fault = (room ≡ no_room) × (names_new ≡ names) × (bytes_new ≡ bytes)
-Lists room names names_new bytes bytes_new status.Utf8 = (room ≡ no_room) × (names_new ≡ names) × (bytes_new ≡ bytes)
-Lists room names names_new bytes bytes_new status.Memory = (room ≡ no_room) × (names_new ≡ names) × (bytes_new ≡ bytes)
-Lists room names names_new bytes bytes_new status.Unknown = ⊥
+-- Listing the names of a text: what `names_of_text` may answer for this text is put into two slices.
+pub record ListsRead (text : List ℕ) (room : Room) (names names_new : List Name) (bytes bytes_new : List ℕ) (s : Status) : Type 0 where
+  pub answer : Result (Vec Denoted) Refused
+  pub listed : OfText ListsText text answer
+  pub put : PutsList answer room names names_new bytes bytes_new s
+
+-- Listing the names of bytes, which are no text if they are no UTF-8.
+abbrev pub Lists : List ℕ → Room → List Name → List Name → List ℕ → List ℕ → Status → Type 0
+Lists text room names names_new bytes bytes_new status.Utf8 = IsNoText text × (room ≡ no_room) × (names_new ≡ names) × (bytes_new ≡ bytes)
+Lists text room names names_new bytes bytes_new s = ListsRead text room names names_new bytes bytes_new s

@@ -85,7 +85,7 @@ pub extern "C" fn rigyomad_c_names(
     bytes: &mut [u8],
     room: &mut Room,
 ) -> u32
-    ensures { Answers (Lists room.new names.old names.new bytes.old bytes.new) result }
+    ensures { Answers (Lists text.now room.new names.old names.new bytes.old bytes.new) result }
 {
     list_names(alloc, text, names, bytes, room).code()
 }

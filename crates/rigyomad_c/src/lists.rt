@@ -1,7 +1,7 @@
 //! All names of a text are listed.
 
 ghost use Rattle.std.specs.Prelude.{◌≡◌, ◌++◌, [], length, drop, IsTrue, IsFalse, OnOk};
-ghost use Rattle.rigyomad_c.specs.Lists.{Lists, Puts, name_at, names_from, bytes_of, no_room, do_fit};
+ghost use Rattle.rigyomad_c.specs.Lists.{Lists, ListsRead, Puts, name_at, names_from, bytes_of, no_room, do_fit};
 
 use crate::encodes::put_front;
 use crate::statuses::Status;
@@ -123,7 +123,7 @@ fn list_names_of(
     room: &mut Room,
 ) -> Status
     requires { room.old ≡ no_room }
-    ensures { Lists room.new names.old names.new bytes.old bytes.new result }
+    ensures { ListsRead text.now room.new names.old names.new bytes.old bytes.new result }
 {
     let strings = Strings::new(alloc);
     match names_of_text(alloc, text, &strings) {
@@ -141,7 +141,7 @@ pub(crate) fn list_names(
     bytes: &mut [u8],
     room: &mut Room,
 ) -> Status
-    ensures { Lists room.new names.old names.new bytes.old bytes.new result }
+    ensures { Lists text.now room.new names.old names.new bytes.old bytes.new result }
 {
     *room = Room::none();
     match str::from_utf8(text) {

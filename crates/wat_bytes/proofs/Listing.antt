@@ -1,8 +1,9 @@
 -- Lists of written names, space by space.
-use Rattle.std.proofs.Common.{◌≡◌, ◌∙◌, ℕ, ◌+◌, ◌<◌, Bool, true, false, not, is_none, List, [], ◌∷◌, ◌++◌, map, length, take, get_or, filter, Option, Some, None, All, refl, sym, ap, subst, cond, if◌then◌else◌, append_assoc, append-nil}
+use Rattle.std.proofs.Common.{◌≡◌, ◌∙◌, ℕ, ◌+◌, ◌<◌, Bool, true, false, not, is_none, List, [], ◌∷◌, ◌++◌, map, length, take, get_or, filter, Option, Some, None, All, refl, sym, ap, subst, cond, append_assoc, append-nil}
 use Rattle.std.specs.List.Sorted.{IsPermutation, IsNonDecreasingBy}
 use Rattle.std.specs.FinMap as finmap
-use Rattle.std.proofs.lemmas.List.{take_more}
+use Rattle.std.proofs.lemmas.List.{map-append, take_more}
+use Rattle.std.proofs.lemmas.List.Elements.{All-map, filter_more}
 use Rattle.std.proofs.lemmas.List.Sorted.{All-permutation, IsPermutation-map}
 use Rattle.wast_base.specs.declared.ids.Id.{Id}
 use Rattle.wast_base.specs.declared.spaces.Space.{Space}
@@ -27,14 +28,38 @@ listed_behind names (t ∷ ts) s all found h of_space =
     }
 
 -- the step of a loop over spaces
-pub listed_more : (names : KnownNames) (ss : List Space) (at : ℕ) (s : Space) (all found : List Denoted) → at < length ss → s ≡ get_or ss at s → AreListedIn names (take at ss) all → AreOfSpace names s found → AreListedIn names (take (at + 1) ss) (all ++ found)
-listed_more names ss at s all found within is h of_space =
-    subst (λ l. AreListedIn names l (all ++ found)) (sym (take_more ss at s within)) (listed_behind names (take at ss) (get_or ss at s) all found h (subst (λ t. AreOfSpace names t found) is of_space))
+pub listed_more : (names : KnownNames) (ss : List Space) (at : ℕ) (d : Space) (all found : List Denoted) → at < length ss → AreListedIn names (take at ss) all → AreOfSpace names (get_or ss at d) found → AreListedIn names (take (at + 1) ss) (all ++ found)
+listed_more names ss at d all found within h of_space =
+    subst (λ l. AreListedIn names l (all ++ found)) (sym (take_more ss at d within)) (listed_behind names (take at ss) (get_or ss at d) all found h of_space)
 
 -- what is made of pairs is of their space
 of_space_made : (s : Space) (es : List (Id × ℕ)) → All (λ d. d.space ≡ s) (map (denoted_at s) es)
-of_space_made s [] = tt
-of_space_made s (e ∷ es) = (refl, of_space_made s es)
+of_space_made s es = All-map (λ d. d.space ≡ s) (denoted_at s) es (λ k d within. refl)
+
+made_step : (s : Space) (e : Id × ℕ) (b : Bool) → map (denoted_at s) (cond b (e ∷ []) []) ≡ cond b (denoted_at s e ∷ []) []
+made_step s e true = refl
+made_step s e false = refl
+
+-- the step of a loop over pairs
+pairs_more : (s : Space) (es : List (Id × ℕ)) (at : ℕ) (d : Id × ℕ) → at < length es → map (denoted_at s) (filter is_written_pair (take (at + 1) es)) ≡ map (denoted_at s) (filter is_written_pair (take at es)) ++ cond (is_written_pair (get_or es at d)) (denoted_at s (get_or es at d) ∷ []) []
+pairs_more s es at d within =
+    let old = filter is_written_pair (take at es) in
+    let e = get_or es at d in
+    ap (map (denoted_at s)) (filter_more is_written_pair es at d within)
+    ∙ (map-append (denoted_at s) old (cond (is_written_pair e) (e ∷ []) []) ∙ ap (λ l. map (denoted_at s) old ++ l) (made_step s e (is_written_pair e)))
+
+-- a written id is put, and a generated one is not
+pub pair_put : (s : Space) (es : List (Id × ℕ)) (at : ℕ) (d : Id × ℕ) (b : Bool) (old new : List Denoted) → at < length es → b ≡ is_generated (name_of (get_or es at d).0) → b ≡ false → old ≡ map (denoted_at s) (filter is_written_pair (take at es)) → new ≡ old ++ denoted_at s (get_or es at d) ∷ [] → new ≡ map (denoted_at s) (filter is_written_pair (take (at + 1) es))
+pair_put s es at d b old new within is written h put =
+    let e = get_or es at d in
+    let passes : is_written_pair e ≡ true = ap not (sym is ∙ written) in
+    put ∙ (ap (λ l. l ++ denoted_at s e ∷ []) h ∙ sym (pairs_more s es at d within ∙ ap (λ x. map (denoted_at s) (filter is_written_pair (take at es)) ++ cond x (denoted_at s e ∷ []) []) passes))
+
+pub pair_left : (s : Space) (es : List (Id × ℕ)) (at : ℕ) (d : Id × ℕ) (b : Bool) (old : List Denoted) → at < length es → b ≡ is_generated (name_of (get_or es at d).0) → b ≡ true → old ≡ map (denoted_at s) (filter is_written_pair (take at es)) → old ≡ map (denoted_at s) (filter is_written_pair (take (at + 1) es))
+pair_left s es at d b old within is generated h =
+    let e = get_or es at d in
+    let stops : is_written_pair e ≡ false = ap not (sym is ∙ generated) in
+    h ∙ sym (pairs_more s es at d within ∙ (ap (λ x. map (denoted_at s) (filter is_written_pair (take at es)) ++ cond x (denoted_at s e ∷ []) []) stops ∙ append-nil (map (denoted_at s) (filter is_written_pair (take at es)))))
 
 -- A pair is written as its entry is.
 same_written : (name : Name) → is_none (key_of name).1 ≡ not (is_generated name)
