@@ -1,6 +1,6 @@
-/* Calls each function on texts, and on slices that are null or too short: holds SEED COUNT SIZE. COUNT texts are of SIZE random
- * bytes, and COUNT are what stands on standard input with a few bytes changed. It ends with status 0 where each call answers what
- * rigyomad.h says, and tells else what was not so. */
+/* Calls each function on texts, and on slices that are null or too short: holds SEED COUNT SIZE.
+ * COUNT texts are SIZE random bytes, and COUNT are standard input with a few bytes changed. It ends
+ * with status 0 if each call returns what rigyomad.h says; else it prints what failed. */
 #include "rigyomad.h"
 
 #include <stdio.h>
@@ -18,18 +18,60 @@ static size_t below(size_t bound) {
 
 static void expect(int is_so, const char *what) {
     if (!is_so) {
-        fprintf(stderr, "not so: %s\n", what);
+        fprintf(stderr, "check failed: %s\n", what);
         exit(1);
     }
 }
 
 static void look_up(const char *text, size_t text_size, uint32_t encoded) {
-    for (int space = 0; space < 9; space++) {
+    for (int i = 0; i < 9; i++) {
         uint32_t number = 12345;
-        uint32_t status = rigyomad_resolve(text, text_size, (enum rigyomad_space)space, "f", 1, &number);
-        expect(status == RIGYOMAD_DONE || number == 12345, "where nothing is found the number stays");
-        expect(encoded != RIGYOMAD_DONE || status == RIGYOMAD_DONE || status == RIGYOMAD_UNKNOWN, "what is encoded is resolved");
+        enum rigyomad_space space = (enum rigyomad_space)i;
+        uint32_t status = rigyomad_resolve(text, text_size, space, "f", 1, &number);
+        int is_resolved = status == RIGYOMAD_DONE || status == RIGYOMAD_UNKNOWN;
+        expect(status == RIGYOMAD_DONE || number == 12345, "without a name the number stays");
+        expect(encoded != RIGYOMAD_DONE || is_resolved, "what is encoded is resolved");
     }
+}
+
+/* Each name that is listed denotes its number, and its id begins at its place. */
+static void look_up_each(const char *text, size_t text_size, const struct rigyomad_name *names,
+                         const char *bytes, const struct rigyomad_names_room *room) {
+    size_t end = 0;
+    for (size_t i = 0; i < room->names; i++) {
+        const struct rigyomad_name *it = &names[i];
+        uint32_t number = it->number + 1;
+        enum rigyomad_space space = (enum rigyomad_space)it->space;
+        expect(it->start == end && it->size <= room->bytes - end, "names are one after another");
+        expect(it->offset < text_size && text[it->offset] == '$', "an id begins with $");
+        uint32_t status = rigyomad_resolve(text, text_size, space, bytes + end, it->size, &number);
+        expect(status == RIGYOMAD_DONE && number == it->number, "a name has its number");
+        end += it->size;
+    }
+    expect(end == room->bytes, "each byte is part of a name");
+}
+
+/* Lists the names of a text: without room, with too little, and with as much as they need. */
+static void list_names(const char *text, size_t text_size, uint32_t resolved) {
+    struct rigyomad_names_room room, again;
+    uint32_t status = rigyomad_names(text, text_size, NULL, 0, NULL, 0, &room);
+    expect(status == (room.names ? RIGYOMAD_SHORT : resolved), "names without room are too short");
+    if (room.names == 0) {
+        return;
+    }
+    struct rigyomad_name *names = malloc((room.names + 1) * sizeof *names);
+    char *bytes = malloc(room.bytes + 1);
+    expect(names != NULL && bytes != NULL, "there is memory");
+    names[0].space = 99;
+    bytes[room.bytes] = 'z';
+    status = rigyomad_names(text, text_size, names, room.names - 1, bytes, room.bytes, &again);
+    expect(status == RIGYOMAD_SHORT && names[0].space == 99, "names without room stay unwritten");
+    expect(again.names == room.names && again.bytes == room.bytes, "the room is the same");
+    status = rigyomad_names(text, text_size, names, room.names, bytes, room.bytes, &again);
+    expect(status == RIGYOMAD_DONE && bytes[room.bytes] == 'z', "names that fit are written");
+    look_up_each(text, text_size, names, bytes, &room);
+    free(bytes);
+    free(names);
 }
 
 static void diagnose(const char *text, size_t text_size, uint32_t encoded) {
@@ -41,8 +83,8 @@ static void diagnose(const char *text, size_t text_size, uint32_t encoded) {
     expect((status == RIGYOMAD_DONE) == (at.size == 0), "a fault has a message");
 }
 
-/* Calls each function on a text, and encoding into too little room, and into as much as is wanted. */
-static void call_each(const char *text, size_t text_size) {
+/* Encodes a text without room, with one byte too little, and with as much as it needs. */
+static uint32_t encode(const char *text, size_t text_size) {
     size_t size = 12345, again = 12345;
     uint32_t status = rigyomad_encode(text, text_size, NULL, 0, &size);
     expect(status == RIGYOMAD_SHORT ? size >= 8 : size == 0, "a module has eight bytes or more");
@@ -50,15 +92,26 @@ static void call_each(const char *text, size_t text_size) {
     expect(out != NULL, "there is memory");
     memset(out, 0xa5, size + 1);
     if (size > 0) {
-        expect(rigyomad_encode(text, text_size, out, size - 1, &again) == RIGYOMAD_SHORT, "one byte is missing");
+        status = rigyomad_encode(text, text_size, out, size - 1, &again);
+        expect(status == RIGYOMAD_SHORT, "one byte is missing");
         expect(out[0] == 0xa5 && again == size, "what does not fit is not written");
         status = rigyomad_encode(text, text_size, out, size, &again);
-        expect(status == RIGYOMAD_DONE && again == size && !memcmp(out, "\0asm", 4), "what fits is written");
-        expect(out[size] == 0xa5, "nothing is written behind the bytes");
+        expect(status == RIGYOMAD_DONE && again == size, "what fits is written");
+        expect(!memcmp(out, "\0asm", 4), "a module begins with its magic number");
+        expect(out[size] == 0xa5, "nothing is written after the bytes");
     }
     free(out);
+    return status;
+}
+
+/* Calls each function on a text. */
+static void call_each(const char *text, size_t text_size) {
+    uint32_t status = encode(text, text_size);
     diagnose(text, text_size, status);
     look_up(text, text_size, status);
+    uint32_t number;
+    uint32_t resolved = rigyomad_resolve(text, text_size, RIGYOMAD_SPACE_FUNC, "", 0, &number);
+    list_names(text, text_size, resolved == RIGYOMAD_UNKNOWN ? RIGYOMAD_DONE : resolved);
 }
 
 static void random_bytes(char *text, size_t size) {
@@ -74,20 +127,36 @@ static void change(char *text, size_t size) {
     }
 }
 
+static void expect_refused(uint32_t status, const char *what) {
+    expect(status == RIGYOMAD_SLICE, what);
+}
+
+/* Slices that are null or too long are refused, and null slices without bytes are not. */
 static void no_slices(void) {
     struct rigyomad_diagnosis at;
+    struct rigyomad_names_room room;
+    struct rigyomad_name name;
+    const enum rigyomad_space func = RIGYOMAD_SPACE_FUNC;
+    const size_t most = SIZE_MAX / sizeof name;
     uint32_t number;
     size_t size;
     char byte;
-    expect(rigyomad_encode(NULL, 1, &byte, 1, &size) == RIGYOMAD_SLICE, "a null text is refused");
-    expect(rigyomad_encode("", SIZE_MAX, &byte, 1, &size) == RIGYOMAD_SLICE, "a text without an end is refused");
-    expect(rigyomad_encode("", 0, NULL, 1, &size) == RIGYOMAD_SLICE, "null room is refused");
-    expect(rigyomad_encode("", 0, &byte, 1, NULL) == RIGYOMAD_SLICE, "a null size is refused");
-    expect(rigyomad_encode(NULL, 0, NULL, 0, &size) == RIGYOMAD_SHORT, "no text is an empty module");
-    expect(rigyomad_fault("", 0, NULL, 1, &at) == RIGYOMAD_SLICE, "a null message is refused");
-    expect(rigyomad_fault("", 0, NULL, 0, NULL) == RIGYOMAD_SLICE, "a null diagnosis is refused");
-    expect(rigyomad_resolve("", 0, RIGYOMAD_SPACE_FUNC, NULL, 1, &number) == RIGYOMAD_SLICE, "a null name is refused");
-    expect(rigyomad_resolve("", 0, RIGYOMAD_SPACE_FUNC, "f", 1, NULL) == RIGYOMAD_SLICE, "a null number is refused");
+    expect_refused(rigyomad_encode(NULL, 1, &byte, 1, &size), "a null text is refused");
+    expect_refused(rigyomad_encode("", SIZE_MAX, &byte, 1, &size), "a long text is refused");
+    expect_refused(rigyomad_encode("", 0, NULL, 1, &size), "null room is refused");
+    expect_refused(rigyomad_encode("", 0, &byte, 1, NULL), "a null size is refused");
+    expect_refused(rigyomad_fault("", 0, NULL, 1, &at), "a null message is refused");
+    expect_refused(rigyomad_fault("", 0, NULL, 0, NULL), "a null diagnosis is refused");
+    expect_refused(rigyomad_resolve("", 0, func, NULL, 1, &number), "a null name is refused");
+    expect_refused(rigyomad_resolve("", 0, func, "f", 1, NULL), "a null number is refused");
+    expect_refused(rigyomad_names("", 0, NULL, 1, &byte, 1, &room), "null names are refused");
+    expect_refused(rigyomad_names("", 0, &name, most, &byte, 1, &room), "many names are refused");
+    expect_refused(rigyomad_names("", 0, &name, 1, NULL, 1, &room), "null bytes are refused");
+    expect_refused(rigyomad_names("", 0, &name, 1, &byte, 1, NULL), "null room is refused");
+    uint32_t status = rigyomad_encode(NULL, 0, NULL, 0, &size);
+    expect(status == RIGYOMAD_SHORT, "no text is an empty module");
+    status = rigyomad_names(NULL, 0, NULL, 0, NULL, 0, &room);
+    expect(status == RIGYOMAD_DONE && room.names == 0, "an empty module has no names");
 }
 
 int main(int count, char **words) {

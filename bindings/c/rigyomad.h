@@ -1,9 +1,12 @@
-/* Rigyomad for C: a module in the text format of WebAssembly becomes the bytes of the binary format.
+/* Rigyomad for C: turns a module in the text format of WebAssembly into the bytes of the binary
+ * format.
  *
- * Link librigyomad_c.a, and liblibc_c.a of the Rattle kit (docs/BINDINGS.md). Each call stands alone: it keeps nothing, and any
- * thread may make any call at any time, but no signal handler. It takes memory from malloc, and gives all of it back.
+ * Link librigyomad_c.a, and liblibc_c.a of the Rattle kit (docs/BINDINGS.md). No call keeps state:
+ * any thread may make any call at any time, but a signal handler may not. A call takes memory from
+ * malloc, and frees all of it before it returns.
  *
- * Text is UTF-8 in a length of bytes, and needs no zero behind it. No slice may lie over another one of the same call. */
+ * Text is UTF-8 with a length in bytes, and needs no zero after it. Slices of one call must not
+ * overlap. */
 #ifndef RIGYOMAD_H
 #define RIGYOMAD_H
 
@@ -14,21 +17,21 @@
 extern "C" {
 #endif
 
-/* The number of these declarations. rigyomad_version() tells that of the archive. */
+/* The number of these declarations. rigyomad_version() returns that of the archive. */
 #define RIGYOMAD_VERSION 1
 
-/* What a call answers. */
+/* What a call returns. */
 enum rigyomad_status {
-    RIGYOMAD_DONE = 0,    /* What was asked for is there. */
-    RIGYOMAD_SHORT = 1,   /* It does not fit, and *size tells what is wanted. */
-    RIGYOMAD_FAULT = 2,   /* The text has a fault, which rigyomad_fault tells. */
-    RIGYOMAD_UTF8 = 3,    /* The text, or the name, is no UTF-8. */
-    RIGYOMAD_MEMORY = 4,  /* Memory was refused. */
-    RIGYOMAD_UNKNOWN = 5, /* Nothing has the name, or there is no such space. */
+    RIGYOMAD_DONE = 0,    /* It succeeded. */
+    RIGYOMAD_SHORT = 1,   /* A slice is too short; the size that is needed is returned. */
+    RIGYOMAD_FAULT = 2,   /* The text has a fault, which rigyomad_fault describes. */
+    RIGYOMAD_UTF8 = 3,    /* The text or the name is not UTF-8. */
+    RIGYOMAD_MEMORY = 4,  /* Allocation failed. */
+    RIGYOMAD_UNKNOWN = 5, /* Nothing has the name, or there is no such index space. */
     RIGYOMAD_SLICE = 6    /* A pointer is null, or a length is more than PTRDIFF_MAX. */
 };
 
-/* The index spaces. */
+/* The index spaces (text format, indices). */
 enum rigyomad_space {
     RIGYOMAD_SPACE_FUNC = 0,
     RIGYOMAD_SPACE_TABLE = 1,
@@ -40,25 +43,74 @@ enum rigyomad_space {
     RIGYOMAD_SPACE_TYPE = 7
 };
 
-/* What is wrong with a text, and where. */
-struct rigyomad_diagnosis {
-    uint32_t number; /* 1 for E1, and so on to 13; 0 where the text is no well formed module, or has no fault. */
-    size_t offset;   /* Bytes before the place; 0 where there is no place. */
-    size_t line;     /* From 1; 0 where there is no place. */
-    size_t column;   /* In bytes, from 1; 0 where there is no place. */
-    size_t size;     /* How many bytes the message has. */
+/* The faults that have a number. E1 to E9 and E11 have a place. */
+enum rigyomad_fault_kind {
+    /* E1: an import comes after a definition. */
+    RIGYOMAD_E1_IMPORT_AFTER = 1,
+    /* E2: two items of one index space have the same id. */
+    RIGYOMAD_E2_DUPLICATE = 2,
+    /* E3: two parameters, locals or fields have the same id. */
+    RIGYOMAD_E3_DUPLICATE_FIELD = 3,
+    /* E4: nothing has this name. */
+    RIGYOMAD_E4_UNKNOWN = 4,
+    /* E5: a type use has a type that is not a function type. */
+    RIGYOMAD_E5_NOT_FUNC = 5,
+    /* E6: a type index is out of bounds. */
+    RIGYOMAD_E6_OUT_OF_BOUNDS = 6,
+    /* E7: an inline type is not the type at the index. */
+    RIGYOMAD_E7_NO_MATCH = 7,
+    /* E8: the label at the end of a block is not that at its start. */
+    RIGYOMAD_E8_LABELS = 8,
+    /* E9: a field is accessed by name, but the type has no named fields. */
+    RIGYOMAD_E9_NO_NAMED_FIELDS = 9,
+    /* E10: a count or a size does not fit in 32 bits. */
+    RIGYOMAD_E10_TOO_LARGE = 10,
+    /* E11: an unsupported construct, which resolves but cannot be encoded. */
+    RIGYOMAD_E11_UNCOVERED = 11,
+    /* E12: allocation failed. */
+    RIGYOMAD_E12_MEMORY = 12,
+    /* E13: the text is a component, not a core module. */
+    RIGYOMAD_E13_COMPONENT = 13
 };
 
-/* The calls of the archive. They trust that no pointer is null, and that each length is that of its slice; the functions below
- * see to the first, and are the ones to call. */
-uint32_t rigyomad_c_version(void);
-uint32_t rigyomad_c_encode(const uint8_t *text, size_t text_size, uint8_t *out, size_t out_size, size_t *size);
-uint32_t rigyomad_c_fault(const uint8_t *text, size_t text_size, uint8_t *message, size_t message_size,
-                          struct rigyomad_diagnosis *diagnosis);
-uint32_t rigyomad_c_resolve(const uint8_t *text, size_t text_size, uint32_t space, const uint8_t *name, size_t name_size,
-                            uint32_t *number);
+/* What is wrong with a text, and where. */
+struct rigyomad_diagnosis {
+    uint32_t number; /* One of rigyomad_fault_kind; 0 if it is no module, or nothing is wrong. */
+    size_t offset;   /* Bytes before the place; 0 if there is no place. */
+    size_t line;     /* From 1; 0 if there is no place. */
+    size_t column;   /* In bytes, from 1; 0 if there is no place. */
+    size_t size;     /* How many bytes the whole message has. */
+};
 
-/* A slice as the archive takes it: a null one without bytes lies at some byte. */
+/* A name of a text, and what it denotes. */
+struct rigyomad_name {
+    uint32_t space;  /* One of rigyomad_space. */
+    uint32_t number; /* The number of what it denotes. */
+    size_t offset;   /* Bytes of the text before its id, which begins with `$`. */
+    size_t start;    /* Where the name begins among the bytes of all names. */
+    size_t size;     /* How many bytes the name has, without the `$`. */
+};
+
+/* How much room names need. */
+struct rigyomad_names_room {
+    size_t names; /* How many names there are. */
+    size_t bytes; /* How many bytes all of them have. */
+};
+
+/* The calls of the archive. They require that no pointer is null, and that each length is that of
+ * its slice. Call the functions below, which check the first. */
+uint32_t rigyomad_c_version(void);
+uint32_t rigyomad_c_encode(const uint8_t *text, size_t text_size, uint8_t *out, size_t out_size,
+                           size_t *size);
+uint32_t rigyomad_c_fault(const uint8_t *text, size_t text_size, uint8_t *message,
+                          size_t message_size, struct rigyomad_diagnosis *diagnosis);
+uint32_t rigyomad_c_resolve(const uint8_t *text, size_t text_size, uint32_t space,
+                            const uint8_t *name, size_t name_size, uint32_t *number);
+uint32_t rigyomad_c_names(const uint8_t *text, size_t text_size, struct rigyomad_name *names,
+                          size_t names_count, uint8_t *bytes, size_t bytes_size,
+                          struct rigyomad_names_room *room);
+
+/* A slice as the archive takes it: a null pointer without bytes becomes a pointer to some byte. */
 static inline const uint8_t *rigyomad_lent(const void *bytes, size_t size) {
     static const uint8_t none = 0;
     return bytes || size ? (const uint8_t *)bytes : &none;
@@ -68,17 +120,23 @@ static inline uint8_t *rigyomad_room(void *bytes, size_t size, uint8_t *none) {
     return bytes || size ? (uint8_t *)bytes : none;
 }
 
-static inline int rigyomad_is_slice(const void *bytes, size_t size) { return bytes && size <= (size_t)PTRDIFF_MAX; }
+static inline int rigyomad_is_slice(const void *bytes, size_t size) {
+    return bytes && size <= (size_t)PTRDIFF_MAX;
+}
 
-/* The number of the archive's declarations: RIGYOMAD_VERSION, where header and archive fit. */
+/* Returns the number of the archive's declarations: RIGYOMAD_VERSION, if header and archive fit. */
 static inline uint32_t rigyomad_version(void) { return rigyomad_c_version(); }
 
-/* Puts the bytes of the module of a text at out, where out_size bytes hold them, and how many they are into *size:
- * RIGYOMAD_DONE. Where they do not fit, out stays as it is, and *size tells how many are wanted: RIGYOMAD_SHORT. So a first call
- * with a null out and out_size 0 asks for the size; a text seldom has fewer bytes than its module, so that one call with as
- * many bytes as the text has mostly does. Else out stays, *size is 0, and the answer is RIGYOMAD_FAULT, RIGYOMAD_UTF8 or
- * RIGYOMAD_MEMORY. */
-static inline uint32_t rigyomad_encode(const char *text, size_t text_size, void *out, size_t out_size, size_t *size) {
+/* Writes the bytes of the module of a text to out, and how many they are to *size: RIGYOMAD_DONE.
+ *
+ * If out_size is too small, nothing is written to out, and *size is the size that is needed:
+ * RIGYOMAD_SHORT. So a first call with a null out and out_size 0 returns the size. A module seldom
+ * has more bytes than its text, so one call with as many bytes as the text has mostly succeeds.
+ *
+ * Otherwise out is unchanged, *size is 0, and RIGYOMAD_FAULT, RIGYOMAD_UTF8 or RIGYOMAD_MEMORY is
+ * returned. */
+static inline uint32_t rigyomad_encode(const char *text, size_t text_size, void *out,
+                                       size_t out_size, size_t *size) {
     uint8_t none = 0;
     const uint8_t *lent = rigyomad_lent(text, text_size);
     uint8_t *room = rigyomad_room(out, out_size, &none);
@@ -88,32 +146,70 @@ static inline uint32_t rigyomad_encode(const char *text, size_t text_size, void 
     return rigyomad_c_encode(lent, text_size, room, out_size, size);
 }
 
-/* Tells why rigyomad_encode gives no bytes of a text: what is wrong and where into *diagnosis, and the message, without a zero
- * behind it, into as many of message_size bytes at message as it takes; diagnosis->size tells how many bytes all of it has. The
- * answer is that of rigyomad_encode with room for all bytes: RIGYOMAD_DONE where nothing is wrong. Of a text that is no UTF-8
- * the place has no line. */
-static inline uint32_t rigyomad_fault(const char *text, size_t text_size, char *message, size_t message_size,
-                                      struct rigyomad_diagnosis *diagnosis) {
+/* Writes to *diagnosis why rigyomad_encode returns no bytes of a text. Writes as much of the
+ * message as fits into message_size bytes at message, without a zero after it; diagnosis->size is
+ * the size of the whole message.
+ *
+ * Returns what rigyomad_encode returns with room for all bytes: RIGYOMAD_DONE if nothing is wrong.
+ * If the text is not UTF-8, the place has an offset and no line. */
+static inline uint32_t rigyomad_fault(const char *text, size_t text_size, char *message,
+                                      size_t message_size, struct rigyomad_diagnosis *diagnosis) {
     uint8_t none = 0;
     const uint8_t *lent = rigyomad_lent(text, text_size);
     uint8_t *room = rigyomad_room(message, message_size, &none);
-    if (!rigyomad_is_slice(lent, text_size) || !rigyomad_is_slice(room, message_size) || !diagnosis) {
+    if (!rigyomad_is_slice(lent, text_size) || !rigyomad_is_slice(room, message_size) ||
+        !diagnosis) {
         return RIGYOMAD_SLICE;
     }
     return rigyomad_c_fault(lent, text_size, room, message_size, diagnosis);
 }
 
-/* Puts the number of what a name, without its $, denotes in an index space of the module of a text into *number: RIGYOMAD_DONE.
- * Else *number stays, and the answer is RIGYOMAD_UNKNOWN, RIGYOMAD_FAULT where the names of the module do not resolve,
- * RIGYOMAD_UTF8 or RIGYOMAD_MEMORY. */
-static inline uint32_t rigyomad_resolve(const char *text, size_t text_size, enum rigyomad_space space, const char *name,
+/* Writes the number of what a name, without its `$`, denotes in an index space of the module of a
+ * text to *number: RIGYOMAD_DONE. It reads the whole text; for several names of one text,
+ * rigyomad_names reads it once.
+ *
+ * Otherwise *number is unchanged, and RIGYOMAD_UNKNOWN, RIGYOMAD_FAULT (the names of the module do
+ * not resolve), RIGYOMAD_UTF8 or RIGYOMAD_MEMORY is returned. */
+static inline uint32_t rigyomad_resolve(const char *text, size_t text_size,
+                                        enum rigyomad_space space, const char *name,
                                         size_t name_size, uint32_t *number) {
     const uint8_t *lent = rigyomad_lent(text, text_size);
     const uint8_t *lent_name = rigyomad_lent(name, name_size);
-    if (!rigyomad_is_slice(lent, text_size) || !rigyomad_is_slice(lent_name, name_size) || !number) {
+    if (!rigyomad_is_slice(lent, text_size) || !rigyomad_is_slice(lent_name, name_size) ||
+        !number) {
         return RIGYOMAD_SLICE;
     }
     return rigyomad_c_resolve(lent, text_size, (uint32_t)space, lent_name, name_size, number);
+}
+
+/* Writes all names that the items of the index spaces of the module of a text have: a record of
+ * each to names, and the bytes of the names one after another to bytes. It writes to *room how many
+ * names there are, and how many bytes: RIGYOMAD_DONE. The records are in the order of their spaces,
+ * then of their numbers.
+ *
+ * Of (module (type $t (func)) (func) (func $"a b")) the records are { 0, 1, 38, 0, 3 } and
+ * { 7, 0, 14, 3, 1 }, and the bytes are "a bt".
+ *
+ * If names_count or bytes_size is too small, both slices are unchanged, and *room is the room that
+ * is needed: RIGYOMAD_SHORT. No text has more names than an eighth of its bytes, nor more bytes of
+ * names than bytes.
+ *
+ * Otherwise both slices are unchanged, *room is all 0, and RIGYOMAD_FAULT (the names of the module
+ * do not resolve), RIGYOMAD_UTF8 or RIGYOMAD_MEMORY is returned. */
+static inline uint32_t rigyomad_names(const char *text, size_t text_size,
+                                      struct rigyomad_name *names, size_t names_count, char *bytes,
+                                      size_t bytes_size, struct rigyomad_names_room *room) {
+    uint8_t none = 0;
+    struct rigyomad_name no_name = {0, 0, 0, 0, 0};
+    const uint8_t *lent = rigyomad_lent(text, text_size);
+    uint8_t *bytes_out = rigyomad_room(bytes, bytes_size, &none);
+    struct rigyomad_name *names_out = names || names_count ? names : &no_name;
+    int are_names = names_out && names_count <= (size_t)PTRDIFF_MAX / sizeof *names_out;
+    if (!rigyomad_is_slice(lent, text_size) || !rigyomad_is_slice(bytes_out, bytes_size) ||
+        !are_names || !room) {
+        return RIGYOMAD_SLICE;
+    }
+    return rigyomad_c_names(lent, text_size, names_out, names_count, bytes_out, bytes_size, room);
 }
 
 #ifdef __cplusplus

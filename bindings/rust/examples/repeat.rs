@@ -5,8 +5,9 @@ use std::{env, fs};
 
 fn main() {
     let words: Vec<String> = env::args().collect();
-    let [_, file, count] = words.as_slice() else {
-        panic!("usage: repeat FILE COUNT");
+    let (file, count) = match words.as_slice() {
+        [_, file, count] => (file, count),
+        _ => panic!("usage: repeat FILE COUNT"),
     };
     let text = fs::read_to_string(file).expect("a text");
     let count: u32 = count.parse().expect("a number");

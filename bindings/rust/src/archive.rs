@@ -23,11 +23,41 @@ pub(crate) struct Diagnosis {
     pub(crate) size: usize,
 }
 
+/// A name, and what it denotes.
+#[repr(C)]
+#[derive(Clone, Copy, Default)]
+pub(crate) struct Name {
+    pub(crate) space: u32,
+    pub(crate) number: u32,
+    pub(crate) offset: usize,
+    pub(crate) start: usize,
+    pub(crate) size: usize,
+}
+
+/// How much room names need.
+#[repr(C)]
+#[derive(Default)]
+pub(crate) struct Room {
+    pub(crate) names: usize,
+    pub(crate) bytes: usize,
+}
+
 extern "C" {
     fn rigyomad_c_version() -> u32;
-    fn rigyomad_c_encode(text: *const u8, text_size: usize, out: *mut u8, out_size: usize, size: *mut usize) -> u32;
-    fn rigyomad_c_fault(text: *const u8, text_size: usize, message: *mut u8, message_size: usize, diagnosis: *mut Diagnosis)
-        -> u32;
+    fn rigyomad_c_encode(
+        text: *const u8,
+        text_size: usize,
+        out: *mut u8,
+        out_size: usize,
+        size: *mut usize,
+    ) -> u32;
+    fn rigyomad_c_fault(
+        text: *const u8,
+        text_size: usize,
+        message: *mut u8,
+        message_size: usize,
+        diagnosis: *mut Diagnosis,
+    ) -> u32;
     fn rigyomad_c_resolve(
         text: *const u8,
         text_size: usize,
@@ -35,6 +65,15 @@ extern "C" {
         name: *const u8,
         name_size: usize,
         number: *mut u32,
+    ) -> u32;
+    fn rigyomad_c_names(
+        text: *const u8,
+        text_size: usize,
+        names: *mut Name,
+        names_count: usize,
+        bytes: *mut u8,
+        bytes_size: usize,
+        room: *mut Room,
     ) -> u32;
 }
 
@@ -48,7 +87,9 @@ pub(crate) fn encode(text: &str, out: &mut [u8]) -> (u32, usize) {
     let mut size = 0;
     // SAFETY: the pointers are those of slices and of a place, which last for the call; the ones that are written to are lent to
     // nobody else.
-    let status = unsafe { rigyomad_c_encode(text.as_ptr(), text.len(), out.as_mut_ptr(), out.len(), &mut size) };
+    let status = unsafe {
+        rigyomad_c_encode(text.as_ptr(), text.len(), out.as_mut_ptr(), out.len(), &mut size)
+    };
     (status, size)
 }
 
@@ -56,7 +97,9 @@ pub(crate) fn encode(text: &str, out: &mut [u8]) -> (u32, usize) {
 pub(crate) fn fault(text: &str, message: &mut [u8]) -> (u32, Diagnosis) {
     let mut at = Diagnosis::default();
     // SAFETY: as in `encode`.
-    let status = unsafe { rigyomad_c_fault(text.as_ptr(), text.len(), message.as_mut_ptr(), message.len(), &mut at) };
+    let status = unsafe {
+        rigyomad_c_fault(text.as_ptr(), text.len(), message.as_mut_ptr(), message.len(), &mut at)
+    };
     (status, at)
 }
 
@@ -64,6 +107,26 @@ pub(crate) fn fault(text: &str, message: &mut [u8]) -> (u32, Diagnosis) {
 pub(crate) fn resolve(text: &str, space: u32, name: &str) -> (u32, u32) {
     let mut number = 0;
     // SAFETY: as in `encode`.
-    let status = unsafe { rigyomad_c_resolve(text.as_ptr(), text.len(), space, name.as_ptr(), name.len(), &mut number) };
+    let status = unsafe {
+        rigyomad_c_resolve(text.as_ptr(), text.len(), space, name.as_ptr(), name.len(), &mut number)
+    };
     (status, number)
+}
+
+/// The status, and the room that all names need.
+pub(crate) fn names(text: &str, names: &mut [Name], bytes: &mut [u8]) -> (u32, Room) {
+    let mut room = Room::default();
+    // SAFETY: as in `encode`.
+    let status = unsafe {
+        rigyomad_c_names(
+            text.as_ptr(),
+            text.len(),
+            names.as_mut_ptr(),
+            names.len(),
+            bytes.as_mut_ptr(),
+            bytes.len(),
+            &mut room,
+        )
+    };
+    (status, room)
 }

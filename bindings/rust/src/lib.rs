@@ -1,119 +1,47 @@
-//! Modules in the text format of WebAssembly become the bytes of the binary format.
+//! Turns modules in the text format of WebAssembly into the bytes of the binary format.
+//!
+//! # Example
 //!
 //! ```
-//! let bytes = rigyomad::encode("(module (func $f))").unwrap();
+//! # fn main() -> Result<(), rigyomad::Fault> {
+//! let bytes = rigyomad::encode("(module (func $f))")?;
 //! assert_eq!(&bytes[..4], b"\0asm");
 //! let fault = rigyomad::encode("(module (start $f))").unwrap_err();
 //! assert_eq!(fault.to_string(), "1:16: unknown func: failed to find name `$f`");
+//! # Ok(())
+//! # }
 //! ```
 //!
-//! The encoder is proved, and comes as an archive; this crate declares its calls and lends them slices. Each call stands alone
-//! and keeps nothing, so that any thread may make any.
+//! The encoder is an archive whose code is proved; this crate declares its calls and lends them
+//! slices. No call keeps state, so any thread may make any call. If allocation fails, a call
+//! returns E12 ([`FaultKind::Memory`]) and does not abort.
 
 #![warn(missing_docs)]
 
 mod archive;
+mod faults;
+mod names;
+mod room;
 
-use archive::Diagnosis;
-use std::error::Error;
-use std::fmt;
+pub use faults::{Fault, FaultKind, Place};
+pub use names::{names, resolve, Name, Space};
 
 /// The number of the archive's declarations. This crate fits those of number 1.
 pub const VERSION: u32 = 1;
 
-/// An index space of a module.
-#[derive(Clone, Copy, Debug, PartialEq, Eq, Hash)]
-pub enum Space {
-    /// Functions.
-    Func,
-    /// Tables.
-    Table,
-    /// Memories.
-    Memory,
-    /// Globals.
-    Global,
-    /// Tags.
-    Tag,
-    /// Element segments.
-    Elem,
-    /// Data segments.
-    Data,
-    /// Types.
-    Type,
-}
-
-/// A place in a text.
-#[derive(Clone, Copy, Debug, PartialEq, Eq, Hash)]
-pub struct Place {
-    /// Bytes before it.
-    pub offset: usize,
-    /// Its line, from 1.
-    pub line: usize,
-    /// Its column in bytes, from 1.
-    pub column: usize,
-}
-
-/// Why a text has no bytes.
-#[derive(Clone, Debug, PartialEq, Eq)]
-pub struct Fault {
-    number: Option<u32>,
-    place: Option<Place>,
-    message: String,
-}
-
-impl Fault {
-    /// The number of the fault, 1 for E1 and so on to 13; `None` where the text is no well formed module.
-    pub fn number(&self) -> Option<u32> {
-        self.number
-    }
-
-    /// Where it is, if it has a place.
-    pub fn place(&self) -> Option<Place> {
-        self.place
-    }
-
-    /// What is wrong, without the place.
-    pub fn message(&self) -> &str {
-        &self.message
-    }
-
-    /// Memory was refused.
-    fn out_of_memory() -> Fault {
-        let message = String::from("out of memory");
-        Fault { number: Some(12), place: None, message }
-    }
-
-    /// The fault of a diagnosis, with its message.
-    fn new(at: &Diagnosis, message: &[u8]) -> Fault {
-        let place = Place { offset: at.offset, line: at.line, column: at.column };
-        Fault {
-            number: Some(at.number).filter(|number| *number != 0),
-            place: Some(place).filter(|place| place.line != 0),
-            message: String::from_utf8_lossy(message).into_owned(),
-        }
-    }
-}
-
-impl fmt::Display for Fault {
-    fn fmt(&self, f: &mut fmt::Formatter<'_>) -> fmt::Result {
-        match self.place {
-            Some(place) => write!(f, "{}:{}: {}", place.line, place.column, self.message),
-            None => f.write_str(&self.message),
-        }
-    }
-}
-
-impl Error for Fault {}
-
-/// Room for the bytes of most modules whose text is so long: more is asked for where it is too little.
+/// Enough bytes for the module of most texts of this length.
 fn first_room(text: &str) -> usize {
     text.len() + 64
 }
 
-/// Why a text has no bytes, where the archive says that it has none.
+/// Why a text has no bytes, if the archive says that it has none.
 fn fault(text: &str) -> Fault {
-    let mut message = vec![0; 256];
+    let mut size = 256;
     loop {
+        let mut message = match room::filled(size) {
+            Ok(message) => message,
+            Err(fault) => return fault,
+        };
         let (status, at) = archive::fault(text, &mut message);
         if status != archive::FAULT {
             return Fault::out_of_memory();
@@ -121,50 +49,38 @@ fn fault(text: &str) -> Fault {
         if at.size <= message.len() {
             return Fault::new(&at, &message[..at.size]);
         }
-        message.resize(at.size, 0);
+        size = at.size;
     }
 }
 
-/// The bytes of the module of a text.
+/// Returns the bytes of the module of a text.
 ///
 /// # Errors
 ///
-/// Where the text is no well formed module, its names do not resolve, it holds a form that no encoder covers, it is too large,
-/// or memory is refused.
+/// - no number: the text is not a well-formed module;
+/// - E1 to E9: a name, an index or a type of it does not resolve;
+/// - E10: it is too large;
+/// - E11: it has a construct that cannot be encoded;
+/// - E12: allocation failed, in the archive or here.
 pub fn encode(text: &str) -> Result<Vec<u8>, Fault> {
-    let mut room = first_room(text);
+    let mut size = first_room(text);
     loop {
-        let mut bytes = vec![0; room];
-        let (status, size) = archive::encode(text, &mut bytes);
+        let mut bytes = room::filled(size)?;
+        let (status, wanted) = archive::encode(text, &mut bytes);
         match status {
             archive::DONE => {
-                bytes.truncate(size);
+                bytes.truncate(wanted);
                 return Ok(bytes);
             }
-            archive::SHORT => room = size,
+            archive::SHORT => size = wanted,
             archive::FAULT => return Err(fault(text)),
             _ => return Err(Fault::out_of_memory()),
         }
     }
 }
 
-/// The number of what a name, without its `$`, denotes in an index space of the module of a text; `None` where nothing of the
-/// space has it.
-///
-/// # Errors
-///
-/// Where the text is no well formed module, its names do not resolve, it is too large, or memory is refused.
-pub fn resolve(text: &str, space: Space, name: &str) -> Result<Option<u32>, Fault> {
-    let (status, number) = archive::resolve(text, space as u32, name);
-    match status {
-        archive::DONE => Ok(Some(number)),
-        archive::UNKNOWN => Ok(None),
-        archive::FAULT => Err(fault(text)),
-        _ => Err(Fault::out_of_memory()),
-    }
-}
-
-/// The number of the archive's declarations, which is [`VERSION`] where this crate and the archive fit.
+/// Returns the number of the archive's declarations. It is [`VERSION`] if this crate and the archive
+/// fit.
 pub fn version() -> u32 {
     archive::version()
 }

@@ -1,15 +1,29 @@
-//! What the calls answer.
+//! What the calls return.
 
-use rigyomad::{encode, resolve, Place, Space};
+use rigyomad::{encode, names, resolve, FaultKind, Place, Space};
+
+/// Two items in each index space, of which the second has an id.
+const NAMED: &str = r#"(module (type (func)) (type $t (func)) (func) (func $f)
+    (table 1 funcref) (table $x 1 funcref) (memory 1) (memory $m 1) (global i32 (i32.const 0))
+    (global $g i32 (i32.const 0)) (tag) (tag $e) (elem func) (elem $s func) (data "")
+    (data $d ""))"#;
 
 #[test]
 fn faults_have_numbers_places_and_messages() {
     let fault = encode("(module\n  (start $f))").unwrap_err();
     assert_eq!(fault.number(), Some(4));
+    assert_eq!(fault.kind(), Some(FaultKind::Unknown));
     assert_eq!(fault.place(), Some(Place { offset: 17, line: 2, column: 10 }));
     assert_eq!(fault.message(), "unknown func: failed to find name `$f`");
     let fault = encode("(modul)").unwrap_err();
-    assert_eq!(fault.number(), None);
+    assert_eq!((fault.number(), fault.kind()), (None, None));
+    assert_eq!(fault.place().map(|place| place.line), Some(1));
+}
+
+#[test]
+fn unsupported_construct_has_a_place() {
+    let fault = encode("(module (type (func)) (type (cont 0)))").unwrap_err();
+    assert_eq!(fault.kind(), Some(FaultKind::Uncovered));
     assert_eq!(fault.place().map(|place| place.line), Some(1));
 }
 
@@ -22,21 +36,57 @@ fn long_messages_are_whole() {
 
 #[test]
 fn names_have_numbers() {
-    let text = "(module (func) (func $f) (memory $m 1) (type $t (func)))";
-    assert_eq!(resolve(text, Space::Func, "f"), Ok(Some(1)));
-    assert_eq!(resolve(text, Space::Memory, "m"), Ok(Some(0)));
-    assert_eq!(resolve(text, Space::Type, "t"), Ok(Some(0)));
-    assert_eq!(resolve(text, Space::Type, "f"), Ok(None));
+    for (space, name) in Space::ALL.iter().zip(["f", "x", "m", "g", "e", "s", "d", "t"]) {
+        for asked in Space::ALL {
+            let number = if asked == *space { Some(1) } else { None };
+            assert_eq!(resolve(NAMED, asked, name), Ok(number));
+        }
+    }
     assert!(resolve("(module (func $f) (func $f))", Space::Func, "f").is_err());
 }
 
 #[test]
-fn threads_do_not_meet() {
+fn names_are_listed_by_space_and_number() {
+    let all = names(NAMED).unwrap();
+    assert_eq!(all.len(), Space::ALL.len());
+    for (name, space) in all.iter().zip(Space::ALL) {
+        assert_eq!((name.space, name.number), (space, 1));
+        assert_eq!(NAMED[name.offset..].strip_prefix('$').unwrap()[..1], name.name);
+    }
+    let all = names("(module (func $b) (func) (func $a))").unwrap();
+    let all: Vec<_> = all.iter().map(|it| (it.name.as_str(), it.number)).collect();
+    assert_eq!(all, [("b", 0), ("a", 2)]);
+}
+
+#[test]
+fn names_with_escapes_are_listed_without_them() {
+    let all = names(r#"(module (func $"a\20b") (func $"\u{e9}"))"#).unwrap();
+    let all: Vec<_> = all.iter().map(|it| it.name.as_str()).collect();
+    assert_eq!(all, ["a b", "é"]);
+}
+
+#[test]
+fn generated_ids_are_not_listed() {
+    assert_eq!(names(r#"(module (func (export "a")) (table funcref (elem)))"#), Ok(vec![]));
+}
+
+#[test]
+fn names_that_do_not_resolve_are_a_fault() {
+    let fault = names("(module (start $f))").unwrap_err();
+    assert_eq!(fault.kind(), Some(FaultKind::Unknown));
+}
+
+#[test]
+fn calls_of_threads_do_not_meet() {
     let texts: Vec<String> = (1..=8).map(|n| format!("(module {})", "(func)".repeat(n))).collect();
-    let sizes =
-        texts.clone().into_iter().map(|text| std::thread::spawn(move || (0..100).map(|_| encode(&text).unwrap().len()).max()));
-    let sizes: Vec<_> = sizes.collect::<Vec<_>>().into_iter().map(|thread| thread.join().unwrap()).collect();
-    for (text, size) in texts.iter().zip(sizes) {
-        assert_eq!(Some(encode(text).unwrap().len()), size);
+    let threads: Vec<_> = texts
+        .clone()
+        .into_iter()
+        .map(|text| {
+            std::thread::spawn(move || (0..100).map(|_| encode(&text).unwrap().len()).max())
+        })
+        .collect();
+    for (text, thread) in texts.iter().zip(threads) {
+        assert_eq!(Some(encode(text).unwrap().len()), thread.join().unwrap());
     }
 }

@@ -10,6 +10,15 @@ use std::str;
 use wat_bytes::encode_text;
 use wat_text::Strings;
 
+/// Copies items to the front of a slice that has room for them.
+pub(crate) fn put_front<T: Copy>(items: &[T], out: &mut [T])
+    requires { length items.now ≤ length out.old }
+    ensures { out.new ≡ items.now ++ drop (length items.now) out.old }
+{
+    let (front, _behind) = out.split_at_mut(items.len());
+    front.copy_from_slice(items);
+}
+
 /// Copies bytes to the front of a slice, where they fit. Whether they do; else the slice stays.
 fn put(bytes: &[u8], out: &mut [u8]) -> bool
     ensures fits { IsTrue result → (length bytes.now ≤ length out.old) × (out.new ≡ bytes.now ++ drop (length bytes.now) out.old) }
@@ -17,8 +26,7 @@ fn put(bytes: &[u8], out: &mut [u8]) -> bool
 {
     let does_fit = bytes.len() <= out.len();
     if does_fit {
-        let (front, _behind) = out.split_at_mut(bytes.len());
-        front.copy_from_slice(bytes);
+        put_front(bytes, out);
     }
     does_fit
 }

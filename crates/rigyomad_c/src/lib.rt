@@ -7,9 +7,11 @@
 
 ghost use Rattle.std.specs.Prelude.{◌≡◌};
 ghost use Rattle.rigyomad_c.specs.Answers.{Answers, Encodes, Diagnoses, Denotes};
+ghost use Rattle.rigyomad_c.specs.Lists.{Lists};
 
 mod diagnosis;
 mod encodes;
+mod lists;
 mod looks_up;
 mod messages;
 mod statuses;
@@ -18,6 +20,7 @@ mod tests;
 
 use diagnosis::Diagnosis;
 use encodes::{diagnose, encode_into};
+use lists::{Name, Room, list_names};
 use looks_up::look_up;
 use std::alloc::Global;
 
@@ -70,4 +73,19 @@ pub extern "C" fn rigyomad_c_resolve(
     ensures { Answers (Denotes text.now space name.now number.old number.new) result }
 {
     look_up(alloc, text, space, name, number).code()
+}
+
+/// Puts all names of the index spaces of the module of a text into slices: a record of each into `names`, and the bytes of all
+/// of them one after another into `bytes`, if both have room. Tells how much room they need. Else the slices stay.
+#[unsafe(no_mangle)]
+pub extern "C" fn rigyomad_c_names(
+    alloc: Global,
+    text: &[u8],
+    names: &mut [Name],
+    bytes: &mut [u8],
+    room: &mut Room,
+) -> u32
+    ensures { Answers (Lists room.new names.old names.new bytes.old bytes.new) result }
+{
+    list_names(alloc, text, names, bytes, room).code()
 }

@@ -1,0 +1,70 @@
+//! Each call returns E12, or what it returns with ample memory, if a request of its own is refused.
+
+use rigyomad::{encode, names, Fault, FaultKind};
+use std::alloc::{GlobalAlloc, Layout, System};
+use std::cell::Cell;
+
+/// An allocator that refuses one request of a thread.
+struct Refuses;
+
+thread_local! {
+    /// The request that is refused, counted down from its number; 0 if none is.
+    static LEFT: Cell<usize> = const { Cell::new(0) };
+}
+
+/// Whether this request is the one that is refused.
+fn is_refused() -> bool {
+    let left = LEFT.with(Cell::get);
+    LEFT.with(|it| it.set(left.saturating_sub(1)));
+    left == 1
+}
+
+// SAFETY: it does as `System` does, or refuses.
+unsafe impl GlobalAlloc for Refuses {
+    unsafe fn alloc(&self, layout: Layout) -> *mut u8 {
+        if is_refused() {
+            return std::ptr::null_mut();
+        }
+        System.alloc(layout)
+    }
+
+    unsafe fn dealloc(&self, pointer: *mut u8, layout: Layout) {
+        System.dealloc(pointer, layout)
+    }
+}
+
+#[global_allocator]
+static ALLOCATOR: Refuses = Refuses;
+
+/// Makes a call with each of its requests refused in turn. Returns how many requests it made.
+fn refuse_each<T: PartialEq>(call: impl Fn() -> Result<T, Fault>) -> usize {
+    let ample = call();
+    for number in 1.. {
+        LEFT.with(|it| it.set(number));
+        let answer = call();
+        let was_refused = LEFT.with(|it| it.replace(0)) == 0;
+        if !was_refused {
+            assert!(answer == ample);
+            return number - 1;
+        }
+        let kind = answer.as_ref().err().and_then(Fault::kind);
+        assert!(answer == ample || kind == Some(FaultKind::Memory));
+    }
+    unreachable!()
+}
+
+#[test]
+fn refused_request_of_encode_is_an_error() {
+    assert_eq!(refuse_each(|| encode("(module (func $f))")), 1);
+}
+
+#[test]
+fn refused_request_for_a_longer_message_is_an_error() {
+    let text = format!("(module (start ${}))", "n".repeat(1000));
+    assert_eq!(refuse_each(|| encode(&text)), 4);
+}
+
+#[test]
+fn refused_request_of_names_is_an_error() {
+    assert_eq!(refuse_each(|| names("(module (func $f) (memory $m 1))")), 5);
+}

@@ -1,0 +1,151 @@
+//! All names of a text are listed.
+
+ghost use Rattle.std.specs.Prelude.{◌≡◌, ◌++◌, [], length, drop, IsTrue, IsFalse, OnOk};
+ghost use Rattle.rigyomad_c.specs.Lists.{Lists, Puts, name_at, names_from, bytes_of, no_room, do_fit};
+
+use crate::encodes::put_front;
+use crate::statuses::Status;
+use std::alloc::{AllocError, Global};
+use std::str;
+use wat_bytes::{Denoted, names_of_text};
+use wat_text::Strings;
+
+/// A name of a text, and what it denotes (text format, indices).
+#[repr(C)]
+#[derive(Clone, Copy, Debug)]
+pub struct Name {
+    /// The number of its index space, as `rigyomad_c_resolve` takes it.
+    pub space: u32,
+    /// The number of what it denotes.
+    pub number: u32,
+    /// Bytes of the text before its id.
+    pub offset: usize,
+    /// Bytes before it among the bytes of all names.
+    pub start: usize,
+    /// How many bytes it has, without the `$` of its id.
+    pub size: usize,
+}
+
+/// How much room names need.
+#[repr(C)]
+#[derive(Clone, Copy, Debug)]
+pub struct Room {
+    /// How many names there are.
+    pub names: usize,
+    /// How many bytes all of them have.
+    pub bytes: usize,
+}
+
+impl Room {
+    /// No room.
+    pub(crate) fn none() -> Room
+        ensures { result ≡ no_room }
+    {
+        Room { names: 0, bytes: 0 }
+    }
+}
+
+/// The record of a name, of which `start` bytes of other names are before it.
+fn name_at(start: usize, denoted: &Denoted<'_>) -> Name
+    ensures { result ≡ name_at start denoted.now }
+{
+    Name {
+        space: denoted.space.rank() as u32,
+        number: denoted.number,
+        offset: denoted.id.span().offset,
+        start,
+        size: denoted.id.name().len(),
+    }
+}
+
+/// Appends the record of each name, and its bytes.
+fn list(all: &[Denoted<'_>], names: &mut Vec<Name>, bytes: &mut Vec<u8>) -> Result<(), AllocError>
+    requires no_names { names.old.items ≡ [] }
+    requires no_bytes { bytes.old.items ≡ [] }
+    ensures names { OnOk result (names.new.items ≡ names_from 0 all.now) }
+    ensures bytes { OnOk result (bytes.new.items ≡ bytes_of all.now) }
+{
+    for denoted in all {
+        names.push(name_at(bytes.len(), denoted))?;
+        bytes.extend_from_slice(denoted.id.name().as_bytes())?;
+    }
+    Ok(())
+}
+
+/// Copies names and their bytes to the front of two slices, if both have room. Else the slices stay.
+fn put_both(names: &[Name], bytes: &[u8], names_out: &mut [Name], bytes_out: &mut [u8]) -> bool
+    ensures fits { result ≡ do_fit (length names.now) (length bytes.now) names_out.old bytes_out.old }
+    ensures names { IsTrue result → names_out.new ≡ names.now ++ drop (length names.now) names_out.old }
+    ensures bytes { IsTrue result → bytes_out.new ≡ bytes.now ++ drop (length bytes.now) bytes_out.old }
+    ensures names_stay { IsFalse result → names_out.new ≡ names_out.old }
+    ensures bytes_stay { IsFalse result → bytes_out.new ≡ bytes_out.old }
+{
+    let do_fit = names.len() <= names_out.len() && bytes.len() <= bytes_out.len();
+    if do_fit {
+        put_front(names, names_out);
+        put_front(bytes, bytes_out);
+    }
+    do_fit
+}
+
+/// Puts names into slices, if both have room for all.
+fn put_names(
+    alloc: Global,
+    all: &[Denoted<'_>],
+    names_out: &mut [Name],
+    bytes_out: &mut [u8],
+    room: &mut Room,
+) -> Status
+    requires { room.old ≡ no_room }
+    ensures { Puts all.now room.new names_out.old names_out.new bytes_out.old bytes_out.new result }
+{
+    let mut names = Vec::new(alloc);
+    let mut bytes = Vec::new(alloc);
+    match list(all, &mut names, &mut bytes) {
+        Ok(()) => {
+            room.names = names.len();
+            room.bytes = bytes.len();
+            match put_both(names.as_slice(), bytes.as_slice(), names_out, bytes_out) {
+                true => Status::Done,
+                false => Status::Short,
+            }
+        }
+        Err(_) => Status::Memory,
+    }
+}
+
+/// Puts the names of the module of a text into slices.
+fn list_names_of(
+    alloc: Global,
+    text: &str,
+    names: &mut [Name],
+    bytes: &mut [u8],
+    room: &mut Room,
+) -> Status
+    requires { room.old ≡ no_room }
+    ensures { Lists room.new names.old names.new bytes.old bytes.new result }
+{
+    let strings = Strings::new(alloc);
+    match names_of_text(alloc, text, &strings) {
+        Ok(all) => put_names(alloc, all.as_slice(), names, bytes, room),
+        Err(refused) => Status::of(&refused),
+    }
+}
+
+/// Puts the names of the module of a text into slices, if both have room for all, and tells how much room they need. Else the
+/// slices stay.
+pub(crate) fn list_names(
+    alloc: Global,
+    text: &[u8],
+    names: &mut [Name],
+    bytes: &mut [u8],
+    room: &mut Room,
+) -> Status
+    ensures { Lists room.new names.old names.new bytes.old bytes.new result }
+{
+    *room = Room::none();
+    match str::from_utf8(text) {
+        Ok(text) => list_names_of(alloc, text, names, bytes, room),
+        Err(_) => Status::Utf8,
+    }
+}
