@@ -114,10 +114,9 @@ fn after_part(level: Level, word: Word) -> Option<Option<Level>> {
         (Word::Index(IndexOp::catch), Level::PlainTry | Level::PlainCatch) => {
             Some(Some(Level::PlainCatch))
         }
-        (
-            Word::Plain(Plain::Bare(BareOp::catch_all)),
-            Level::PlainTry | Level::PlainCatch,
-        ) => Some(Some(Level::Plain)),
+        (Word::Plain(Plain::Bare(BareOp::catch_all)), Level::PlainTry | Level::PlainCatch) => Some(
+            Some(Level::Plain),
+        ),
         (Word::Index(IndexOp::delegate), Level::PlainTry) => Some(None),
         _ => None,
     }
@@ -645,7 +644,13 @@ impl<'a> Reader<'a> {
     fn end_body(&mut self, body: Body<'a>) -> Expression<'a> {
         self.no_hint(&body);
         match body.levels.last() {
-            Some(Open { level: Level::Plain | Level::PlainIf | Level::PlainTry | Level::PlainCatch, place, .. }) => {
+            Some(
+                Open {
+                    level: Level::Plain | Level::PlainIf | Level::PlainTry | Level::PlainCatch,
+                    place,
+                    ..
+                },
+            ) => {
                 let place = *place;
                 self.unclosed(&body, place);
             }

@@ -232,10 +232,7 @@ fn module_of_fields<'a>(
 }
 
 /// The module of the pieces of a binary module, which are read from `binary` on.
-fn binary_module<'a>(
-    reader: Reader<'a>,
-    head: ModuleHead<'a>,
-) -> Result<TextModule<'a>, TextError>
+fn binary_module<'a>(reader: Reader<'a>, head: ModuleHead<'a>) -> Result<TextModule<'a>, TextError>
     ensures { IfOk result (λ m. IsTrue (is_well_formed_text m.kind)) }
 {
     let mut reader = reader;

@@ -22,7 +22,8 @@ fn quotes_from<'b, 'a>(
     let (mut left, mut begin) = (quotes, begin);
     for _ in 0..quotes.len() {
         match left {
-            [first, rest @ ..] if begin.saturating_add(first.bytes.len()) <= offset && !rest.is_empty() => {
+            [first, rest @ ..]
+                if begin.saturating_add(first.bytes.len()) <= offset && !rest.is_empty() => {
                 begin = begin.saturating_add(first.bytes.len());
                 left = rest;
             }

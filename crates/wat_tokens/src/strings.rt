@@ -163,7 +163,10 @@ fn unescaped(alloc: Global, content: &[u8]) -> Result<Vec<u8>, StringError> {
         }
         match take(&mut out, escape, *byte) {
             Ok(next) => escape = next,
-            Err(fault) => return Err(StringError { fault, offset: begin }),
+            Err(fault) => return Err(StringError {
+                fault,
+                offset: begin,
+            }),
         }
     }
     match escape {
