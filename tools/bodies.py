@@ -189,7 +189,9 @@ def table():
     rows.sort(key=lambda row: row[0].split(".")[0])
     for _, group in itertools.groupby(rows, key=lambda row: row[0].split(".")[0]):
         group = list(group)
-        yield " ".join(text for text, _ in group), b"".join(code for _, code in group).hex()
+        text, code = " ".join(text for text, _ in group), b"".join(code for _, code in group).hex()
+        # `catch_all` is a part of a `try`.
+        yield (f"try {text} end", f"0640{code}0b") if text.startswith("catch_all") else (text, code)
 
 
 # What stands behind the names of instructions that no encoder covers, by their kinds, and the forms.

@@ -221,7 +221,7 @@ EDGES = r"""
 (module (table funcref (elem $f 0)) (func $f))	0061736d010000000104016000000302010004050170010202090a01020041000b000200000a040102000b000b046e616d65010401000166
 (module (type $t (func)) (table i64 (ref null $t) (elem $f)) (func $f (type $t)))	0061736d01000000010401600000030201000406016300050101090c01060042000b630001d2000b0a040102000b0011046e616d65010401000166040401000174
 (module (type $t (func)) (table (ref null $t) (elem (ref.func $f))) (func $f (type $t)))	0061736d01000000010401600000030201000406016300010101090c01060041000b630001d2000b0a040102000b0011046e616d65010401000166040401000174
-(module (table anyref (elem (item ref.null any) (ref.i31 (i32.const 1)))))	0061736d010000000405016e010202091001060041000b6e02d06e0b4101fb1c0b
+(module (table anyref (elem (item ref.null any) (ref.i31 (i32.const 1)))))	0061736d01000000040601636e010202091101060041000b636e02d06e0b4101fb1c0b
 (module (type $t (func)) (table (ref $t) (elem ^$g)) (func $f (type $t)))	fault at ^: unknown func: failed to find name `$g`
 
 # Active segments without a table use whose elements are not `funcref`: the table is the first one,
@@ -240,7 +240,7 @@ EDGES = r"""
 (module (@dylink.0 (export-info "a" 1)) (@dylink.0 (export-info "b" 2)))	0061736d01000000000f0864796c696e6b2e30030401016101000f0864796c696e6b2e30030401016202
 (module (@dylink.0 (needed "a") (needed "b") (runtime-path "c") (runtime-path "d")))	0061736d01000000001d0864796c696e6b2e300203010161020301016205030101630503010164
 (module (@dylink.0 (export-info "a" binding-weak) (export-info "b" binding-local) (export-info "c" visibility-hidden) (export-info "d" undefined) (export-info "e" exported) (export-info "f" explicit-name) (export-info "g" no-strip) (export-info "h" tls) (export-info "i" absolute)))	0061736d01000000002a0864796c696e6b2e30031f09016101016202016304016410016520016640016780010168800201698004
-(module (@dylink.0 (export-info "a" ^hidden)))	not read at ^: expected a number
+(module (@dylink.0 (export-info "a" ^hidden)))	not read at ^: invalid number
 
 # Blocks that are not closed have the offset of the word that opened them; an `end`, an `else` or a
 # part of a `try` that no open block takes has its own (text format, control instructions).
@@ -353,7 +353,7 @@ EDGES = r"""
 (module (@x "a^\q") (func))	not read at ^: invalid string element
 \(module (@x "^\7f") (func))	not read at ^: invalid string element
 \(module (@x ^\7f) (func))	not read at ^: unexpected character
-(module (@x (func))^	not read at ^: annotation without a name or an end
+(module (@x (func)^	not read at ^: annotation without a name or an end
 (module (@x ^(; ) (func))	not read at ^: comment without an end
 
 # Offsets in strings: a wrong escape has its own, and a character that no string holds too. Line
@@ -399,13 +399,26 @@ EDGES = r"""
 (module quote "(func nop" " " ^"end)")	not read at ^: unexpected `end`
 (module quote ^"(func call $x)")	fault at ^: unknown func: failed to find name `$x`
 (module quote "(func)" ^"(data \"\\q\")")	not read at ^: invalid string element
-(module quote "(func)" ^"(func" )	not read at ^: expected `)`
+(module quote ^"(func)" "(func" )	not read at ^: expected `)`
 (module quote ^func)	not read at ^: expected a string
 (module quote ^"(func) \ff")	not read at ^: malformed UTF-8 encoding
 
 # A custom section before and after each section, and before and after all.
 (module (@custom "bf" (before first) "") (@custom "al" (after last) "") (@custom "b1" (before type) "") (@custom "a1" (after type) "") (@custom "b2" (before import) "") (@custom "a2" (after import) "") (@custom "b3" (before func) "") (@custom "a3" (after func) "") (@custom "b4" (before table) "") (@custom "a4" (after table) "") (@custom "b5" (before memory) "") (@custom "a5" (after memory) "") (@custom "bd" (before tag) "") (@custom "ad" (after tag) "") (@custom "b6" (before global) "") (@custom "a6" (after global) "") (@custom "b7" (before export) "") (@custom "a7" (after export) "") (@custom "b8" (before start) "") (@custom "a8" (after start) "") (@custom "b9" (before elem) "") (@custom "a9" (after elem) "") (@custom "ba" (before code) "") (@custom "aa" (after code) "") (@custom "bb" (before data) "") (@custom "ab" (after data) "") (import "a" "b" (func)) (func (export "f")) (table 1 funcref) (memory 1) (tag) (global i32 i32.const 0) (start 0) (elem (i32.const 0) 0) (data (i32.const 0) "x"))	0061736d010000000003026266000302623101040160000000030261310003026232020701016101620000000302613200030262330302010000030261330003026234040401700001000302613400030262350503010001000302613500030262640d03010000000302616400030262360606017f0041000b000302613600030262370705010166000100030261370003026238080100000302613800030262390907010041000b0100000302613900030262610a040102000b000302616100030262620b07010041000b01780003026162000302616c
 (module (@producers (processed-by "b" "2") (language "c" "3") (sdk "a" "1") (language "d" "4")))	0061736d0100000000380970726f64756365727303086c616e67756167650201630133016401340373646b01016101310c70726f6365737365642d62790101620132
+
+# Forms that no encoder covers are read, and refused when they are encoded. The first function is
+# not the one that has the form.
+(module (func $a) (func $b i64.add128))	refused: uncovered form: instruction beyond the table
+(module (func) (func (drop (ref.test nullcontref (ref.null cont)))))	refused: uncovered form: stack switching
+(module (func) (func (local (ref null (shared any)))))	refused: uncovered form: shared type
+(module (func) (func atomic.fence acq_rel))	refused: uncovered form: memory ordering
+
+# Characters that change the direction of a line may be in comments, strings and quoted ids (text
+# format, characters). The crate refuses them; the bytes are those of wat2wasm.
+\(module ;; \e2\80\ae) \e2\81\a6\n(func) (; \e2\80\ab ;))	0061736d01000000010401600000030201000a040102000b
+\(module (data "\e2\80\ae\e2\80\8f"))	0061736d010000000b09010106e280aee2808f
+\(module (func $"\e2\80\ae"))	0061736d01000000010401600000030201000a040102000b000d046e616d650106010003e280ae
 """
 
 

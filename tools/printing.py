@@ -387,10 +387,10 @@ class Printer:
 
     def skipped(self, read):
         """What this reads, as words; nothing of it is written."""
-        start, out, length, places = self.at, self.out, self.length, self.places
+        start, out, length, places, misaligned = self.at, self.out, self.length, self.places, self.misaligned
         self.out, self.places = [], []
         read()
-        self.out, self.length, self.places = out, length, places
+        self.out, self.length, self.places, self.misaligned = out, length, places, misaligned
         return start
 
     def again(self, start, read):

@@ -10,7 +10,7 @@
 #include <sys/mman.h>
 
 /* The stack of the thread, which docs/BINDINGS.md promises to be enough. */
-enum { STACK = 64 << 10 };
+enum { STACK = 24 << 10 };
 
 /* What is below the stack, and ends the program if it is touched: more than the largest frame, so
  * that no frame skips it. */

@@ -1,18 +1,21 @@
 //! Turns a module in the text format into its bytes.
 //!
-//! It reads the file that an argument names, or else standard input, and writes the bytes to standard output; with `--hex` one
-//! line of them in hexadecimal, and with `--names` what the ids of the text denote in their place. Where there are none it tells
-//! why on standard error, and ends with status 1.
+//! It reads the file that an argument names, or else standard input, and writes the bytes to
+//! standard output. With `--hex` it writes one line of hexadecimal digits, and with `--names` the
+//! index of each id. What is wrong is printed on standard error, and the exit status says what kind
+//! it is: `HELP` lists them.
 #![tactic(auto)]
 
 mod diagnostics;
+mod escapes;
+mod failures;
 mod names;
 mod options;
 
-use diagnostics::print_diagnostic;
+use diagnostics::{report, report_malformed, warn};
+use failures::Failure;
 use names::print_names;
-use options::{Options, Output};
-use std::alloc::Global;
+use options::{Options, Output, Request};
 use std::fs::File;
 use std::io::{self, Read, Write};
 use std::process::ExitCode;
@@ -20,10 +23,30 @@ use std::{env, str};
 use wat_bytes::{Refused, encode_text, names_of_text};
 use wat_text::Strings;
 
-/// What is called so on standard error, where no file is named.
-const INPUT: &str = "<stdin>";
+/// The version of the command.
+const VERSION: &str = "0.1.0";
 
-/// All bytes of a file, or of standard input.
+/// What `--help` prints.
+const HELP: &str = "Turns a WebAssembly text module into a binary module.
+
+Usage: wat [--hex | --names] [FILE]
+
+Reads FILE, or standard input, and writes the bytes to standard output.
+
+Options:
+  --hex      write the bytes as one line of hexadecimal digits
+  --names    write the index of each id instead of the bytes, one line each
+  --help     print this help
+  --version  print the version
+
+Exit status:
+  0  the output was written
+  1  the text is not a module that can be encoded
+  2  wrong arguments, or a file cannot be read or the output not written
+  3  out of memory
+";
+
+/// Reads all bytes of the file, or of standard input.
 fn input(rt: &HostRuntime, options: &Options) -> io::Result<Vec<u8>> {
     let mut bytes = Vec::new(rt.alloc());
     match &options.file {
@@ -50,7 +73,7 @@ fn print_bytes(rt: &HostRuntime, options: &Options, bytes: &[u8]) -> io::Result<
     writer.flush()
 }
 
-/// Writes the bytes of the module of a text, and answers why there are none.
+/// Writes the bytes of the module of a text, and returns why there are none.
 fn convert_to_bytes<'a>(
     rt: &HostRuntime,
     options: &Options,
@@ -66,7 +89,7 @@ fn convert_to_bytes<'a>(
     }
 }
 
-/// Writes what the ids of a text denote, and answers why they denote nothing.
+/// Writes the index of each id of a text, and returns why there are none.
 fn convert_to_names<'a>(
     rt: &HostRuntime,
     text: &'a str,
@@ -81,43 +104,72 @@ fn convert_to_names<'a>(
     }
 }
 
-/// Writes what is asked for of a text, or why there is nothing to write. It answers whether there is.
-fn convert(rt: &HostRuntime, options: &Options, text: &str) -> io::Result<bool> {
+/// Writes what is asked for of a text.
+fn convert(rt: &HostRuntime, options: &Options, text: &str) -> Result<(), Failure> {
+    warn(rt, options.name(), text);
     let strings = Strings::new(rt.alloc());
-    let refused = match options.output {
-        Output::Names => convert_to_names(rt, text, &strings)?,
-        Output::Bytes | Output::Hex => convert_to_bytes(rt, options, text, &strings)?,
+    let written = match options.output {
+        Output::Names => convert_to_names(rt, text, &strings),
+        Output::Bytes | Output::Hex => convert_to_bytes(rt, options, text, &strings),
     };
-    match refused {
-        Some(refused) => {
-            print_diagnostic(rt, rt.alloc(), options.name(INPUT), text, &refused)?;
-            Ok(false)
-        }
-        None => Ok(true),
+    match written {
+        Ok(None) => Ok(()),
+        Ok(Some(refused)) => Err(report(rt, rt.alloc(), options.name(), text, &refused)),
+        Err(error) => Err(Failure::of_write(rt, error)),
     }
 }
 
-/// The whole run: whether what was asked for was written.
-fn run(rt: &HostRuntime) -> io::Result<bool> {
-    let Some(options) = Options::new(env::args(rt)?) else {
-        eprintln!(rt; "usage: wat [--hex | --names] [FILE]")?;
-        return Ok(false);
+/// Returns the part of the bytes that is UTF-8, up to this offset.
+fn text_before(bytes: &[u8], offset: usize) -> &str {
+    match bytes.get(..offset) {
+        Some(part) => str::from_utf8(part).unwrap_or(""),
+        None => "",
+    }
+}
+
+/// Reads a text, and writes what is asked for of it.
+fn convert_input(rt: &HostRuntime, options: &Options) -> Result<(), Failure> {
+    let bytes = match input(rt, options) {
+        Ok(bytes) => bytes,
+        Err(error) => return Err(Failure::of_read(rt, options.name(), error)),
     };
-    let bytes = input(rt, &options)?;
     match str::from_utf8(bytes.as_slice()) {
-        Ok(text) => convert(rt, &options, text),
+        Ok(text) => convert(rt, options, text),
         Err(error) => {
-            let place = error.valid_up_to();
-            eprintln!(rt; "error: malformed UTF-8 encoding at byte {place}")?;
-            Ok(false)
+            let text = text_before(bytes.as_slice(), error.valid_up_to());
+            Err(report_malformed(rt, options.name(), text))
+        }
+    }
+}
+
+/// Reports how printing to standard output ended.
+fn printed(rt: &HostRuntime, answer: io::Result<()>) -> Result<(), Failure> {
+    match answer {
+        Ok(()) => Ok(()),
+        Err(error) => Err(Failure::of_write(rt, error)),
+    }
+}
+
+/// The whole run.
+fn run(rt: &HostRuntime) -> Result<(), Failure> {
+    let arguments = match env::args(rt) {
+        Ok(arguments) => arguments,
+        Err(error) => return Err(Failure::of_arguments(rt, error)),
+    };
+    match Request::new(arguments) {
+        Ok(Request::Convert(options)) => convert_input(rt, &options),
+        Ok(Request::Help) => printed(rt, print!(rt; "{HELP}")),
+        Ok(Request::Version) => printed(rt, println!(rt; "wat {VERSION}")),
+        Err(misuse) => {
+            let _ = eprintln!(rt; "error: {misuse} (see `wat --help`)");
+            Err(Failure::System)
         }
     }
 }
 
 fn main(rt: HostRuntime) -> ExitCode {
     match run(&rt) {
-        Ok(true) => ExitCode::SUCCESS,
-        Ok(false) => ExitCode::FAILURE,
-        Err(_) => ExitCode::from(2),
+        Ok(()) => ExitCode::SUCCESS,
+        Err(failure) => failure.status(),
     }
 }

@@ -1,13 +1,13 @@
 //! Segments of elements and of data.
 
 use crate::fields::is_funcref;
+use crate::operators::with_index;
 use crate::reader::Reader;
 use std::alloc::AllocError;
 use wast_tree::{
-    Data, DataKind, DataVal, Elem, ElemKind, ElemPayload, Expression, Index, Instruction, RefType,
-    Seq, Span,
+    Data, DataKind, DataVal, Elem, ElemKind, ElemPayload, Expression, Index, RefType, Seq, Span,
 };
-use wat_tokens::Key;
+use wat_tokens::{IndexOp, Key};
 
 /// Puts bytes, the lowest first.
 fn put<const N: usize>(out: &mut Vec<u8>, bytes: [u8; N]) -> Result<(), AllocError> {
@@ -81,7 +81,7 @@ impl<'a> Reader<'a> {
             if self.is_end() {
                 break;
             }
-            let reference = Instruction::ref_func(self.index());
+            let reference = with_index(IndexOp::ref_func, self.index());
             let expression = self.make.one_instruction(reference);
             self.make.push_expression(&mut exprs, expression);
         }

@@ -44,6 +44,7 @@ fn strings_lose_their_escapes(rt: HostRuntime) {
         .read(rt.alloc(), br"a\n\u{1D_11E}\ff")
         .expect(&rt, "memory");
     assert!(rt; bytes == b"a\n\xf0\x9d\x84\x9e\xff".as_slice());
+    assert!(rt; strings.keep(b"a\\q") == Ok(b"a\\q".as_slice()));
     for (content, offset) in [
         (br"ab\q".as_slice(), 2_usize),
         (br"\t\u{110000}", 2),

@@ -1,0 +1,61 @@
+//! Why a run ends without what was asked for, and the exit status that says so.
+
+use crate::escapes::Escaped;
+use std::io;
+use std::process::ExitCode;
+
+/// Why a run ends without what was asked for. It is printed on standard error where it is found; a
+/// message that cannot be printed there is lost, and the exit status is the same.
+#[derive(Clone, Copy)]
+pub(crate) enum Failure {
+    /// The text is not a module that has bytes.
+    Text,
+    /// The arguments are wrong, or a file or a stream failed.
+    System,
+    /// Memory was refused.
+    Memory,
+}
+
+impl Failure {
+    /// The exit status of a run that ends so.
+    pub fn status(self) -> ExitCode {
+        match self {
+            Failure::Text => ExitCode::FAILURE,
+            Failure::System => ExitCode::from(2),
+            Failure::Memory => ExitCode::from(3),
+        }
+    }
+
+    /// Reports that memory was refused. Takes no memory.
+    pub fn memory(rt: &HostRuntime) -> Failure {
+        let _ = eprintln!(rt; "error: out of memory");
+        Failure::Memory
+    }
+
+    /// Reports that the arguments cannot be read: one is not UTF-8, or memory was refused.
+    pub fn of_arguments(rt: &HostRuntime, error: io::Error) -> Failure {
+        if let io::ErrorKind::OutOfMemory = error.kind() {
+            return Failure::memory(rt);
+        }
+        let _ = eprintln!(rt; "error: argument is not UTF-8 (see `wat --help`)");
+        Failure::System
+    }
+
+    /// Reports that the input cannot be read.
+    pub fn of_read(rt: &HostRuntime, file: Escaped<'_>, error: io::Error) -> Failure {
+        if let io::ErrorKind::OutOfMemory = error.kind() {
+            return Failure::memory(rt);
+        }
+        let _ = eprintln!(rt; "error: cannot read {file}: {error}");
+        Failure::System
+    }
+
+    /// Reports that the output cannot be written.
+    pub fn of_write(rt: &HostRuntime, error: io::Error) -> Failure {
+        if let io::ErrorKind::OutOfMemory = error.kind() {
+            return Failure::memory(rt);
+        }
+        let _ = eprintln!(rt; "error: cannot write output: {error}");
+        Failure::System
+    }
+}
