@@ -9,7 +9,7 @@ pub names-more : (names : List Name) (bytes : List ℕ) (x : Denoted) (rest : Li
     → (names ++ name_at (length bytes) x ∷ []) ++ names_from (length (bytes ++ bytes_in x)) rest ≡ all
 names-more names bytes x rest all before =
     append_assoc names (name_at (length bytes) x ∷ []) (names_from (length (bytes ++ bytes_in x)) rest)
-      ∙ (ap (λ n. names ++ name_at (length bytes) x ∷ names_from n rest) (length-append bytes (bytes_in x)) ∙ before)
+    ∙ (ap (λ n. names ++ name_at (length bytes) x ∷ names_from n rest) (length-append bytes (bytes_in x)) ∙ before)
 
 pub bytes-more : (bytes : List ℕ) (x : Denoted) (rest : List Denoted) (all : List ℕ) → bytes ++ bytes_of (x ∷ rest) ≡ all → (bytes ++ bytes_in x) ++ bytes_of rest ≡ all
 bytes-more bytes x rest all before = append_assoc bytes (bytes_in x) (bytes_of rest) ∙ before

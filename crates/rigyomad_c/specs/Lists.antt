@@ -1,5 +1,5 @@
 -- Lists of all names of a text, as C has them: a record of each name, and the bytes of all of them one after another.
-use Rattle.std.specs.Prelude.{Result, Ok, Err, ◌≡◌, ℕ, ◌+◌, nat_le, ◌&&◌, Bool, IsTrue, IsFalse, List, [], ◌∷◌, length, drop, ◌++◌}
+use Rattle.std.specs.Prelude.{Result, Ok, Err, ◌≡◌, ℕ, ◌+◌, ◌<◌, ◌≤◌, ◌⊎◌, List, [], ◌∷◌, length, drop, ◌++◌}
 use Rattle.std.specs.Global.{Vec}
 use Rattle.wast_base.specs.Spaces.{rank_of}
 use Rattle.wast_base.specs.Ids.{text_of, name_of}
@@ -35,32 +35,35 @@ names_from start (d ∷ ds) = name_at start d ∷ names_from (start + length (by
 abbrev pub no_room : Room
 no_room = record { names = 0; bytes = 0 }
 
--- the room that names need
-abbrev pub room_of : List Denoted → Room
-room_of all = record { names = length all; bytes = length (bytes_of all) }
+-- the room that records and bytes need
+abbrev pub Needs : Room → List Name → List ℕ → Type 0
+Needs room records text = (room.names ≡ length records) × (room.bytes ≡ length text)
 
--- whether two slices have room for so many names and bytes
-abbrev pub do_fit : ℕ → ℕ → List Name → List ℕ → Bool
-do_fit count size names bytes = nat_le count (length names) && nat_le size (length bytes)
+-- two slices have that room
+abbrev pub HaveRoom : List Name → List ℕ → List Name → List ℕ → Type 0
+HaveRoom records text names bytes = (length records ≤ length names) × (length text ≤ length bytes)
 
--- whether two slices have the room that names need
-abbrev pub have_room : List Denoted → List Name → List ℕ → Bool
-have_room all names bytes = do_fit (length all) (length (bytes_of all)) names bytes
+-- one of two slices lacks that room
+abbrev pub LackRoom : List Name → List ℕ → List Name → List ℕ → Type 0
+LackRoom records text names bytes = (length names < length records) ⊎ (length bytes < length text)
 
--- Putting names into two slices: they are at the front of both if both have room for all; else both stay, and the room says
--- what is needed.
-abbrev pub Puts : List Denoted → Room → List Name → List Name → List ℕ → List ℕ → Status → Type 0
-Puts all room names names_new bytes bytes_new status.Done =
-    (room ≡ room_of all) × IsTrue (have_room all names bytes)
-    × (names_new ≡ names_from 0 all ++ drop (length all) names)
-    × (bytes_new ≡ bytes_of all ++ drop (length (bytes_of all)) bytes)
-Puts all room names names_new bytes bytes_new status.Short =
-    (room ≡ room_of all) × IsFalse (have_room all names bytes) × (names_new ≡ names) × (bytes_new ≡ bytes)
-Puts all room names names_new bytes bytes_new status.Memory =
+-- Putting records and bytes into two slices: they are at the front of both if both have room; else both
+-- stay, and the room says what is needed.
+abbrev pub PutsBoth : List Name → List ℕ → Room → List Name → List Name → List ℕ → List ℕ → Status → Type 0
+PutsBoth records text room names names_new bytes bytes_new status.Done =
+    Needs room records text × HaveRoom records text names bytes
+    × (names_new ≡ records ++ drop (length records) names) × (bytes_new ≡ text ++ drop (length text) bytes)
+PutsBoth records text room names names_new bytes bytes_new status.Short =
+    Needs room records text × LackRoom records text names bytes × (names_new ≡ names) × (bytes_new ≡ bytes)
+PutsBoth records text room names names_new bytes bytes_new status.Memory =
     (room ≡ no_room) × (names_new ≡ names) × (bytes_new ≡ bytes)
-Puts all room names names_new bytes bytes_new status.Fault = ⊥
-Puts all room names names_new bytes bytes_new status.Utf8 = ⊥
-Puts all room names names_new bytes bytes_new status.Unknown = ⊥
+PutsBoth records text room names names_new bytes bytes_new status.Fault = ⊥
+PutsBoth records text room names names_new bytes bytes_new status.Utf8 = ⊥
+PutsBoth records text room names names_new bytes bytes_new status.Unknown = ⊥
+
+-- Putting names into two slices.
+abbrev pub Puts : List Denoted → Room → List Name → List Name → List ℕ → List ℕ → Status → Type 0
+Puts all room names names_new bytes bytes_new s = PutsBoth (names_from 0 all) (bytes_of all) room names names_new bytes bytes_new s
 
 -- Putting what listing answers into two slices.
 abbrev pub PutsList : Result (Vec Denoted) Refused → Room → List Name → List Name → List ℕ → List ℕ → Status → Type 0

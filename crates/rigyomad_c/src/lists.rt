@@ -1,7 +1,7 @@
 //! All names of a text are listed.
 
 ghost use Rattle.std.specs.Prelude.{◌≡◌, ◌++◌, [], length, drop, IsTrue, IsFalse, OnOk};
-ghost use Rattle.rigyomad_c.specs.Lists.{Lists, ListsRead, Puts, name_at, names_from, bytes_of, no_room, do_fit};
+ghost use Rattle.rigyomad_c.specs.Lists.{Lists, ListsRead, Puts, PutsBoth, HaveRoom, LackRoom, name_at, names_from, bytes_of, no_room};
 
 use crate::encodes::put_front;
 use crate::statuses::Status;
@@ -72,20 +72,43 @@ fn list(all: &[Denoted<'_>], names: &mut Vec<Name>, bytes: &mut Vec<u8>) -> Resu
     Ok(())
 }
 
-/// Copies names and their bytes to the front of two slices, if both have room. Else the slices stay.
-fn put_both(names: &[Name], bytes: &[u8], names_out: &mut [Name], bytes_out: &mut [u8]) -> bool
-    ensures fits { result ≡ do_fit (length names.now) (length bytes.now) names_out.old bytes_out.old }
-    ensures names { IsTrue result → names_out.new ≡ names.now ++ drop (length names.now) names_out.old }
-    ensures bytes { IsTrue result → bytes_out.new ≡ bytes.now ++ drop (length bytes.now) bytes_out.old }
-    ensures names_stay { IsFalse result → names_out.new ≡ names_out.old }
-    ensures bytes_stay { IsFalse result → bytes_out.new ≡ bytes_out.old }
+/// Whether two slices have room for names and their bytes.
+fn have_room(names: &[Name], bytes: &[u8], names_out: &[Name], bytes_out: &[u8]) -> bool
+    ensures have { IsTrue result → HaveRoom names.now bytes.now names_out.now bytes_out.now }
+    ensures lack { IsFalse result → LackRoom names.now bytes.now names_out.now bytes_out.now }
 {
-    let do_fit = names.len() <= names_out.len() && bytes.len() <= bytes_out.len();
-    if do_fit {
-        put_front(names, names_out);
-        put_front(bytes, bytes_out);
+    names.len() <= names_out.len() && bytes.len() <= bytes_out.len()
+}
+
+/// Copies names and their bytes to the front of two slices that have room for them.
+fn put_both(names: &[Name], bytes: &[u8], names_out: &mut [Name], bytes_out: &mut [u8])
+    requires { HaveRoom names.now bytes.now names_out.old bytes_out.old }
+    ensures names { names_out.new ≡ names.now ++ drop (length names.now) names_out.old }
+    ensures bytes { bytes_out.new ≡ bytes.now ++ drop (length bytes.now) bytes_out.old }
+{
+    put_front(names, names_out);
+    put_front(bytes, bytes_out);
+}
+
+/// Puts records and bytes into slices, if both have room for all. Else the slices stay.
+fn put_records(
+    names: &[Name],
+    bytes: &[u8],
+    names_out: &mut [Name],
+    bytes_out: &mut [u8],
+    room: &mut Room,
+) -> Status
+    ensures { PutsBoth names.now bytes.now room.new names_out.old names_out.new bytes_out.old bytes_out.new result }
+{
+    *room = Room {
+        names: names.len(),
+        bytes: bytes.len(),
+    };
+    if !have_room(names, bytes, names_out, bytes_out) {
+        return Status::Short;
     }
-    do_fit
+    put_both(names, bytes, names_out, bytes_out);
+    Status::Done
 }
 
 /// Puts names into slices, if both have room for all.
@@ -102,14 +125,13 @@ fn put_names(
     let mut names = Vec::new(alloc);
     let mut bytes = Vec::new(alloc);
     match list(all, &mut names, &mut bytes) {
-        Ok(()) => {
-            room.names = names.len();
-            room.bytes = bytes.len();
-            match put_both(names.as_slice(), bytes.as_slice(), names_out, bytes_out) {
-                true => Status::Done,
-                false => Status::Short,
-            }
-        }
+        Ok(()) => put_records(
+            names.as_slice(),
+            bytes.as_slice(),
+            names_out,
+            bytes_out,
+            room,
+        ),
         Err(_) => Status::Memory,
     }
 }
