@@ -34,7 +34,8 @@ abbrev pub status_of : Option ℕ → Status
 status_of None = status.Fault
 status_of (Some n) = if n == 12 then status.Memory else status.Fault
 
--- Putting bytes into a slice: they are at its front, and what is after them stays; or it is too short, and stays.
+-- Putting bytes into a slice: they are at its front, and what is after them stays; or it is too
+-- short, and stays.
 abbrev pub PutsBytes : List ℕ → List ℕ → List ℕ → Status → Type 0
 PutsBytes bytes old new status.Done = (length bytes ≤ length old) × (new ≡ bytes ++ drop (length bytes) old)
 PutsBytes bytes old new status.Short = (length old < length bytes) × (new ≡ old)
@@ -43,7 +44,8 @@ PutsBytes bytes old new status.Utf8 = ⊥
 PutsBytes bytes old new status.Memory = ⊥
 PutsBytes bytes old new status.Unknown = ⊥
 
--- Putting what encoding answers into a slice. The size is that of the bytes, also if the slice is too short.
+-- Putting what encoding answers into a slice. The size is that of the bytes, also if the slice is
+-- too short.
 abbrev pub PutsAnswer : Result (Vec ℕ) Refused → ℕ → List ℕ → List ℕ → Status → Type 0
 PutsAnswer (Ok bytes) size old new s = (size ≡ length bytes.items) × PutsBytes bytes.items old new s
 PutsAnswer (Err r) size old new s = (size ≡ 0) × (new ≡ old) × (s ≡ status_of (number_of r))
@@ -69,7 +71,8 @@ TellsNumber (Ok None) old new s = (new ≡ old) × (s ≡ status.Unknown)
 TellsNumber (Ok (Some n)) old new s = (new ≡ n) × (s ≡ status.Done)
 TellsNumber (Err r) old new s = (new ≡ old) × (s ≡ status_of (number_of r))
 
--- Looking a name up in a space of a text: what `number_in_text` may answer for this text, name and space is told.
+-- Looking a name up in a space of a text: what `number_in_text` may answer for this text, name and
+-- space is told.
 pub record DenotesRead (text : List ℕ) (space : Space) (name : List ℕ) (old new : ℕ) (s : Status) : Type 0 where
   pub answer : Result (Option ℕ) Refused
   pub denoted : OfText (NumbersText space name) text answer
@@ -96,7 +99,8 @@ abbrev pub IsPlaced : List ℕ → Option Span → Diagnosis → Type 0
 IsPlaced text None d = (d.offset ≡ 0) × (d.line ≡ 0) × (d.column ≡ 0)
 IsPlaced text (Some place) d = (d.offset ≡ place.offset) × (d.line ≡ line_of text place) × (d.column ≡ column_of text place)
 
--- why a text has no bytes, as it is told: with its status, its number, 0 if it has none, and its position
+-- why a text has no bytes, as it is told: with its status, its number, 0 if it has none, and its
+-- position
 pub record IsTold (text : List ℕ) (refused : Refused) (d : Diagnosis) (s : Status) : Type 0 where
   pub answered : s ≡ status_of (number_of refused)
   pub numbered : d.number ≡ unwrap_or (number_of refused) 0

@@ -1,4 +1,5 @@
--- What the ids of a text denote: the names that resolving gives for a module that reading it may give.
+-- What the ids of a text denote: the names that resolving gives for a module that reading it may
+-- give.
 use Rattle.std.specs.Prelude.{◌≡◌, ℕ, Bool, not, is_none, List, [], ◌∷◌, ◌++◌, map, All, Option, Result, Ok, Err, ◌⊎◌}
 use Rattle.std.specs.List.{filter}
 use Rattle.std.specs.List.Sorted.{IsPermutation, IsNonDecreasingBy}
@@ -23,7 +24,8 @@ use Rattle.wat_bytes.specs.declared.refusals.Refused.{Refused}
 use Rattle.wat_bytes.specs.declared.refusals.Refused.TheVariants as answer
 use Rattle.wat_bytes.specs.Texts.{IsUnready, module_of}
 
--- What resolving a module that is ready answers, as the headline theorem has it, with the id counter at 1.
+-- What resolving a module that is ready answers, as the headline theorem has it, with the id
+-- counter at 1.
 pub record ResolvesReady (m : Module) (r : Result KnownNames Error) : Type 0 where
   pub ready : IsReady m 1
   pub left : ModuleKind
@@ -44,7 +46,8 @@ ResolvesModule m (Err r) = HasNoNames m r
 abbrev pub ResolvesText : TextModule → Result KnownNames Refused → Type 0
 ResolvesText t r = ResolvesModule (module_of t) r
 
--- Whether the name of an entry is a written one. That of `$f` is, and that of a generated id is not.
+-- Whether the name of an entry is a written one. That of `$f` is, and that of a generated id is
+-- not.
 abbrev pub is_written : Key × ℕ → Bool
 is_written e = is_none e.0.1
 

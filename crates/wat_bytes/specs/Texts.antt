@@ -24,7 +24,8 @@ use Rattle.wast_core.specs.Headline.{EncodesKind, name_of_module}
 use Rattle.wat_bytes.specs.declared.refusals.Refused.{Refused}
 use Rattle.wat_bytes.specs.declared.refusals.Refused.TheVariants as answer
 
--- What a module that was read holds, as what a module of wast_core holds: its fields, or the bytes of a binary module.
+-- What a module that was read holds, as what a module of wast_core holds: its fields, or the bytes
+-- of a binary module.
 abbrev pub kind_of : TextKind → ModuleKind
 kind_of (held.Fields fields) = kind.Text fields
 kind_of (held.Binary pieces) = kind.Binary pieces
@@ -33,7 +34,8 @@ kind_of (held.Binary pieces) = kind.Binary pieces
 abbrev pub module_of : TextModule → Module
 module_of t = record { span = t.span; id = t.id; name = t.name; kind = kind_of t.kind }
 
--- Why a module that is not ready is refused: the least clause of "well formed" that fails, and else clause 6, on generated ids.
+-- Why a module that is not ready is refused: the least clause of "well formed" that fails, and else
+-- clause 6, on generated ids.
 abbrev pub unready : Module → TextError
 unready m = record { fault = text.IllFormed (unwrap_or (ill_formed m) 6); span = start }
 
@@ -42,13 +44,15 @@ pub record IsUnready (m : Module) (e : TextError) : Type 0 where
   pub is_not_ready : IsReady m 1 → ⊥
   pub why : e ≡ unready m
 
--- What encoding a module that is ready answers, as the headline theorem has it, with the id counter at 1.
+-- What encoding a module that is ready answers, as the headline theorem has it, with the id counter
+-- at 1.
 pub record EncodesReady (m : Module) (r : Result (Vec ℕ) Error) : Type 0 where
   pub ready : IsReady m 1
   pub left : ModuleKind
   pub encodes : EncodesKind 1 (name_of_module m) m.kind r left
 
--- What encoding a module answers. The text of a form that no encoder covers is not part of it, since a module has no text.
+-- What encoding a module answers. The text of a form that no encoder covers is not part of it,
+-- since a module has no text.
 abbrev pub EncodesModule : Module → Result (Vec ℕ) Refused → Type 0
 EncodesModule m (Ok bytes) = EncodesReady m (Ok bytes)
 EncodesModule m (Err (answer.Text e)) = IsUnready m e
@@ -59,9 +63,10 @@ EncodesModule m (Err (answer.Uncovered u)) = EncodesReady m (Err (refused (fault
 abbrev pub EncodesText : TextModule → Result (Vec ℕ) Refused → Type 0
 EncodesText t r = EncodesModule (module_of t) r
 
--- What reading a text may give: a module whose fields are well formed, or an error with a position in the text. Reading itself is
--- not proved, so more than this is not known. The definition is shut, and only the proof of `read_text` opens it: a function has
--- no proof of "reading may give it" unless it calls `read_text` with this text.
+-- What reading a text may give: a module whose fields are well formed, or an error with a position
+-- in the text. Reading itself is not proved, so more than this is not known. The definition is
+-- opaque, and only the proof of `read_text` unfolds it: a function has no proof of "reading may
+-- give it" unless it calls `read_text` with this text.
 unfoldable pub IsRead : List ℕ → Result TextModule TextError → Type 0
 IsRead bytes (Ok t) = IsTrue (is_well_formed_text t.kind)
 IsRead bytes (Err e) = e.span.offset ≤ length bytes

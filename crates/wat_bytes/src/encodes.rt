@@ -1,8 +1,8 @@
 //! The bytes of a text.
 
-ghost use Rattle.std.specs.Prelude.{◌≡◌, IfErr, option_map};
+ghost use Rattle.std.specs.Prelude.{IfErr};
 ghost use Rattle.wast_core.specs.Modules.{IsReady};
-ghost use Rattle.wat_bytes.specs.Texts.{EncodesModule, EncodesText, IsPlaced, OfText, Tells, first_form};
+ghost use Rattle.wat_bytes.specs.Texts.{EncodesModule, EncodesText, IsPlaced, OfText, Tells};
 
 use crate::modules::{is_ready, module_of, read_text, unready};
 use crate::refusals::{Refused, UncoveredForm};
@@ -47,16 +47,19 @@ fn encoded<'a>(alloc: Global, module: &mut Module<'a>) -> Result<Vec<u8>, Refuse
 ///
 /// # Errors
 ///
-/// - [`Refused::Text`] if the module is not well formed, or has a generated id: the least clause of "well formed" that fails,
-///   or else clause 6, at offset 0. [`read`](wat_text::read) gives well formed modules, and no text has a generated id.
+/// - [`Refused::Text`] if the module is not well formed, or has a generated id: the least clause of
+///   "well formed" that fails, or else clause 6, at offset 0. [`read`](wat_text::read) gives well
+///   formed modules, and no text has a generated id.
 /// - [`Refused::Module`] for each other error of `encode_module` of wast_core.
-/// - [`Refused::Uncovered`] for E11, with the position that [`first_uncovered`](wast_tree::first_uncovered) finds in the resolved
-///   fields, and no word. [`encode_text`] has the word.
+/// - [`Refused::Uncovered`] for E11, with the position that
+///   [`first_uncovered`](wast_tree::first_uncovered) finds in the resolved fields, and no word.
+///   [`encode_text`] has the word.
 ///
 /// # Guarantees
 ///
-/// The answer is that of `encode_module` of wast_core for this module, with the id counter at 1 (`EncodesText`). Like each
-/// call that allocates it may fail with E12; tests check that it does so only if an allocation fails.
+/// The answer is that of `encode_module` of wast_core for this module, with the id counter at 1
+/// (`EncodesText`). Like each call that allocates it may fail with E12; tests check that it does so
+/// only if an allocation fails.
 pub fn encoded_text<'a>(alloc: Global, text: TextModule<'a>) -> Result<Vec<u8>, Refused<'a>>
     ensures { EncodesText text.entry result }
 {
@@ -87,19 +90,21 @@ fn encoded_in<'a>(
     }
 }
 
-/// Reads a module in the text format, resolves it and encodes it (text format, modules; binary format, modules). Strings with
-/// escapes are kept in `strings`.
+/// Reads a module in the text format, resolves it and encodes it (text format, modules; binary
+/// format, modules). Strings with escapes are kept in `strings`.
 ///
 /// # Errors
 ///
 /// - [`Refused::Text`] for each error of [`read`](wat_text::read).
-/// - [`Refused::Module`] and [`Refused::Uncovered`] as [`encoded_text`] of the module. For E11 the text is read again, so that
-///   the error has the word of the text that no encoder covers: `i64.add128` at offset 14 in `(module (func i64.add128))`.
+/// - [`Refused::Module`] and [`Refused::Uncovered`] as [`encoded_text`] of the module. For E11 the
+///   text is read again, so that the error has the word of the text that no encoder covers:
+///   `i64.add128` at offset 14 in `(module (func i64.add128))`.
 ///
 /// # Guarantees
 ///
-/// - `answer`: the answer is that of [`encoded_text`] for some module that [`read`](wat_text::read) may give, or an error that it
-///   may give (`OfText`). That `read` gives the module of the text is tested, not proved.
+/// - `answer`: the answer is that of [`encoded_text`] for some module that [`read`](wat_text::read)
+///   may give, or an error that it may give (`OfText`). That `read` gives the module of the text is
+///   tested, not proved.
 /// - `place`: an error of the text is in the text or at its end.
 pub fn encode_text<'a>(
     alloc: Global,

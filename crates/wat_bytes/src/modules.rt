@@ -46,8 +46,8 @@ pub(crate) fn module_of<'a>(text: TextModule<'a>) -> Module<'a>
     }
 }
 
-/// Whether a module can be resolved with a counter at 1. It takes `&mut` and changes nothing, because the prover would compare
-/// the type of the whole tree with itself for a `&`.
+/// Whether a module can be resolved with a counter at 1. It takes `&mut` and changes nothing,
+/// because the prover would compare the type of the whole tree with itself for a `&`.
 pub(crate) fn is_ready(module: &mut Module<'_>) -> bool
     ensures ready { IsTrue result → IsReady «module».old 1 }
     ensures unready { IsFalse result → IsReady «module».old 1 → ⊥ }

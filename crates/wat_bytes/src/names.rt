@@ -109,20 +109,23 @@ fn resolved_text<'a>(alloc: Global, text: TextModule<'a>) -> Result<Names<'a>, R
     answer
 }
 
-/// Resolves a module that was read, and returns what each id that it binds in an index space denotes (text format, indices): by
-/// the space, in the order of [`Space::ALL`](wast_tree::Space::ALL), then by the number.
+/// Resolves a module that was read, and returns what each id that it binds in an index space
+/// denotes (text format, indices): by the space, in the order of
+/// [`Space::ALL`](wast_tree::Space::ALL), then by the number.
 ///
-/// For `(module (func) (func $f) (type $t (func)))` these are `$f` of the functions with number 1, and `$t` of the types with
-/// number 0. Ids that resolving generates are not among them.
+/// For `(module (func) (func $f) (type $t (func)))` these are `$f` of the functions with number 1,
+/// and `$t` of the types with number 0. Ids that resolving generates are not among them.
 ///
 /// # Errors
 ///
-/// - [`Refused::Text`] if the module is not well formed, or has a generated id, as [`encoded_text`](crate::encoded_text).
+/// - [`Refused::Text`] if the module is not well formed, or has a generated id, as
+///   [`encoded_text`](crate::encoded_text).
 /// - [`Refused::Module`] for each error of `resolve` of a module of wast_core, and for E12.
 ///
 /// # Guarantees
 ///
-/// The list has the written ids of the names that `resolve` gives for this module, each once (`ListsText`).
+/// The list has the written ids of the names that `resolve` gives for this module, each once
+/// (`ListsText`).
 pub fn names_of<'a>(alloc: Global, text: TextModule<'a>) -> Result<Vec<Denoted<'a>>, Refused<'a>>
     ensures { ListsText text.entry result }
 {
@@ -139,8 +142,9 @@ pub fn names_of<'a>(alloc: Global, text: TextModule<'a>) -> Result<Vec<Denoted<'
     }
 }
 
-/// Reads a module in the text format, resolves it, and returns what each id that it binds in an index space denotes (text
-/// format, indices), as [`names_of`] does. Strings with escapes are kept in `strings`.
+/// Reads a module in the text format, resolves it, and returns what each id that it binds in an
+/// index space denotes (text format, indices), as [`names_of`] does. Strings with escapes are kept
+/// in `strings`.
 ///
 /// # Errors
 ///
@@ -149,8 +153,9 @@ pub fn names_of<'a>(alloc: Global, text: TextModule<'a>) -> Result<Vec<Denoted<'
 ///
 /// # Guarantees
 ///
-/// - `answer`: the answer is that of [`names_of`] for some module that [`read`](wat_text::read) may give, or an error that it may
-///   give (`OfText`). That `read` gives the module of the text is tested, not proved.
+/// - `answer`: the answer is that of [`names_of`] for some module that [`read`](wat_text::read) may
+///   give, or an error that it may give (`OfText`). That `read` gives the module of the text is
+///   tested, not proved.
 /// - `place`: an error of the text is in the text or at its end.
 pub fn names_of_text<'a>(
     alloc: Global,
@@ -195,10 +200,11 @@ fn number_of<'a>(names: &Names<'a>, space: Space, name: &'a str) -> Option<u32>
     }
 }
 
-/// Resolves a module that was read, and returns the number of what a name, written without its `$`, denotes in a space (text
-/// format, indices); `None` if nothing of the space has the name.
+/// Resolves a module that was read, and returns the number of what a name, written without its `$`,
+/// denotes in a space (text format, indices); `None` if nothing of the space has the name.
 ///
-/// For `f` among the functions of `(module (func) (func $f))` it is 1, and for `f` among the tables it is `None`.
+/// For `f` among the functions of `(module (func) (func $f))` it is 1, and for `f` among the tables
+/// it is `None`.
 ///
 /// # Errors
 ///
@@ -206,7 +212,8 @@ fn number_of<'a>(names: &Names<'a>, space: Space, name: &'a str) -> Option<u32>
 ///
 /// # Guarantees
 ///
-/// The answer is exactly what the names that `resolve` gives for this module say of the name (`NumbersText`).
+/// The answer is exactly what the names that `resolve` gives for this module say of the name
+/// (`NumbersText`).
 pub fn number_in<'a>(
     alloc: Global,
     text: TextModule<'a>,
@@ -225,8 +232,9 @@ pub fn number_in<'a>(
     }
 }
 
-/// Reads a module in the text format, resolves it, and returns the number of what a name, written without its `$`, denotes in a
-/// space (text format, indices), as [`number_in`] does. Strings with escapes are kept in `strings`.
+/// Reads a module in the text format, resolves it, and returns the number of what a name, written
+/// without its `$`, denotes in a space (text format, indices), as [`number_in`] does. Strings with
+/// escapes are kept in `strings`.
 ///
 /// # Errors
 ///
@@ -235,8 +243,9 @@ pub fn number_in<'a>(
 ///
 /// # Guarantees
 ///
-/// - `answer`: the answer is that of [`number_in`] for some module that [`read`](wat_text::read) may give, or an error that it may
-///   give (`OfText`). That `read` gives the module of the text is tested, not proved.
+/// - `answer`: the answer is that of [`number_in`] for some module that [`read`](wat_text::read)
+///   may give, or an error that it may give (`OfText`). That `read` gives the module of the text is
+///   tested, not proved.
 /// - `place`: an error of the text is in the text or at its end.
 pub fn number_in_text<'a>(
     alloc: Global,

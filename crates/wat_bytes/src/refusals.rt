@@ -14,7 +14,8 @@ pub struct UncoveredForm<'a> {
     pub form: Form,
     /// The position of the word; if there is none, the nearest position that is known.
     pub span: Span,
-    /// The first word of the text that belongs to the form, in the field of the nearest position or after it: `i64.add128`.
+    /// The first word of the text that belongs to the form, in the field of the nearest position or
+    /// after it: `i64.add128`.
     pub word: Option<&'a str>,
 }
 
@@ -46,8 +47,9 @@ const UNCOVERED: u32 = 11;
 const MEMORY: u32 = 12;
 
 impl Refused<'_> {
-    /// Returns the number of the fault, 1 for E1 and so on to 13, and `None` if the text is no well formed module. Returns that
-    /// of E12 for each allocation that failed, also of one before the text was read. Does not allocate.
+    /// Returns the number of the fault, 1 for E1 and so on to 13, and `None` if the text is no well
+    /// formed module. Returns that of E12 for each allocation that failed, also of one before the
+    /// text was read. Does not allocate.
     pub fn number(&self) -> Option<u32>
         ensures { result ≡ number_of self.now }
     {

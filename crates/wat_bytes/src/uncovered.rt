@@ -11,8 +11,8 @@ use wast_tree::{Form, Span, Uncovered, first_uncovered};
 use wat_text::{Strings, TextModule, read};
 use wat_tokens::{Key, MemoryOp, Placed, Token, Word, tokens_of};
 
-/// The first form of a module that no encoder covers. It takes `&mut` and changes nothing, because the prover would compare the
-/// type of the whole tree with itself for a `&`.
+/// The first form of a module that no encoder covers. It takes `&mut` and changes nothing, because
+/// the prover would compare the type of the whole tree with itself for a `&`.
 pub(crate) fn first_form(module: &mut Module<'_>) -> Option<Uncovered>
     ensures form { option_map (λ u. u.form) result ≡ first_form «module».old.kind }
     ensures stays { «module».new ≡ «module».old }
@@ -34,8 +34,9 @@ fn place_in(text: TextModule<'_>, form: Form) -> Option<Span> {
     }
 }
 
-/// The position of the first form in the fields as the text has them, if it is this form. Resolving fills positions in, as the
-/// start of the text for an index that the text leaves out; reading does not.
+/// The position of the first form in the fields as the text has them, if it is this form. Resolving
+/// fills positions in, as the start of the text for an index that the text leaves out; reading does
+/// not.
 fn written_place<'a>(
     alloc: Global,
     text: &'a str,
@@ -89,7 +90,8 @@ fn word_of<'a>(form: Form, token: &Token<'a>) -> Option<&'a str> {
     }
 }
 
-/// How deep fields are nested in the parentheses of a text: 1 in `(module (func))`, and 0 in `(func)`.
+/// How deep fields are nested in the parentheses of a text: 1 in `(module (func))`, and 0 in
+/// `(func)`.
 fn field_depth(tokens: &[Placed<'_>]) -> usize {
     match tokens.get(1) {
         Some(placed) if matches!(placed.token, Token::Word(Word::Key(Key::Module), _)) => 1,
@@ -97,8 +99,9 @@ fn field_depth(tokens: &[Placed<'_>]) -> usize {
     }
 }
 
-/// The first word that belongs to a form, in the field of a position or after it. A word before the position counts, because the
-/// position may be that of an index behind its instruction: of `1` in `(type (cont 1))`.
+/// The first word that belongs to a form, in the field of a position or after it. A word before the
+/// position counts, because the position may be that of an index behind its instruction: of `1` in
+/// `(type (cont 1))`.
 fn first_word<'a>(tokens: &[Placed<'a>], form: Form, from: Span) -> Option<(Span, &'a str)> {
     let field = field_depth(tokens);
     let mut depth = 0_usize;
@@ -125,7 +128,8 @@ fn first_word<'a>(tokens: &[Placed<'a>], form: Form, from: Span) -> Option<(Span
     None
 }
 
-/// A form at its first word, in the field of a position or after it; at the position if there is no such word.
+/// A form at its first word, in the field of a position or after it; at the position if there is no
+/// such word.
 fn at_word<'a>(tokens: &[Placed<'a>], form: Form, from: Span) -> UncoveredForm<'a>
     ensures { result.form ≡ form }
 {
@@ -143,8 +147,8 @@ fn at_word<'a>(tokens: &[Placed<'a>], form: Form, from: Span) -> UncoveredForm<'
     }
 }
 
-/// A form that was found in resolved fields, as the text has it. It reads the text again, because E11 is rare and has neither
-/// position nor word.
+/// A form that was found in resolved fields, as the text has it. It reads the text again, because
+/// E11 is rare and has neither position nor word.
 pub(crate) fn as_written<'a>(
     alloc: Global,
     text: &'a str,
