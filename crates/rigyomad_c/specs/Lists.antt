@@ -22,12 +22,12 @@ abbrev pub name_at : ℕ → Denoted → Name
 name_at start d = record { space = rank_of d.space; number = d.number; offset = d.id.span.offset; start = start; size = length (bytes_in d) }
 
 -- The bytes of names, one name after another: those of `$a` and `$bc` are `abc`.
-pub bytes_of : List Denoted → List ℕ
+unfoldable pub bytes_of : List Denoted → List ℕ
 bytes_of [] = []
 bytes_of (d ∷ ds) = bytes_in d ++ bytes_of ds
 
 -- The records of names, after `start` bytes of others: those of `$a` and `$bc` start at 0 and 1.
-pub names_from : ℕ → List Denoted → List Name
+unfoldable pub names_from : ℕ → List Denoted → List Name
 names_from start [] = []
 names_from start (d ∷ ds) = name_at start d ∷ names_from (start + length (bytes_in d)) ds
 

@@ -1,7 +1,7 @@
 //! All names of a text are listed.
 
-ghost use Rattle.std.specs.Prelude.{◌≡◌, ◌++◌, [], length, drop, IsTrue, IsFalse, OnOk};
-ghost use Rattle.rigyomad_c.specs.Lists.{Lists, ListsRead, Puts, PutsBoth, HaveRoom, LackRoom, name_at, names_from, bytes_of, no_room};
+ghost use Rattle.std.specs.Prelude.{◌≡◌, ◌++◌, ◌∷◌, [], length, drop, IsTrue, IsFalse, OnOk};
+ghost use Rattle.rigyomad_c.specs.Lists.{Lists, ListsRead, Puts, PutsBoth, HaveRoom, LackRoom, bytes_in, name_at, names_from, bytes_of, no_room};
 
 use crate::encodes::put_front;
 use crate::statuses::Status;
@@ -58,6 +58,15 @@ fn name_at(start: usize, denoted: &Denoted<'_>) -> Name
     }
 }
 
+/// Appends the record of a name, and its bytes.
+fn add(denoted: &Denoted<'_>, names: &mut Vec<Name>, bytes: &mut Vec<u8>) -> Result<(), AllocError>
+    ensures names { OnOk result (names.new.items ≡ names.old.items ++ name_at (length bytes.old.items) denoted.now ∷ []) }
+    ensures bytes { OnOk result (bytes.new.items ≡ bytes.old.items ++ bytes_in denoted.now) }
+{
+    names.push(name_at(bytes.len(), denoted))?;
+    bytes.extend_from_slice(denoted.id.name().as_bytes())
+}
+
 /// Appends the record of each name, and its bytes.
 fn list(all: &[Denoted<'_>], names: &mut Vec<Name>, bytes: &mut Vec<u8>) -> Result<(), AllocError>
     requires no_names { names.old.items ≡ [] }
@@ -66,8 +75,7 @@ fn list(all: &[Denoted<'_>], names: &mut Vec<Name>, bytes: &mut Vec<u8>) -> Resu
     ensures bytes { OnOk result (bytes.new.items ≡ bytes_of all.now) }
 {
     for denoted in all {
-        names.push(name_at(bytes.len(), denoted))?;
-        bytes.extend_from_slice(denoted.id.name().as_bytes())?;
+        add(denoted, names, bytes)?;
     }
     Ok(())
 }
