@@ -139,8 +139,19 @@ pub(crate) fn report_malformed(rt: &HostRuntime, file: Escaped<'_>, text: &str) 
     Failure::Text
 }
 
+/// Returns whether a text may have bidirectional control characters. In UTF-8 each of them begins with
+/// one of two bytes, which few texts have, so that most texts are not decoded to look for them.
+fn may_have_bidirectional_control(text: &str) -> bool {
+    text.as_bytes()
+        .iter()
+        .any(|byte| *byte == 0xd8 || *byte == 0xe2)
+}
+
 /// Returns the offset of the first bidirectional control character of a text.
 fn first_bidirectional_control(text: &str) -> Option<usize> {
+    if !may_have_bidirectional_control(text) {
+        return None;
+    }
     for (offset, character) in text.char_indices() {
         if is_bidirectional_control(character) {
             return Some(offset);
