@@ -12,43 +12,71 @@ pub(crate) struct Quote<'a> {
     pub bytes: &'a [u8],
 }
 
-/// The quotes that come after those that end at or before an offset in the text that they make, and the offset at which the
-/// first of them begins.
-fn quotes_from<'b, 'a>(
-    quotes: &'b [Quote<'a>],
+/// A string of a text in quotes, by its number, and the offset in the text that they make at which it begins.
+#[derive(Clone, Copy)]
+struct Cursor {
+    number: usize,
     begin: usize,
-    offset: usize,
-) -> (&'b [Quote<'a>], usize) {
-    let (mut left, mut begin) = (quotes, begin);
-    for _ in 0..quotes.len() {
-        match left {
-            [first, rest @ ..]
-                if begin.saturating_add(first.bytes.len()) <= offset && !rest.is_empty() => {
-                begin = begin.saturating_add(first.bytes.len());
-                left = rest;
-            }
-            _ => break,
-        }
-    }
-    (left, begin)
 }
 
-/// The place of the first of these quotes.
-fn place_of(quotes: &[Quote<'_>], none: Span) -> Span {
-    match quotes.first() {
+/// The next string, if the one at the cursor ends at or before an offset and is not the last.
+fn next(quotes: &[Quote<'_>], cursor: Cursor, offset: usize) -> Option<Cursor> {
+    let number = cursor.number.saturating_add(1);
+    let begin = match quotes.get(cursor.number) {
+        Some(quote) => cursor.begin.saturating_add(quote.bytes.len()),
+        None => return None,
+    };
+    match begin <= offset && number < quotes.len() {
+        true => Some(Cursor { number, begin }),
+        false => None,
+    }
+}
+
+/// The string in which an offset is, which is the one at the cursor or comes after it.
+fn advance(quotes: &[Quote<'_>], cursor: Cursor, offset: usize) -> Cursor {
+    let mut cursor = cursor;
+    for _ in 0..quotes.len() {
+        match next(quotes, cursor, offset) {
+            Some(next) => cursor = next,
+            None => break,
+        }
+    }
+    cursor
+}
+
+/// The place of the string at the cursor.
+fn place_at(quotes: &[Quote<'_>], cursor: Cursor, none: Span) -> Span {
+    match quotes.get(cursor.number) {
         Some(quote) => quote.span,
         None => none,
     }
 }
 
+/// The offset of a token.
+fn offset_of(tokens: &[Placed<'_>], at: usize) -> usize {
+    match tokens.get(at) {
+        Some(placed) => placed.span.offset,
+        None => 0,
+    }
+}
+
+/// Gives a token another place.
+fn set_place(tokens: &mut Vec<Placed<'_>>, at: usize, span: Span) {
+    if let Some(placed) = tokens.get_mut(at) {
+        placed.span = span;
+    }
+}
+
 /// Gives each token of a text in quotes the place of the string in which it begins.
-fn place_tokens<'a>(tokens: &mut Vec<Placed<'a>>, quotes: &[Quote<'a>], none: Span) {
-    let (mut left, mut begin) = (quotes, 0);
+fn place_tokens(tokens: &mut Vec<Placed<'_>>, quotes: &[Quote<'_>], none: Span) {
+    let mut cursor = Cursor {
+        number: 0,
+        begin: 0,
+    };
     for at in 0..tokens.len() {
-        if let Some(placed) = tokens.get_mut(at) {
-            (left, begin) = quotes_from(left, begin, placed.span.offset);
-            placed.span = place_of(left, none);
-        }
+        let offset = offset_of(tokens.as_slice(), at);
+        cursor = advance(quotes, cursor, offset);
+        set_place(tokens, at, place_at(quotes, cursor, none));
     }
 }
 
@@ -86,8 +114,12 @@ pub(crate) fn quoted_tokens<'a>(
             Ok(tokens)
         }
         Err(error) => {
-            let (left, _begin) = quotes_from(quotes, 0, error.span.offset);
-            Err(TextError::new(place_of(left, none), error.fault))
+            let start = Cursor {
+                number: 0,
+                begin: 0,
+            };
+            let cursor = advance(quotes, start, error.span.offset);
+            Err(TextError::new(place_at(quotes, cursor, none), error.fault))
         }
     }
 }
