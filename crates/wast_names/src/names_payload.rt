@@ -226,12 +226,9 @@ fn id_within(within: Within) -> u8
     }
 }
 
-/// Over up to so many fields types are looked up from 64 checkpoints.
+/// The number of fields up to which types are looked up from 64 checkpoints. Over more fields there are 1,024, which take
+/// 4 KiB of the stack, and no more, so that encoding fits on a stack of 16 KiB.
 const FEW: usize = 64;
-
-/// Over up to so many fields from 1,024, and over more from 16,384, which take 64 KiB of the stack: so up to a million fields
-/// stand at most 64 from one to the next.
-const MANY: usize = 8192;
 
 /// A map of names by position.
 #[derive(Clone, Copy)]
@@ -461,11 +458,7 @@ pub fn names_extent(
         let mut room = [0u32; 64];
         return extent_within(fields, name, reaches, &mut room);
     }
-    if asked <= MANY {
-        let mut room = [0u32; 1024];
-        return extent_within(fields, name, reaches, &mut room);
-    }
-    let mut room = [0u32; 16384];
+    let mut room = [0u32; 1024];
     extent_within(fields, name, reaches, &mut room)
 }
 
@@ -525,10 +518,6 @@ pub fn put_names<S: Sink>(
         let mut room = [0u32; 64];
         return put_within(fields, name, reaches, extent, &mut room, out);
     }
-    if asked <= MANY {
-        let mut room = [0u32; 1024];
-        return put_within(fields, name, reaches, extent, &mut room, out);
-    }
-    let mut room = [0u32; 16384];
+    let mut room = [0u32; 1024];
     put_within(fields, name, reaches, extent, &mut room, out)
 }
