@@ -89,3 +89,39 @@ fn a_twin_has_longer_names(rt: HostRuntime) {
     let twin = encoded_twice(&rt, alloc, twin_of(&rt, alloc, 27)).expect(&rt, "bytes");
     assert!(rt; plain.len() == 52 && twin.len() == 54);
 }
+
+/// What stands before the text of a written id in the `Debug` form of a module.
+const WRITTEN: &[u8] = b"Written(\"";
+
+/// The text with an `r` before the text of each written id.
+fn with_longer_ids(rt: &impl Abort, alloc: Global, text: &[u8]) -> Vec<u8> {
+    let mut longer = Vec::new(alloc);
+    for i in 0..text.len() {
+        if text[..i].ends_with(WRITTEN) {
+            longer.push(b'r').expect(rt, "memory");
+        }
+        longer.push(text[i]).expect(rt, "memory");
+    }
+    longer
+}
+
+/// The `Debug` form of a module.
+fn printed(rt: &impl Abort, alloc: Global, module: Module<'_>) -> String {
+    let text = format!(in alloc; "{module:?}").expect(rt, "memory");
+    discard_module(module);
+    text
+}
+
+// No contract says so: a twin that is the sample itself would meet that of `twin`.
+#[test]
+fn twins_have_an_r_before_each_id_and_differ_in_nothing_else(rt: HostRuntime) {
+    let alloc = rt.alloc();
+    for n in 1..66 {
+        if is_row(n) {
+            let plain = printed(&rt, alloc, row(&rt, alloc, n));
+            let twin = printed(&rt, alloc, twin_of(&rt, alloc, n));
+            let longer = with_longer_ids(&rt, alloc, plain.as_bytes());
+            assert!(rt; longer.as_slice() == twin.as_bytes(), "row {n}");
+        }
+    }
+}
