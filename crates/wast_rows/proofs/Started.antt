@@ -25,7 +25,7 @@ use Rattle.wast_demands.specs.Resolved.{numbered_at}
 use Rattle.wast_passes.specs.LookUps.{IsSettledFor, IsMetBy, AnswersFor}
 use Rattle.wast_passes.specs.Resolvers.{KnownNames, known_to}
 use Rattle.wast_resolve.specs.Laws.{SettledStays}
-use Rattle.wast_alike.specs.Rests.{started, final_names, RestsStill, StartsStayWellFormed, StartsStayBelow}
+use Rattle.wast_alike.specs.Rests.{started, final_names, RestsStill, FillsNoMore, StartsStayWellFormed, StartsStayBelow}
 use Rattle.wast_core.specs.declared.module.Module.{Module}
 use Rattle.wast_core.specs.declared.module.ModuleKind.{ModuleKind}
 use Rattle.wast_core.specs.declared.module.ModuleKind.TheVariants as kind
@@ -35,7 +35,7 @@ use Rattle.wast_core.specs.Headline.{IsMet, ResolvesKind, Counts, IsUnwritten, E
 use Rattle.wast_core.specs.Modules.{is_well_formed_kind, bound_of_kind, IsReady}
 use Rattle.wast_core.specs.Meaning.{meaning}
 use Rattle.wast_core.specs.Uncovered.{first, uncovered_forms}
-use Rattle.wast_rows.specs.Starting.{IsNoBinary, IsSettledStart, with_start, finished_start, AddsStart}
+use Rattle.wast_rows.specs.Starting.{IsNoBinary, IsSettledStart, with_start, finished_start, AddsStart, CountsStart}
 use Rattle.wast_rows.specs.StartSteps.{FindsStart, IsText, PutsStart}
 
 -- An index that is known denotes a function, and becomes its number.
@@ -82,6 +82,15 @@ module _ (n : ℕ) (fields : List ModuleField) (i : Index) (above : greatest_gen
 
   pub still_below : StartsStayBelow → greatest_generation list ≡ greatest_generation (finished n fields)
   still_below below = subst (λ xs. greatest_generation xs ≡ greatest_generation (finished n fields)) list_is (below (finished n fields) (index.Num number.number number.place ∷ []) refl)
+
+  -- No id is filled in, so the counter stays.
+  fills_none : FillsNoMore → ids_filled list ≡ 0
+  fills_none fills = subst (λ xs. ids_filled xs ≡ 0) list_is (fills n fields ((number.number, number.place) ∷ []))
+
+  pub counter_stays : FillsNoMore → (m k : ℕ) (last : ModuleKind) → Counts (kind.Text list) last m k → k ≡ m
+  counter_stays fills m k (kind.Text xs) h = let none = fills_none fills in omega (arith, none, h)
+  counter_stays fills m k (kind.Binary pieces) h = absurd h
+  counter_stays fills m k (kind.Refused e) h = h
 
   -- and encoding it gives the bytes of the module with the field.
   module _ (refused : RestsWithheld) (still : RestsStill) (below : StartsStayBelow) (last : StartsLast) (one : (bytes : List ℕ) (p q : List Part) → Reads bytes p → Reads bytes q → p ≡ q)
@@ -188,6 +197,34 @@ adds_none n name (kind.Text fields) found i e (inl h) = inl h
 adds_none n name (kind.Text fields) found i e (inr h) = inr (inl (h.0, inl h.1, h.2))
 adds_none n name (kind.Binary pieces) found i e h = absurd h
 adds_none n name (kind.Refused d) found i e h = h
+
+-- The counter rises by the ids that resolving the module fills in, or stays if that fails.
+pub counts_found : FillsNoMore → (n m k : ℕ) (old found new last : ModuleKind) (i j : Index) (x : Unit {0}) → bound_of_kind old < n → FindsStart n old i (Ok j) found → Counts old found n m → PutsStart found j (Ok x) new
+    → (result : Result (Vec ℕ) Error) → Counts new last m k → CountsStart n old result last k
+counts_found fills n m k (kind.Text fields) found new last i j x above h counts put result more = by result
+  where
+    after : k ≡ n + ids_filled fields
+    after =
+        let first : m ≡ n + ids_filled fields = subst (λ q. Counts (kind.Text fields) q n m) h.3 counts in
+        let is : new ≡ kind.Text (finished_start n fields i) = put_behind n fields found new i j x h put in
+        counter_stays n fields i above h.0 h.1 fills m k last (subst (λ q. Counts q last m k) is more) ∙ first
+
+    by : (result : Result (Vec ℕ) Error) → CountsStart n (kind.Text fields) result last k
+    by (Ok bytes) = after
+    by (Err e) = inr (h.0, after)
+counts_found fills n m k (kind.Binary pieces) found new last i j x above h counts put result more = absurd h
+counts_found fills n m k (kind.Refused e) found new last i j x above h counts put result more = absurd h
+
+pub counts_no_room : (n m : ℕ) (old found new : ModuleKind) (i j : Index) (e : Error) → FindsStart n old i (Ok j) found → Counts old found n m → CountsStart n old (Err e) new m
+counts_no_room n m (kind.Text fields) found new i j e h counts = inr (h.0, subst (λ q. Counts (kind.Text fields) q n m) h.3 counts)
+counts_no_room n m (kind.Binary pieces) found new i j e h counts = absurd h
+counts_no_room n m (kind.Refused d) found new i j e h counts = absurd h
+
+pub counts_none : (n m : ℕ) (old found : ModuleKind) (i : Index) (e : Error) → FindsStart n old i (Err e) found → Counts old found n m → CountsStart n old (Err e) found m
+counts_none n m (kind.Text fields) found i e (inl h) counts = inl (h, subst (λ q. Counts (kind.Text fields) q n m) h.1 counts)
+counts_none n m (kind.Text fields) found i e (inr h) counts = inr (h.0, subst (λ q. Counts (kind.Text fields) q n m) h.2 counts)
+counts_none n m (kind.Binary pieces) found i e h counts = absurd h
+counts_none n m (kind.Refused d) found i e h counts = counts
 
 -- The counter never falls.
 pub rises : (old new : ModuleKind) (n m : ℕ) → Counts old new n m → n ≤ m

@@ -75,3 +75,13 @@ AddsStart n name (kind.Text fields) i (Err e) new = IsRefusedFirst n fields e ne
 AddsStart n name (kind.Binary pieces) i result new = ⊥
 AddsStart n name (kind.Refused e) i (Ok bytes) new = ⊥
 AddsStart n name (kind.Refused e) i (Err d) new = (d ≡ e) × (new ≡ kind.Refused e)
+
+-- How far the counter rises: by the ids that resolving the module fills in, and no further, since a
+-- start field needs no id; and not at all if resolving fails first. For example, for
+-- `(module (func $f))` it rises by 1, for the type of `$f`; if the index is `$g`, E4 comes after
+-- that, and the counter has risen by 1 too.
+abbrev pub CountsStart : ℕ → ModuleKind → Result (Vec ℕ) Error → ModuleKind → ℕ → Type 0
+CountsStart n (kind.Text fields) (Ok bytes) new after = after ≡ n + ids_filled fields
+CountsStart n (kind.Text fields) (Err e) new after = (IsRefusedFirst n fields e new × (after ≡ n)) ⊎ (IsMet fields × (after ≡ n + ids_filled fields))
+CountsStart n (kind.Binary pieces) result new after = ⊥
+CountsStart n (kind.Refused e) result new after = after ≡ n

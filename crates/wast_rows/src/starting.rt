@@ -7,7 +7,7 @@ ghost use Rattle.wast_passes.specs.LookUps.{IsSettledFor, IsMetBy, AnswersFor};
 ghost use Rattle.wast_passes.specs.Resolvers.{known_to};
 ghost use Rattle.wast_core.specs.Headline.{Counts, name_of_module};
 ghost use Rattle.wast_core.specs.Modules.{IsReady};
-ghost use Rattle.wast_rows.specs.Starting.{IsNoBinary, IsSettledStart, AddsStart};
+ghost use Rattle.wast_rows.specs.Starting.{IsNoBinary, IsSettledStart, AddsStart, CountsStart};
 ghost use Rattle.wast_rows.specs.StartSteps.{FindsStart, IsText, PutsStart};
 
 use std::alloc::Global;
@@ -74,7 +74,8 @@ fn put_start<'a>(module: &mut Module<'a>, start: Index<'a>) -> Result<(), Error<
 /// at the place of the index, where no function has its name, and E12, where memory for the field is refused, leave the module
 /// resolved, without the field. The list with the field is resolved again: a refusal by E12, or by E10 where it is too large, is
 /// kept. Encoding refuses by E11, E10 and E12 as [`EncodeOptions::encode_module`] does, and leaves the module resolved, with the
-/// field. Span, id and name of the module stay, and the counter never falls.
+/// field. Span, id and name of the module stay. The counter rises by the ids that resolving the
+/// module fills in, and stays if that fails, since the start field needs no id.
 pub fn add_start<'a>(
     alloc: Global,
     module: &mut Module<'a>,
@@ -86,6 +87,7 @@ pub fn add_start<'a>(
     requires settled { IsSettledStart «module».old.kind idx }
     ensures answer { AddsStart gensym.old (name_of_module «module».old) «module».old.kind idx.entry result «module».new.kind }
     ensures stays { «module».new ≡ record «module».old { kind = «module».new.kind } }
+    ensures counter { CountsStart gensym.old «module».old.kind result «module».new.kind gensym.new }
     ensures rising { gensym.old ≤ gensym.new }
     ensures ready { IsReady «module».new gensym.new }
 {

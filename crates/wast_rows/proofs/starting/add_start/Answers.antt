@@ -3,7 +3,7 @@ use Rattle.std.proofs.lemmas.Result.{err_from_is_err_and}
 use Rattle.wast_core.specs.declared.module.Module.{Module}
 use Rattle.wast_core.specs.Headline.{name_of_module, EncodesKind}
 use Rattle.wast_core.specs.Modules.{IsReady, bound_of_kind}
-use Rattle.wast_rows.proofs.Started.{held_ready, stays_ready, adds_found, adds_no_room, adds_none, found_text, rises, unput}
+use Rattle.wast_rows.proofs.Started.{held_ready, stays_ready, adds_found, adds_no_room, adds_none, counts_found, counts_no_room, counts_none, found_text, rises, unput}
 use Rattle.wast_rows.proofs.starting.add_start.Goals as goal
 
 pub put_start-requires : goal.put_start-requires
@@ -62,3 +62,24 @@ returns-clause-rising c =
     let a = rises c.args.module.now.kind c.find_start.new.module.kind c.args.gensym.now c.find_start.new.gensym c.in_ok-start.ensures.counter in
     let b = rises c.put_start.new.module.kind c.encode_module.new.module.kind c.find_start.new.gensym c.encode_module.new.gensym c.encode_module.ensures.answer.counter in
     omega (arith, a, b)
+
+pub returns-in_err-start-clause-counter : goal.returns-in_err-start-clause-counter
+returns-in_err-start-clause-counter c =
+    let p = err_from_is_err_and c.from_residual.result c.from_residual.ensures.1 in
+    rw (p.1, p.2)
+    (counts_none c.args.gensym.now c.find_start.new.gensym c.args.module.now.kind c.find_start.new.module.kind c.args.idx c.in_err-start.field-0.0 c.in_err-start.ensures.answer c.in_err-start.ensures.counter)
+
+pub returns-in_err-put_start-clause-counter : goal.returns-in_err-put_start-clause-counter
+returns-in_err-put_start-clause-counter c =
+    let p = err_from_is_err_and c.from_residual-in_err-put_start.result c.from_residual-in_err-put_start.ensures.1 in
+    rw (p.1, p.2)
+    (counts_no_room c.args.gensym.now c.find_start.new.gensym c.args.module.now.kind c.find_start.new.module.kind c.put_start.new.module.kind c.args.idx c.in_ok-start.start c.in_err-put_start.field-0.0 c.in_ok-start.ensures.answer
+    c.in_ok-start.ensures.counter)
+
+pub returns-clause-counter : goal.returns-clause-counter
+returns-clause-counter c =
+    let old = c.args.module.now in
+    let ready = c.requires.ready.above in
+    let above : bound_of_kind old.kind < c.args.gensym.now = omega (arith, ready) in
+    counts_found c.at_rest.ensures.fills c.args.gensym.now c.find_start.new.gensym c.encode_module.new.gensym old.kind c.find_start.new.module.kind c.put_start.new.module.kind c.encode_module.new.module.kind c.args.idx c.in_ok-start.start
+    c.in_ok-put_start.field-0 above c.in_ok-start.ensures.answer c.in_ok-start.ensures.counter c.in_ok-put_start.ensures.put c.encode_module.result c.encode_module.ensures.answer.counter
