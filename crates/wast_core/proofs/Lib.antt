@@ -32,3 +32,8 @@ pub mod Told
 pub mod Fronts
 pub mod RenamedFronts
 pub mod FrontsComputed
+pub mod FiniteNames
+pub mod OtherForms
+pub mod RestsBounded
+pub mod AgainComputed
+pub mod FiniteComputed

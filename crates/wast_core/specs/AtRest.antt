@@ -1,6 +1,6 @@
 -- A module that is resolved is at rest: with start fields behind it, it means what it means with them put last, and a second call
 -- changes nothing (binary format, modules, start section).
-use Rattle.std.specs.Prelude.{◌≡◌, ℕ, ◌<◌, is_some, List, ◌++◌, map, Option, Result, Ok, Err, ◌⊎◌, IsTrue}
+use Rattle.std.specs.Prelude.{◌≡◌, ℕ, ◌<◌, ◌^◌, is_some, List, ◌++◌, map, Option, Result, Ok, Err, ◌⊎◌, IsTrue}
 use Rattle.std.specs.List.{list_all}
 use Rattle.std.specs.Global.{Vec}
 use Rattle.wast_base.specs.declared.faults.Error.{Error}
@@ -75,3 +75,10 @@ EncodesAgain bytes name first before (Err e) second = IsWithheld (IsUnbounded be
 abbrev pub SecondEncoding : Type 0
 SecondEncoding = (old first second : ModuleKind) (n m : ℕ) (name : Option (List ℕ)) (bytes : Vec ℕ) (result : Result (Vec ℕ) Error) → bound_of_kind old < n
     → EncodesKind n name old (Ok bytes) first → EncodesKind m name first result second → EncodesAgain bytes.items name first m result second
+
+-- What is resolved is bounded where the module was, from any counter below 2^64. So the text alone
+-- excludes E10 of a second call: where `IsBounded` holds of the fields, it holds of the list that
+-- the first call left.
+abbrev pub RestsBounded : Type 0
+RestsBounded = (m n : ℕ) (name : Option (List ℕ)) (fields : List ModuleField) → greatest_generation fields < n → IsMet fields
+    → m < 2 ^ 64 → IsBounded n name fields → IsBounded m name (finished n fields)

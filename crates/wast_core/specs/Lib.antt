@@ -27,3 +27,7 @@ pub mod Putting
 pub mod Measured
 pub mod Front
 pub mod WorkedFronts
+pub mod FiniteNames
+pub mod OtherForms
+pub mod WorkedAgain
+pub mod WorkedFinite

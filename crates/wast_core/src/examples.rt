@@ -10,6 +10,8 @@ ghost use Rattle.wast_core.specs.WorkedFronts as fronts;
 ghost use Rattle.wast_core.specs.WorkedCustoms.{OwnNames, Row29, Row51, Row52, Row53};
 ghost use Rattle.wast_core.specs.WorkedStarts as started;
 ghost use Rattle.wast_core.specs.WorkedResolving.{ReadyModules, KnownNames27, ResolvedModules};
+ghost use Rattle.wast_core.specs.WorkedAgain as again;
+ghost use Rattle.wast_core.specs.WorkedFinite.{GeneratedIsWritten};
 
 /// The modules of the rows 1 and 27 are bounded and read from their bytes; an implied type is written without a
 /// name, also beside a group; a written number stays; a name annotation stands before an id; an item without a name
@@ -98,4 +100,21 @@ pub(crate) fn worked_resolving()
     ensures ready { ReadyModules }
     ensures names { KnownNames27 }
     ensures resolved { ResolvedModules }
+{}
+
+/// A second call changes no field and no counter, and gives the same bytes. For example, row 27
+/// after a first call has numbers for indices, and a second call with another counter leaves these
+/// and gives the bytes of the first.
+pub(crate) fn worked_again()
+    ensures resolved { again.ResolvedAgain }
+    ensures encoded { again.EncodedAgain }
+    ensures row9 { again.Row9 }
+    ensures row48 { again.Row48 }
+{}
+
+/// A finite map sends a generated name to a written one. For example, the function of `(module
+/// (func (export "a")))` gets a generated id, which a map of one entry sends to `$f`: only the name
+/// section of the bytes changes.
+pub(crate) fn worked_finite_names()
+    ensures { GeneratedIsWritten }
 {}

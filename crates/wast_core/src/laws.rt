@@ -5,9 +5,11 @@ ghost use Rattle.wasm_out.specs.Parts.{Part};
 ghost use Rattle.wasm_out.specs.Reads.{Reads};
 ghost use Rattle.wast_alike.specs.Extended.{ExtendedIsInjective, ExtendedAgrees};
 ghost use Rattle.wast_alike.specs.Renaming.{RenamedAnswer, RenamedCounts, RenamedFilled, RenamedTooLarge, WrittenAnswer};
+ghost use Rattle.wast_core.specs.FiniteNames.{RenamesFinitely};
 ghost use Rattle.wast_core.specs.Front.{RenamedParts, SameFront, WrittenMeans, WrittenFront};
 ghost use Rattle.wast_core.specs.HintPlaces.{HintsPointAtInstructions};
 ghost use Rattle.wast_core.specs.Laws.{MeansWhatIsWritten, TooLargeIsUnbounded, CustomsStandOnce};
+ghost use Rattle.wast_core.specs.OtherForms.{RenamedForms, WrittenForms};
 
 pub use crate::rests::at_rest;
 use wasm_out::reading_laws;
@@ -57,17 +59,30 @@ pub fn hint_places()
     ensures { HintsPointAtInstructions }
 {}
 
-/// Names say nothing but names (text format, identifiers): where each id of a module is called otherwise, at its place, and no
-/// two names become one, the module is accepted or not as it was. What is unmet first has the same fault at the same place, and
-/// where that tells a name, it tells what the name of an id there becomes; there are as many items, fields of structs,
-/// parameters, locals and open blocks; as many ids are filled in; and the module is too large to be resolved exactly where it
-/// was. The parts before the names are the same, so that [`EncodeOptions::encode_module`](crate::EncodeOptions::encode_module)
-/// gives bytes that begin alike, each with its own names behind.
+/// Other names change nothing but names (text format, identifiers). If each id of a module gets
+/// another name, at its position, and no two names become one, then:
 ///
-/// What `deinline::run` writes out from a counter above the ids of the fields is answered as they are, and where each demand is
-/// met, its parts before the names are theirs, as it stands and where the ids that the counter gave are called otherwise, as by
-/// written names. The law wants what each name becomes; a finite map, as of the names of one tree, by which no two names become
-/// one, extends to such a map of all names. It does nothing.
+/// - resolving succeeds for both or fails for both. The first failed check has the same error at
+///   the same position, because checks compare names and do not read them; an error that tells a
+///   name tells what the name of an id there becomes (`answer`);
+/// - both have as many items, fields of structs, parameters, locals and open blocks (`counts`), as
+///   many ids are generated (`filled`), and E10 for resolving is possible for both or for neither
+///   (`large`);
+/// - both have the same unsupported constructs in the same order, so E11 comes for both or for
+///   neither, and names the same one (`uncovered`);
+/// - the parts before the name section are the same, so the bytes that
+///   [`EncodeOptions::encode_module`](crate::EncodeOptions::encode_module) gives begin alike, each
+///   with its own name section after them (`parts`, `bytes`).
+///
+/// The same is so of what `deinline::run` writes from a counter above the ids of the fields: it
+/// gives the same answer, and if each check passes, it has the same unsupported constructs and the
+/// same parts before its names, as it is and with other names, for example with written names for
+/// the ids that the counter gave (the `written` clauses).
+///
+/// A caller gives the other names as a finite map, such as that of the names of one tree.
+/// `extended` makes a map of all names of it (`injective`, `agrees`), and `renaming_by` gives each
+/// id its other name; if `is_injective` of the map is true, that is a renaming of which all this
+/// holds (`finite`). It does nothing.
 pub fn renaming()
     ensures answer { RenamedAnswer }
     ensures counts { RenamedCounts }
@@ -75,11 +90,15 @@ pub fn renaming()
     ensures large { RenamedTooLarge }
     ensures parts { RenamedParts }
     ensures bytes { SameFront }
+    ensures uncovered { RenamedForms }
     ensures written { WrittenAnswer }
     ensures written_parts { WrittenMeans }
     ensures written_bytes { WrittenFront }
+    ensures written_uncovered { WrittenForms }
     ensures injective { ExtendedIsInjective }
     ensures agrees { ExtendedAgrees }
+    ensures finite { RenamesFinitely }
 {
+    resolved_laws();
     naming_laws();
 }

@@ -1,0 +1,41 @@
+-- A worked module whose generated name is sent to a written one by a map of one entry, computed. A
+-- text may lie anywhere in memory.
+use Rattle.std.specs.Prelude.{◌≡◌, List, [], ◌∷◌, None, codes}
+use Rattle.wast_base.specs.Ids.{Written, Generated}
+use Rattle.wast_nodes.specs.WorkedModules.{Address, text}
+use Rattle.wast_deinline.specs.Written.{written_out_from}
+use Rattle.wast_alike.specs.Extended.{Names}
+use Rattle.wast_alike.specs.Renaming.{Renaming, IsRenaming, renamed_fields}
+use Rattle.wast_core.specs.FiniteNames.{renaming_by}
+use Rattle.wast_core.specs.Front.{front_bytes, names_bytes}
+use Rattle.wast_core.specs.Headline.{IsMet}
+use Rattle.wast_core.specs.Tree.{ModuleField}
+use Rattle.wast_core.specs.Tree.field
+use Rattle.wast_core.specs.WorkedAbbreviations.{a_func}
+use Rattle.wast_core.specs.WorkedMeanings.{one_name}
+
+-- `(module (func (export "a")))`: its export is inline, and its function has no id.
+abbrev pub exported : Address → List ModuleField
+exported a = field.Func (record a_func { exports = record { names = text a (codes "a") ∷ [] } }) ∷ []
+
+-- the id that the counter gives at 1, sent to `$f`
+abbrev pub one_sent : Names
+one_sent = (Generated 1, Written (codes "f")) ∷ []
+
+-- by this map, with the text of each id at one address
+abbrev pub sending : Address → Renaming
+sending b = renaming_by (λ id. b) one_sent
+
+-- The map is a renaming. What is written out from 1, `(func $gensym) (export "a" (func $gensym))`
+-- with the generated id, becomes `(func $f) (export "a" (func $f))`: it has the bytes of the module
+-- before its names, and a name section that calls function 0 `f`, where the module has none.
+abbrev pub GeneratedIsWritten : Type 0
+GeneratedIsWritten = (a b : Address) →
+    let out = written_out_from 1 (exported a) in
+    let others = renamed_fields (sending b) out in
+    IsRenaming (sending b)
+    × IsMet others
+    × (front_bytes others ≡ front_bytes (exported a))
+    × (names_bytes None (exported a) ≡ [])
+    × (names_bytes None out ≡ [])
+    × (names_bytes None others ≡ one_name 0x00 0x66)
