@@ -328,8 +328,8 @@ impl<'a> Expression<'a> {
         ensures expression { IfOk result (λ e. e ≡ record { instrs = instruction.entry ∷ []; branch_hints = [] }) }
         ensures refusal { IfErr result (λ e. e ≡ out_of_memory) }
     {
-        let mut instrs = Seq::new(alloc);
-        instrs.push(instruction)?;
-        Ok(Expression::new(alloc, instrs))
+        let mut instrs = Vec::with_capacity(alloc, 1)?;
+        instrs.push_reserved(instruction);
+        Ok(Expression::new(alloc, Seq::from_vec(instrs)))
     }
 }
