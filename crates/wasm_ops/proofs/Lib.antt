@@ -11,6 +11,7 @@ pub mod Instructing
 pub mod Numbers
 pub mod RefTypeCodes
 pub mod Setting
+pub mod ShortNumbers
 pub mod SignedNumbers
 pub mod Sinking
 pub mod TypeCodes

@@ -14,9 +14,9 @@ ghost use Rattle.wasm_ops.specs.SelectInstrs.{select_bytes};
 ghost use Rattle.wasm_ops.specs.Table.{instr, InRangeInstr};
 
 use crate::encode::{Encode, Raw};
-use crate::leb128::Signed;
 use crate::memargs::MemArg;
 use crate::opcodes::{Opcode, mem_opcode, plain_opcode};
+use crate::pieces::{push_number_after, push_numbers_after, push_signed_after};
 use crate::ref_types::HeapType;
 use crate::sink::{Refusal, Sink};
 use wast_base::{MemOp, Plain};
@@ -102,6 +102,7 @@ pub enum IndexOp {
 
 impl IndexOp {
     /// The opcode that stands before the index (binary format, instructions).
+    #[inline(always)]
     pub fn opcode(self) -> Opcode
         ensures { result ≡ opcode_of (index_key self) }
     {
@@ -125,8 +126,12 @@ impl Encode for IndexInstr {
 
     ghost is_ready = { λ _. true };
 
+    #[inline(always)]
     fn encode<S: Sink>(&self, out: &mut S) -> Result<(), Refusal> {
-        (self.op.opcode(), self.index).encode(out)
+        match self.op.opcode() {
+            Opcode::Byte(byte) => push_number_after(byte, self.index, out),
+            prefixed => (prefixed, self.index).encode(out),
+        }
     }
 }
 
@@ -207,6 +212,7 @@ impl Encode for Plain {
 
     ghost is_ready = { λ _. true };
 
+    #[inline(always)]
     fn encode<S: Sink>(&self, out: &mut S) -> Result<(), Refusal> {
         plain_opcode(self).encode(out)
     }
@@ -223,9 +229,9 @@ impl Encode for I32Const {
 
     ghost is_ready = { λ _. true };
 
+    #[inline(always)]
     fn encode<S: Sink>(&self, out: &mut S) -> Result<(), Refusal> {
-        let value = self.0;
-        (0x41u8, Signed(i64::from(value))).encode(out)
+        push_signed_after(0x41, i64::from(self.0), out)
     }
 }
 
@@ -240,9 +246,9 @@ impl Encode for I64Const {
 
     ghost is_ready = { λ _. true };
 
+    #[inline(always)]
     fn encode<S: Sink>(&self, out: &mut S) -> Result<(), Refusal> {
-        let value = self.0;
-        (0x42u8, Signed(value)).encode(out)
+        push_signed_after(0x42, self.0, out)
     }
 }
 
@@ -298,8 +304,13 @@ impl Encode for MemInstr {
 
     ghost is_ready = { λ i. is_aligned i.memarg && is_covered_memarg i.memarg };
 
+    #[inline(always)]
     fn encode<S: Sink>(&self, out: &mut S) -> Result<(), Refusal> {
-        (mem_opcode(self.op), self.memarg).encode(out)
+        let memarg = self.memarg;
+        match (mem_opcode(self.op), memarg.target.index()) {
+            (Opcode::Byte(byte), 0) => push_numbers_after(byte, memarg.align, memarg.offset, out),
+            (opcode, _) => (opcode, memarg).encode(out),
+        }
     }
 }
 

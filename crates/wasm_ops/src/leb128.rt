@@ -97,7 +97,8 @@ pub fn write_u32<'e, S: Sink>(out: &mut S, n: u32) -> Result<(), Error<'e>>
 }
 
 /// Seven bits of a number, or of its complement.
-fn turn(negative: bool, digit: u8) -> u8
+#[inline(always)]
+pub(crate) fn turn(negative: bool, digit: u8) -> u8
     requires { digit < 128 }
     ensures { result ≡ turned negative digit }
 {
@@ -122,17 +123,27 @@ fn signed_digits(negative: bool, n: u64) -> ([u8; 10], usize)
     (bytes, len + 1)
 }
 
+/// Whether a number is negative, and the number or its complement: of these two the one that is not negative.
+#[inline(always)]
+pub(crate) fn folded(n: i64) -> (bool, u64)
+    ensures small { result.1 < 2 ^ 63 }
+    ensures digits { digits result.0 result.1 ≡ signed n }
+{
+    let magnitude = n.unsigned_abs();
+    if n.is_negative() {
+        (true, magnitude - 1)
+    } else {
+        (false, magnitude)
+    }
+}
+
 /// The bytes of a signed number, and how many they are.
 fn signed_bytes(n: i64) -> ([u8; 10], usize)
     ensures within { result.1 ≤ 10 }
     ensures bytes { take result.1 result.0 ≡ signed n }
 {
-    let magnitude = n.unsigned_abs();
-    if n.is_negative() {
-        signed_digits(true, magnitude - 1)
-    } else {
-        signed_digits(false, magnitude)
-    }
+    let (negative, rest) = folded(n);
+    signed_digits(negative, rest)
 }
 
 /// Appends the bytes of a signed number, the shortest.

@@ -14,6 +14,7 @@ mod leb128;
 mod lengths;
 mod memargs;
 mod opcodes;
+mod pieces;
 mod ref_types;
 mod room;
 mod sink;

@@ -80,7 +80,7 @@ impl MemArgTarget {
     }
 
     /// The index of the memory, or that of the type.
-    fn index(self) -> u32
+    pub(crate) fn index(self) -> u32
         ensures { result ≡ index_of self }
     {
         match self {

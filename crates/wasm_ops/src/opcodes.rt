@@ -5,6 +5,7 @@ ghost use Rattle.wasm_ops.specs.Keys.{plain_key, mem_key, lane_key, mem_lane_key
 ghost use Rattle.wasm_ops.specs.Opcodes.{opcode_of, opcode_bytes, InRangeOpcode};
 
 use crate::encode::Encode;
+use crate::pieces::push_number_after;
 use crate::sink::{Refusal, Sink};
 use wast_base::{LaneOp, MemLaneOp, MemOp, Plain};
 
@@ -19,6 +20,7 @@ pub enum Opcode {
 
 impl Opcode {
     /// The opcode of a key: the key is the byte, or 65536 times the prefix and the number behind it.
+    #[inline(always)]
     pub(crate) fn of(key: u32) -> Opcode
         requires { key < 0x1000000 }
         ensures { result ≡ opcode_of key }
@@ -37,10 +39,11 @@ impl Encode for Opcode {
 
     ghost is_ready = { λ _. true };
 
+    #[inline(always)]
     fn encode<S: Sink>(&self, out: &mut S) -> Result<(), Refusal> {
         match *self {
-            Opcode::Byte(byte) => byte.encode(out),
-            Opcode::Prefixed(prefix, number) => (prefix, number).encode(out),
+            Opcode::Byte(byte) => out.push_bytes(&[byte]),
+            Opcode::Prefixed(prefix, number) => push_number_after(prefix, number, out),
         }
     }
 }

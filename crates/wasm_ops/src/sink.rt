@@ -1,6 +1,6 @@
 //! What takes bytes: a vector of them, a count, or room that was reserved.
 
-ghost use Rattle.std.specs.Prelude.{◌≡◌, ◌≤◌, ◌<◌, ◌+◌, ◌^◌, ℕ, ◌++◌, take, length};
+ghost use Rattle.std.specs.Prelude.{◌≡◌, ◌≤◌, ◌<◌, ◌+◌, ◌^◌, ℕ, [], ◌++◌, take, length, IfOk, IfErr};
 ghost use Rattle.wasm_ops.specs.Leb128.{unsigned};
 ghost use Rattle.wasm_ops.specs.SinkLaws as laws;
 ghost use Rattle.wasm_ops.specs.Sinks.{SinkRules, Writes, Puts, Skips, Sets, AppendLaws, refused_as};
@@ -110,6 +110,17 @@ pub trait Sink {
     ghost laws: { AppendLaws rules };
 }
 
+/// Appends the bytes of a number to a vector, digit by digit. It is separate so that short numbers are quick.
+#[cold]
+#[inline(never)]
+fn push_long(out: &mut Vec<u8>, n: u64) -> Result<(), Refusal>
+    ensures ok { IfOk result (λ _. out.new.items ≡ out.old.items ++ unsigned n) }
+    ensures err { IfErr result (λ e. (e ≡ refusal.Memory) × (out.new.items ≡ out.old.items ++ [])) }
+{
+    let (bytes, len) = unsigned_bytes(n);
+    out.push_bytes(&bytes[..len])
+}
+
 /// Bytes stand at the end of the vector. Any number of them may be refused, where memory is: E12.
 impl Sink for Vec<u8> {
     ghost rules = { record {
@@ -125,11 +136,23 @@ impl Sink for Vec<u8> {
         Ok(self.push_bytes(bytes)?)
     }
 
+    #[inline(always)]
     fn push_bytes(&mut self, bytes: &[u8]) -> Result<(), Refusal> {
         match self.extend_from_slice(bytes) {
             Ok(()) => Ok(()),
             Err(_) => Err(Refusal::Memory),
         }
+    }
+
+    #[inline(always)]
+    fn push_number(&mut self, n: u64) -> Result<(), Refusal> {
+        if n < 128 {
+            return self.push_bytes(&[n as u8]);
+        }
+        if n < 16384 {
+            return self.push_bytes(&[128 + (n % 128) as u8, (n / 128) as u8]);
+        }
+        push_long(self, n)
     }
 
     fn size(&self) -> u64 {
