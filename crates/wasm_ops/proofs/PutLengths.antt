@@ -1,9 +1,9 @@
 -- A value behind a number, for which a byte is kept until the value is there.
-use Rattle.std.proofs.Common.{◌≡◌, ◌≤◌, ◌+◌, ◌-◌, ℕ, Bool, true, false, List, [], ◌∷◌, ◌++◌, Result, Err, is_err, subst, inl, inr, arith, length, length-append}
+use Rattle.std.proofs.Common.{◌≡◌, ◌≤◌, ◌<◌, ◌+◌, ◌-◌, ℕ, Bool, true, false, List, [], ◌∷◌, ◌++◌, Result, Ok, Err, is_err, ap, subst, inl, inr, arith, length, length-append}
 use Rattle.wasm_ops.specs.Leb128.{unsigned}
 use Rattle.wasm_ops.specs.declared.sink.Refusal.{Refusal}
 use Rattle.wasm_ops.specs.Sinks.{SinkRules, Writes, Sets, AppendLaws}
-use Rattle.wasm_ops.proofs.Numbers.{unsigned-nonempty}
+use Rattle.wasm_ops.proofs.Numbers.{unsigned-small, unsigned-nonempty}
 use Rattle.wasm_ops.proofs.Sinking.{was_put, after_nothing, puts_as}
 
 -- a value behind a number
@@ -47,6 +47,24 @@ pub number_set : {S : Type 0} (rules : SinkRules S) (a c d : S) (byte m : ℕ) (
     → AppendLaws rules → rules.appended a c (byte ∷ y) → n ≡ rules.size_of a → Sets rules c d n m says → says ≡ true → rules.appended a d (behind m y)
 number_set rules a c d byte m y n true laws h at k says_yes = laws.sets a c d byte m y h (subst (λ (i : ℕ). rules.is_set c i m d) at k)
 number_set rules a c d byte m y n false laws h at k says_yes = absurd cc
+
+-- a sink that can set a number is as before once the byte is set to 0
+pub byte_kept : {S : Type 0} (rules : SinkRules S) (a b c : S) (n : ℕ) (says : Bool)
+    → AppendLaws rules → rules.appended a b (0 ∷ []) → n ≡ rules.size_of a → Sets rules b c n 0 says → says ≡ true → rules.appended a c (0 ∷ [])
+byte_kept rules a b c n says laws h at k says_yes =
+    subst (rules.appended a c) (ap (λ l. l ++ []) (unsigned-small 0 (omega arith))) (number_set rules a b c 0 0 [] n says laws h at k says_yes)
+
+-- the byte stands in the sink after a value, be it put or refused
+pub byte_within : {S A : Type 0} (rules : SinkRules S) (part : Type 0) (a b c : S) (byte : ℕ) (y : List ℕ) (n : ℕ) (r : Result A Refusal)
+    → AppendLaws rules → rules.appended a b (byte ∷ []) → n ≡ rules.size_of a → Writes rules part b c y r → n < rules.size_of c
+byte_within rules part a b c byte y n (Ok t) laws h at p = omega (arith, laws.grows a b (byte ∷ []) h, laws.grows b c y p.0, at)
+byte_within rules part a b c byte y n (Err e) laws h at p = omega (arith, laws.grows a b (byte ∷ []) h, laws.grows b c [] p.0, at)
+
+-- a sink that says no is as long as before
+pub unset_within : {S : Type 0} (rules : SinkRules S) (c d : S) (n m : ℕ) (says : Bool)
+    → AppendLaws rules → n < rules.size_of c → Sets rules c d n m says → says ≡ false → n ≤ rules.size_of d
+unset_within rules c d n m true laws lt k says_no = absurd cc
+unset_within rules c d n m false laws lt k says_no = omega (arith, laws.grows c d [] k, lt)
 
 -- the number was not set, all is cut off, and put anew
 pub put_anew : {S A : Type 0} (rules : SinkRules S) (one all : Type 0) (a c d e f : S) (byte m : ℕ) (y whole : List ℕ) (n : ℕ) (says : Bool) (r : Result A Refusal)

@@ -271,6 +271,17 @@ fn put_sized<T: Encode, S: Sink>(out: &mut S, size: u64, value: &T) -> Result<()
     second
 }
 
+/// Counts the length of a value, and then appends the length and the value, for a sink that cannot set a number. It
+/// needs a value that can be spelled. Counting walks the value once, so that what is inside d lengths is walked d + 1
+/// times.
+fn put_counted<T: Encode, S: Sink>(out: &mut S, value: &T) -> Result<(), Refusal>
+    requires { IsTrue (T.is_ready value.now) }
+    ensures { Writes S.rules (InRangeSized T.in_range T.spelling value.now) out.old out.new (sized T.spelling value.now) result }
+{
+    let size = length_of(value)?;
+    put_sized(out, u64::from(size), value)
+}
+
 impl<T: Encode> Encode for WithLength<T> {
     ghost spelling = { λ s. sized T.spelling s.0 };
 
@@ -282,6 +293,12 @@ impl<T: Encode> Encode for WithLength<T> {
         // A byte keeps the place of the length, which is known once the value was put.
         let start = out.size();
         out.push_bytes(&[0])?;
+        // A sink that cannot set a number says so here, before the value is put: otherwise each level would put its
+        // value twice, and d levels 2^d times.
+        if !out.set_number(start, 0) {
+            out.cut(start);
+            return put_counted(out, &self.0);
+        }
         let value = self.0.encode(out);
         if value.is_err() {
             out.cut(start);
