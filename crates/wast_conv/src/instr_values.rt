@@ -36,6 +36,7 @@ use wast_nodes::{
 };
 
 /// An instruction whose one immediate is an index.
+#[inline(always)]
 fn put_index<S: Sink>(op: IndexOp, index: &Index, out: &mut S) -> Result<(), Refusal>
     requires { IsTrue (is_number index.now) }
     ensures { Writes S.rules (InRangeInstr (index_instr op (meaning.number index.now)))
@@ -288,6 +289,7 @@ impl Spell<Instruction<'_>> for Resolved {
 
     ghost is_ready = { λ _ i. is_encodable_instr i };
 
+    #[inline(always)]
     fn spell<S: Sink>(&self, instruction: &Instruction, out: &mut S) -> Result<(), Refusal> {
         match instruction {
             Instruction::Plain(op) => op.encode(out),
