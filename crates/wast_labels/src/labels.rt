@@ -16,15 +16,19 @@ use std::collections::BTreeMap;
 use std::marker::Model;
 use wast_base::{Error, Fault, Id, Index, Numbering, number_index};
 
-/// So many of the innermost open blocks are looked at one by one before the others are indexed.
+/// So many of the innermost open blocks are looked at one by one before it is asked whether the others are to be indexed.
 const NEAR: usize = 16;
+
+/// Indexing a block costs about as much as going along this many blocks, one by one.
+const DUE: usize = 256;
 
 /// The open blocks of an expression (text format, control instructions: labels). Contracts see their labels, the innermost
 /// first.
 ///
 /// A label is looked for one by one among the blocks that are not indexed, and by the index among those that are, which are
-/// the outermost ones. Where [`reach`](Labels::reach) is asked before each look-up, none goes along blocks whose number
-/// grows.
+/// the outermost ones. If [`reach`](Labels::reach) is called before each look-up, blocks are indexed as soon as going along
+/// them has cost as much as indexing them does. So, besides the 16 innermost, all look-ups together go along at most a few hundred
+/// blocks for each block that is opened, however deep blocks are nested and however often they are opened and closed.
 #[derive(Drop)]
 pub struct Labels<'a> {
     // of all open blocks, the outermost first
@@ -33,6 +37,8 @@ pub struct Labels<'a> {
     places: BTreeMap<Id<'a>, Option<usize>>,
     // of each block that is indexed, the outermost first: the place of the next one further out that has its label
     outer: Vec<Option<usize>>,
+    // how many blocks were gone along since blocks were indexed last
+    spent: usize,
 }
 
 impl<'a> Model for Labels<'a> {
@@ -56,6 +62,7 @@ impl<'a> Labels<'a> {
             open: Vec::new(alloc),
             places: BTreeMap::new(alloc),
             outer: Vec::new(alloc),
+            spent: 0,
         }
     }
 
@@ -79,8 +86,9 @@ impl<'a> Labels<'a> {
         Ok(())
     }
 
-    /// Sees to it that the label of an index is found in few steps: where it is an id, and none of the innermost open blocks,
-    /// at most 16, has it, all open blocks are indexed.
+    /// Prepares for looking up the label of an index, so that all look-ups together cost little. If it is an id, if none of
+    /// the innermost open blocks, at most 16, has it, and if going along the others has by now cost as much as indexing them
+    /// does, then all open blocks are indexed.
     ///
     /// What labels denote stays. It takes memory only where blocks are indexed; where that is refused it answers an error. A
     /// block is indexed once, however often labels are asked for.
@@ -89,25 +97,51 @@ impl<'a> Labels<'a> {
     {
         if let Index::Id(id) = idx {
             if self.is_far(id) {
-                index_all(&self.open, &mut self.places, &mut self.outer)?;
+                self.index_if_due()?;
             }
         }
         Ok(())
     }
 
-    /// Sees to it that all labels are found in few steps: where more than 16 open blocks are not indexed, all are indexed.
+    /// Prepares for looking up a label that none of the innermost blocks has, as [`reach`](Labels::reach) does: if more than 16
+    /// open blocks are not indexed, and if going along them has by now cost as much as indexing them does, then all are indexed.
     ///
     /// What labels denote stays, and memory is taken as [`reach`](Labels::reach) takes it.
     pub fn reach_all(&mut self) -> Result<(), AllocError>
         ensures { self.new ≡ self.old }
     {
         if !self.is_near() {
+            self.index_if_due()?;
+        }
+        Ok(())
+    }
+
+    /// Indexes all blocks, if it is due.
+    fn index_if_due(&mut self) -> Result<(), AllocError>
+        ensures { self.new ≡ self.old }
+    {
+        if self.is_due() {
             index_all(&self.open, &mut self.places, &mut self.outer)?;
         }
         Ok(())
     }
 
-    /// Whether all labels are found in few steps: at most 16 open blocks are not indexed. It takes no memory.
+    /// Whether it is due to index, because by now as many blocks were gone along as indexing costs. It counts that those that
+    /// are not indexed are gone along once more, and counts anew where it is due.
+    fn is_due(&mut self) -> bool
+        ensures { self.new ≡ self.old }
+    {
+        let rest = self.open.len() - self.outer.len();
+        self.spent = self.spent.saturating_add(rest);
+        if self.spent / DUE < rest {
+            return false;
+        }
+        self.spent = 0;
+        true
+    }
+
+    /// Whether each label is found in few steps: at most 16 open blocks are not indexed. Then [`reach`](Labels::reach) has nothing
+    /// to do. It takes no memory.
     pub fn is_near(&self) -> bool {
         self.open.len() - self.outer.len() <= NEAR
     }

@@ -60,7 +60,10 @@ fn many_labels_are_told_apart(rt: HostRuntime) {
     open_each(&rt, &mut labels, &texts);
     are_apart(&rt, &mut labels, &texts);
     open_each(&rt, &mut labels, &texts);
-    labels.reach_all().expect(&rt, "memory");
+    // they are indexed once going along them has cost as much
+    for _ in 0..257 {
+        labels.reach_all().expect(&rt, "memory");
+    }
     let mut outermost = Index::Id(id("0"));
     assert!(&rt; labels.is_near() && !labels.try_number(&mut outermost));
     for _ in 0..10000 {
