@@ -1,6 +1,6 @@
 //! The open blocks by their labels: one by one, and by an index.
 
-ghost use Rattle.std.specs.Prelude.{◌≡◌, ◌+◌, ◌-◌, ◌∷◌, length, IfOk, OnOk, OnErr};
+ghost use Rattle.std.specs.Prelude.{◌≡◌, ◌+◌, ◌-◌, ◌∷◌, length, Some, IfOk, OnOk, OnErr};
 ghost use Rattle.std.specs.BTreeMap.{get};
 ghost use Rattle.std.specs.Option.{option_flatten};
 ghost use Rattle.wast_base.specs.Blocks.{Blocks};
@@ -9,18 +9,25 @@ ghost use Rattle.wast_base.specs.Ids.{name_of};
 ghost use Rattle.wast_base.specs.Spaces.{is_called};
 ghost use Rattle.wast_labels.specs.OpenBlocks.{denotes};
 ghost use Rattle.wast_labels.specs.Indexed.{label_of, labels_of, innermost_if, HasPlaces, IsIndexed, IsIndexOf};
+ghost use Rattle.wast_labels.specs.Marks.{label_mark, marks_of};
 
+use crate::marks::mark_of;
 use std::alloc::AllocError;
 use std::collections::BTreeMap;
 use wast_base::Id;
 
-/// How many blocks stand within the innermost one that has a label, going by one after the other.
-pub(crate) fn steps_back<'a>(blocks: &[Option<Id<'a>>], id: &Id<'a>) -> Option<usize>
+/// How many blocks stand within the innermost one that has a label, going by one after the other. The blocks are given with
+/// their marks.
+#[inline(never)]
+pub(crate) fn steps_back<'a>(blocks: &[Option<Id<'a>>], marks: &[u16], id: &Id<'a>) -> Option<usize>
+    requires { marks.now ≡ marks_of blocks.now }
     ensures { result ≡ denotes (name_of id.now) (labels_of blocks.now) }
 {
+    let mark = mark_of(id);
     let mut steps: usize = 0;
     while steps < blocks.len() {
-        if has_label(&blocks[blocks.len() - 1 - steps], id) {
+        let at = blocks.len() - 1 - steps;
+        if has_label(&blocks[at], marks[at], mark, id) {
             return Some(steps);
         }
         steps += 1;
@@ -28,8 +35,21 @@ pub(crate) fn steps_back<'a>(blocks: &[Option<Id<'a>>], id: &Id<'a>) -> Option<u
     None
 }
 
-/// Whether a block that is opened with this id has a label.
-fn has_label<'a>(block: &Option<Id<'a>>, id: &Id<'a>) -> bool
+/// Whether a block that is opened with this id has a label. Only if its mark is that of the label are the names compared.
+#[inline(always)]
+fn has_label<'a>(block: &Option<Id<'a>>, own: u16, mark: u16, id: &Id<'a>) -> bool
+    requires own { own ≡ label_mark (label_of block.now) }
+    requires mark { mark ≡ label_mark (Some (name_of id.now)) }
+    ensures { result ≡ is_called (name_of id.now) (label_of block.now) }
+{
+    if own != mark {
+        return false;
+    }
+    is_labelled(block, id)
+}
+
+/// The same, by its name.
+fn is_labelled<'a>(block: &Option<Id<'a>>, id: &Id<'a>) -> bool
     ensures { result ≡ is_called (name_of id.now) (label_of block.now) }
 {
     match block {

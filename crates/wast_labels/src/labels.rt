@@ -11,6 +11,7 @@ ghost use Rattle.wast_labels.specs.Asked.{number_among, wrong_label};
 ghost use Rattle.wast_labels.specs.OpenBlocks.{denotes, is_innermost, expects};
 
 use crate::index::{index_all, indexed_place, steps_back, unindex_block};
+use crate::marks::mark_if;
 use std::alloc::{AllocError, Global};
 use std::collections::BTreeMap;
 use std::marker::Model;
@@ -26,13 +27,18 @@ const DUE: usize = 256;
 /// first.
 ///
 /// A label is looked for one by one among the blocks that are not indexed, and by the index among those that are, which are
-/// the outermost ones. If [`reach`](Labels::reach) is called before each look-up, blocks are indexed as soon as going along
-/// them has cost as much as indexing them does. So, besides the 16 innermost, all look-ups together go along at most a few hundred
-/// blocks for each block that is opened, however deep blocks are nested and however often they are opened and closed.
+/// the outermost ones. Each block has a mark beside it, made of the length and the last byte of its label: a block with another
+/// mark is passed by.
+///
+/// If [`reach`](Labels::reach) is called before each look-up, blocks are indexed as soon as going along them has cost as much
+/// as indexing them does. So, besides the 16 innermost, all look-ups together go along at most a few hundred blocks for each
+/// block that is opened, however deep blocks are nested and however often they are opened and closed.
 #[derive(Drop)]
 pub struct Labels<'a> {
     // of all open blocks, the outermost first
     open: Vec<Option<Id<'a>>>,
+    // of each of them: the mark of its label
+    marks: Vec<u16>,
     // of the labels of the blocks that are indexed, the outermost ones: the place of the innermost that has it
     places: BTreeMap<Id<'a>, Option<usize>>,
     // of each block that is indexed, the outermost first: the place of the next one further out that has its label
@@ -42,15 +48,16 @@ pub struct Labels<'a> {
 }
 
 impl<'a> Model for Labels<'a> {
-    ghost use Rattle.std.specs.Prelude.{◌<◌, ◌^◌, length};
+    ghost use Rattle.std.specs.Prelude.{◌≡◌, ◌<◌, ◌^◌, length};
     ghost use Rattle.wast_base.specs.Blocks.{Blocks};
     ghost use Rattle.wast_labels.specs.Indexed.{labels_of, IsIndexOf};
+    ghost use Rattle.wast_labels.specs.Marks.{marks_of};
 
     ghost Value = { Blocks };
 
     ghost view = { λ s. labels_of s.open.items };
 
-    ghost invariant = { λ s. (length s.open.items < 2 ^ 32) × IsIndexOf s.open.items s.places s.outer.items };
+    ghost invariant = { λ s. (length s.open.items < 2 ^ 32) × IsIndexOf s.open.items s.places s.outer.items × (s.marks.items ≡ marks_of s.open.items) };
 }
 
 impl<'a> Labels<'a> {
@@ -60,6 +67,7 @@ impl<'a> Labels<'a> {
     {
         Labels {
             open: Vec::new(alloc),
+            marks: Vec::new(alloc),
             places: BTreeMap::new(alloc),
             outer: Vec::new(alloc),
             spent: 0,
@@ -82,7 +90,11 @@ impl<'a> Labels<'a> {
         ensures ok { OnOk result (self.new ≡ name_if (marked label.entry) ∷ self.old) }
         ensures err { OnErr result (self.new ≡ self.old) }
     {
-        self.open.push(label)?;
+        self.open.reserve(1)?;
+        self.marks.reserve(1)?;
+        let mark = mark_if(&label);
+        self.open.push_reserved(label);
+        self.marks.push_reserved(mark);
         Ok(())
     }
 
@@ -142,6 +154,7 @@ impl<'a> Labels<'a> {
 
     /// Whether each label is found in few steps: at most 16 open blocks are not indexed. Then [`reach`](Labels::reach) has nothing
     /// to do. It takes no memory.
+    #[inline(always)]
     pub fn is_near(&self) -> bool {
         self.open.len() - self.outer.len() <= NEAR
     }
@@ -156,6 +169,7 @@ impl<'a> Labels<'a> {
         ensures { self.new ≡ closed self.old }
     {
         if let Some(label) = self.open.pop() {
+            let _ = self.marks.pop();
             if self.outer.len() > self.open.len() {
                 unindex_block(&mut self.places, &mut self.outer, label);
             }
@@ -167,28 +181,56 @@ impl<'a> Labels<'a> {
     pub fn denotes(&self, id: &Id<'a>) -> Option<u32>
         ensures { result ≡ denotes (name_of id.now) self.now }
     {
-        let (further, near) = self.open.split_at(self.outer.len());
-        if let Some(steps) = steps_back(near, id) {
+        if self.is_innermost(id) {
+            return Some(0);
+        }
+        self.sought(id)
+    }
+
+    /// What a label denotes, looked for among all open blocks.
+    fn sought(&self, id: &Id<'a>) -> Option<u32>
+        ensures { result ≡ denotes (name_of id.now) self.now }
+    {
+        let indexed = self.outer.len();
+        let (_, near) = self.open.split_at(indexed);
+        let (_, near_marks) = self.marks.split_at(indexed);
+        if let Some(steps) = steps_back(near, near_marks, id) {
             return Some(steps as u32);
         }
         let place = indexed_place(&self.places, id)?;
         Some((self.open.len() - 1 - place) as u32)
     }
 
-    /// What a label denotes, where one of the innermost open blocks has it: of those that are not indexed, at most 16.
+    /// What a label denotes, if one of the innermost open blocks has it: of those that are not indexed, at most 16. The
+    /// innermost of all is looked at first, because most branches go there.
+    #[inline(always)]
     fn near(&self, id: &Id<'a>) -> Option<u32>
+        ensures { IfSome result (λ n. denotes (name_of id.now) self.now ≡ Some n) }
+    {
+        if self.is_innermost(id) {
+            Some(0)
+        } else {
+            self.sought_near(id)
+        }
+    }
+
+    /// The same, looked for among these blocks one by one.
+    #[inline(never)]
+    fn sought_near(&self, id: &Id<'a>) -> Option<u32>
         ensures { IfSome result (λ n. denotes (name_of id.now) self.now ≡ Some n) }
     {
         let open = self.open.as_slice();
         let first = open.len().saturating_sub(NEAR).max(self.outer.len());
         let (_, nearest) = open.split_at(first);
-        let steps = steps_back(nearest, id)?;
+        let (_, nearest_marks) = self.marks.split_at(first);
+        let steps = steps_back(nearest, nearest_marks, id)?;
         Some(steps as u32)
     }
 
     /// Numbers a label index, as [`Labels::number`] does, where that takes few steps: where it is a number, or one of the
     /// innermost open blocks has it, of those that are not indexed and at most 16. Whether it did; else the index stays. It takes
     /// no memory.
+    #[inline(always)]
     pub fn try_number(&self, idx: &mut Index<'a>) -> bool
         ensures met { IsTrue result → first_unmet (known_index (number_among self.now) (codes "label") idx.old) ≡ None }
         ensures index { IsTrue result → idx.new ≡ numbered (number_among self.now) idx.old }
@@ -220,6 +262,7 @@ impl<'a> Labels<'a> {
     }
 
     /// Whether the innermost open block has this label; not where no block is open. It takes no memory.
+    #[inline(always)]
     pub fn is_innermost(&self, id: &Id<'a>) -> bool
         ensures { result ≡ is_innermost (name_of id.now) self.now }
     {

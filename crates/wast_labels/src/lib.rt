@@ -5,6 +5,7 @@ mod examples;
 mod index;
 mod labels;
 mod laws;
+mod marks;
 
 pub use labels::Labels;
 pub use laws::{expecting_law, walking_law};

@@ -2,7 +2,7 @@ use Rattle.std.proofs.Common.{◌∙◌, ap, sym}
 use Rattle.wast_base.specs.Ids.{name_of}
 use Rattle.wast_labels.specs.OpenBlocks.{denotes}
 use Rattle.wast_labels.proofs.Indexed.{found_nearest}
-use Rattle.wast_labels.proofs.labels.Labels.near.Goals as goal
+use Rattle.wast_labels.proofs.labels.Labels.sought_near.Goals as goal
 
 pub returns : goal.returns
 returns c =
