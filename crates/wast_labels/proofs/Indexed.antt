@@ -1,9 +1,8 @@
 -- What indexing a block and taking it out keep, and the numbers that an index gives.
-use Rattle.std.proofs.Common.{◌≡◌, ℕ, suc, ◌+◌, ◌-◌, ◌<◌, ◌≤◌, List, [], ◌∷◌, ◌++◌, length, map, reverse, get_or, take, drop, Option, Some, None, option_map, Result, Ok, Err, OnOk, OnErr, cond, Bool, true, false, refl, sym, ap, ◌∙◌, subst, arith, inl, inr}
+use Rattle.std.proofs.Common.{◌≡◌, ℕ, suc, ◌+◌, ◌-◌, ◌<◌, ◌≤◌, List, [], ◌∷◌, ◌++◌, length, map, reverse, get_or, take, drop, Option, Some, None, IsSome, is_some, option_map, cond, Bool, true, false, refl, sym, ap, ◌∙◌, subst, arith, inl, inr}
 use Rattle.std.specs.BTreeMap.{BTreeMap, get, Updates}
 use Rattle.std.specs.Cmp.{both_ways}
 use Rattle.std.specs.List.{position}
-use Rattle.std.specs.Option.{option_flatten}
 use Rattle.std.specs.Ordering.{is_eq}
 use Rattle.std.specs.Prelude.{nat_lt}
 use Rattle.std.proofs.lemmas.Bool.{cases_Bool, ltb-true, ltb-false}
@@ -57,16 +56,10 @@ same_turned a b = both_ways (same_name a b) (same_name b a) (turn a b) (turn b a
     turn : (a b : Name) → same_name a b ≡ true → same_name b a ≡ true
     turn a b h = ap (λ n. same_name n a) (sym (same_name_equal a b h)) ∙ same_name_itself a
 
-place_of : (b : Bool) (w : Option ℕ) (o : Option (Option ℕ)) → option_flatten (cond b (Some w) o) ≡ cond b w (option_flatten o)
-place_of true w o = refl
-place_of false w o = refl
-
--- one more place is kept
-module _ (m n : BTreeMap Id (Option ℕ)) (id : Id) (w : Option ℕ) (updates : Updates by_name.ghosts.cmp m n id (Some w)) where
-  kept_now : (q : Id) → option_flatten (get by_name.ghosts.cmp n q) ≡ cond (same_name (name_of q) (name_of id)) w (option_flatten (get by_name.ghosts.cmp m q))
-  kept_now q =
-      ap option_flatten (updates.0 q) ∙ place_of (is_eq (by_name.ghosts.cmp id q)) w (get by_name.ghosts.cmp m q)
-      ∙ ap (λ b. cond b w (option_flatten (get by_name.ghosts.cmp m q))) (ties id q ∙ same_turned (name_of id) (name_of q))
+-- what a label has is put in place of what it had
+module _ (m n : BTreeMap Id ℕ) (id : Id) (w : Option ℕ) (updates : Updates by_name.ghosts.cmp m n id w) where
+  kept_now : (q : Id) → get by_name.ghosts.cmp n q ≡ cond (same_name (name_of q) (name_of id)) w (get by_name.ghosts.cmp m q)
+  kept_now q = updates.0 q ∙ ap (λ b. cond b w (get by_name.ghosts.cmp m q)) (ties id q ∙ same_turned (name_of id) (name_of q))
 
   more_places : (ls : Blocks) → w ≡ Some (length ls) → HasPlaces m ls → HasPlaces n (Some (name_of id) ∷ ls)
   more_places ls is h q =
@@ -76,18 +69,15 @@ module _ (m n : BTreeMap Id (Option ℕ)) (id : Id) (w : Option ℕ) (updates : 
   -- the place of the next one further out is kept again
   fewer_places : (ls : Blocks) → w ≡ innermost_of (name_of id) ls → HasPlaces m (Some (name_of id) ∷ ls) → HasPlaces n ls
   fewer_places ls is h q = elim (cases_Bool (same_name (name_of q) (name_of id))) [
-    | inl e ↦ kept_now q ∙ ap (λ b. cond b w (option_flatten (get by_name.ghosts.cmp m q))) e ∙ is ∙ ap (λ x. innermost_of x ls) (sym (same_name_equal (name_of q) (name_of id) e))
+    | inl e ↦ kept_now q ∙ ap (λ b. cond b w (get by_name.ghosts.cmp m q)) e ∙ is ∙ ap (λ x. innermost_of x ls) (sym (same_name_equal (name_of q) (name_of id) e))
     | inr e ↦
-        kept_now q ∙ ap (λ b. cond b w (option_flatten (get by_name.ghosts.cmp m q))) e ∙ h q
+        kept_now q ∙ ap (λ b. cond b w (get by_name.ghosts.cmp m q)) e ∙ h q
         ∙ ap (λ b. cond b (Some (length ls)) (innermost_of (name_of q) ls)) e
   ]
 
--- what a label has that is in the index is no `None`
-is_kept : (m : BTreeMap Id (Option ℕ)) (id : Id) (ls : Blocks) → HasPlaces m (Some (name_of id) ∷ ls) → get by_name.ghosts.cmp m id ≡ None → ⊥
-is_kept m id ls h none =
-    let there : Some (length ls) ≡ innermost_of (name_of id) (Some (name_of id) ∷ ls) = ap (λ b. cond b (Some (length ls)) (innermost_of (name_of id) ls)) (sym (same_name_itself (name_of id))) in
-    let not : None ≡ Some (length ls) = ap option_flatten (sym none) ∙ h id ∙ sym there in
-    cc
+-- the label of an indexed block is in the index
+is_kept : (m : BTreeMap Id ℕ) (id : Id) (ls : Blocks) → HasPlaces m (Some (name_of id) ∷ ls) → get by_name.ghosts.cmp m id ≡ Some (length ls)
+is_kept m id ls h = h id ∙ ap (λ b. cond b (Some (length ls)) (innermost_of (name_of id) ls)) (same_name_itself (name_of id))
 
 -- none of the first blocks has the label
 pub record IsSought (q : Name) (ls : Blocks) (steps : ℕ) : Type 0 where
@@ -127,29 +117,24 @@ pub sought_all : (q : Name) (ids : List (Option Id)) (steps : ℕ) → IsSought 
 sought_all q ids steps h le = no_place (is_called q) (labels_of ids) None (λ k lt. h.others k (omega (arith, lt, le, as_many ids)))
 
 -- the same of a label that there is, and of how the blocks are chained
-module _ (m n : BTreeMap Id (Option ℕ)) (id : Id) (label : Option Id) (is : label ≡ Some id) where
-  pub keeps : (place : ℕ) (old : Option (Option ℕ)) → old ≡ get by_name.ghosts.cmp m id → Updates by_name.ghosts.cmp m n id (Some (Some place)) → (ls : Blocks) → length ls ≡ place → HasPlaces m ls
-      → HasPlaces n (label_of label ∷ ls) × (option_flatten old ≡ innermost_if (label_of label) ls)
+module _ (m n : BTreeMap Id ℕ) (id : Id) (label : Option Id) (is : label ≡ Some id) where
+  pub keeps : (place : ℕ) (old : Option ℕ) → old ≡ get by_name.ghosts.cmp m id → Updates by_name.ghosts.cmp m n id (Some place) → (ls : Blocks) → length ls ≡ place → HasPlaces m ls
+      → HasPlaces n (label_of label ∷ ls) × (old ≡ innermost_if (label_of label) ls)
   keeps place old was updates ls long h =
-      subst (λ (l : Option Id). HasPlaces n (label_of l ∷ ls) × (option_flatten old ≡ innermost_if (label_of l) ls)) (sym is)
-      (more_places m n id (Some place) updates ls (ap Some (sym long)) h, ap option_flatten was ∙ h id)
+      subst (λ (l : Option Id). HasPlaces n (label_of l ∷ ls) × (old ≡ innermost_if (label_of l) ls)) (sym is)
+      (more_places m n id (Some place) updates ls (ap Some (sym long)) h, was ∙ h id)
 
-  forgets : (further : Option ℕ) → Updates by_name.ghosts.cmp m n id (Some further) → (os ps : List (Option ℕ)) → ps ≡ os ++ further ∷ [] → (ls : Blocks) → IsIndexed m ps (label_of label ∷ ls) → IsIndexed n os ls
-  forgets further updates os ps less ls h =
+  -- the label of the block that is closed is in the index, whatever it has then
+  pub forgets : (further : Option ℕ) → (IsSome (get by_name.ghosts.cmp m id) → Updates by_name.ghosts.cmp m n id further) → (os ps : List (Option ℕ)) → ps ≡ os ++ further ∷ [] → (ls : Blocks)
+      → IsIndexed m ps (label_of label ∷ ls) → IsIndexed n os ls
+  forgets further put os ps less ls h =
       let chained = subst (λ (qs : List (Option ℕ)). AreChained qs (label_of label ∷ ls)) (ap reverse less ∙ reverse-append os (further ∷ [])) h.chained in
+      let places = subst (λ (l : Option Id). HasPlaces m (label_of l ∷ ls)) is h.innermost in
+      let updates = put (ap is_some (is_kept m id ls places)) in
       record {
-        innermost = fewer_places m n id further updates ls (chained.0 ∙ ap (λ (l : Option Id). innermost_if (label_of l) ls) is) (subst (λ (l : Option Id). HasPlaces m (label_of l ∷ ls)) is h.innermost);
+        innermost = fewer_places m n id further updates ls (chained.0 ∙ ap (λ (l : Option Id). innermost_if (label_of l) ls) is) places;
         chained = chained.1;
       }
-
-  not_lost : (ls : Blocks) (ps : List (Option ℕ)) → IsIndexed m ps (label_of label ∷ ls) → get by_name.ghosts.cmp m id ≡ None → ⊥
-  not_lost ls ps h none = is_kept m id ls (subst (λ (l : Option Id). HasPlaces m (label_of l ∷ ls)) is h.innermost) none
-
-  -- a label that is in the index takes no memory
-  pub forgets_so : {V E : Type 0} (r : Result V E) (further : Option ℕ) → OnOk r (Updates by_name.ghosts.cmp m n id (Some further)) → OnErr r (get by_name.ghosts.cmp m id ≡ None)
-      → (os ps : List (Option ℕ)) → ps ≡ os ++ further ∷ [] → (ls : Blocks) → IsIndexed m ps (label_of label ∷ ls) → IsIndexed n os ls
-  forgets_so (Ok v) further updates absent os ps less ls h = forgets further updates os ps less ls h
-  forgets_so (Err e) further updates absent os ps less ls h = absurd (not_lost ls ps h absent)
 
 -- the first of two lists that has one that passes
 module _ {X : Type 0} (p : X → Bool) (ys : List X) where
@@ -193,7 +178,7 @@ found_nearest id ids xs nearest k same back o is steps here =
     ap (denotes (name_of id)) parted ∙ found_first (is_called (name_of id)) (labels_of (take k xs)) (labels_of nearest) steps (sym is ∙ here)
 
 -- what a label denotes, by the blocks that are not indexed, and by those that are
-module _ (id : Id) (m : BTreeMap Id (Option ℕ)) (outer : List (Option ℕ)) (ids xs further near : List (Option Id)) (k : ℕ) (h : IsIndexOf ids m outer) (same : xs ≡ ids) (long : k ≡ length outer) (front : further ≡ take k xs) (back : near ≡ drop k xs) where
+module _ (id : Id) (m : BTreeMap Id ℕ) (outer : List (Option ℕ)) (ids xs further near : List (Option Id)) (k : ℕ) (h : IsIndexOf ids m outer) (same : xs ≡ ids) (long : k ≡ length outer) (front : further ≡ take k xs) (back : near ≡ drop k xs) where
   split : ids ≡ further ++ near
   split = sym same ∙ (sym (take-append-drop k xs) ∙ sym (λ i. front i ++ back i))
 
@@ -203,7 +188,7 @@ module _ (id : Id) (m : BTreeMap Id (Option ℕ)) (outer : List (Option ℕ)) (i
   pub found_near : (o : Option ℕ) → o ≡ denotes (name_of id) (labels_of near) → (steps : ℕ) → o ≡ Some steps → denotes (name_of id) (labels_of ids) ≡ Some steps
   found_near o is steps here = ap (denotes (name_of id)) parted ∙ found_first (is_called (name_of id)) (labels_of further) (labels_of near) steps (sym is ∙ here)
 
-  module _ (n o : Option ℕ) (near_is : n ≡ denotes (name_of id) (labels_of near)) (none : n ≡ None) (further_is : o ≡ option_flatten (get by_name.ghosts.cmp m id)) where
+  module _ (n o : Option ℕ) (near_is : n ≡ denotes (name_of id) (labels_of near)) (none : n ≡ None) (further_is : o ≡ get by_name.ghosts.cmp m id) where
     over : denotes (name_of id) (labels_of ids) ≡ option_map (λ n. length (labels_of near) + n) (denotes (name_of id) (labels_of further))
     over = ap (denotes (name_of id)) parted ∙ passed_over (is_called (name_of id)) (labels_of further) (labels_of near) (sym near_is ∙ none)
 

@@ -1,7 +1,6 @@
 -- How open blocks are indexed by their labels. The place of a block is the number of open blocks around it.
 use Rattle.std.specs.Prelude.{◌≡◌, ℕ, ◌≤◌, List, [], ◌∷◌, length, map, reverse, take, if◌then◌else◌, Option, Some, None}
 use Rattle.std.specs.BTreeMap.{BTreeMap, get}
-use Rattle.std.specs.Option.{option_flatten}
 use Rattle.wast_base.specs.Blocks.{Blocks}
 use Rattle.wast_base.specs.contracts.ids.IdOrd.TheImpl as by_name
 use Rattle.wast_base.specs.declared.ids.Id.{Id}
@@ -32,16 +31,16 @@ AreChained [] ls = ls ≡ []
 AreChained (o ∷ os) [] = ⊥
 AreChained (o ∷ os) (l ∷ ls) = (o ≡ innermost_if l ls) × AreChained os ls
 
--- Each label has the place of the innermost block that has it.
-abbrev pub HasPlaces : BTreeMap Id (Option ℕ) → Blocks → Type 0
-HasPlaces places ls = (id : Id) → option_flatten (get by_name.ghosts.cmp places id) ≡ innermost_of (name_of id) ls
+-- Each label has the place of the innermost block that has it, and a label that no block has is not in the map.
+abbrev pub HasPlaces : BTreeMap Id ℕ → Blocks → Type 0
+HasPlaces places ls = (id : Id) → get by_name.ghosts.cmp places id ≡ innermost_of (name_of id) ls
 
 -- It has, and the blocks are chained.
-pub record IsIndexed (places : BTreeMap Id (Option ℕ)) (outer : List (Option ℕ)) (ls : Blocks) : Type 0 where
+pub record IsIndexed (places : BTreeMap Id ℕ) (outer : List (Option ℕ)) (ls : Blocks) : Type 0 where
   pub innermost : HasPlaces places ls
   pub chained : AreChained (reverse outer) ls
 
 -- The outermost of some blocks are indexed, as many as have a place of a next one.
-pub record IsIndexOf (blocks : List (Option Id)) (places : BTreeMap Id (Option ℕ)) (outer : List (Option ℕ)) : Type 0 where
+pub record IsIndexOf (blocks : List (Option Id)) (places : BTreeMap Id ℕ) (outer : List (Option ℕ)) : Type 0 where
   pub within : length outer ≤ length blocks
   pub indexed : IsIndexed places outer (labels_of (take (length outer) blocks))

@@ -1,8 +1,7 @@
 //! The open blocks by their labels: one by one, and by an index.
 
-ghost use Rattle.std.specs.Prelude.{◌≡◌, ◌+◌, ◌-◌, ◌∷◌, length, Some, IfOk, OnOk, OnErr};
-ghost use Rattle.std.specs.BTreeMap.{get};
-ghost use Rattle.std.specs.Option.{option_flatten};
+ghost use Rattle.std.specs.Prelude.{◌≡◌, ◌+◌, ◌-◌, ◌∷◌, length, Some, IsSome, IfOk, OnOk, OnErr};
+ghost use Rattle.std.specs.BTreeMap.{get, Updates};
 ghost use Rattle.wast_base.specs.Blocks.{Blocks};
 ghost use Rattle.wast_base.specs.contracts.ids.IdOrd.TheImpl as by_name;
 ghost use Rattle.wast_base.specs.Ids.{name_of};
@@ -59,19 +58,16 @@ fn is_labelled<'a>(block: &Option<Id<'a>>, id: &Id<'a>) -> bool
 }
 
 /// The place of the innermost block that is indexed and has a label.
-pub(crate) fn indexed_place<'a>(
-    places: &BTreeMap<Id<'a>, Option<usize>>,
-    id: &Id<'a>,
-) -> Option<usize>
-    ensures { result ≡ option_flatten (get by_name.ghosts.cmp places.now id.now) }
+pub(crate) fn indexed_place<'a>(places: &BTreeMap<Id<'a>, usize>, id: &Id<'a>) -> Option<usize>
+    ensures { result ≡ get by_name.ghosts.cmp places.now id.now }
 {
-    *places.get(id)?
+    places.get(id).copied()
 }
 
 /// Indexes all blocks. Where memory is refused some are not.
 pub(crate) fn index_all<'a>(
     blocks: &[Option<Id<'a>>],
-    places: &mut BTreeMap<Id<'a>, Option<usize>>,
+    places: &mut BTreeMap<Id<'a>, usize>,
     outer: &mut Vec<Option<usize>>,
 ) -> Result<(), AllocError>
     ensures { IsIndexOf blocks.now places.old outer.old.items → IsIndexOf blocks.now places.new outer.new.items }
@@ -84,7 +80,7 @@ pub(crate) fn index_all<'a>(
 
 /// Indexes one block more, the innermost of those that are indexed. Where memory is refused nothing changes.
 fn index_block<'a>(
-    places: &mut BTreeMap<Id<'a>, Option<usize>>,
+    places: &mut BTreeMap<Id<'a>, usize>,
     outer: &mut Vec<Option<usize>>,
     label: Option<Id<'a>>,
 ) -> Result<(), AllocError>
@@ -101,7 +97,7 @@ fn index_block<'a>(
 
 /// Keeps a place for a label, if there is one, and gives the place that was kept for it.
 fn keep_place<'a>(
-    places: &mut BTreeMap<Id<'a>, Option<usize>>,
+    places: &mut BTreeMap<Id<'a>, usize>,
     place: usize,
     label: Option<Id<'a>>,
 ) -> Result<Option<usize>, AllocError>
@@ -110,14 +106,15 @@ fn keep_place<'a>(
     ensures err { OnErr result (places.new.entries ≡ places.old.entries) }
 {
     match label {
-        Some(id) => Ok(places.insert(id, Some(place))?.flatten()),
+        Some(id) => Ok(places.insert(id, place)?),
         None => Ok(None),
     }
 }
 
-/// Takes the innermost of the blocks that are indexed out of the index.
+/// Takes the innermost of the blocks that are indexed out of the index: its label has the place of the next one further out
+/// that has it, or is not in the index any more.
 pub(crate) fn unindex_block<'a>(
-    places: &mut BTreeMap<Id<'a>, Option<usize>>,
+    places: &mut BTreeMap<Id<'a>, usize>,
     outer: &mut Vec<Option<usize>>,
     label: Option<Id<'a>>,
 )
@@ -125,7 +122,22 @@ pub(crate) fn unindex_block<'a>(
     ensures shrinks { length outer.new.items ≡ length outer.old.items - 1 }
 {
     if let (Some(further), Some(id)) = (outer.pop(), label) {
-        // the label is in the index, so that this takes no memory
-        let _ = places.insert(id, further);
+        put_further(places, id, further);
+    }
+}
+
+/// Puts the place of the next block further out in the place of that of the innermost one, which a label has; with no next
+/// block the label leaves the map.
+fn put_further<'a>(places: &mut BTreeMap<Id<'a>, usize>, id: Id<'a>, further: Option<usize>)
+    ensures { IsSome (get by_name.ghosts.cmp places.old id.entry) → Updates by_name.ghosts.cmp places.old places.new id.entry further }
+{
+    match further {
+        Some(place) => {
+            // the label is in the map, so that this takes no memory
+            let _ = places.insert(id, place);
+        }
+        None => {
+            let _ = places.remove(&id);
+        }
     }
 }

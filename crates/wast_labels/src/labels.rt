@@ -39,8 +39,8 @@ pub struct Labels<'a> {
     open: Vec<Option<Id<'a>>>,
     // of each of them: the mark of its label
     marks: Vec<u16>,
-    // of the labels of the blocks that are indexed, the outermost ones: the place of the innermost that has it
-    places: BTreeMap<Id<'a>, Option<usize>>,
+    // of the labels of the blocks that are indexed, the outermost ones, and of no others: the place of the innermost that has it
+    places: BTreeMap<Id<'a>, usize>,
     // of each block that is indexed, the outermost first: the place of the next one further out that has its label
     outer: Vec<Option<usize>>,
     // how many blocks were gone along since blocks were indexed last

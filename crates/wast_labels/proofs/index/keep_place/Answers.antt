@@ -1,4 +1,3 @@
-use Rattle.std.proofs.Common.{◌∙◌}
 use Rattle.wast_labels.proofs.Indexed.{keeps}
 use Rattle.wast_labels.proofs.index.keep_place.Goals as goal
 
@@ -6,4 +5,4 @@ pub returns-in_ok-insert-in-Some-clause-ok : goal.returns-in_ok-insert-in-Some-c
 returns-in_ok-insert-in-Some-clause-ok c ls long h =
     let inserted = c.in_ok-insert-in-Some.ensures in
     let kept = keeps c.args.places.now c.insert.new.self c.in-Some.id c.args.label c.in-Some.is c.args.place c.in_ok-insert-in-Some.field-0 inserted.old inserted.updates ls long h in
-    (kept.0, c.flatten.ensures ∙ kept.1)
+    kept
