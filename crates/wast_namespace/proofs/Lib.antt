@@ -4,6 +4,8 @@ pub mod FilledSpaces
 pub mod FirstNumbers
 mod Firsts
 pub mod Gathered
+pub mod HeadOrder
+pub mod Insertions
 pub mod LeastTie
 pub mod Numbered
 pub mod Orders

@@ -2,7 +2,7 @@
 use Rattle.std.proofs.Common.{◌≡◌, ℕ, zero, suc, ◌+◌, ◌<◌, ◌≤◌, List, [], ◌∷◌, Some, None, refl, ap, sym, ◌∙◌, subst, subst₂, T, length, get_or, set, map, true, false, true≢false, ◌&&◌, Bool, arith, inl, inr}
 use Rattle.std.specs.declared.cmp.Ordering.{Ordering}
 use Rattle.std.specs.declared.cmp.Ordering.TheVariants.{Less, Equal, Greater}
-use Rattle.std.specs.Ordering.{is_lt}
+use Rattle.std.specs.Ordering.{is_lt, is_eq}
 use Rattle.std.specs.List.{insert}
 use Rattle.std.specs.FinMap.{find, put, is_sorted, get, insert as map_insert, from_sorted, empty, entries-insert, entries-from_sorted, get-from_sorted, same_entries_map, empty_of_len, len-entries}
 use Rattle.std.specs.FinMap.Entries.{below_all, is_sorted-put}
@@ -14,7 +14,7 @@ use Rattle.wast_base.specs.Ids.{Name, name_of, same_id, same_name}
 use Rattle.wast_base.specs.Order.{Key, key_of, key_cmp, name_lt, AreInOrder, IsPlaceOf}
 use Rattle.wast_base.specs.declared.ids.Id.{Id}
 use Rattle.wast_namespace.specs.Places.{key_at, entry_of, entries_of, AreSorted, IsAbove, IsAt, IsGap}
-use Rattle.wast_namespace.proofs.Basics.{some_element, any_default}
+use Rattle.wast_namespace.proofs.Basics.{some_element, any_default, is_equal}
 use Rattle.wast_base.proofs.Names.{same_name_equal, same_name_itself}
 use Rattle.wast_base.proofs.Keys.{exact_keys, keys_total, turned, name_from, name_from-key_of}
 
@@ -170,3 +170,16 @@ stands es id at e sorted lt same =
       above = record { smaller = λ j d before. subst (λ (k : Key). key_cmp (key_at (get_or es j d)) k ≡ Less) (ap key_at (any_default es at d e lt) ∙ key) (rises es sorted j at d before lt) };
       same = any_answer es (key_of (name_of id)) at Equal e lt (subst (λ (k : Key). key_cmp k (key_of (name_of id)) ≡ Equal) (sym key) (tied_itself keys_total (key_of (name_of id))));
     }
+
+-- names are the same where their keys compare alike
+same_by_keys : (a b : Name) → is_eq (key_cmp (key_of a) (key_of b)) ≡ same_name a b
+same_by_keys a b = elim (cases_Bool (same_name a b)) [
+  | inl e ↦ ap is_eq (subst (λ (n : Name). key_cmp (key_of a) (key_of n) ≡ Equal) (same_name_equal a b e) (tied_itself keys_total (key_of a))) ∙ sym e
+  | inr e ↦ elim (cases_Bool (is_eq (key_cmp (key_of a) (key_of b)))) [
+    | inl f ↦ absurd (another a b e (exact_keys (key_of a) (key_of b) (is_equal (key_cmp (key_of a) (key_of b)) f)))
+    | inr f ↦ f ∙ sym e
+  ]
+]
+
+pub same_at : (es : List (Id × ℕ)) (i j : ℕ) (d e : Id × ℕ) (r : Bool) → same_id (get_or es i d).0 (get_or es j e).0 ≡ r → is_eq (key_cmp (key_at (get_or es i d)) (key_at (get_or es j e))) ≡ r
+same_at es i j d e r h = same_by_keys (name_of (get_or es i d).0) (name_of (get_or es j e).0) ∙ h

@@ -2,7 +2,7 @@
 use Rattle.std.specs.Prelude.{◌≡◌, ℕ, zero, suc, ◌-◌, ◌<◌, ◌≤◌, true, cond, if◌then◌else◌, nat_lt, List, [], ◌∷◌, length, map, take, Option, Some, None, option_map, slice_index_or, Result, Ok, Err}
 use Rattle.std.specs.declared.cmp.Ordering.{Ordering}
 use Rattle.std.specs.Ordering.{nat_cmp, ordering_then, is_lt, is_eq}
-use Rattle.std.specs.List.Sorted.{IsSortedBy}
+use Rattle.std.specs.List.Sorted.{IsSortedBy, IsSortedWithin}
 use Rattle.wast_base.specs.declared.ids.Id.{Id}
 use Rattle.wast_base.specs.Ids.{Name, name_of, same_name}
 use Rattle.wast_base.specs.Spaces.{position_of, is_borne}
@@ -70,6 +70,10 @@ pair_cmp R a b = ordering_then (R a.0 b.0) (nat_cmp a.1 b.1)
 -- Pairs do not fall along the list, by the name and then by the number.
 abbrev pub AreRanked : List (Id × ℕ) → Type 0
 AreRanked es = IsSortedBy (λ a b. is_lt (pair_cmp key_cmp (entry_of a) (entry_of b))) es
+
+-- the same of the first n pairs
+abbrev pub AreRankedTo : List (Id × ℕ) → ℕ → Type 0
+AreRankedTo es n = IsSortedWithin (λ a b. is_lt (pair_cmp key_cmp (entry_of a) (entry_of b))) es 0 n
 
 -- Two neighbours have one key, and p is the number of the second.
 pub record IsTie {K : Type 0} (es : List (K × ℕ)) (p : ℕ) : Type 0 where

@@ -159,7 +159,7 @@ fn first_tie<'a>(pairs: &[(Id<'a>, u32)]) -> Option<u32>
     }
     let mut least: Option<u32> = None;
     'seek: for t in 0..pairs.len() - 1 {
-        if compare_names(&pairs[t].0, &pairs[t + 1].0).is_eq() {
+        if pairs[t].0.is_same(&pairs[t + 1].0) {
             let number = pairs[t + 1].1;
             least = Some(lesser(least, number));
         }

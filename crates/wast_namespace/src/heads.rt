@@ -1,9 +1,9 @@
-//! Heads of names, eight bytes behind a prefix as one number, by which many names are sorted first; and their ends, by which
-//! few are told apart first.
+//! Heads of names, eight bytes as one number, by which names are sorted first, many of them behind a prefix; and their ends,
+//! by which few are told apart first.
 
-ghost use Rattle.std.specs.Prelude.{◌≡◌, IfOk, map};
+ghost use Rattle.std.specs.Prelude.{◌≡◌, ◌<◌, IfOk, length, map};
 ghost use Rattle.std.specs.List.Sorted.{IsPermutation};
-ghost use Rattle.wast_namespace.specs.Heads.{pair_of};
+ghost use Rattle.wast_namespace.specs.Heads.{pair_of, IsHead};
 
 use crate::sorting::compare_pairs;
 use std::alloc::{AllocError, Global};
@@ -122,22 +122,35 @@ fn head(prefix: &[u8], text: &[u8]) -> u64 {
 
 /// The first eight bytes of a text as a number, the first of them the most; missing bytes count as 0. It takes no memory.
 pub fn leading(bytes: &[u8]) -> u64 {
-    if bytes.len() < 8 {
-        return leading_short(bytes);
+    first_eight(bytes)
+}
+
+/// The same, with its meaning: where the numbers of two texts differ, the texts have the order of the numbers.
+#[inline(always)]
+pub(crate) fn first_eight(text: &[u8]) -> u64
+    ensures { IsHead text.now result }
+{
+    if text.len() < 8 {
+        return first_few(text);
     }
     u64::from_be_bytes([
-        bytes[0], bytes[1], bytes[2], bytes[3], bytes[4], bytes[5], bytes[6], bytes[7],
+        text[0], text[1], text[2], text[3], text[4], text[5], text[6], text[7],
     ])
 }
 
-/// The same of a text that has fewer than eight bytes, one byte after the other.
-fn leading_short(bytes: &[u8]) -> u64 {
-    let mut number = 0u64;
-    for i in 0..8usize {
-        let byte = if i < bytes.len() { bytes[i] } else { 0 };
-        number = number << 8 | u64::from(byte);
+/// The same of a text that has fewer than eight bytes, from the last of them to the first.
+#[inline(always)]
+fn first_few(text: &[u8]) -> u64
+    requires { length text.now < 8 }
+    ensures { IsHead text.now result }
+{
+    let mut head = 0u64;
+    let mut at = text.len();
+    'back: while at > 0 {
+        at -= 1;
+        head = (head >> 8) + (u64::from(text[at]) << 56);
     }
-    number
+    head
 }
 
 /// The last eight bytes of a text as a number, or the last byte of a text that has fewer.

@@ -1,13 +1,15 @@
 //! Pairs of names and numbers in their order.
 
-ghost use Rattle.std.specs.Prelude.{◌≡◌, IsTrue, IfOk};
+ghost use Rattle.std.specs.Prelude.{◌≡◌, ◌+◌, ◌<◌, ◌≤◌, IsTrue, IfOk, length};
 ghost use Rattle.std.specs.Ordering.{is_lt};
 ghost use Rattle.std.specs.List.Sorted.{IsPermutation, IsSortedBy};
+ghost use Rattle.wast_base.specs.Ids.{text_of, name_of};
+ghost use Rattle.wast_namespace.specs.Heads.{IsHead, AreHeads};
 ghost use Rattle.wast_base.specs.Order.{key_cmp};
 ghost use Rattle.wast_namespace.specs.Places.{entry_of};
-ghost use Rattle.wast_namespace.specs.Filling.{pair_cmp, AreRanked};
+ghost use Rattle.wast_namespace.specs.Filling.{pair_cmp, AreRanked, AreRankedTo};
 
-use crate::heads::by_heads;
+use crate::heads::{by_heads, first_eight};
 use std::alloc::{AllocError, Global};
 use std::cmp::Ordering;
 use wast_base::{Id, compare_names};
@@ -17,7 +19,8 @@ const FEW: usize = 20;
 
 /// The pairs by the name, and then by the number. It takes memory only where they are not few.
 ///
-/// Many are sorted by the heads of their names, and again by whole names where heads do not tell their order.
+/// They are sorted by the heads of their names, because numbers are compared faster than names: few where they stand, many
+/// in a copy.
 pub(crate) fn in_order<'a>(
     alloc: Global,
     pairs: Vec<(Id<'a>, u32)>,
@@ -25,23 +28,77 @@ pub(crate) fn in_order<'a>(
     ensures permutation { IfOk result (λ es. IsPermutation pairs.entry.items es.items) }
     ensures sorted { IfOk result (λ es. AreRanked es.items) }
 {
-    let mut pairs = first_try(alloc, pairs)?;
-    if are_in_order(&pairs) {
-        return Ok(pairs);
+    if pairs.len() > FEW {
+        return many_in_order(alloc, &pairs);
     }
-    put_in_order(&mut pairs);
+    let mut pairs = pairs;
+    put_few_in_order(&mut pairs);
     Ok(pairs)
 }
 
-/// The pairs by the heads of their names where they are not few, and else as they are.
-fn first_try<'a>(alloc: Global, pairs: Vec<(Id<'a>, u32)>) -> Result<Vec<(Id<'a>, u32)>, AllocError>
-    ensures { IfOk result (λ es. IsPermutation pairs.entry.items es.items) }
+/// The same in a copy, for many: by the heads of their names, and again by whole names where heads do not tell their order.
+fn many_in_order<'a>(
+    alloc: Global,
+    pairs: &[(Id<'a>, u32)],
+) -> Result<Vec<(Id<'a>, u32)>, AllocError>
+    ensures permutation { IfOk result (λ es. IsPermutation pairs.now es.items) }
+    ensures sorted { IfOk result (λ es. AreRanked es.items) }
 {
-    if pairs.len() <= FEW {
-        return Ok(pairs);
+    let mut sorted = by_heads(alloc, pairs)?;
+    if are_in_order(&sorted) {
+        return Ok(sorted);
     }
-    let sorted = by_heads(alloc, &pairs)?;
+    put_in_order(&mut sorted);
     Ok(sorted)
+}
+
+/// Sorts at most 20 pairs by the name, and then by the number.
+///
+/// It notes the head of each name once, and puts each pair back among those before it.
+fn put_few_in_order<'a>(pairs: &mut [(Id<'a>, u32)])
+    requires { length pairs.old ≤ 20 }
+    ensures permutation { IsPermutation pairs.old pairs.new }
+    ensures sorted { AreRanked pairs.new }
+{
+    let mut heads = [0u64; FEW];
+    'each: for last in 0..pairs.len() {
+        heads[last] = first_eight(pairs[last].0.name().as_bytes());
+        put_back(pairs, &mut heads, last);
+    }
+}
+
+/// Puts a pair back among those before it, which are sorted, step by step; its head goes with it.
+fn put_back<'a>(pairs: &mut [(Id<'a>, u32)], heads: &mut [u64; FEW], last: usize)
+    requires within { last < length pairs.old }
+    requires few { length pairs.old ≤ 20 }
+    requires heads { AreHeads pairs.old heads.old (last + 1) }
+    requires sorted { AreRankedTo pairs.old last }
+    ensures permutation { IsPermutation pairs.old pairs.new }
+    ensures heads { AreHeads pairs.new heads.new (last + 1) }
+    ensures sorted { AreRankedTo pairs.new (last + 1) }
+{
+    let mut at = last;
+    'back: while at > 0 {
+        if !comes_before(&pairs[at], heads[at], &pairs[at - 1], heads[at - 1]) {
+            break 'back;
+        }
+        pairs.swap(at - 1, at);
+        heads.swap(at - 1, at);
+        at -= 1;
+    }
+}
+
+/// Whether a pair comes before another: by the heads of their names, or by whole names and numbers where the heads are the same.
+#[inline(always)]
+fn comes_before<'a>(pair: &(Id<'a>, u32), head: u64, other: &(Id<'a>, u32), other_head: u64) -> bool
+    requires head { IsHead (text_of (name_of pair.now.0)) head }
+    requires other { IsHead (text_of (name_of other.now.0)) other_head }
+    ensures { result ≡ is_lt (pair_cmp key_cmp (entry_of pair.now) (entry_of other.now)) }
+{
+    if head != other_head {
+        return head < other_head;
+    }
+    compare_pairs(pair, other).is_lt()
 }
 
 /// Whether no pair comes after the next one, by the name and then by the number.
