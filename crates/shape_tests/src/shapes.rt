@@ -8,7 +8,7 @@ use std::alloc::Global;
 use std::process::Abort;
 use wast_core::{Module, ModuleKind, discard_module};
 use wast_tree::{
-    BareOp, BlockKind, BlockType, Export, ExportKind, Func, FunctionType, Gensym, I32Op, Id, Index,
+    BareOp, BlockKind, BlockType, BrTableIndices, Export, ExportKind, Func, FunctionType, Gensym, I32Op, Id, Index,
     InnerTypeKind, Instruction, Local, Maker, ModuleField, NameAnnotation, Plain, Seq, Span,
     StorageType, StructAccess, StructField, StructType, Type, TypeDef, TypeUse, ValType,
 };
@@ -276,6 +276,85 @@ fn labels_by_name(rt: HostRuntime) {
         shape
             .maker
             .push_instruction(&mut instrs, Instruction::end_(None));
+    }
+    shape.push_func(0, TypeUse::none(), instrs);
+    shape.encodes(&rt);
+}
+
+/// Opens so many blocks within each other, whose names have the numbers from this one on.
+fn open_blocks<'a>(
+    shape: &mut Shape<'a>,
+    instrs: &mut Seq<Instruction<'a>>,
+    first: usize,
+    count: usize,
+) {
+    for j in 0..count {
+        let block = BlockType::new(Some(id(first.wrapping_add(j))), TypeUse::none());
+        shape.maker.push_block(instrs, BlockKind::Block, block);
+    }
+}
+
+/// How many blocks are open at once where blocks are opened again and again.
+const DEEP: usize = 20;
+
+/// How often they are opened.
+const AGAIN: usize = 12;
+
+/// `switch` as it is compiled: blocks within each other, a jump to one of them by its number, and behind each `end` but the last
+/// a jump out of all.
+#[test]
+fn labels_of_switches(rt: HostRuntime) {
+    let mut shape = Shape::new(rt.alloc());
+    let mut instrs = Seq::new(shape.alloc);
+    for k in 0..AGAIN {
+        let first = k * DEEP;
+        open_blocks(&mut shape, &mut instrs, first, DEEP);
+        let mut labels = Seq::new(shape.alloc);
+        for j in 0..DEEP {
+            labels.push(by_id(first + j)).expect(&rt, "memory");
+        }
+        let table = BrTableIndices {
+            labels,
+            default: by_id(first),
+        };
+        shape
+            .maker
+            .push_instruction(&mut instrs, Instruction::br_table(table));
+        for _ in 1..DEEP {
+            shape
+                .maker
+                .push_instruction(&mut instrs, Instruction::end_(None));
+            shape
+                .maker
+                .push_instruction(&mut instrs, Instruction::br(by_id(first)));
+        }
+        shape
+            .maker
+            .push_instruction(&mut instrs, Instruction::end_(None));
+    }
+    shape.push_func(0, TypeUse::none(), instrs);
+    shape.encodes(&rt);
+}
+
+/// Blocks within each other, a branch to the outermost one and to one in the middle, and so again behind their ends.
+#[test]
+fn labels_that_are_opened_again(rt: HostRuntime) {
+    let mut shape = Shape::new(rt.alloc());
+    let mut instrs = Seq::new(shape.alloc);
+    for k in 0..AGAIN {
+        let first = k * DEEP;
+        open_blocks(&mut shape, &mut instrs, first, DEEP);
+        shape
+            .maker
+            .push_instruction(&mut instrs, Instruction::br(by_id(first)));
+        shape
+            .maker
+            .push_instruction(&mut instrs, Instruction::br(by_id(first + DEEP / 2)));
+        for _ in 0..DEEP {
+            shape
+                .maker
+                .push_instruction(&mut instrs, Instruction::end_(None));
+        }
     }
     shape.push_func(0, TypeUse::none(), instrs);
     shape.encodes(&rt);
