@@ -12,6 +12,8 @@ use wast_base::Error;
 pub struct Kept {
     /// The bytes.
     pub bytes: Vec<u8>,
+    /// How often bytes were put, those that were cut off later too.
+    pub puts: u64,
 }
 
 /// It says what a sink has to say, and no more. Any number of bytes may be refused, where memory is: E12.
@@ -26,6 +28,7 @@ impl Sink for Kept {
     } };
 
     fn put<'e>(&mut self, bytes: &[u8]) -> Result<(), Error<'e>> {
+        self.puts = self.puts.saturating_add(1);
         self.bytes.put(bytes)
     }
 

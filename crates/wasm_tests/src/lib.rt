@@ -4,6 +4,8 @@
 #[cfg(test)]
 mod atomic_rows;
 #[cfg(test)]
+mod edges;
+#[cfg(test)]
 mod instrs;
 mod kept;
 #[cfg(test)]

@@ -181,6 +181,7 @@ fn each_sink_takes_the_same_bytes(rt: HostRuntime) {
     assert!(rt; room.left() == 0);
     let mut kept = Kept {
         bytes: Vec::new(rt.alloc()),
+        puts: 0,
     };
     assert!(rt; nested.encode(&mut kept).is_ok());
     assert!(rt; room.finish().as_slice() == kept.bytes.as_slice());
