@@ -1,14 +1,17 @@
 -- Which fields need a data count, and that no change of indices, type uses and ids changes it.
-use Rattle.std.proofs.Common.{◌≡◌, ℕ, Bool, true, false, not, ◌||◌, List, [], ◌∷◌, ◌++◌, length, Result, refl, sym, ap, ◌∙◌, subst, arith}
+use Rattle.std.proofs.Common.{◌≡◌, ℕ, Bool, true, false, not, ◌||◌, List, [], ◌∷◌, ◌++◌, length, Result, Ok, refl, sym, ap, ◌∙◌, subst, arith}
 use Rattle.std.specs.Prelude.{All}
 use Rattle.std.specs.List.{flat_map, list_any}
 use Rattle.std.proofs.lemmas.Bool.{not-true}
 use Rattle.std.proofs.lemmas.Grind.{common_steps}
+use Rattle.std.proofs.lemmas.List.Elements.{All-nil, All-head}
 use Rattle.std.proofs.lemmas.List.Folds.{list_any-append}
+use Rattle.wasm_ops.specs.Leb128.{unsigned}
+use Rattle.wasm_ops.specs.Spelling.{InRangeU32}
 use Rattle.wasm_ops.specs.declared.sink.Refusal.{Refusal}
-use Rattle.wasm_ops.specs.Sinks.{SinkRules, Writes}
-use Rattle.wasm_ops.proofs.Sinking.{puts_as}
-use Rattle.wasm_out.specs.Parts.{Data, Part, part, InRangePart}
+use Rattle.wasm_ops.specs.Sinks.{SinkRules, AppendLaws, Writes}
+use Rattle.wasm_ops.proofs.Sinking.{puts_as, one_written}
+use Rattle.wasm_out.specs.Parts.{Data, DataCount, Part, section, part, InRangePart}
 use Rattle.wast_nodes.specs.Sites.{Here, behind, param_marks, local_marks, body_here}
 use Rattle.wast_map.specs.Mapped.{Change, mapped_instr, mapped_instrs, mapped_func_kind, mapped}
 use Rattle.wast_map.specs.Laws.{all_mapped}
@@ -21,8 +24,7 @@ use Rattle.wast_core.specs.Tree.{FunctionType, TypeUse, Instruction, FuncKind, M
 use Rattle.wast_core.specs.Tree.func
 use Rattle.wast_core.specs.Tree.field
 use Rattle.wast_nodes.specs.Instrs.{needs_data_count}
-use Rattle.wast_core.specs.DataCounts.{instrs_of, body_instrs, body_needs_count, needs_count, count_parts}
-use Rattle.wast_core.specs.Extents.{is_counted}
+use Rattle.wast_core.specs.DataCounts.{instrs_of, body_instrs, body_needs_count, needs_count, may_be_counted, count_parts}
 use Rattle.wast_core.specs.Meaning.{entries, data_counts}
 
 -- a test over what the items of a list give
@@ -61,22 +63,31 @@ pub functions_need : (fields : List ModuleField) (r : Reach) → is_reach (is_of
 functions_need fields r h =
     any_in_flat needs_data_count body_instrs (there r fields) ∙ (ap (list_any needs_data_count) (all_there body_instrs (is_of kind.Func) fields r no_body_elsewhere h) ∙ sym (any_in_flat needs_data_count body_instrs fields))
 
--- what is told of it
-pub told_rightly : (fields : List ModuleField) (b : Bool) → b ≡ needs_count fields → is_counted fields b ≡ true
-told_rightly fields true h = sym h
-told_rightly fields false h = ap not (sym h)
-
-pub as_told : (fields : List ModuleField) (b : Bool) → is_counted fields b ≡ true → b ≡ needs_count fields
-as_told fields true h = sym h
-as_told fields false h = sym (not-true (needs_count fields) h)
+-- where no index of a data segment is asked for, none needs it
+pub none_needs : (fields : List ModuleField) (asked : Bool) → asked ≡ false → may_be_counted fields asked ≡ true → needs_count fields ≡ false
+none_needs fields asked none may = not-true (needs_count fields) (subst (λ b. may_be_counted fields b ≡ true) none may)
 
 -- the number that is told is that of the segments of data
-pub counts_are : (fields : List ModuleField) (needed : Bool) (count : ℕ) → needed ≡ needs_count fields → count ≡ length (entries Data fields) → count_parts needed count ≡ data_counts fields
+counts_are : (fields : List ModuleField) (needed : Bool) (count : ℕ) → needed ≡ needs_count fields → count ≡ length (entries Data fields) → count_parts needed count ≡ data_counts fields
 counts_are fields needed count is same = λ i. count_parts (is i) (same i)
 
-pub counts_written : {S A : Type 0} (rules : SinkRules S) (fields : List ModuleField) (needed : Bool) (count : ℕ) (a b : S) (r : Result A Refusal) → needed ≡ needs_count fields → count ≡ length (entries Data fields)
-    → Writes rules (All InRangePart (count_parts needed count)) a b (flat_map part (count_parts needed count)) r
-    → Writes rules (All InRangePart (data_counts fields) × Unit {0}) a b (flat_map part (data_counts fields)) r
-counts_written rules fields needed count a b r is same p =
-    puts_as rules (All InRangePart (data_counts fields)) (All InRangePart (data_counts fields) × Unit {0}) a b (flat_map part (data_counts fields)) r (λ h. (h, tt)) (λ h. h.0)
-    (subst (λ (ps : List Part). Writes rules (All InRangePart ps) a b (flat_map part ps) r) (counts_are fields needed count is same) p)
+-- a data count is left out where it is not needed
+pub count_absent : {S : Type 0} (rules : SinkRules S) (fields : List ModuleField) (a : S) → AppendLaws rules → false ≡ needs_count fields
+    → Writes {A = Unit {0}} rules (All InRangePart (data_counts fields)) a a (flat_map part (data_counts fields)) (Ok tt)
+count_absent rules fields a laws is =
+    subst (λ (ps : List Part). Writes {A = Unit {0}} rules (All InRangePart ps) a a (flat_map part ps) (Ok tt)) (counts_are fields false (length (entries Data fields)) is refl) (laws.none a, All-nil InRangePart)
+
+-- one that is needed is out of range where the segments are too many
+pub count_in_range : (fields : List ModuleField) → true ≡ needs_count fields → All InRangePart (data_counts fields) → InRangeU32 (length (entries Data fields))
+count_in_range fields is h =
+    let n = length (entries Data fields) in
+    (All-head InRangePart (record { kind = DataCount; items = n }) [] (subst (λ (ps : List Part). All InRangePart ps) (sym (counts_are fields true n is refl)) h)).1
+
+-- and is written as a section of one number
+pub count_written : {S A : Type 0} (rules : SinkRules S) (fields : List ModuleField) (count : ℕ) (a b : S) (r : Result A Refusal) → true ≡ needs_count fields → count ≡ length (entries Data fields)
+    → Writes rules (Unit {0} × (InRangeU32 (length (unsigned count)) × InRangeU32 count)) a b (section 12 (unsigned count)) r
+    → Writes rules (All InRangePart (data_counts fields)) a b (flat_map part (data_counts fields)) r
+count_written rules fields count a b r is same p =
+    let here : Part = record { kind = DataCount; items = count } in
+    subst (λ (ps : List Part). Writes rules (All InRangePart ps) a b (flat_map part ps) r) (counts_are fields true count is same)
+    (one_written rules part InRangePart a b here r (puts_as rules (Unit {0} × InRangePart here) (InRangePart here) a b (part here) r (λ h. h.1) (λ h. (tt, h)) p))

@@ -1,21 +1,19 @@
 -- Custom sections of a place, told section by section, and as parts beside what stands in them.
-use Rattle.std.proofs.Common.{◌≡◌, ℕ, List, map, length, Result, Ok, Err, refl, sym, subst}
-use Rattle.std.specs.Prelude.{All, IfOk, IfErr}
+use Rattle.std.proofs.Common.{◌≡◌, List, map, Result, refl, sym}
+use Rattle.std.specs.Prelude.{All}
 use Rattle.std.specs.List.{flat_map}
 use Rattle.wasm_ops.specs.Sinks.{SinkRules, Writes}
 use Rattle.wasm_ops.specs.declared.sink.Refusal.{Refusal}
-use Rattle.wasm_ops.specs.declared.sink.Refusal.TheVariants as refusal
 use Rattle.wasm_ops.proofs.Everywhere.{all_map, all_unmap, all_both}
 use Rattle.wasm_ops.proofs.Sinking.{written_as}
 use Rattle.wasm_out.specs.Parts.{part, InRangePart}
 use Rattle.wast_conv.specs.Customs.{custom_part, InRangeCustomBytes, InRangeCustom}
 use Rattle.wast_core.specs.Meaning.{custom_section}
 use Rattle.wast_core.specs.Tree.{Custom}
-use Rattle.wast_names.specs.FoundNames.{counted}
 use Rattle.wast_names.proofs.Each.{each_like}
 
 -- A section is in range where its part is, and what stands in it.
-pub in_range_apart : (cs : List Custom) → All InRangeCustom cs → All InRangePart (map custom_part cs) × All InRangeCustomBytes cs
+in_range_apart : (cs : List Custom) → All InRangeCustom cs → All InRangePart (map custom_part cs) × All InRangeCustomBytes cs
 in_range_apart cs h = (
   all_map InRangePart custom_part cs (each_part cs h),
   all_both InRangeCustom InRangeCustom InRangeCustomBytes (λ c p q. p.1.1) cs h h,
@@ -24,10 +22,10 @@ in_range_apart cs h = (
     each_part : (cs : List Custom) → All InRangeCustom cs → All (λ c. InRangePart (custom_part c)) cs
     each_part cs h = all_both InRangeCustom InRangeCustom (λ c. InRangePart (custom_part c)) (λ c p q. (p.0, p.1.0)) cs h h
 
-pub in_range_joined : (cs : List Custom) → All InRangePart (map custom_part cs) × All InRangeCustomBytes cs → All InRangeCustom cs
+in_range_joined : (cs : List Custom) → All InRangePart (map custom_part cs) × All InRangeCustomBytes cs → All InRangeCustom cs
 in_range_joined cs h = all_both (λ c. InRangePart (custom_part c)) InRangeCustomBytes InRangeCustom (λ c p q. (p.0, (p.1, q))) cs (all_unmap InRangePart custom_part cs h.0) h.1
 
-pub sections_are_parts : (cs : List Custom) → flat_map custom_section cs ≡ flat_map part (map custom_part cs)
+sections_are_parts : (cs : List Custom) → flat_map custom_section cs ≡ flat_map part (map custom_part cs)
 sections_are_parts cs = sym (each_like custom_part part custom_section (λ c. refl) cs)
 
 -- So sections that are written are parts that are written.
@@ -35,12 +33,3 @@ pub parts_written : {S A : Type 0} (rules : SinkRules S) (cs : List Custom) (a b
     → Writes rules (All InRangeCustom cs) a b (flat_map custom_section cs) r → Writes rules (All InRangePart (map custom_part cs) × All InRangeCustomBytes cs) a b (flat_map part (map custom_part cs)) r
 parts_written rules cs a b r p =
     written_as rules (All InRangeCustom cs) (All InRangePart (map custom_part cs) × All InRangeCustomBytes cs) a b (flat_map custom_section cs) (flat_map part (map custom_part cs)) r (in_range_apart cs) (in_range_joined cs) (sections_are_parts cs) p
-
--- How long the sections of a place are, as parts; and what is out of range in them.
-pub parts_sized : (cs : List Custom) (r : Result ℕ Refusal) → IfOk r (λ n. n ≡ counted (length (flat_map custom_section cs))) → IfOk r (λ n. n ≡ counted (length (flat_map part (map custom_part cs))))
-parts_sized cs r h = subst (λ (bs : List ℕ). IfOk r (λ n. n ≡ counted (length bs))) (sections_are_parts cs) h
-
-pub parts_refused : (cs : List Custom) (r : Result ℕ Refusal) → IfErr r (λ e. (e ≡ refusal.TooLarge) × (All InRangeCustom cs → ⊥))
-    → IfErr r (λ e. (e ≡ refusal.TooLarge) × (All InRangePart (map custom_part cs) × All InRangeCustomBytes cs → ⊥))
-parts_refused cs (Ok n) h = h
-parts_refused cs (Err e) h = (h.0, λ p. h.1 (in_range_joined cs p))

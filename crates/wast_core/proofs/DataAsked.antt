@@ -12,8 +12,7 @@ use Rattle.wast_core.specs.Tree.{FunctionType, TypeUse, Instruction, FuncKind, M
 use Rattle.wast_core.specs.Tree.instr
 use Rattle.wast_core.specs.Tree.func
 use Rattle.wast_core.specs.Tree.field
-use Rattle.wast_core.specs.DataCounts.{instrs_of, body_needs_count, needs_count}
-use Rattle.wast_core.specs.Extents.{may_be_counted}
+use Rattle.wast_core.specs.DataCounts.{instrs_of, body_needs_count, needs_count, may_be_counted}
 
 abbrev asks_data : List Site → Bool
 asks_data sites = list_any is_of_data (asked sites)

@@ -1,10 +1,9 @@
 -- Encoding after resolving.
-use Rattle.std.proofs.Common.{◌≡◌, ◌<◌, ℕ, true, List, [], Result, Ok, Err, Option, None, Some, subst, inl, inr}
+use Rattle.std.proofs.Common.{◌≡◌, ◌<◌, ℕ, true, List, Result, Ok, Err, Option, None, Some, subst, inl, inr}
 use Rattle.std.specs.Borrow.{Bor}
 use Rattle.std.specs.Global.{Vec}
 use Rattle.wast_base.specs.declared.faults.Error.{Error}
 use Rattle.wast_base.specs.declared.faults.Form.{Form}
-use Rattle.wast_base.specs.Faults.{too_large}
 use Rattle.wast_nodes.specs.Generations.{greatest_generation}
 use Rattle.wast_nodes.specs.Items.{items}
 use Rattle.wast_nodes.specs.Known.{known}
@@ -12,18 +11,17 @@ use Rattle.wast_nodes.specs.WellFormed.{is_well_formed}
 use Rattle.wast_demands.specs.Finished.{finished}
 use Rattle.wast_passes.specs.Resolvers.{KnownNames}
 use Rattle.wast_alike.specs.Laws.{FinishedStaysWellFormed, FinishedIsResolved, FinishedIsWrittenOut, SamePositions}
-use Rattle.wasm_ops.specs.Sinks.{SinkRules, AppendLaws}
 use Rattle.wasm_out.specs.Reads.{Reads}
 use Rattle.wast_conv.specs.Encodable.{is_at_rest}
 use Rattle.wast_conv.proofs.Ready.{fields_at_rest}
 use Rattle.wast_core.specs.Tree.{ModuleField}
 use Rattle.wast_core.specs.declared.module.ModuleKind.{ModuleKind}
 use Rattle.wast_core.specs.declared.module.ModuleKind.TheVariants as kind
-use Rattle.wast_core.specs.Bounded.{InRangeModule, IsWritable, IsBounded}
+use Rattle.wast_core.specs.Bounded.{IsWritable, IsBounded}
 use Rattle.wast_core.specs.Headline.{IsMet, ResolvesKind, EncodesKind, IsUnwritten}
 use Rattle.wast_core.specs.Modules.{bound_of_kind}
 use Rattle.wast_core.specs.Uncovered.{first, uncovered_forms}
-use Rattle.wast_core.specs.Writing.{EncodesResolved, IsNotPut}
+use Rattle.wast_core.specs.Writing.{EncodesResolved}
 use Rattle.wast_core.proofs.ByPosition.{means_what_is_written, written_where_meant}
 
 -- well formed fields whose demands are met are at rest once they are resolved
@@ -50,9 +48,3 @@ encodes positions n name (kind.Binary pieces) new names result above r h = binar
     binary pieces new (Ok bytes) r h = (h, r)
     binary pieces new (Err e) r h = (h, r)
 encodes positions n name (kind.Refused d) new names result above r h = absurd r
-
--- a covered module that is too large is not put
-pub not_put : {S : Type 0} (rules : SinkRules S) (a : S) (form : Option Form) (name : Option (List ℕ)) (fields : List ModuleField) (e : Error) → AppendLaws rules → form ≡ None → e ≡ too_large → (InRangeModule name fields → ⊥)
-    → rules.appended a a [] × IsNotPut form rules a name fields e
-not_put rules a None name fields e laws covered is large = (laws.none a, inr (is, large))
-not_put rules a (Some form) name fields e laws covered is large = absurd cc

@@ -1,8 +1,8 @@
--- The section of branch hints, as it is measured and written.
+-- The section of branch hints, as it is written.
 use Rattle.std.proofs.Common.{◌≡◌, ◌<◌, ◌≤◌, ◌+◌, ℕ, Bool, true, false, ◌||◌, List, [], ◌∷◌, ◌++◌, map, length, take, drop, get_or, Some, None, Result, Ok, refl, sym, ap, ◌∙◌, subst, arith, length-append}
 use Rattle.std.specs.Prelude.{All, if◌then◌else◌}
 use Rattle.std.specs.List.{flat_map}
-use Rattle.std.proofs.lemmas.List.{append_assoc, length-map}
+use Rattle.std.proofs.lemmas.List.{length-map}
 use Rattle.std.proofs.lemmas.List.Elements.{All-nil, All-head}
 use Rattle.std.proofs.lemmas.List.Folds.{flat_map-map}
 use Rattle.wast_base.specs.Spaces.{same_space}
@@ -13,7 +13,7 @@ use Rattle.wasm_ops.specs.Spelling.{InRangeU32, InRangeName, vec, name}
 use Rattle.wasm_ops.proofs.Everywhere.{all_one, flat_one}
 use Rattle.wasm_ops.proofs.Sinking.{written_as}
 use Rattle.wasm_out.specs.Hints.{function_hints, hints, hints_name, hints_payload}
-use Rattle.wasm_out.specs.Parts.{Custom, Part, part, InRangePart}
+use Rattle.wasm_out.specs.Parts.{Custom, Part, section, part, InRangePart}
 use Rattle.wast_conv.specs.Hints.{HintedBody, as_hinted}
 use Rattle.wast_nodes.specs.Imports.{item_sigs}
 use Rattle.wast_names.specs.GivenNames.{named_from}
@@ -25,8 +25,7 @@ use Rattle.wast_nodes.specs.Items.{space_of_kind}
 use Rattle.wast_core.specs.Tree.{Func, FuncKind, ImportItems, ItemSig, ModuleField}
 use Rattle.wast_core.specs.Tree.space
 use Rattle.wast_core.specs.Tree.field
-use Rattle.wast_core.specs.Extents.{IsHintsExtent}
-use Rattle.wast_core.specs.Hints.{has_hints, if_hinted, imported_func, functions_in, hinted, as_function_hints, hinted_function, hints_part, InRangeHinted, InRangeHints, hints_payload_of}
+use Rattle.wast_core.specs.Hints.{has_hints, if_hinted, imported_func, functions_in, hinted, as_function_hints, hinted_function, hints_part, InRangeHinted, InRangeHints}
 
 -- No other field than a function and an import makes functions.
 abbrev pub is_function_or_import : ModuleField → Bool
@@ -99,56 +98,29 @@ hints_are_these fs =
     ap (λ (n : ℕ). unsigned n ++ flat_map hinted_function fs) (sym (length-map fs as_function_hints))
     ∙ ap (λ (bs : List ℕ). unsigned (length (map as_function_hints fs)) ++ bs) (sym (flat_map-map function_hints as_function_hints fs))
 
--- what stands behind the length of the section, where a function has hints
-payload_is : (fs : List (ℕ × HintedBody)) → (length fs ≡ 0 → ⊥) → hints_payload_of fs ≡ hints_payload (vec hinted_function fs)
-payload_is [] some = absurd (some refl)
-payload_is (f ∷ fs) some = refl
-
 -- as it is put together: the name, the number of functions, and each of them
 abbrev pub held : ℕ → List (ℕ × HintedBody) → List ℕ
-held n fs = (name hints_name ++ unsigned n) ++ flat_map hinted_function fs
+held n fs = name hints_name ++ (unsigned n ++ flat_map hinted_function fs)
 
 abbrev pub InRangeHeld : ℕ → List (ℕ × HintedBody) → Type 0
-InRangeHeld n fs = (InRangeName hints_name × InRangeU32 n) × All InRangeHinted fs
+InRangeHeld n fs = InRangeName hints_name × (InRangeU32 n × All InRangeHinted fs)
 
-pub held_is : (n : ℕ) (fs : List (ℕ × HintedBody)) → n ≡ length fs → held n fs ≡ hints_payload (vec hinted_function fs)
-held_is n fs count = append_assoc (name hints_name) (unsigned n) (flat_map hinted_function fs) ∙ ap (λ (m : ℕ). name hints_name ++ (unsigned m ++ flat_map hinted_function fs)) count
-
--- what was counted and measured
-pub extent_is : (fields first : List ModuleField) (n size : ℕ) → flat_map functions_in first ≡ flat_map functions_in fields → n ≡ length (hinted first) → (n ≡ 0 → ⊥) → size ≡ length (held n (hinted first)) → IsHintsExtent fields n size
-extent_is fields first n size same count some is =
-    record {
-      counted = count ∙ ap (λ fs. length fs) (alike fields first same);
-      sized = is ∙ ap (λ (bs : List ℕ). length bs) (held_is n (hinted first) count ∙ (ap (λ fs. hints_payload (vec hinted_function fs)) (alike fields first same) ∙ sym (payload_is (hinted fields) (λ z. some (count ∙ (ap (λ fs. length fs) (alike fields first same) ∙ z))))));
-    }
-
--- what is in range as a part is so as it is measured
-part_in_range : (fs : List (ℕ × HintedBody)) → (length fs ≡ 0 → ⊥) → All InRangePart (hints_part fs) → InRangeU32 (length (hints_payload (hints (map as_function_hints fs)))) × InRangeName hints_name
-part_in_range [] some h = absurd (some refl)
-part_in_range (f ∷ fs) some h = All-head InRangePart (record { kind = Custom; items = record { name = hints_name; bytes = hints (map as_function_hints (f ∷ fs)) } }) [] h
-
-pub held_in_range : (n : ℕ) (fs : List (ℕ × HintedBody)) → n ≡ length fs → (n ≡ 0 → ⊥) → All InRangePart (hints_part fs) × InRangeHints fs → InRangeU32 (length (held n fs)) × InRangeHeld n fs
-held_in_range n fs count some h =
-    let p = part_in_range fs (λ z. some (count ∙ z)) h.0 in
-    (subst (λ (bs : List ℕ). InRangeU32 (length bs)) (ap hints_payload (sym (hints_are_these fs)) ∙ sym (held_is n fs count)) p.0, ((p.1, subst InRangeU32 (sym count) h.1.0), h.1.1))
-
--- the section is written, of so many functions and so many bytes
-pub section_written : {S A : Type 0} (rules : SinkRules S) (fs : List (ℕ × HintedBody)) (a b : S) (n size : ℕ) (r : Result A Refusal)
-    → n ≡ length fs → size ≡ length (hints_payload_of fs) → (n ≡ 0 → ⊥)
-    → Writes rules ((Unit {0} × (InRangeU32 size × (InRangeName hints_name × InRangeU32 n))) × All InRangeHinted fs) a b ((0 ∷ (unsigned size ++ (name hints_name ++ unsigned n))) ++ flat_map hinted_function fs) r
+-- the section is written, of so many functions
+pub section_written : {S A : Type 0} (rules : SinkRules S) (fs : List (ℕ × HintedBody)) (a b : S) (n : ℕ) (r : Result A Refusal)
+    → n ≡ length fs → (n ≡ 0 → ⊥)
+    → Writes rules (Unit {0} × (InRangeU32 (length (held n fs)) × InRangeHeld n fs)) a b (section 0 (held n fs)) r
     → Writes rules (All InRangePart (hints_part fs) × InRangeHints fs) a b (flat_map part (hints_part fs)) r
-section_written rules [] a b n size r count is some p = absurd (some count)
-section_written rules (f ∷ fs) a b n size r count is some p =
+section_written rules [] a b n r count some p = absurd (some count)
+section_written rules (f ∷ fs) a b n r count some p =
     let all = f ∷ fs in
     let bytes = hints (map as_function_hints all) in
     let here : Part = record { kind = Custom; items = record { name = hints_name; bytes = bytes } } in
-    let payload : held n all ≡ hints_payload bytes = held_is n all count ∙ ap hints_payload (hints_are_these all) in
-    let long : size ≡ length (hints_payload bytes) = is ∙ ap (λ (bs : List ℕ). length (hints_payload bs)) (hints_are_these all) in
-    written_as rules ((Unit {0} × (InRangeU32 size × (InRangeName hints_name × InRangeU32 n))) × All InRangeHinted all) (All InRangePart (hints_part all) × InRangeHints all) a b
-    ((0 ∷ (unsigned size ++ (name hints_name ++ unsigned n))) ++ flat_map hinted_function all) (flat_map part (hints_part all)) r
-    (λ h. (all_one InRangePart here (subst InRangeU32 long h.0.1.0, h.0.1.1.0), (subst InRangeU32 count h.0.1.1.1, h.1)))
-    (λ h. let head = All-head InRangePart here [] h.0 in ((tt, (subst InRangeU32 (sym long) head.0, (head.1, subst InRangeU32 (sym count) h.1.0))), h.1.1))
-    (ap (λ z. 0 ∷ z) (append_assoc (unsigned size) (name hints_name ++ unsigned n) (flat_map hinted_function all) ∙ (ap (λ (m : ℕ). unsigned m ++ held n all) long ∙ ap (λ (bs : List ℕ). unsigned (length (hints_payload bytes)) ++ bs) payload)) ∙ sym (flat_one part here))
+    let payload : held n all ≡ hints_payload bytes = ap (λ (m : ℕ). name hints_name ++ (unsigned m ++ flat_map hinted_function all)) count ∙ ap hints_payload (hints_are_these all) in
+    written_as rules (Unit {0} × (InRangeU32 (length (held n all)) × InRangeHeld n all)) (All InRangePart (hints_part all) × InRangeHints all) a b
+    (section 0 (held n all)) (flat_map part (hints_part all)) r
+    (λ h. (all_one InRangePart here (subst (λ (bs : List ℕ). InRangeU32 (length bs)) payload h.1.0, h.1.1.0), (subst InRangeU32 count h.1.1.1.0, h.1.1.1.1)))
+    (λ h. let head = All-head InRangePart here [] h.0 in (tt, (subst (λ (bs : List ℕ). InRangeU32 (length bs)) (sym payload) head.0, (head.1, (subst InRangeU32 (sym count) h.1.0, h.1.1)))))
+    (ap (section 0) payload ∙ sym (flat_one part here))
     p
 
 -- no function has hints, and nothing is written

@@ -21,9 +21,7 @@ pub mod CustomsComputed
 pub mod ResolvingComputed
 pub mod Hinting
 pub mod Pointing
-pub mod Sizes
-pub mod Measuring
-pub mod WrittenBehind
+pub mod Appended
 pub mod Swapped
 pub mod AtRest
 pub mod StartsComputed

@@ -1,31 +1,30 @@
 -- The section of a list, as a part of the module.
-use Rattle.std.proofs.Common.{◌≡◌, ℕ, length, List, [], ◌∷◌, ◌++◌, Result, refl, sym, ap, ◌∙◌, subst, arith}
+use Rattle.std.proofs.Common.{◌≡◌, ℕ, length, List, [], ◌∷◌, ◌++◌, Result, Ok, refl, sym, ap, ◌∙◌, subst, arith}
 use Rattle.std.specs.Prelude.{All}
 use Rattle.std.specs.List.{flat_map}
-use Rattle.std.proofs.lemmas.List.Elements.{All-head}
+use Rattle.std.proofs.lemmas.List.Elements.{All-nil, All-head}
 use Rattle.wasm_ops.specs.declared.sink.Refusal.{Refusal}
 use Rattle.wasm_ops.specs.Leb128.{unsigned}
-use Rattle.wasm_ops.specs.Sinks.{SinkRules, Writes}
+use Rattle.wasm_ops.specs.Sinks.{SinkRules, AppendLaws, Writes}
 use Rattle.wasm_ops.specs.Spelling.{InRangeU32, vec, InRangeVec}
 use Rattle.wasm_ops.proofs.Everywhere.{flat_in_flat, all_in_flat, all_of_flat}
 use Rattle.wasm_ops.proofs.Sinking.{written_as, one_written}
-use Rattle.wasm_out.specs.Parts.{SectionKind, Entry, entry, InRangeEntry, Listed, section_id, Part, part, InRangePart}
+use Rattle.wasm_out.specs.Parts.{SectionKind, Entry, entry, InRangeEntry, Listed, section_id, Part, section, part, InRangePart}
 use Rattle.wast_core.specs.Tree.{ModuleField}
 use Rattle.wast_core.specs.Meaning.{entries_in, entries, listed}
-use Rattle.wast_core.specs.Extents.{payload_of, IsExtent}
 
 -- behind its id and its length, what spells the list
 part_written : {S A : Type 0} (rules : SinkRules S) (k : SectionKind) (es : List (Entry k)) (R : Type 0) (a b : S) (id : ℕ) (body : List ℕ) (r : Result A Refusal)
     → id ≡ section_id k → (length es ≡ 0 → ⊥) → body ≡ vec (entry k) es → (R → InRangeVec (InRangeEntry k) es) → (InRangeVec (InRangeEntry k) es → R)
-    → Writes rules (Unit {0} × (InRangeU32 (length body) × R)) a b (id ∷ (unsigned (length body) ++ body)) r
+    → Writes rules (Unit {0} × (InRangeU32 (length body) × R)) a b (section id body) r
     → Writes rules (All InRangePart (listed k es)) a b (flat_map part (listed k es)) r
 part_written rules k [] R a b id body r e some is f g p = absurd (some refl)
 part_written rules k (x ∷ xs) R a b id body r e some is f g p =
     let here : Part = record { kind = Listed k; items = x ∷ xs } in
     one_written rules part InRangePart a b here r
-    (written_as rules (Unit {0} × (InRangeU32 (length body) × R)) (InRangePart here) a b (id ∷ (unsigned (length body) ++ body)) (part here) r
+    (written_as rules (Unit {0} × (InRangeU32 (length body) × R)) (InRangePart here) a b (section id body) (part here) r
     (λ h. (subst (λ (bs : List ℕ). InRangeU32 (length bs)) is h.1.0, f h.1.1)) (λ h. (tt, (subst (λ (bs : List ℕ). InRangeU32 (length bs)) (sym is) h.0, g h.1)))
-    (ap (λ (i : ℕ). i ∷ (unsigned (length body) ++ body)) e ∙ ap (λ (bs : List ℕ). section_id k ∷ (unsigned (length bs) ++ bs)) is) p)
+    (ap (λ (i : ℕ). section i body) e ∙ ap (section (section_id k)) is) p)
 
 -- the number of entries, and what each field puts there
 abbrev pub held : SectionKind → ℕ → List ModuleField → List ℕ
@@ -35,42 +34,27 @@ abbrev pub InRangeHeld : SectionKind → ℕ → List ModuleField → Type 0
 InRangeHeld k n fields = InRangeU32 n × All (λ f. All (InRangeEntry k) (entries_in k f)) fields
 
 -- they are the list of the entries
-pub held_is : (k : SectionKind) (fields : List ModuleField) (n : ℕ) → n ≡ length (entries k fields) → held k n fields ≡ vec (entry k) (entries k fields)
+held_is : (k : SectionKind) (fields : List ModuleField) (n : ℕ) → n ≡ length (entries k fields) → held k n fields ≡ vec (entry k) (entries k fields)
 held_is k fields n count =
     ap (λ (m : ℕ). unsigned m ++ flat_map (λ f. flat_map (entry k) (entries_in k f)) fields) count ∙ ap (λ (bs : List ℕ). unsigned (length (entries k fields)) ++ bs) (flat_in_flat (entry k) (entries_in k) fields)
 
-payload_is : (k : SectionKind) (es : List (Entry k)) → (length es ≡ 0 → ⊥) → payload_of k es ≡ vec (entry k) es
-payload_is k [] some = absurd (some refl)
-payload_is k (e ∷ es) some = refl
-
-listed_in_range : (k : SectionKind) (es : List (Entry k)) → (length es ≡ 0 → ⊥) → All InRangePart (listed k es) → InRangeU32 (length (vec (entry k) es)) × InRangeVec (InRangeEntry k) es
-listed_in_range k [] some h = absurd (some refl)
-listed_in_range k (e ∷ es) some h = All-head InRangePart (record { kind = Listed k; items = e ∷ es }) [] h
-
--- what was counted and measured of the first fields, where all entries are theirs
-pub extent_is : (k : SectionKind) (fields first : List ModuleField) (n size : ℕ) → entries k first ≡ entries k fields → n ≡ length (entries k first) → (n ≡ 0 → ⊥) → size ≡ length (held k n first) → IsExtent k fields n size
-extent_is k fields first n size same count some is = record {
-  counted = count ∙ ap (λ es. length es) same;
-  sized = is ∙ ap (λ (bs : List ℕ). length bs) (held_is k first n count ∙ ap (vec (entry k)) same ∙ sym (payload_is k (entries k fields) (λ z. some (count ∙ ap (λ es. length es) same ∙ z))));
-}
-
--- what is in range as a part is so as it is measured
-pub held_in_range : (k : SectionKind) (fields first : List ModuleField) (n : ℕ) → entries k first ≡ entries k fields → n ≡ length (entries k first) → (n ≡ 0 → ⊥) → All InRangePart (listed k (entries k fields)) → InRangeU32 (length (held k n first)) × InRangeHeld k n first
-held_in_range k fields first n same count some h =
-    let p = listed_in_range k (entries k first) (λ z. some (count ∙ z)) (subst (λ es. All InRangePart (listed k es)) (sym same) h) in
-    (subst (λ (bs : List ℕ). InRangeU32 (length bs)) (sym (held_is k first n count)) p.0, (subst InRangeU32 (sym count) p.1.0, all_of_flat (InRangeEntry k) (entries_in k) first p.1.1))
-
-pub listed_written : {S A : Type 0} (rules : SinkRules S) (k : SectionKind) (fields first : List ModuleField) (a b : S) (id n size : ℕ) (r : Result A Refusal)
-    → id ≡ section_id k → entries k first ≡ entries k fields → IsExtent k fields n size → (n ≡ 0 → ⊥)
-    → Writes rules (Unit {0} × (InRangeU32 size × InRangeHeld k n first)) a b (id ∷ (unsigned size ++ held k n first)) r
+-- the section is written, of so many entries; the first fields have all of them
+pub listed_written : {S A : Type 0} (rules : SinkRules S) (k : SectionKind) (fields first : List ModuleField) (a b : S) (id n : ℕ) (r : Result A Refusal)
+    → id ≡ section_id k → entries k first ≡ entries k fields → n ≡ length (entries k fields) → (n ≡ 0 → ⊥)
+    → Writes rules (Unit {0} × (InRangeU32 (length (held k n first)) × InRangeHeld k n first)) a b (section id (held k n first)) r
     → Writes rules (All InRangePart (listed k (entries k fields))) a b (flat_map part (listed k (entries k fields))) r
-listed_written rules k fields first a b id n size r e same x some p =
-    let count = x.counted ∙ ap (λ es. length es) (sym same) in
-    let is = x.sized ∙ ap (λ (bs : List ℕ). length bs) (payload_is k (entries k fields) (λ z. some (x.counted ∙ z)) ∙ ap (vec (entry k)) (sym same) ∙ sym (held_is k first n count)) in
+listed_written rules k fields first a b id n r e same counted some p =
+    let count = counted ∙ ap (λ es. length es) (sym same) in
     subst (λ es. Writes rules (All InRangePart (listed k es)) a b (flat_map part (listed k es)) r) same
     (part_written rules k (entries k first) (InRangeHeld k n first) a b id (held k n first) r e (λ z. some (count ∙ z)) (held_is k first n count)
     (λ h. (subst InRangeU32 count h.0, all_in_flat (InRangeEntry k) (entries_in k) first h.1)) (λ h. (subst InRangeU32 (sym count) h.0, all_of_flat (InRangeEntry k) (entries_in k) first h.1))
-    (subst (λ (m : ℕ). Writes rules (Unit {0} × (InRangeU32 m × InRangeHeld k n first)) a b (id ∷ (unsigned m ++ held k n first)) r) is p))
+    p)
+
+-- and left out where there are none
+pub listed_absent : {S : Type 0} (rules : SinkRules S) (k : SectionKind) (es : List (Entry k)) (a : S) (n : ℕ) → AppendLaws rules → n ≡ length es → n ≡ 0
+    → Writes {A = Unit {0}} rules (All InRangePart (listed k es)) a a (flat_map part (listed k es)) (Ok tt)
+listed_absent rules k [] a n laws count none = (laws.none a, All-nil InRangePart)
+listed_absent rules k (e ∷ es) a n laws count none = absurd (omega arith)
 
 -- a part that is in range has less than 2^32 items
 pub counted_in_range : (k : SectionKind) (es : List (Entry k)) → All InRangePart (listed k es) → InRangeU32 (length es)

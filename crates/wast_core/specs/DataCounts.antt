@@ -1,5 +1,5 @@
 -- When a module has a data count section, and what it holds (binary format, data count section).
-use Rattle.std.specs.Prelude.{ℕ, Bool, true, false, List, [], ◌∷◌}
+use Rattle.std.specs.Prelude.{ℕ, Bool, true, false, not, ◌||◌, List, [], ◌∷◌}
 use Rattle.std.specs.List.{list_any}
 use Rattle.wasm_out.specs.Parts.{DataCount, Part}
 use Rattle.wast_core.specs.Tree.{Instruction, FuncKind, ModuleField}
@@ -24,6 +24,10 @@ body_needs_count x = list_any needs_data_count (body_instrs x)
 -- whether a body of these fields does
 abbrev pub needs_count : List ModuleField → Bool
 needs_count fields = list_any body_needs_count fields
+
+-- where no index of a data segment is asked for, as it is told, no body needs one
+abbrev pub may_be_counted : List ModuleField → Bool → Bool
+may_be_counted fields has_data_index = has_data_index || not (needs_count fields)
 
 -- one section that holds this number, where it is needed
 abbrev pub count_parts : Bool → ℕ → List Part

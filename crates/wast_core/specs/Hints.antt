@@ -2,8 +2,8 @@
 use Rattle.std.specs.Prelude.{ℕ, ◌==◌, Bool, not, List, [], ◌∷◌, length, map, Option, Some, None, if◌then◌else◌}
 use Rattle.std.specs.List.{flat_map}
 use Rattle.wast_base.specs.Spaces.{same_space}
-use Rattle.wasm_ops.specs.Spelling.{InRangeU32, InRangeVec, vec}
-use Rattle.wasm_out.specs.Hints.{function_hints, hints, hints_name, hints_payload}
+use Rattle.wasm_ops.specs.Spelling.{InRangeU32, InRangeVec}
+use Rattle.wasm_out.specs.Hints.{function_hints, hints, hints_name}
 use Rattle.wasm_out.specs.Parts.{Custom, Part}
 use Rattle.wasm_out.specs.declared.hints.BranchHint.{BranchHint}
 use Rattle.wast_conv.specs.Hints.{HintedBody, hints_of, as_hinted, as_hints, InRangeBodyHints}
@@ -56,8 +56,3 @@ InRangeHinted f = InRangeU32 f.0 × InRangeBodyHints f.1
 -- and of those of all functions
 abbrev pub InRangeHints : List (ℕ × HintedBody) → Type 0
 InRangeHints functions = InRangeVec InRangeHinted functions
-
--- what stands behind the length of the section; nothing where it is left out
-abbrev pub hints_payload_of : List (ℕ × HintedBody) → List ℕ
-hints_payload_of [] = []
-hints_payload_of (f ∷ fs) = hints_payload (vec hinted_function (f ∷ fs))

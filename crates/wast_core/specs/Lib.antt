@@ -22,9 +22,7 @@ pub mod WorkedResolving
 pub mod Tree
 pub mod Wats
 pub mod Writing
-pub mod Extents
 pub mod Putting
-pub mod Measured
 pub mod Front
 pub mod WorkedFronts
 pub mod FiniteNames

@@ -1,15 +1,17 @@
 //! The data count section, which tells before the code how many segments of data there are.
 
-ghost use Rattle.std.specs.Prelude.{◌≡◌, ◌≤◌, length, All, IsTrue};
+ghost use Rattle.std.specs.Prelude.{◌≡◌, All, IsTrue};
 ghost use Rattle.std.specs.List.{flat_map, list_any};
 ghost use Rattle.wasm_ops.specs.Sinks.{Writes};
 ghost use Rattle.wasm_out.specs.Parts.{part, InRangePart};
-ghost use Rattle.wast_core.specs.DataCounts.{body_needs_count, needs_count, count_parts};
-ghost use Rattle.wast_core.specs.Extents.{is_counted, may_be_counted};
+ghost use Rattle.wast_core.specs.DataCounts.{body_needs_count, needs_count, may_be_counted};
+ghost use Rattle.wast_core.specs.Meaning.{data_counts};
 ghost use Rattle.wast_nodes.specs.Instrs.{needs_data_count};
 ghost use Rattle.wast_reach.specs.Reaches.{are_reaches};
 
-use wasm_ops::{Encode, Refusal, Sink, WithLength, width};
+use crate::entries::count_of;
+use crate::slots::SectionKind;
+use wasm_ops::{Encode, Refusal, Sink, WithLength};
 use wast_nodes::{FuncKind, Instruction, ModuleField};
 use wast_reach::{FieldKind, Reaches};
 
@@ -52,10 +54,10 @@ fn functions<'b, 'a>(fields: &'b [ModuleField<'a>], reaches: &Reaches) -> &'b [M
 
 /// Whether a body of these fields needs a data count. It needs where in these fields the functions stand, and whether an
 /// index of a data segment stands in them: where none does, it does not walk over them.
-pub(crate) fn is_counted(fields: &[ModuleField], reaches: &Reaches, has_data_index: bool) -> bool
+fn is_counted(fields: &[ModuleField], reaches: &Reaches, has_data_index: bool) -> bool
     requires reaches { IsTrue (are_reaches fields.now reaches.now) }
     requires data { IsTrue (may_be_counted fields.now has_data_index) }
-    ensures { IsTrue (is_counted fields.now result) }
+    ensures { result ≡ needs_count fields.now }
 {
     if !has_data_index {
         return false;
@@ -63,26 +65,24 @@ pub(crate) fn is_counted(fields: &[ModuleField], reaches: &Reaches, has_data_ind
     needs_count(functions(fields, reaches))
 }
 
-/// How many bytes the data count section has, of how many segments there are; none where it is not needed.
-pub(crate) fn count_size(needed: bool, count: u32) -> u64
-    ensures size { result ≡ length (flat_map part (count_parts needed count)) }
-    ensures within { result ≤ 7 }
+/// Appends the data count section, if a body needs it. It needs where in these fields those of each kind stand, and whether an
+/// index of a data segment stands in them.
+pub(crate) fn put_data_count<S: Sink>(
+    fields: &[ModuleField],
+    reaches: &Reaches,
+    has_data_index: bool,
+    out: &mut S,
+) -> Result<(), Refusal>
+    requires reaches { IsTrue (are_reaches fields.now reaches.now) }
+    requires data { IsTrue (may_be_counted fields.now has_data_index) }
+    ensures { Writes S.rules (All InRangePart (data_counts fields.now))
+        out.old out.new (flat_map part (data_counts fields.now)) result }
 {
-    if needed {
-        2 + width(u64::from(count))
-    } else {
-        0
+    if !is_counted(fields, reaches, has_data_index) {
+        return Ok(());
     }
-}
-
-/// The data count section, of how many segments there are, where it is needed.
-pub(crate) fn put_count<S: Sink>(needed: bool, count: u32, out: &mut S) -> Result<(), Refusal>
-    ensures { Writes S.rules (All InRangePart (count_parts needed count))
-        out.old out.new (flat_map part (count_parts needed count)) result }
-{
-    if needed {
-        (12u8, WithLength(count)).encode(out)
-    } else {
-        Ok(())
-    }
+    let Some(count) = count_of(SectionKind::Data, fields, reaches) else {
+        return Err(Refusal::TooLarge);
+    };
+    (12u8, WithLength(count)).encode(out)
 }

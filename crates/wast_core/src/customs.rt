@@ -1,20 +1,18 @@
 //! Custom sections at their places, and the one that stands for the names.
 
-ghost use Rattle.std.specs.Prelude.{◌≡◌, All, IsTrue, IfOk, IfErr, length, codes};
+ghost use Rattle.std.specs.Prelude.{◌≡◌, All, IsTrue, codes};
 ghost use Rattle.std.specs.List.{flat_map};
 ghost use Rattle.wasm_ops.specs.Sinks.{Writes};
-ghost use Rattle.wasm_ops.specs.declared.sink.Refusal.TheVariants as refusal;
-ghost use Rattle.wast_conv.specs.Customs.{InRangeCustom, is_encodable_custom};
+ghost use Rattle.wast_conv.specs.Customs.{InRangeCustom};
 ghost use Rattle.wast_conv.specs.Encodable.{is_encodable_field, is_encodable};
 ghost use Rattle.wast_core.specs.Meaning.{custom_section, has_own_names};
-ghost use Rattle.wast_names.specs.FoundNames.{counted};
 ghost use Rattle.wast_reach.specs.Reaches.{are_reaches};
 ghost use Rattle.wast_nodes.specs.Customs.{customs_in, customs_at, is_custom_called};
 
 use crate::items::put_items;
-use wasm_ops::{Refusal, Sink, Spell, length_of, whole_size};
-use wast_conv::{CustomPayload, Resolved};
-use wast_nodes::{Custom, CustomPlace, ModuleField};
+use wasm_ops::{Refusal, Sink, Spell};
+use wast_conv::Resolved;
+use wast_nodes::{CustomPlace, ModuleField};
 use wast_reach::{FieldKind, Reaches};
 
 /// The fields from the first to the last that put a custom section into a place.
@@ -68,61 +66,6 @@ pub(crate) fn put_customs<S: Sink>(
         out.old out.new (flat_map custom_section (customs_at place fields.now)) result }
 {
     put_items(custom_fields(place, fields, reaches), CustomOf(place), out)
-}
-
-/// How many bytes a custom section has. It refuses as too large, where a count or length in it is out of range.
-fn section_size(custom: &Custom) -> Result<u64, Refusal>
-    requires { IsTrue (is_encodable_custom custom.now) }
-    ensures ok { IfOk result (λ n. n ≡ length (custom_section custom.now)) }
-    ensures err { IfErr result (λ e. (e ≡ refusal.TooLarge) × (InRangeCustom custom.now → ⊥)) }
-{
-    Ok(whole_size(length_of(&CustomPayload(custom))?))
-}
-
-/// How many bytes the custom section has that a field puts into a place, and 0 where it puts none there.
-fn custom_size(place: CustomPlace, field: &ModuleField) -> Result<u64, Refusal>
-    requires { IsTrue (is_encodable_field field.now) }
-    ensures ok { IfOk result (λ n. n ≡ length (flat_map custom_section (customs_in place field.now))) }
-    ensures err { IfErr result (λ e. (e ≡ refusal.TooLarge) × (All InRangeCustom (customs_in place field.now) → ⊥)) }
-{
-    match field {
-        ModuleField::Custom(custom) => {
-            if custom.stands_at(place) {
-                section_size(custom)
-            } else {
-                Ok(0)
-            }
-        }
-        _ => Ok(0),
-    }
-}
-
-/// How many bytes such sections of these fields have, up to the greatest `u64`.
-fn sum_of(place: CustomPlace, fields: &[ModuleField]) -> Result<u64, Refusal>
-    requires { IsTrue (is_encodable fields.now) }
-    ensures ok { IfOk result (λ n. n ≡ counted (length (flat_map custom_section (customs_at place fields.now)))) }
-    ensures err { IfErr result (λ e. (e ≡ refusal.TooLarge) × (All InRangeCustom (customs_at place fields.now) → ⊥)) }
-{
-    let mut sum = 0u64;
-    for field in fields {
-        sum = sum.saturating_add(custom_size(place, field)?);
-    }
-    Ok(sum)
-}
-
-/// How many bytes the custom sections of a place have, up to the greatest `u64`. It refuses as too large, where a count or
-/// length in one of them is out of range. It needs where in these fields those of each kind stand.
-pub(crate) fn customs_size(
-    place: CustomPlace,
-    fields: &[ModuleField],
-    reaches: &Reaches,
-) -> Result<u64, Refusal>
-    requires ready { IsTrue (is_encodable fields.now) }
-    requires reaches { IsTrue (are_reaches fields.now reaches.now) }
-    ensures ok { IfOk result (λ n. n ≡ counted (length (flat_map custom_section (customs_at place fields.now)))) }
-    ensures err { IfErr result (λ e. (e ≡ refusal.TooLarge) × (All InRangeCustom (customs_at place fields.now) → ⊥)) }
-{
-    sum_of(place, custom_fields(place, fields, reaches))
 }
 
 /// Whether a field is a custom section called `name`.

@@ -6,7 +6,7 @@ ghost use Rattle.wasm_out.specs.Built.{IsRefused};
 ghost use Rattle.wasm_out.specs.Reads.{Reads};
 ghost use Rattle.wast_core.specs.Bounded.{IsWritable};
 ghost use Rattle.wast_conv.specs.Encodable.{is_encodable, is_at_rest};
-ghost use Rattle.wast_core.specs.Extents.{may_be_counted};
+ghost use Rattle.wast_core.specs.DataCounts.{may_be_counted};
 ghost use Rattle.wast_core.specs.Headline.{Encodes, joined, name_of_module};
 ghost use Rattle.wast_core.specs.Meaning.{parts};
 ghost use Rattle.wast_core.specs.Modules.{IsReady};
@@ -15,15 +15,22 @@ ghost use Rattle.wast_names.specs.FoundNames.{text_seen};
 ghost use Rattle.wast_core.specs.Writing.{IsTextAtRest, IsAtRest, EncodesFields, EncodesResolved, PutsFields, PutsModule};
 
 use crate::module::{Module, ModuleKind};
-use crate::sections::{measure, put_measured, size};
+use crate::sections::put_sections;
 use crate::utf8_names::names_law;
 use std::alloc::Global;
-use wasm_ops::{Room, Sink};
+use wasm_ops::Sink;
 use wast_base::{Error, Fault, Gensym};
 use wast_names::given_name;
 use wast_nodes::ModuleField;
 use wast_resolve::{discard_names, resolved_laws};
 use wast_visits::survey;
+
+/// The vector as it is: a proof knows of each item of a vector that a call answers that it is a byte.
+fn as_it_is(bytes: Vec<u8>) -> Vec<u8>
+    ensures { result ≡ bytes }
+{
+    bytes
+}
 
 /// The bytes of a module with this name, of these resolved fields. It needs names that are UTF-8, and whether an index of a data
 /// segment stands in the fields.
@@ -39,11 +46,10 @@ fn encode_fields<'e>(
     ensures bytes { IfOk result (λ v. Reads v.items (parts (text_seen name.entry) fields.now)) }
     ensures refusal { IfErr result (IsRefused (IsWritable (text_seen name.entry) fields.now)) }
 {
-    let measures = measure(fields, name, has_data_index)?;
-    let mut room = Room::reserve(alloc, size(fields, name, &measures)? as usize)?;
-    put_measured(fields, name, &measures, &mut room)?;
-    let bytes = room.finish();
-    Ok(bytes)
+    let mut bytes = Vec::new(alloc);
+    put_sections(fields, name, has_data_index, &mut bytes)?;
+    let written = as_it_is(bytes);
+    Ok(written)
 }
 
 /// Appends the bytes of a module with this name, of these resolved fields, to a sink, where each form is covered.
@@ -58,10 +64,7 @@ fn put_fields<'e, S: Sink>(
     let seen = survey(fields);
     match seen.uncovered {
         Some(form) => Err(Error::refusal(Fault::Uncovered(form))),
-        None => {
-            let measures = measure(fields, name, seen.has_data_index)?;
-            Ok(put_measured(fields, name, &measures, out)?)
-        }
+        None => Ok(put_sections(fields, name, seen.has_data_index, out)?),
     }
 }
 

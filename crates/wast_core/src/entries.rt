@@ -1,24 +1,21 @@
 //! What fields put into the sections that are lists.
 
-ghost use Rattle.std.specs.Prelude.{◌≡◌, length, List, All, IfSome, IsNone, IsTrue, IfOk, IfErr};
+ghost use Rattle.std.specs.Prelude.{◌≡◌, length, List, All, IfSome, IsNone, IsTrue};
 ghost use Rattle.std.specs.List.{flat_map};
 ghost use Rattle.wasm_ops.specs.Sinks.{Writes};
-ghost use Rattle.wasm_ops.specs.declared.sink.Refusal.TheVariants as refusal;
 ghost use Rattle.wasm_ops.specs.Spelling.{InRangeU32};
 ghost use Rattle.wasm_out.specs.Parts.{entry, InRangeEntry, part, InRangePart};
 ghost use Rattle.wast_conv.specs.Encodable.{is_encodable_field, is_encodable};
-ghost use Rattle.wast_core.specs.Extents.{IsExtent};
 ghost use Rattle.wast_core.specs.Meaning.{entries_in, entries, listed, starts_in};
-ghost use Rattle.wast_names.specs.FoundNames.{counted};
 ghost use Rattle.wast_core.specs.Putting.{puts};
 ghost use Rattle.wast_reach.specs.Reaches.{is_reach, are_reaches};
 ghost use Rattle.wast_nodes.specs.declared.fields.ModuleField.{ModuleField};
 ghost use Rattle.wast_core.specs.Slots.{section_kind};
 
-use crate::items::{counted_size, put_items, put_listed};
+use crate::items::{put_items, put_listed};
 use crate::slots::SectionKind;
-use wasm_ops::{By, Encode, Refusal, Sink, Spell, WithLength, width};
-use wast_conv::{RecOrType, Resolved, conv};
+use wasm_ops::{By, Encode, Refusal, Sink, Spell, WithLength};
+use wast_conv::{RecOrType, Resolved};
 use wast_nodes::ModuleField;
 use wast_reach::{FieldKind, Reach, Reaches};
 
@@ -153,59 +150,37 @@ pub(crate) fn start_fields<'b, 'a>(
     reaches.of_kind(FieldKind::Start).of(fields)
 }
 
-/// How many entries the section of a kind has, and how long these are with their number. Both are 0 where there are none.
-#[derive(Clone, Copy)]
-pub(crate) struct Extent {
-    /// How many entries.
-    pub(crate) count: u32,
-    /// How many bytes.
-    pub(crate) size: u32,
-}
-
-/// The extent of the section of a kind. It refuses as too large, where a number, count or length in it is out of range.
-/// It needs where in these fields those of each kind stand.
-pub(crate) fn extent_of(
-    kind: SectionKind,
-    fields: &[ModuleField],
-    reaches: &Reaches,
-) -> Result<Extent, Refusal>
-    requires ready { IsTrue (is_encodable fields.now) }
-    requires reaches { IsTrue (are_reaches fields.now reaches.now) }
-    ensures ok { IfOk result (λ e. IsExtent (section_kind kind) fields.now e.count e.size) }
-    ensures err { IfErr result (λ e. (e ≡ refusal.TooLarge)
-        × (All InRangePart (listed (section_kind kind) (entries (section_kind kind) fields.now)) → ⊥)) }
+/// How many entries the section of a kind has, where these are less than 2^32. It needs where in these fields those of each
+/// kind stand.
+pub(crate) fn count_of(kind: SectionKind, fields: &[ModuleField], reaches: &Reaches) -> Option<u32>
+    requires { IsTrue (are_reaches fields.now reaches.now) }
+    ensures some { IfSome result (λ n. n ≡ length (entries (section_kind kind) fields.now)) }
+    ensures none { IsNone result → InRangeU32 (length (entries (section_kind kind) fields.now)) → ⊥ }
 {
-    let there = section_fields(kind, fields, reaches);
-    let Some(count) = count(kind, there) else {
-        return Err(Refusal::TooLarge);
-    };
-    if count == 0 {
-        return Ok(Extent { count: 0, size: 0 });
-    }
-    let size = counted_size(there, EntriesOf(kind), count)?;
-    Ok(Extent { count, size })
+    count(kind, section_fields(kind, fields, reaches))
 }
 
-/// The section of a kind, where it has entries. It needs its extent, and where in these fields those of each kind stand.
+/// The section of a kind, where it has entries. It needs where in these fields those of each kind stand.
 pub(crate) fn put_section<S: Sink>(
     kind: SectionKind,
     fields: &[ModuleField],
     reaches: &Reaches,
-    extent: Extent,
     out: &mut S,
 ) -> Result<(), Refusal>
     requires ready { IsTrue (is_encodable fields.now) }
     requires reaches { IsTrue (are_reaches fields.now reaches.now) }
-    requires extent { IsExtent (section_kind kind) fields.now extent.count extent.size }
     ensures { Writes S.rules (All InRangePart (listed (section_kind kind) (entries (section_kind kind) fields.now)))
         out.old out.new (flat_map part (listed (section_kind kind) (entries (section_kind kind) fields.now))) result }
 {
-    if extent.count == 0 {
+    let Some(count) = count_of(kind, fields, reaches) else {
+        return Err(Refusal::TooLarge);
+    };
+    if count == 0 {
         return Ok(());
     }
     let there = section_fields(kind, fields, reaches);
     let id = kind.id();
-    put_listed(there, EntriesOf(kind), id, extent.size, extent.count, out)
+    put_listed(there, EntriesOf(kind), id, count, out)
 }
 
 /// The start section of a field, where it is a start field.
@@ -234,27 +209,4 @@ pub(crate) fn put_starts<S: Sink>(fields: &[ModuleField], out: &mut S) -> Result
         out.old out.new (flat_map part (flat_map starts_in fields.now)) result }
 {
     put_items(fields, StartOf, out)
-}
-
-/// How many bytes the start section of a field has, and 0 where it is no start field.
-fn start_size(field: &ModuleField) -> u64
-    requires { IsTrue (is_encodable_field field.now) }
-    ensures { result ≡ length (flat_map part (starts_in field.now)) }
-{
-    match field {
-        ModuleField::Start(func) => 2 + width(u64::from(conv::index(func))),
-        _ => 0,
-    }
-}
-
-/// How many bytes the start sections have, up to the greatest `u64`.
-pub(crate) fn starts_size(fields: &[ModuleField]) -> u64
-    requires { IsTrue (is_encodable fields.now) }
-    ensures { result ≡ counted (length (flat_map part (flat_map starts_in fields.now))) }
-{
-    let mut sum = 0u64;
-    for field in fields {
-        sum = sum.saturating_add(start_size(field));
-    }
-    sum
 }

@@ -1,22 +1,19 @@
 //! The section of branch hints, which tells before the code where in a body an instruction with a hint begins.
 
-ghost use Rattle.std.specs.Prelude.{◌≡◌, ◌+◌, ◌∷◌, [], ◌++◌, length, All, IsNone, IsTrue, IfOk, IfErr, IfSome};
-ghost use Rattle.std.specs.List.{flat_map};
+ghost use Rattle.std.specs.Prelude.{◌≡◌, ◌+◌, Bool, List, ◌∷◌, [], length, Option, All, IsNone, IsTrue, IfOk, IfSome};
+ghost use Rattle.std.specs.List.{flat_map, list_all};
 ghost use Rattle.wasm_ops.specs.Sinks.{Writes};
 ghost use Rattle.wasm_ops.specs.Spelling.{InRangeU32};
-ghost use Rattle.wasm_ops.specs.declared.sink.Refusal.TheVariants as refusal;
 ghost use Rattle.wasm_out.specs.Parts.{part, InRangePart};
 ghost use Rattle.wast_conv.specs.Encodable.{is_encodable_import, is_encodable_field, is_encodable};
-ghost use Rattle.wast_conv.specs.Hints.{are_encodable_hints};
-ghost use Rattle.wast_core.specs.Extents.{IsHintsExtent};
+ghost use Rattle.wast_conv.specs.Hints.{HintedBody, are_encodable_hints};
 ghost use Rattle.wast_core.specs.Hints.{has_hints, if_hinted, imported_func, functions_in, hinted, hinted_function, hints_part, InRangeHinted, InRangeHints};
 ghost use Rattle.wast_names.specs.FoundNames.{counted, WritesItems};
 ghost use Rattle.wast_names.specs.GivenNames.{named_from};
 ghost use Rattle.wast_reach.specs.Reaches.{are_reaches};
 ghost use Rattle.wast_nodes.specs.Imports.{item_sigs};
 
-use crate::entries::Extent;
-use wasm_ops::{Encode, Length, Name, Refusal, Sink};
+use wasm_ops::{Encode, Name, Refusal, Sink, WithLength};
 use wast_base::Space;
 use wast_conv::BodyHints;
 use wast_nodes::{FuncKind, ImportItems, Imports, ModuleField};
@@ -99,111 +96,96 @@ fn put_function<S: Sink>(kind: &FuncKind, index: u64, out: &mut S) -> Result<u64
     Ok(next)
 }
 
-/// Appends the hints of the functions of a field, the first of which stands at an index, and answers the index behind the last.
-fn put_field<S: Sink>(field: &ModuleField, index: u64, out: &mut S) -> Result<u64, Refusal>
-    requires { IsTrue (is_encodable_field field.now) }
-    ensures written { WritesItems S.rules hinted_function InRangeHinted (functions_in field.now) index out.old out.new result }
-    ensures next { IfOk result (λ n. n ≡ counted (index + length (functions_in field.now))) }
-{
-    match field {
-        ModuleField::Import(imports) => Ok(index.saturating_add(imported(imports))),
-        ModuleField::Func(func) => put_function(&func.kind, index, out),
-        _ => Ok(index),
-    }
+/// A field of a module, by the hints of its functions. Who goes through a list of fields is generic in the field: a proof would
+/// else compare the type of a list of fields with itself.
+trait PutHints {
+    /// Its functions, those without hints too.
+    ghost functions: { Self → List (Option HintedBody) };
+
+    /// Their hints can be appended.
+    ghost is_ready: { Self → Bool };
+
+    /// Appends the hints of its functions, the first of which stands at an index, and answers the index behind the last. It takes
+    /// no memory but the sink's.
+    fn put_hints<S: Sink>(&self, index: u64, out: &mut S) -> Result<u64, Refusal>
+        requires { IsTrue (is_ready self.now) }
+        ensures written { WritesItems S.rules hinted_function InRangeHinted (functions self.now) index out.old out.new result }
+        ensures next { IfOk result (λ n. n ≡ counted (index + length (functions self.now))) };
 }
 
-/// Appends the hints of the functions of these fields, each behind its index.
-fn put_each<S: Sink>(fields: &[ModuleField], out: &mut S) -> Result<(), Refusal>
-    requires { IsTrue (is_encodable fields.now) }
-    ensures { Writes S.rules (All InRangeHinted (hinted fields.now))
-        out.old out.new (flat_map hinted_function (hinted fields.now)) result }
-{
-    let start = out.size();
-    let mut index = 0u64;
-    for field in fields {
-        match put_field(field, index, out) {
-            Ok(next) => index = next,
-            Err(refusal) => {
-                out.cut(start);
-                return Err(refusal);
-            }
+impl PutHints for ModuleField<'_> {
+    ghost functions = { functions_in };
+
+    ghost is_ready = { is_encodable_field };
+
+    fn put_hints<S: Sink>(&self, index: u64, out: &mut S) -> Result<u64, Refusal> {
+        match self {
+            ModuleField::Import(imports) => Ok(index.saturating_add(imported(imports))),
+            ModuleField::Func(func) => put_function(&func.kind, index, out),
+            _ => Ok(index),
         }
     }
-    Ok(())
 }
 
-/// Appends what stands before the hints, and then those of these fields.
-fn put_behind<P: Encode, S: Sink>(
+/// The hints of the functions of these fields, each behind its index.
+#[derive(Clone, Copy)]
+struct EachHint<'b, F>(&'b [F]);
+
+impl<F: PutHints> Encode for EachHint<'_, F> {
+    ghost spelling = { λ s. flat_map hinted_function (named_from 0 (flat_map F.functions s.0.now)) };
+
+    ghost in_range = { λ s. All InRangeHinted (named_from 0 (flat_map F.functions s.0.now)) };
+
+    ghost is_ready = { λ s. list_all F.is_ready s.0.now };
+
+    fn encode<S: Sink>(&self, out: &mut S) -> Result<(), Refusal> {
+        let start = out.size();
+        let mut index = 0u64;
+        for field in self.0 {
+            match field.put_hints(index, out) {
+                Ok(next) => index = next,
+                Err(refusal) => {
+                    out.cut(start);
+                    return Err(refusal);
+                }
+            }
+        }
+        Ok(())
+    }
+}
+
+/// Appends the section of the hints of these fields, where a function has some. It needs how many functions have hints.
+fn put_counted<'b, F: PutHints, S: Sink>(
+    fields: &'b [F],
+    count: u32,
+    out: &'b mut S,
+) -> Result<(), Refusal>
+    requires ready { IsTrue (list_all F.is_ready fields.now) }
+    requires counted { count ≡ length (named_from 0 (flat_map F.functions fields.now)) }
+    ensures { Writes S.rules (All InRangePart (hints_part (named_from 0 (flat_map F.functions fields.now))) × InRangeHints (named_from 0 (flat_map F.functions fields.now)))
+        out.old out.new (flat_map part (hints_part (named_from 0 (flat_map F.functions fields.now)))) result }
+{
+    if count == 0 {
+        return Ok(());
+    }
+    let payload = (Name("metadata.code.branch_hint"), (count, EachHint(fields)));
+    (0u8, WithLength(payload)).encode(out)
+}
+
+/// The section of branch hints, where a function has some. It needs where in these fields those of each kind stand.
+pub(crate) fn put_hints<S: Sink>(
     fields: &[ModuleField],
-    front: &P,
+    reaches: &Reaches,
     out: &mut S,
 ) -> Result<(), Refusal>
-    requires front { IsTrue (P.is_ready front.now) }
-    requires ready { IsTrue (is_encodable fields.now) }
-    ensures { Writes S.rules (P.in_range front.now × All InRangeHinted (hinted fields.now))
-        out.old out.new (P.spelling front.now ++ flat_map hinted_function (hinted fields.now)) result }
-{
-    let start = out.size();
-    front.encode(out)?;
-    let second = put_each(fields, out);
-    if second.is_err() {
-        out.cut(start);
-    }
-    second
-}
-
-/// How many functions have hints, and how long what stands behind the length of their section is. Both are 0 where no function has
-/// any, and then no body is gone through. It refuses as too large, where a number, count or length in the section is out of range,
-/// or in what stands before a hint. It needs where in these fields those of each kind stand.
-pub(crate) fn hints_extent(fields: &[ModuleField], reaches: &Reaches) -> Result<Extent, Refusal>
     requires ready { IsTrue (is_encodable fields.now) }
     requires reaches { IsTrue (are_reaches fields.now reaches.now) }
-    ensures ok { IfOk result (λ e. IsHintsExtent fields.now e.count e.size) }
-    ensures err { IfErr result (λ e. (e ≡ refusal.TooLarge)
-        × (All InRangePart (hints_part (hinted fields.now)) × InRangeHints (hinted fields.now) → ⊥)) }
+    ensures { Writes S.rules (All InRangePart (hints_part (hinted fields.now)) × InRangeHints (hinted fields.now))
+        out.old out.new (flat_map part (hints_part (hinted fields.now))) result }
 {
     let there = function_fields(fields, reaches);
     let Some(count) = count(there) else {
         return Err(Refusal::TooLarge);
     };
-    if count == 0 {
-        return Ok(Extent { count: 0, size: 0 });
-    }
-    let mut length = Length::new();
-    put_behind(
-        there,
-        &(Name("metadata.code.branch_hint"), count),
-        &mut length,
-    )?;
-    match u32::try_from(length.count()) {
-        Ok(size) => Ok(Extent { count, size }),
-        Err(_) => Err(Refusal::TooLarge),
-    }
-}
-
-/// The section of branch hints, where a function has some. It needs its extent, and where in these fields those of each kind stand.
-pub(crate) fn put_hints<S: Sink>(
-    fields: &[ModuleField],
-    reaches: &Reaches,
-    extent: Extent,
-    out: &mut S,
-) -> Result<(), Refusal>
-    requires ready { IsTrue (is_encodable fields.now) }
-    requires reaches { IsTrue (are_reaches fields.now reaches.now) }
-    requires extent { IsHintsExtent fields.now extent.count extent.size }
-    ensures { Writes S.rules (All InRangePart (hints_part (hinted fields.now)) × InRangeHints (hinted fields.now))
-        out.old out.new (flat_map part (hints_part (hinted fields.now))) result }
-{
-    if extent.count == 0 {
-        return Ok(());
-    }
-    let there = function_fields(fields, reaches);
-    let front = (
-        0u8,
-        (
-            extent.size,
-            (Name("metadata.code.branch_hint"), extent.count),
-        ),
-    );
-    put_behind(there, &front, out)
+    put_counted(there, count, out)
 }

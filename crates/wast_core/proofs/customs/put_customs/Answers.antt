@@ -6,7 +6,7 @@ use Rattle.wast_nodes.specs.Customs.{customs_in}
 use Rattle.wast_conv.specs.Customs.{InRangeCustom}
 use Rattle.wast_core.specs.Meaning.{custom_section}
 use Rattle.wast_core.specs.Tree.{Custom}
-use Rattle.wast_core.proofs.Sizes.{each_written}
+use Rattle.wast_core.proofs.Appended.{each_written}
 use Rattle.wast_core.proofs.customs.put_customs.Goals as goal
 
 pub put_items-requires : goal.put_items-requires

@@ -2,7 +2,7 @@ use Rattle.std.proofs.Common.{sym, subst, ◌∙◌}
 use Rattle.std.specs.Prelude.{IsTrue}
 use Rattle.wast_names.specs.FoundNames.{text_seen}
 use Rattle.wast_conv.proofs.Ready.{fields_ready}
-use Rattle.wast_core.specs.Extents.{may_be_counted}
+use Rattle.wast_core.specs.DataCounts.{may_be_counted}
 use Rattle.wast_core.proofs.DataAsked.{fields_ask}
 use Rattle.wast_core.proofs.EncodedFields.{fields_encoded}
 use Rattle.wast_core.proofs.encode.encode_covered.Goals as goal

@@ -1,6 +1,6 @@
 use Rattle.wasm_out.specs.Parts.{part, InRangePart}
 use Rattle.wast_core.specs.Meaning.{starts_in}
-use Rattle.wast_core.proofs.Sizes.{each_written}
+use Rattle.wast_core.proofs.Appended.{each_written}
 use Rattle.wast_core.proofs.entries.put_starts.Goals as goal
 
 pub returns : goal.returns

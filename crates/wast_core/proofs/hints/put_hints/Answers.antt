@@ -1,15 +1,23 @@
-use Rattle.std.proofs.Common.{sym}
-use Rattle.wast_core.specs.Hints.{hinted}
-use Rattle.wast_core.proofs.Hinting.{alike, section_absent, section_written}
+use Rattle.std.proofs.Common.{length, refl, sym, subst}
+use Rattle.std.specs.Prelude.{All}
+use Rattle.std.specs.List.{flat_map}
+use Rattle.wasm_ops.specs.Spelling.{InRangeU32}
+use Rattle.wasm_out.specs.Parts.{part, InRangePart}
+use Rattle.wast_core.specs.Hints.{hinted, hints_part, InRangeHints}
+use Rattle.wast_core.proofs.Appended.{too_large}
+use Rattle.wast_core.proofs.Hinting.{alike}
 use Rattle.wast_core.proofs.hints.put_hints.Goals as goal
 
-pub put_behind-requires-clause-ready : goal.put_behind-requires-clause-ready
-put_behind-requires-clause-ready g c = c.function_fields-there.ensures.ready c.requires.ready
+-- more functions than a number of 32 bits counts
+pub returns-in_default : goal.returns-in_default
+returns-in_default g c =
+    let fields = c.args.fields.now in
+    let all = hinted fields in
+    too_large g.S.Sink.rules (All InRangePart (hints_part all) × InRangeHints all) c.args.out.now (flat_map part (hints_part all)) g.met.S.Sink.laws
+    (λ h. c.in_default.ensures.none refl (subst (λ fs. InRangeU32 (length fs)) (sym (alike fields c.function_fields-there.result.now c.function_fields-there.ensures.same)) h.1.0))
 
-pub returns-then-extent-eq0 : goal.returns-then-extent-eq0
-returns-then-extent-eq0 g c = section_absent g.S.Sink.rules (hinted c.args.fields.now) c.args.out.now c.args.extent.count g.met.S.Sink.laws c.requires.extent.counted c.if-extent-eq0.true
+pub put_counted-requires-clause-ready : goal.put_counted-requires-clause-ready
+put_counted-requires-clause-ready g c = c.function_fields-there.ensures.ready c.requires.ready
 
 pub returns : goal.returns
-returns g c =
-    section_written g.S.Sink.rules (hinted c.args.fields.now) c.args.out.now c.put_behind.new.out c.args.extent.count c.args.extent.size c.put_behind.result c.requires.extent.counted c.requires.extent.sized c.if-extent-eq0.false
-    (rw (sym (alike c.args.fields.now c.function_fields-there.result.now c.function_fields-there.ensures.same)) c.put_behind.ensures)
+returns g c = rw (sym (alike c.args.fields.now c.function_fields-there.result.now c.function_fields-there.ensures.same)) c.put_counted.ensures

@@ -16,7 +16,6 @@ use Rattle.wast_core.proofs.sections.put_slots.Goals as goal
 pub returns-then-is_err : goal.returns-then-is_err
 returns-then-is_err g c =
     let rules = g.S.Sink.rules in
-    let m = c.args.measures.now in
     let xs = c.args.slots.now in
     let k = c.loop-slot.slot-index in
     let f : Slot → List ℕ = λ s. flat_map part (in_slot (text_seen c.args.name) c.args.fields.now s) in
@@ -29,7 +28,6 @@ returns-then-is_err g c =
 pub loop-slot-preserved : goal.loop-slot-preserved
 loop-slot-preserved g c =
     let rules = g.S.Sink.rules in
-    let m = c.args.measures.now in
     let xs = c.args.slots.now in
     let k = c.loop-slot.slot-index in
     let it = get_or xs k (slot.Custom at.BeforeFirst) in
