@@ -1,0 +1,144 @@
+"""Compiles programs of this repository without proofs, for `tools/build` and `tools/test`.
+
+`rt try` compiles a program with run-time checks, runs it once and keeps nothing: it hands a module of LLVM to the compiler of the
+kit. Here it runs in a folder of links to the kit, in which that compiler is a script that keeps the module. For example,
+`module(copy / "crates/wat", room, is_test=False)` is the path of the module of the command `wat`.
+"""
+
+import pathlib
+import re
+import shutil
+import stat
+import subprocess
+import sys
+import tempfile
+
+ROOT = pathlib.Path(__file__).resolve().parent.parent
+
+# What `rt try` is made of, which looks for the kit beside itself: copied, so that it finds the folder of links.
+SCRIPTS = ("rt", "rtlib.py")
+
+# The script in place of the compiler: it keeps the module that is to have checks of addresses, which is the program, and then
+# fails, so that nothing is run. Another module, of settings, is compiled.
+KEEPER = """#!/bin/sh
+case " $* " in
+    *" -fsanitize=address "*)
+        for word in "$@"; do
+            case "$word" in *.bc) cp "$word" '{module}' ;; esac
+        done
+        exit 1 ;;
+esac
+exec '{compiler}' "$@"
+"""
+
+# Words of the kit's compiler for each module, as `rt try` has them, but optimized.
+COMPILED = """--target=x86_64-unknown-linux-gnu -march=x86-64 -mllvm -no-trap-after-noreturn -ffunction-sections -fdata-sections
+-mllvm -trap-unreachable -mllvm -no-x86-call-frame-opt -mllvm -disable-machine-licm -mllvm -disable-postra-machine-licm
+-mllvm -sink-common-insts=false --no-default-config -no-canonical-prefixes -fintegrated-cc1 -fno-crash-diagnostics""".split()
+
+# No program takes longer to compile.
+SECONDS = 1_200
+
+
+class NotBuilt(Exception):
+    """Why a program was not built."""
+
+
+def kit():
+    """The kit that `rt` belongs to."""
+    rt = shutil.which("rt")
+    if rt is None:
+        raise NotBuilt("rt is not found")
+    return pathlib.Path(rt).resolve().parent.parent
+
+
+def copy_of_sources(folder):
+    """Copies the files of the working tree that git knows, or would add, to a folder."""
+    listed = subprocess.run(["git", "ls-files", "-z", "--cached", "--others", "--exclude-standard"], cwd=ROOT, check=True, capture_output=True)
+    for name in filter(None, listed.stdout.decode().split("\0")):
+        if (ROOT / name).is_file():
+            (folder / name).parent.mkdir(parents=True, exist_ok=True)
+            shutil.copy2(ROOT / name, folder / name)
+
+
+def linked_kit(folder, module):
+    """A folder of links to the kit, whose compiler keeps the module that it is handed at this path."""
+    for part in kit().iterdir():
+        if part.name not in ("bin", "toolchain"):
+            (folder / part.name).symlink_to(part)
+    for inner in ("bin", "toolchain", "toolchain/bin"):
+        (folder / inner).mkdir()
+        for part in (kit() / inner).iterdir():
+            place = folder / inner / part.name
+            if inner == "bin" and part.name in SCRIPTS:
+                shutil.copy2(part, place)
+            elif part.name not in ("bin", "clang") or inner == "bin":
+                place.symlink_to(part)
+    compiler = folder / "toolchain/bin/clang"
+    compiler.write_text(KEEPER.format(module=module, compiler=kit() / "toolchain/bin/clang"))
+    compiler.chmod(compiler.stat().st_mode | stat.S_IXUSR)
+
+
+def module(crate, room, is_test=False):
+    """The module of LLVM of a program, or of the tests of a crate, whose folder is `crate`."""
+    folder = pathlib.Path(tempfile.mkdtemp(prefix="kit-", dir=room))
+    path = folder / "module.bc"
+    (folder / "kit").mkdir()
+    linked_kit(folder / "kit", path)
+    words = [sys.executable, folder / "kit/bin/rt", "try", *["--test"] * is_test, "--steps", "1"]
+    ran = subprocess.run(
+        [str(word) for word in words], cwd=crate, stdin=subprocess.DEVNULL, stdout=subprocess.DEVNULL, stderr=subprocess.PIPE, timeout=SECONDS
+    )
+    if not path.is_file():
+        raise NotBuilt(f"{crate.name}: {ran.stderr.decode(errors='replace').strip()}")
+    return path
+
+
+def called(tool, words, **how):
+    """Runs a tool of the kit."""
+    ran = subprocess.run([str(word) for word in (kit() / tool, *words)], capture_output=True, **how)
+    if ran.returncode:
+        raise NotBuilt(f"{tool}: {ran.stderr.decode(errors='replace').strip()}")
+
+
+def compiled(path, level):
+    """The object file of a module, beside it, optimized at a level."""
+    out = path.with_suffix(".o")
+    called("toolchain/bin/clang", [*COMPILED, f"-O{level}", f"--sysroot={kit() / 'toolchain'}", "-c", "-x", "ir", path, "-o", out, "-fPIE"])
+    return out
+
+
+def program(crate, out, room, is_test=False, level=2):
+    """Builds a program, or the tests of a crate, as the file `out`."""
+    words = ["--target", "x86_64-unknown-linux-gnu", "--toolchain", kit() / "toolchain", "-o", out]
+    words += [compiled(module(crate, room, is_test), level), kit() / "c/libos_c.a", kit() / "c/liblibc_c.a"]
+    called("bin/rattle-link", words)
+
+
+def exported(path, crate):
+    """Gives the functions of a crate that C calls their own names in a module, and takes `main` away, so that they alone are left."""
+    text = path.with_suffix(".ll")
+    called("toolchain/bin/clang", ["-S", "-emit-llvm", "-Xclang", "-disable-llvm-passes", "-x", "ir", path, "-o", text])
+    source = (crate / "src/lib.rt").read_text(encoding="utf-8")
+    names = re.findall(r"#\[unsafe\(no_mangle\)\]\npub extern \"C\" fn (\w+)", source)
+    lines = text.read_text(encoding="utf-8")
+    for name in names:
+        inner = f'@"{crate.name}::{name}"'
+        lines = re.sub(rf"^define internal (.*{re.escape(inner)}\()", r"define \1", lines, flags=re.M).replace(inner, f"@{name}")
+    text.write_text(re.sub(r"^define (i32 @main\(\))", r"define internal \1", lines, flags=re.M), encoding="utf-8")
+    return text
+
+
+def archive(crate, out, room, level=2):
+    """Builds the archive of a crate of functions for C, of what its tests reach: each of its functions that C calls."""
+    together([compiled(exported(module(crate, room, is_test=True), crate), level)], out)
+
+
+def together(objects, out):
+    """Puts object files, and what they want of the kit beside `malloc`, `realloc` and `free`, into one archive."""
+    with tempfile.TemporaryDirectory() as room:
+        called("toolchain/bin/llvm-ar", ["x", kit() / "c/liblibc_c.a"], cwd=room)
+        out.unlink(missing_ok=True)
+        called("toolchain/bin/llvm-ar", ["rcs", out, *objects, *sorted(pathlib.Path(room).iterdir())])
+
+
