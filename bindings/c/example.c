@@ -1,4 +1,6 @@
-/* Prints the bytes of the modules of texts in hexadecimal, or their faults with line and column: example TEXT.. */
+/* Prints the bytes of the modules of texts in hexadecimal, or their faults with line and column: example TEXT..
+ *
+ * cc -o example example.c $(pkg-config --cflags --libs rigyomad) */
 #include "rigyomad.h"
 
 #include <stdio.h>
@@ -27,11 +29,13 @@ static uint32_t convert(const char *text) {
 
 int main(int count, char **words) {
     if (rigyomad_version() != RIGYOMAD_VERSION) {
+        fprintf(stderr, "error: rigyomad.h and librigyomad.a are of different versions\n");
         return 100;
     }
     for (int i = 1; i < count; i++) {
         uint32_t status = convert(words[i]);
         if (status != RIGYOMAD_DONE && status != RIGYOMAD_FAULT) {
+            fprintf(stderr, "error: %s\n", rigyomad_status_text(status));
             return (int)status;
         }
     }

@@ -159,6 +159,20 @@ static void no_slices(void) {
     expect(status == RIGYOMAD_DONE && room.names == 0, "an empty module has no names");
 }
 
+/* Each status and each fault has a text of its own, and no other number has one. */
+static void texts_of_numbers(void) {
+    for (uint32_t i = 0; i <= RIGYOMAD_SLICE; i++) {
+        const char *text = rigyomad_status_text(i);
+        expect(strcmp(text, rigyomad_status_text(i + 1)) != 0, "a status has its own text");
+    }
+    for (uint32_t i = 0; i <= RIGYOMAD_E13_COMPONENT; i++) {
+        const char *text = rigyomad_fault_text(i);
+        expect(strcmp(text, rigyomad_fault_text(i + 1)) != 0, "a fault has its own text");
+    }
+    expect(!strcmp(rigyomad_status_text(7), "no such status"), "no status has the number 7");
+    expect(!strcmp(rigyomad_fault_text(14), "no such fault"), "no fault has the number 14");
+}
+
 int main(int count, char **words) {
     if (count != 4) {
         return 2;
@@ -169,6 +183,7 @@ int main(int count, char **words) {
     size_t written_size = fread(written, 1, MOST, stdin);
     char *text = malloc(size + 1);
     expect(text != NULL, "there is memory");
+    texts_of_numbers();
     no_slices();
     for (size_t i = 0; i < texts; i++) {
         random_bytes(text, size);

@@ -1,9 +1,9 @@
 /* Rigyomad for C: turns a module in the text format of WebAssembly into the bytes of the binary
  * format.
  *
- * Link librigyomad_c.a, and liblibc_c.a of the Rattle kit (docs/BINDINGS.md). No call keeps state:
- * any thread may make any call at any time, but a signal handler may not. A call takes memory from
- * malloc, and frees all of it before it returns.
+ * Link librigyomad.a: cc program.c $(pkg-config --cflags --libs rigyomad) (docs/BINDINGS.md). No
+ * call keeps state: any thread may make any call at any time, but a signal handler may not. A call
+ * takes memory from malloc, and frees all of it before it returns.
  *
  * Text is UTF-8 with a length in bytes, and needs no zero after it. Slices of one call must not
  * overlap. */
@@ -43,13 +43,14 @@ enum rigyomad_space {
     RIGYOMAD_SPACE_TYPE = 7
 };
 
-/* The faults that have a number. E1 to E9 and E11 have a place. */
+/* The faults that have a number. E1 to E9 and E11 have a place. No text has E13, because the reader
+ * refuses a component: number 0. */
 enum rigyomad_fault_kind {
     /* E1: an import comes after a definition. */
     RIGYOMAD_E1_IMPORT_AFTER = 1,
-    /* E2: two items of one index space have the same id. */
+    /* E2: two items of one index space, or two locals, have the same id. */
     RIGYOMAD_E2_DUPLICATE = 2,
-    /* E3: two parameters, locals or fields have the same id. */
+    /* E3: two fields of a struct have the same id. */
     RIGYOMAD_E3_DUPLICATE_FIELD = 3,
     /* E4: nothing has this name. */
     RIGYOMAD_E4_UNKNOWN = 4,
@@ -69,9 +70,68 @@ enum rigyomad_fault_kind {
     RIGYOMAD_E11_UNCOVERED = 11,
     /* E12: allocation failed. */
     RIGYOMAD_E12_MEMORY = 12,
-    /* E13: the text is a component, not a core module. */
+    /* E13: the module is a component, not a core module. */
     RIGYOMAD_E13_COMPONENT = 13
 };
+
+/* Returns what a status says, for a message. */
+static inline const char *rigyomad_status_text(uint32_t status) {
+    switch (status) {
+    case RIGYOMAD_DONE:
+        return "success";
+    case RIGYOMAD_SHORT:
+        return "a slice is too short";
+    case RIGYOMAD_FAULT:
+        return "the text has a fault";
+    case RIGYOMAD_UTF8:
+        return "the text or the name is not UTF-8";
+    case RIGYOMAD_MEMORY:
+        return "allocation failed";
+    case RIGYOMAD_UNKNOWN:
+        return "nothing has the name, or there is no such index space";
+    case RIGYOMAD_SLICE:
+        return "a pointer is null, or a length is more than PTRDIFF_MAX";
+    default:
+        return "no such status";
+    }
+}
+
+/* Returns what a number of a fault says, for a message: that of any text with the fault. The
+ * message of rigyomad_fault says it of one text. */
+static inline const char *rigyomad_fault_text(uint32_t number) {
+    switch (number) {
+    case 0:
+        return "the text is not a well-formed module";
+    case RIGYOMAD_E1_IMPORT_AFTER:
+        return "an import comes after a definition";
+    case RIGYOMAD_E2_DUPLICATE:
+        return "two items of one index space, or two locals, have the same id";
+    case RIGYOMAD_E3_DUPLICATE_FIELD:
+        return "two fields of a struct have the same id";
+    case RIGYOMAD_E4_UNKNOWN:
+        return "nothing has this name";
+    case RIGYOMAD_E5_NOT_FUNC:
+        return "a type use has a type that is not a function type";
+    case RIGYOMAD_E6_OUT_OF_BOUNDS:
+        return "a type index is out of bounds";
+    case RIGYOMAD_E7_NO_MATCH:
+        return "an inline type is not the type at the index";
+    case RIGYOMAD_E8_LABELS:
+        return "the label at the end of a block is not that at its start";
+    case RIGYOMAD_E9_NO_NAMED_FIELDS:
+        return "a field is accessed by name, but the type has no named fields";
+    case RIGYOMAD_E10_TOO_LARGE:
+        return "a count or a size does not fit in 32 bits";
+    case RIGYOMAD_E11_UNCOVERED:
+        return "an unsupported construct, which resolves but cannot be encoded";
+    case RIGYOMAD_E12_MEMORY:
+        return "allocation failed";
+    case RIGYOMAD_E13_COMPONENT:
+        return "the module is a component, not a core module";
+    default:
+        return "no such fault";
+    }
+}
 
 /* What is wrong with a text, and where. */
 struct rigyomad_diagnosis {

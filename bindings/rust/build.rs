@@ -1,42 +1,55 @@
-//! Links the archive of the proved encoder, and what it takes from the C library. `RIGYOMAD_LIB`
-//! names the folder of `librigyomad_c.a`, and `RATTLE_LIB` that of `liblibc_c.a`; docs/BINDINGS.md
-//! says how both are made.
+//! Links the archive of the proved encoder, `librigyomad.a`: from the folder that `RIGYOMAD_LIB`
+//! names, or else from where pkg-config finds `rigyomad`. `tools/build archive` makes the archive,
+//! and `tools/install` puts it where pkg-config looks (docs/BINDINGS.md).
 //!
-//! If a variable is missing, the build prints a warning and links nothing, so that `cargo doc`,
-//! `cargo check` and rust-analyzer work without the archive: only what is linked needs it. On
-//! docs.rs, which sets `DOCS_RS`, it links nothing either.
+//! If there is none, the build prints a warning and links nothing, so that `cargo doc`, `cargo check`
+//! and rust-analyzer work without the archive: only what is linked needs it. On docs.rs, which sets
+//! `DOCS_RS`, it links nothing either.
 
 use std::env;
+use std::path::Path;
+use std::process::Command;
 
-/// Each archive, after the variable that names its folder.
-const ARCHIVES: [(&str, &str); 2] = [("RIGYOMAD_LIB", "rigyomad_c"), ("RATTLE_LIB", "libc_c")];
+/// The variables that say where pkg-config looks.
+const PKG_CONFIG: [&str; 4] =
+    ["PKG_CONFIG", "PKG_CONFIG_PATH", "PKG_CONFIG_LIBDIR", "PKG_CONFIG_SYSROOT_DIR"];
 
-/// The folder that a variable names. Prints a warning if it names none.
-fn folder_of(variable: &str, archive: &str) -> Option<String> {
-    println!("cargo:rerun-if-env-changed={variable}");
-    let folder = env::var(variable).ok();
-    if folder.is_none() {
-        println!("cargo:warning=not linked: {variable} must name the folder of lib{archive}.a");
-    }
-    folder
+/// The value of a variable. The build runs again if it changes.
+fn variable(name: &str) -> Option<String> {
+    println!("cargo:rerun-if-env-changed={name}");
+    env::var(name).ok().filter(|value| !value.is_empty())
 }
 
-/// Links an archive in a folder.
-fn link(folder: &str, archive: &str) {
-    println!("cargo:rerun-if-changed={folder}/lib{archive}.a");
+/// The folder of the archive, if pkg-config is installed and finds it.
+fn installed_folder() -> Option<String> {
+    let [program, ..] = PKG_CONFIG.map(variable);
+    let program = program.unwrap_or_else(|| "pkg-config".to_owned());
+    let ran = Command::new(program).args(["--variable=libdir", "rigyomad"]).output().ok()?;
+    let folder = String::from_utf8(ran.stdout).ok()?.trim().to_owned();
+    Some(folder).filter(|folder| ran.status.success() && !folder.is_empty())
+}
+
+/// Links the archive in a folder.
+fn link(folder: &str) {
+    let archive = Path::new(folder).join("librigyomad.a");
+    if !archive.is_file() {
+        println!("cargo:warning=there is no {}", archive.display());
+    }
+    println!("cargo:rerun-if-changed={}", archive.display());
     println!("cargo:rustc-link-search=native={folder}");
-    println!("cargo:rustc-link-lib=static={archive}");
+    println!("cargo:rustc-link-lib=static=rigyomad");
 }
 
 fn main() {
     println!("cargo:rerun-if-changed=build.rs");
-    println!("cargo:rerun-if-env-changed=DOCS_RS");
-    if env::var_os("DOCS_RS").is_some() {
+    if variable("DOCS_RS").is_some() {
         return;
     }
-    let folders = ARCHIVES.map(|(variable, archive)| (folder_of(variable, archive), archive));
-    if let [(Some(first), of_first), (Some(second), of_second)] = &folders {
-        link(first, of_first);
-        link(second, of_second);
+    match variable("RIGYOMAD_LIB").or_else(installed_folder) {
+        Some(folder) => link(&folder),
+        None => println!(
+            "cargo:warning=not linked: RIGYOMAD_LIB must name the folder of librigyomad.a, or \
+             pkg-config must find rigyomad"
+        ),
     }
 }

@@ -3,14 +3,13 @@
 use std::env;
 
 fn convert(text: &str) -> String {
-    match rigyomad::encode(text) {
+    match rigyomad::parse_str(text) {
         Ok(bytes) => bytes.iter().map(|byte| format!("{byte:02x}")).collect(),
-        Err(fault) => fault.to_string(),
+        Err(error) => error.to_string(),
     }
 }
 
 fn main() {
-    assert_eq!(rigyomad::version(), rigyomad::VERSION);
     for text in env::args().skip(1) {
         println!("{}", convert(&text));
     }

@@ -1,4 +1,9 @@
 //! The calls of the archive. A reference is never null, and a slice has its length, so that they need no test.
+//!
+//! Each call first checks, once in a program, that the archive has the declarations of this file.
+
+use crate::VERSION;
+use std::sync::atomic::{AtomicBool, Ordering};
 
 /// What was asked for is there.
 pub(crate) const DONE: u32 = 0;
@@ -77,13 +82,34 @@ extern "C" {
     ) -> u32;
 }
 
+/// The number of the archive's declarations.
 pub(crate) fn version() -> u32 {
     // SAFETY: it takes nothing.
     unsafe { rigyomad_c_version() }
 }
 
+/// Panics if declarations of this number are not those of this file.
+fn expect_version(number: u32) {
+    assert!(
+        number == VERSION,
+        "librigyomad.a has declarations of number {number}, and the crate rigyomad {} needs \
+         number {VERSION}: link the archive of the same version",
+        env!("CARGO_PKG_VERSION")
+    );
+}
+
+/// Panics if the archive has other declarations than this file. It asks the archive once.
+fn check_version() {
+    static IS_CHECKED: AtomicBool = AtomicBool::new(false);
+    if !IS_CHECKED.load(Ordering::Relaxed) {
+        expect_version(version());
+        IS_CHECKED.store(true, Ordering::Relaxed);
+    }
+}
+
 /// The status, and the size of the bytes.
 pub(crate) fn encode(text: &str, out: &mut [u8]) -> (u32, usize) {
+    check_version();
     let mut size = 0;
     // SAFETY: the pointers are those of slices and of a place, which last for the call; the ones that are written to are lent to
     // nobody else.
@@ -95,6 +121,7 @@ pub(crate) fn encode(text: &str, out: &mut [u8]) -> (u32, usize) {
 
 /// The status, and what is wrong.
 pub(crate) fn fault(text: &str, message: &mut [u8]) -> (u32, Diagnosis) {
+    check_version();
     let mut at = Diagnosis::default();
     // SAFETY: as in `encode`.
     let status = unsafe {
@@ -105,6 +132,7 @@ pub(crate) fn fault(text: &str, message: &mut [u8]) -> (u32, Diagnosis) {
 
 /// The status, and the number.
 pub(crate) fn resolve(text: &str, space: u32, name: &str) -> (u32, u32) {
+    check_version();
     let mut number = 0;
     // SAFETY: as in `encode`.
     let status = unsafe {
@@ -115,6 +143,7 @@ pub(crate) fn resolve(text: &str, space: u32, name: &str) -> (u32, u32) {
 
 /// The status, and the room that all names need.
 pub(crate) fn names(text: &str, names: &mut [Name], bytes: &mut [u8]) -> (u32, Room) {
+    check_version();
     let mut room = Room::default();
     // SAFETY: as in `encode`.
     let status = unsafe {
@@ -129,4 +158,20 @@ pub(crate) fn names(text: &str, names: &mut [Name], bytes: &mut [u8]) -> (u32, R
         )
     };
     (status, room)
+}
+
+#[cfg(test)]
+mod tests {
+    use super::{check_version, expect_version};
+
+    #[test]
+    fn archive_has_these_declarations() {
+        check_version();
+    }
+
+    #[test]
+    #[should_panic(expected = "librigyomad.a has declarations of number 2, and the crate rigyomad")]
+    fn other_declarations_are_refused() {
+        expect_version(2);
+    }
 }

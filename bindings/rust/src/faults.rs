@@ -2,9 +2,11 @@
 
 use crate::archive::Diagnosis;
 use crate::room;
+use crate::snippet::{Shown, Snippet};
 use std::borrow::Cow;
 use std::error::Error;
 use std::fmt;
+use std::path::Path;
 
 /// A place in a text.
 #[derive(Clone, Copy, Debug, PartialEq, Eq, Hash)]
@@ -17,15 +19,24 @@ pub struct Place {
     pub column: usize,
 }
 
-/// The faults that have a number. E1 to E9 and E11 have a place.
+impl fmt::Display for Place {
+    fn fmt(&self, f: &mut fmt::Formatter<'_>) -> fmt::Result {
+        write!(f, "{}:{}", self.line, self.column)
+    }
+}
+
+/// What kind of fault a text has. E1 to E9 and E11 have a place, and so has malformed text. No text
+/// has E13, because the reader refuses a component as malformed.
 #[derive(Clone, Copy, Debug, PartialEq, Eq, Hash)]
 #[non_exhaustive]
-pub enum FaultKind {
+pub enum Kind {
+    /// The text is not a well-formed module: the reader does not accept it, or it is not UTF-8.
+    Malformed = 0,
     /// E1: an import comes after a definition.
     ImportAfter = 1,
-    /// E2: two items of one index space have the same id.
+    /// E2: two items of one index space, or two locals, have the same id.
     Duplicate = 2,
-    /// E3: two parameters, locals or fields have the same id.
+    /// E3: two fields of a struct have the same id.
     DuplicateField = 3,
     /// E4: nothing has this name.
     Unknown = 4,
@@ -45,70 +56,87 @@ pub enum FaultKind {
     Uncovered = 11,
     /// E12: allocation failed.
     Memory = 12,
-    /// E13: the text is a component, not a core module.
+    /// E13: the module is a component, not a core module.
     Component = 13,
 }
 
-impl FaultKind {
-    /// All of them, by number.
-    const ALL: [FaultKind; 13] = [
-        FaultKind::ImportAfter,
-        FaultKind::Duplicate,
-        FaultKind::DuplicateField,
-        FaultKind::Unknown,
-        FaultKind::NotFunc,
-        FaultKind::OutOfBounds,
-        FaultKind::NoMatch,
-        FaultKind::Labels,
-        FaultKind::NoNamedFields,
-        FaultKind::TooLarge,
-        FaultKind::Uncovered,
-        FaultKind::Memory,
-        FaultKind::Component,
+impl Kind {
+    /// Those that have a number, in its order.
+    const NUMBERED: [Kind; 13] = [
+        Kind::ImportAfter,
+        Kind::Duplicate,
+        Kind::DuplicateField,
+        Kind::Unknown,
+        Kind::NotFunc,
+        Kind::OutOfBounds,
+        Kind::NoMatch,
+        Kind::Labels,
+        Kind::NoNamedFields,
+        Kind::TooLarge,
+        Kind::Uncovered,
+        Kind::Memory,
+        Kind::Component,
     ];
 
-    /// The kind of a number.
-    fn of(number: u32) -> Option<FaultKind> {
-        FaultKind::ALL.iter().copied().find(|kind| *kind as u32 == number)
+    /// Returns the number of the kind: 1 for E1, and so on to 13. Returns `None` for
+    /// [`Kind::Malformed`].
+    pub fn number(self) -> Option<u32> {
+        Some(self as u32).filter(|number| *number != 0)
+    }
+
+    /// The kind of a number: that of malformed text for 0.
+    fn of(number: u32) -> Kind {
+        Kind::NUMBERED
+            .iter()
+            .copied()
+            .find(|kind| *kind as u32 == number)
+            .unwrap_or(Kind::Malformed)
     }
 }
 
 /// Why a text has no bytes.
 ///
+/// It is printed in one line, with the line and the column of its place. `{:#}` prints more lines:
+/// the line of the text too, and a caret below the place. It shows control characters of the text
+/// as U+FFFD, and at most 120 bytes of a line.
+///
 /// # Example
 ///
 /// ```
-/// # fn main() -> Result<(), rigyomad::Fault> {
-/// let fault = rigyomad::encode("(module (start $f))").unwrap_err();
-/// assert_eq!(fault.kind(), Some(rigyomad::FaultKind::Unknown));
+/// let fault = rigyomad::encode("(module\n  (start $f))").unwrap_err();
+/// assert_eq!(fault.kind(), rigyomad::Kind::Unknown);
 /// assert_eq!(fault.message(), "unknown func: failed to find name `$f`");
-/// assert_eq!(fault.to_string(), "1:16: unknown func: failed to find name `$f`");
-/// # Ok(())
-/// # }
+/// assert_eq!(fault.to_string(), "2:10: unknown func: failed to find name `$f`");
+/// let shown = "\
+/// unknown func: failed to find name `$f`
+///  --> 2:10
+///   |
+/// 2 |   (start $f))
+///   |          ^";
+/// assert_eq!(format!("{fault:#}"), shown);
 /// ```
 #[derive(Clone, Debug, PartialEq, Eq)]
 pub struct Fault {
-    number: Option<u32>,
-    place: Option<Place>,
+    kind: Kind,
+    place: Option<(Place, Snippet)>,
     message: Cow<'static, str>,
 }
 
 impl Fault {
-    /// Returns the number of the fault: 1 for E1, and so on to 13, as in [`FaultKind`]. Returns
-    /// `None` if the text is not a well-formed module.
-    pub fn number(&self) -> Option<u32> {
-        self.number
+    /// Returns what kind of fault it is.
+    pub fn kind(&self) -> Kind {
+        self.kind
     }
 
-    /// Returns which of the numbered faults it is. Returns `None` if the text is not a well-formed
-    /// module, and for a number that this crate does not know.
-    pub fn kind(&self) -> Option<FaultKind> {
-        self.number.and_then(FaultKind::of)
+    /// Returns the number of the fault: 1 for E1, and so on to 13, as in [`Kind`]. Returns `None`
+    /// if the text is not a well-formed module.
+    pub fn number(&self) -> Option<u32> {
+        self.kind.number()
     }
 
     /// Returns the place of the fault, if it has one.
     pub fn place(&self) -> Option<Place> {
-        self.place
+        self.place.as_ref().map(|(place, _)| *place)
     }
 
     /// Returns what is wrong, without the place.
@@ -119,30 +147,81 @@ impl Fault {
     /// Allocation failed. It does not allocate.
     pub(crate) fn out_of_memory() -> Fault {
         let message = Cow::Borrowed("out of memory");
-        Fault { number: Some(FaultKind::Memory as u32), place: None, message }
+        Fault { kind: Kind::Memory, place: None, message }
     }
 
-    /// The fault of a diagnosis, with its message; E12 if there is no memory for the message.
-    pub(crate) fn new(at: &Diagnosis, message: &[u8]) -> Fault {
-        let message = match room::owned(message) {
-            Ok(message) => Cow::Owned(message),
-            Err(fault) => return fault,
-        };
+    /// The fault of a text by its diagnosis, with its message; E12 if there is no memory for it.
+    pub(crate) fn new(text: &str, at: &Diagnosis, message: &[u8]) -> Fault {
         let place = Place { offset: at.offset, line: at.line, column: at.column };
-        Fault {
-            number: Some(at.number).filter(|number| *number != 0),
-            place: Some(place).filter(|place| place.line != 0),
-            message,
+        let place = Some(place).filter(|place| place.line != 0);
+        Fault::try_new(text, Kind::of(at.number), place, message)
+            .unwrap_or_else(|out_of_memory| out_of_memory)
+    }
+
+    /// A fault of a text, with a copy of its message and of its line.
+    fn try_new(
+        text: &str,
+        kind: Kind,
+        place: Option<Place>,
+        message: &[u8],
+    ) -> Result<Fault, Fault> {
+        let message = Cow::Owned(room::owned(message)?);
+        let place = match place {
+            Some(place) => Some((place, Snippet::new(text, place.offset)?)),
+            None => None,
+        };
+        Ok(Fault { kind, place, message })
+    }
+
+    /// Bytes are not UTF-8 after this text; E12 if there is no memory to say so.
+    pub(crate) fn not_utf8(text: &str) -> Fault {
+        let line_start = text.rfind('\n').map_or(0, |newline| newline + 1);
+        let place = Place {
+            offset: text.len(),
+            line: text.bytes().filter(|byte| *byte == b'\n').count() + 1,
+            column: text.len() - line_start + 1,
+        };
+        Fault::try_new(text, Kind::Malformed, Some(place), b"malformed UTF-8 encoding")
+            .unwrap_or_else(|out_of_memory| out_of_memory)
+    }
+
+    /// Prints it as `{}` and `{:#}` do, as a fault of a file if there is one.
+    pub(crate) fn fmt_in(&self, f: &mut fmt::Formatter<'_>, file: Option<&Path>) -> fmt::Result {
+        if f.alternate() {
+            return self.fmt_lines(f, file);
+        }
+        if let Some(file) = file {
+            write!(f, "{}:", file.display())?;
+        }
+        match &self.place {
+            Some((place, _)) => write!(f, "{place}: {}", self.message),
+            None if file.is_some() => write!(f, " {}", self.message),
+            None => f.write_str(&self.message),
+        }
+    }
+
+    /// Prints the message, the place and the line of the place, with a caret below the place.
+    fn fmt_lines(&self, f: &mut fmt::Formatter<'_>, file: Option<&Path>) -> fmt::Result {
+        write!(f, "{}", Shown(&self.message))?;
+        let file = file.map(Path::to_string_lossy).unwrap_or_default();
+        match &self.place {
+            Some((place, snippet)) => {
+                let margin = " ".repeat(place.line.to_string().len());
+                let colon = if file.is_empty() { "" } else { ":" };
+                writeln!(f, "\n{margin}--> {}{colon}{place}", Shown(&file))?;
+                writeln!(f, "{margin} |")?;
+                writeln!(f, "{} | {}", place.line, snippet.line())?;
+                write!(f, "{margin} | {}^", snippet.blanks())
+            }
+            None if file.is_empty() => Ok(()),
+            None => write!(f, "\n --> {}", Shown(&file)),
         }
     }
 }
 
 impl fmt::Display for Fault {
     fn fmt(&self, f: &mut fmt::Formatter<'_>) -> fmt::Result {
-        match self.place {
-            Some(place) => write!(f, "{}:{}: {}", place.line, place.column, self.message),
-            None => f.write_str(&self.message),
-        }
+        self.fmt_in(f, None)
     }
 }
 

@@ -3,30 +3,40 @@
 //! # Example
 //!
 //! ```
-//! # fn main() -> Result<(), rigyomad::Fault> {
-//! let bytes = rigyomad::encode("(module (func $f))")?;
+//! # fn main() -> Result<(), rigyomad::Error> {
+//! let bytes = rigyomad::parse_str("(module (func $f))")?;
 //! assert_eq!(&bytes[..4], b"\0asm");
-//! let fault = rigyomad::encode("(module (start $f))").unwrap_err();
-//! assert_eq!(fault.to_string(), "1:16: unknown func: failed to find name `$f`");
+//! let error = rigyomad::parse_str("(module (start $f))").unwrap_err();
+//! assert_eq!(error.to_string(), "1:16: unknown func: failed to find name `$f`");
 //! # Ok(())
 //! # }
 //! ```
 //!
+//! [`parse_str`], [`parse_bytes`] and [`parse_file`] have the signatures of the crate `wat`. Below
+//! them, [`encode`] returns the [`Fault`] of a text alone. [`names`] and [`resolve`] return what the
+//! names of a text denote.
+//!
 //! The encoder is an archive whose code is proved; this crate declares its calls and lends them
 //! slices. No call keeps state, so any thread may make any call. If allocation fails, a call
-//! returns E12 ([`FaultKind::Memory`]) and does not abort.
+//! returns E12 ([`Kind::Memory`]) and does not abort; only the standard library may, while it reads
+//! a file for [`parse_file`].
 
 #![warn(missing_docs)]
 
 mod archive;
 mod faults;
 mod names;
+mod parse;
 mod room;
+mod snippet;
 
-pub use faults::{Fault, FaultKind, Place};
+pub use faults::{Fault, Kind, Place};
 pub use names::{names, resolve, Name, Space};
+pub use parse::{parse_bytes, parse_file, parse_str, Error};
 
-/// The number of the archive's declarations. This crate fits those of number 1.
+/// The number of the declarations that this crate has of the calls of the archive. The first call
+/// compares it with that of the archive, and panics if they differ, because a call by other
+/// declarations would be undefined behaviour. A program has no need to compare them.
 pub const VERSION: u32 = 1;
 
 /// Enough bytes for the module of most texts of this length.
@@ -47,13 +57,22 @@ fn fault(text: &str) -> Fault {
             return Fault::out_of_memory();
         }
         if at.size <= message.len() {
-            return Fault::new(&at, &message[..at.size]);
+            return Fault::new(text, &at, &message[..at.size]);
         }
         size = at.size;
     }
 }
 
 /// Returns the bytes of the module of a text.
+///
+/// # Example
+///
+/// ```
+/// # fn main() -> Result<(), rigyomad::Fault> {
+/// assert_eq!(rigyomad::encode("(module)")?, b"\0asm\x01\0\0\0");
+/// # Ok(())
+/// # }
+/// ```
 ///
 /// # Errors
 ///
@@ -62,6 +81,10 @@ fn fault(text: &str) -> Fault {
 /// - E10: it is too large;
 /// - E11: it has a construct that cannot be encoded;
 /// - E12: allocation failed, in the archive or here.
+///
+/// # Panics
+///
+/// If the archive is another than this crate needs ([`VERSION`]).
 pub fn encode(text: &str) -> Result<Vec<u8>, Fault> {
     let mut size = first_room(text);
     loop {
@@ -79,8 +102,7 @@ pub fn encode(text: &str) -> Result<Vec<u8>, Fault> {
     }
 }
 
-/// Returns the number of the archive's declarations. It is [`VERSION`] if this crate and the archive
-/// fit.
+/// Returns the number of the archive's declarations, which is [`VERSION`] in a program that works.
 pub fn version() -> u32 {
     archive::version()
 }

@@ -92,6 +92,10 @@ pub struct Name {
 /// # Errors
 ///
 /// As [`names`].
+///
+/// # Panics
+///
+/// As [`names`].
 pub fn resolve(text: &str, space: Space, name: &str) -> Result<Option<u32>, Fault> {
     let (status, number) = archive::resolve(text, space as u32, name);
     match status {
@@ -148,6 +152,10 @@ fn names_of(records: &[archive::Name], bytes: &[u8]) -> Result<Vec<Name>, Fault>
 /// - E1 to E9: a name, an index or a type of it does not resolve;
 /// - E10: it is too large;
 /// - E12: allocation failed, in the archive or here.
+///
+/// # Panics
+///
+/// If the archive is another than this crate needs ([`VERSION`](crate::VERSION)).
 pub fn names(text: &str) -> Result<Vec<Name>, Fault> {
     let mut room = first_room(text);
     loop {

@@ -27,3 +27,12 @@ pub(crate) fn owned(text: &[u8]) -> Result<String, Fault> {
         String::from_utf8(bytes).unwrap_or_default()
     }))
 }
+
+/// Returns texts one after another.
+pub(crate) fn joined(parts: &[&str]) -> Result<String, Fault> {
+    let mut text = String::new();
+    let size = parts.iter().map(|part| part.len()).sum();
+    text.try_reserve_exact(size).map_err(|_| Fault::out_of_memory())?;
+    parts.iter().for_each(|part| text.push_str(part));
+    Ok(text)
+}

@@ -1,6 +1,6 @@
 //! What the calls return.
 
-use rigyomad::{encode, names, resolve, FaultKind, Place, Space};
+use rigyomad::{encode, names, resolve, version, Error, Fault, Kind, Place, Space, VERSION};
 
 /// Two items in each index space, of which the second has an id.
 const NAMED: &str = r#"(module (type (func)) (type $t (func)) (func) (func $f)
@@ -12,18 +12,80 @@ const NAMED: &str = r#"(module (type (func)) (type $t (func)) (func) (func $f)
 fn faults_have_numbers_places_and_messages() {
     let fault = encode("(module\n  (start $f))").unwrap_err();
     assert_eq!(fault.number(), Some(4));
-    assert_eq!(fault.kind(), Some(FaultKind::Unknown));
+    assert_eq!(fault.kind(), Kind::Unknown);
     assert_eq!(fault.place(), Some(Place { offset: 17, line: 2, column: 10 }));
     assert_eq!(fault.message(), "unknown func: failed to find name `$f`");
     let fault = encode("(modul)").unwrap_err();
-    assert_eq!((fault.number(), fault.kind()), (None, None));
+    assert_eq!((fault.number(), fault.kind()), (None, Kind::Malformed));
     assert_eq!(fault.place().map(|place| place.line), Some(1));
+}
+
+#[test]
+fn faults_show_the_line_of_their_place() {
+    let fault = encode("(module\r\n\t(start $f) ;; é\r\n)").unwrap_err();
+    let shown = format!("{fault:#}");
+    let lines: Vec<_> = shown.lines().collect();
+    let wanted = [
+        "unknown func: failed to find name `$f`",
+        " --> 2:9",
+        "  |",
+        "2 | \t(start $f) ;; é",
+        "  | \t       ^",
+    ];
+    assert_eq!(lines, wanted);
+    let fault = encode(&format!("{}(module (start $f))", "\n".repeat(99))).unwrap_err();
+    assert!(
+        format!("{fault:#}").contains("\n   --> 100:16\n    |\n100 | (module (start $f))\n    | ")
+    );
+}
+
+#[test]
+fn shown_faults_have_no_control_characters() {
+    let fault = encode(r#"(module (start $"\1b[31m"))"#).unwrap_err();
+    assert!(fault.to_string().contains('\u{1b}'));
+    assert!(!format!("{fault:#}").contains('\u{1b}'));
+}
+
+#[test]
+fn kinds_have_the_numbers_of_their_faults() {
+    let texts = [
+        ("(module (func) (import \"\" \"\" (func)))", Kind::ImportAfter),
+        ("(module (func $f) (func $f))", Kind::Duplicate),
+        ("(module (func (param $x i32) (local $x i32)))", Kind::Duplicate),
+        ("(module (type (struct (field $x i32) (field $x i32))))", Kind::DuplicateField),
+        ("(module (start $f))", Kind::Unknown),
+        ("(module (type (struct)) (func (type 0) (param i32)))", Kind::NotFunc),
+        ("(module (func (type 0) (param i32)))", Kind::OutOfBounds),
+        ("(module (type (func)) (func (type 0) (param i32)))", Kind::NoMatch),
+        ("(module (func block $a end $b))", Kind::Labels),
+        ("(module (type $s (struct (field i32))) (func struct.get $s $x))", Kind::NoNamedFields),
+        ("(module (type (func)) (type (cont 0)))", Kind::Uncovered),
+        ("(module", Kind::Malformed),
+        ("(component)", Kind::Malformed),
+    ];
+    for (text, kind) in texts {
+        let fault = encode(text).unwrap_err();
+        assert_eq!((fault.kind(), fault.number()), (kind, kind.number()), "{text}: {fault}");
+        assert!(fault.place().is_some(), "{text}");
+    }
+}
+
+#[test]
+fn errors_go_between_threads() {
+    fn is_error<T: std::error::Error + Send + Sync + 'static>() {}
+    is_error::<Fault>();
+    is_error::<Error>();
+}
+
+#[test]
+fn archive_is_that_of_the_crate() {
+    assert_eq!(version(), VERSION);
 }
 
 #[test]
 fn unsupported_construct_has_a_place() {
     let fault = encode("(module (type (func)) (type (cont 0)))").unwrap_err();
-    assert_eq!(fault.kind(), Some(FaultKind::Uncovered));
+    assert_eq!(fault.kind(), Kind::Uncovered);
     assert_eq!(fault.place().map(|place| place.line), Some(1));
 }
 
@@ -73,7 +135,7 @@ fn generated_ids_are_not_listed() {
 #[test]
 fn names_that_do_not_resolve_are_a_fault() {
     let fault = names("(module (start $f))").unwrap_err();
-    assert_eq!(fault.kind(), Some(FaultKind::Unknown));
+    assert_eq!(fault.kind(), Kind::Unknown);
 }
 
 #[test]

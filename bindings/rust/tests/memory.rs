@@ -1,6 +1,6 @@
 //! Each call returns E12, or what it returns with ample memory, if a request of its own is refused.
 
-use rigyomad::{encode, names, Fault, FaultKind};
+use rigyomad::{encode, names, parse_bytes, Fault, Kind};
 use std::alloc::{GlobalAlloc, Layout, System};
 use std::cell::Cell;
 
@@ -37,7 +37,10 @@ unsafe impl GlobalAlloc for Refuses {
 static ALLOCATOR: Refuses = Refuses;
 
 /// Makes a call with each of its requests refused in turn. Returns how many requests it made.
-fn refuse_each<T: PartialEq>(call: impl Fn() -> Result<T, Fault>) -> usize {
+fn refuse_each<T, E>(call: impl Fn() -> Result<T, E>, kind_of: impl Fn(&E) -> Kind) -> usize
+where
+    Result<T, E>: PartialEq,
+{
     let ample = call();
     for number in 1.. {
         LEFT.with(|it| it.set(number));
@@ -47,24 +50,34 @@ fn refuse_each<T: PartialEq>(call: impl Fn() -> Result<T, Fault>) -> usize {
             assert!(answer == ample);
             return number - 1;
         }
-        let kind = answer.as_ref().err().and_then(Fault::kind);
-        assert!(answer == ample || kind == Some(FaultKind::Memory));
+        let kind = answer.as_ref().err().map(&kind_of);
+        assert!(answer == ample || kind == Some(Kind::Memory));
     }
     unreachable!()
 }
 
 #[test]
 fn refused_request_of_encode_is_an_error() {
-    assert_eq!(refuse_each(|| encode("(module (func $f))")), 1);
+    assert_eq!(refuse_each(|| encode("(module (func $f))"), Fault::kind), 1);
 }
 
 #[test]
 fn refused_request_for_a_longer_message_is_an_error() {
     let text = format!("(module (start ${}))", "n".repeat(1000));
-    assert_eq!(refuse_each(|| encode(&text)), 4);
+    assert_eq!(refuse_each(|| encode(&text), Fault::kind), 5);
+}
+
+#[test]
+fn refused_request_for_bytes_that_are_not_utf8_is_an_error() {
+    let call = || match parse_bytes(b"(module)\xff") {
+        Ok(bytes) => Ok(bytes.len()),
+        Err(error) => Err(error.fault().unwrap().kind()),
+    };
+    assert_eq!(call(), Err(Kind::Malformed));
+    assert_eq!(refuse_each(call, |kind| *kind), 2);
 }
 
 #[test]
 fn refused_request_of_names_is_an_error() {
-    assert_eq!(refuse_each(|| names("(module (func $f) (memory $m 1))")), 5);
+    assert_eq!(refuse_each(|| names("(module (func $f) (memory $m 1))"), Fault::kind), 5);
 }
