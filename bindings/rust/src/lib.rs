@@ -14,7 +14,7 @@
 //!
 //! [`parse_str`], [`parse_bytes`] and [`parse_file`] have the signatures of the crate `wat`. Below
 //! them, [`encode`] returns the [`Fault`] of a text alone. [`names`] and [`resolve`] return what the
-//! names of a text denote.
+//! names of a text denote, and [`names_within`] the names of locals, labels and fields.
 //!
 //! The encoder is an archive whose code is proved; this crate declares its calls and lends them
 //! slices. No call keeps state, so any thread may make any call. If allocation fails, a call
@@ -29,15 +29,22 @@ mod names;
 mod parse;
 mod room;
 mod snippet;
+mod within;
 
 pub use faults::{Fault, Kind, Place};
 pub use names::{names, resolve, Name, Space};
 pub use parse::{parse_bytes, parse_file, parse_str, Error};
+pub use within::{names_within, NameWithin, Within};
 
 /// The number of the declarations that this crate has of the calls of the archive. The first call
 /// compares it with that of the archive, and panics if they differ, because a call by other
 /// declarations would be undefined behaviour. A program has no need to compare them.
 pub const VERSION: u32 = 1;
+
+/// The examples of the README, as tests.
+#[cfg(doctest)]
+#[doc = include_str!("../README.md")]
+struct Readme;
 
 /// Enough bytes for the module of most texts of this length.
 fn first_room(text: &str) -> usize {

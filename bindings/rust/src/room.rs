@@ -7,6 +7,12 @@ pub(crate) fn reserve<T>(items: &mut Vec<T>, count: usize) -> Result<(), Fault> 
     items.try_reserve_exact(count).map_err(|_| Fault::out_of_memory())
 }
 
+/// Makes room for one more item, and for more of them at once the longer the list is. E12 if
+/// allocation fails.
+pub(crate) fn reserve_more<T>(items: &mut Vec<T>) -> Result<(), Fault> {
+    items.try_reserve(1).map_err(|_| Fault::out_of_memory())
+}
+
 /// Returns as many default items.
 pub(crate) fn filled<T: Clone + Default>(count: usize) -> Result<Vec<T>, Fault> {
     let mut items = Vec::new();

@@ -1,6 +1,9 @@
 //! What the calls return.
 
-use rigyomad::{encode, names, resolve, version, Error, Fault, Kind, Place, Space, VERSION};
+use rigyomad::{
+    encode, names, names_within, resolve, version, Error, Fault, Kind, Place, Space, Within,
+    VERSION,
+};
 
 /// Two items in each index space, of which the second has an id.
 const NAMED: &str = r#"(module (type (func)) (type $t (func)) (func) (func $f)
@@ -130,6 +133,47 @@ fn names_with_escapes_are_listed_without_them() {
 #[test]
 fn generated_ids_are_not_listed() {
     assert_eq!(names(r#"(module (func (export "a")) (table funcref (elem)))"#), Ok(vec![]));
+}
+
+/// The names of locals, labels and fields of a text, each with its kind, owner and number.
+fn within(text: &str) -> Vec<(Within, u32, u32, String)> {
+    let all = names_within(text).unwrap();
+    all.into_iter().map(|it| (it.kind, it.owner, it.number, it.name)).collect()
+}
+
+#[test]
+fn names_of_locals_labels_and_fields_are_listed() {
+    let text = r#"(module (import "" "" (func (param $p i32)))
+        (type (func (param i32)))
+        (type $s (struct (field $x i32) (field i32) (field $"y z" i64)))
+        (func (param i32) (local $a i32) (local $b (@name "c") i64)
+            block $l loop if $l end end end)
+        (func (if $l (i32.const 0) (then block $m end))))"#;
+    let wanted = [
+        (Within::Local, 0, 0, "p"),
+        (Within::Local, 1, 1, "a"),
+        (Within::Local, 1, 2, "c"),
+        (Within::Label, 1, 0, "l"),
+        (Within::Label, 1, 2, "l"),
+        (Within::Label, 2, 0, "l"),
+        (Within::Label, 2, 1, "m"),
+        (Within::Field, 1, 0, "x"),
+        (Within::Field, 1, 2, "y z"),
+    ];
+    assert_eq!(
+        within(text),
+        wanted.map(|(kind, owner, number, name)| (kind, owner, number, name.to_owned()))
+    );
+    assert_eq!(within("(module (func $f))"), []);
+    assert_eq!(within("(module)"), []);
+    assert!(names_within("(module (start $f))").is_err());
+}
+
+#[test]
+fn names_of_a_custom_section_are_listed() {
+    let text = r#"(module (@custom "name" "\02\06\01\00\01\07\01z") (func (local $a i32)))"#;
+    assert_eq!(within(text), [(Within::Local, 0, 7, "z".to_owned())]);
+    assert_eq!(within(r#"(module (@custom "name" "\02\06\01") (func (local $a i32)))"#), []);
 }
 
 #[test]

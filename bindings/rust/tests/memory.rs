@@ -1,6 +1,6 @@
 //! Each call returns E12, or what it returns with ample memory, if a request of its own is refused.
 
-use rigyomad::{encode, names, parse_bytes, Fault, Kind};
+use rigyomad::{encode, names, names_within, parse_bytes, Fault, Kind};
 use std::alloc::{GlobalAlloc, Layout, System};
 use std::cell::Cell;
 
@@ -80,4 +80,10 @@ fn refused_request_for_bytes_that_are_not_utf8_is_an_error() {
 #[test]
 fn refused_request_of_names_is_an_error() {
     assert_eq!(refuse_each(|| names("(module (func $f) (memory $m 1))"), Fault::kind), 5);
+}
+
+#[test]
+fn refused_request_of_names_within_is_an_error() {
+    let text = "(module (func (param $a i32) (local $b i32)))";
+    assert_eq!(refuse_each(|| names_within(text), Fault::kind), 4);
 }
