@@ -84,6 +84,26 @@ impl Kind {
         Some(self as u32).filter(|number| *number != 0)
     }
 
+    /// Returns what the kind says of any text that has it. [`Fault::message`] says it of one text.
+    pub fn text(self) -> &'static str {
+        match self {
+            Kind::Malformed => "the text is not a well-formed module",
+            Kind::ImportAfter => "an import comes after a definition",
+            Kind::Duplicate => "two items of one index space, or two locals, have the same id",
+            Kind::DuplicateField => "two fields of a struct have the same id",
+            Kind::Unknown => "nothing has this name",
+            Kind::NotFunc => "a type use has a type that is not a function type",
+            Kind::OutOfBounds => "a type index is out of bounds",
+            Kind::NoMatch => "an inline type is not the type at the index",
+            Kind::Labels => "the label at the end of a block is not that at its start",
+            Kind::NoNamedFields => "a field is accessed by name, but the type has no named fields",
+            Kind::TooLarge => "a count or a size does not fit in 32 bits",
+            Kind::Uncovered => "an unsupported construct, which resolves but cannot be encoded",
+            Kind::Memory => "allocation failed",
+            Kind::Component => "the module is a component, not a core module",
+        }
+    }
+
     /// The kind of a number: that of malformed text for 0.
     fn of(number: u32) -> Kind {
         Kind::NUMBERED
@@ -91,6 +111,12 @@ impl Kind {
             .copied()
             .find(|kind| *kind as u32 == number)
             .unwrap_or(Kind::Malformed)
+    }
+}
+
+impl fmt::Display for Kind {
+    fn fmt(&self, f: &mut fmt::Formatter<'_>) -> fmt::Result {
+        f.pad(self.text())
     }
 }
 
