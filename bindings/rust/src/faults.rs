@@ -5,8 +5,8 @@ use crate::room;
 use crate::snippet::{Shown, Snippet};
 use std::borrow::Cow;
 use std::error::Error;
-use std::fmt;
 use std::path::Path;
+use std::{fmt, iter};
 
 /// A place in a text.
 #[derive(Clone, Copy, Debug, PartialEq, Eq, Hash)]
@@ -148,6 +148,12 @@ pub struct Fault {
     message: Cow<'static, str>,
 }
 
+/// How many decimal digits a number has.
+fn digits(number: usize) -> usize {
+    iter::successors(Some(number / 10), |rest| Some(rest / 10)).take_while(|rest| *rest > 0).count()
+        + 1
+}
+
 impl Fault {
     /// Returns what kind of fault it is.
     pub fn kind(&self) -> Kind {
@@ -230,17 +236,17 @@ impl Fault {
     fn fmt_lines(&self, f: &mut fmt::Formatter<'_>, file: Option<&Path>) -> fmt::Result {
         write!(f, "{}", Shown(&self.message))?;
         let file = file.map(Path::to_string_lossy).unwrap_or_default();
+        let (name, colon) = (Shown(&file), if file.is_empty() { "" } else { ":" });
         match &self.place {
             Some((place, snippet)) => {
-                let margin = " ".repeat(place.line.to_string().len());
-                let colon = if file.is_empty() { "" } else { ":" };
-                writeln!(f, "\n{margin}--> {}{colon}{place}", Shown(&file))?;
-                writeln!(f, "{margin} |")?;
-                writeln!(f, "{} | {}", place.line, snippet.line())?;
-                write!(f, "{margin} | {}^", snippet.blanks())
+                let (number, margin) = (place.line, digits(place.line));
+                writeln!(f, "\n{:margin$}--> {name}{colon}{place}", "")?;
+                writeln!(f, "{:margin$} |", "")?;
+                writeln!(f, "{number} | {}", snippet.line())?;
+                write!(f, "{:margin$} | {}^", "", snippet.blanks())
             }
             None if file.is_empty() => Ok(()),
-            None => write!(f, "\n --> {}", Shown(&file)),
+            None => write!(f, "\n --> {name}"),
         }
     }
 }
@@ -252,3 +258,13 @@ impl fmt::Display for Fault {
 }
 
 impl Error for Fault {}
+
+#[cfg(test)]
+mod tests {
+    use super::digits;
+
+    #[test]
+    fn numbers_have_digits() {
+        assert_eq!([1, 9, 10, 99, 100, 12_345].map(digits), [1, 1, 2, 2, 3, 5]);
+    }
+}
