@@ -65,3 +65,34 @@ fn bytes_that_are_not_utf8_have_a_place() {
     let lines = " --> 2:5\n  |\n2 |   ;;\n  |     ^";
     assert_eq!(format!("{error:#}"), format!("malformed UTF-8 encoding\n{lines}"));
 }
+
+/// Numbers below a bound, by a generator of its own.
+fn numbers(mut state: u64) -> impl FnMut(usize) -> usize {
+    move |bound| {
+        state =
+            state.wrapping_mul(6_364_136_223_846_793_005).wrapping_add(1_442_695_040_888_963_407);
+        (state >> 33) as usize % bound
+    }
+}
+
+#[test]
+fn faults_of_changed_texts_are_shown() {
+    let text = "(module\n\t(func $é (param $x i32) (local.get $x))\r\n (start $é) (data \"é\"))";
+    let mut below = numbers(1);
+    for _ in 0..3_000 {
+        let mut bytes = text.repeat(1 + below(3)).into_bytes();
+        for _ in 0..1 + below(3) {
+            let at = below(bytes.len());
+            bytes[at] = b"()$\";\n\t 1x\xff\xc3\xa9"[below(13)];
+        }
+        if let Err(error) = parse_bytes(&bytes) {
+            let place = error.fault().and_then(|fault| fault.place()).unwrap();
+            let shown = format!("{error:#}");
+            let lines: Vec<_> = shown.split('\n').collect();
+            assert_eq!(lines.len(), 5, "{shown}");
+            assert!(error.to_string().starts_with(&format!("{place}: ")));
+            assert!(lines[3].starts_with(&format!("{} | ", place.line)) && lines[4].ends_with('^'));
+            assert!(lines[4].chars().count() <= lines[3].chars().count() + 1);
+        }
+    }
+}
