@@ -3,15 +3,13 @@
 ghost use Rattle.std.specs.Prelude.{All, IsTrue};
 ghost use Rattle.std.specs.List.{flat_map};
 ghost use Rattle.wasm_ops.specs.Sinks.{Writes};
-ghost use Rattle.wasm_out.specs.Parts.{part, InRangePart};
+ghost use Rattle.wasm_out.specs.Parts.{part};
 ghost use Rattle.wast_conv.specs.Encodable.{is_encodable};
 ghost use Rattle.wast_core.specs.Bounded.{bytes_of, InRangeSlot, InRangeModule};
 ghost use Rattle.wast_core.specs.DataCounts.{may_be_counted};
 ghost use Rattle.wast_core.specs.Meaning.{in_slot};
 ghost use Rattle.wast_core.specs.declared.slots.Slot.TheVariants as slot;
 ghost use Rattle.wast_names.specs.FoundNames.{text_seen};
-ghost use Rattle.wast_names.specs.ModuleNames.{name_subsections, InRangeNames};
-ghost use Rattle.wast_names.specs.NamesPart.{names_part};
 ghost use Rattle.wast_reach.specs.Reaches.{are_reaches};
 
 use crate::counts::put_data_count;
@@ -21,26 +19,9 @@ use crate::hints::put_hints;
 use crate::slots::{ORDER, Slot};
 use wasm_ops::{Encode, Raw, Refusal, Sink};
 use wasm_out::HEADER;
-use wast_names::{names_extent, put_names};
+use wast_names::put_names;
 use wast_nodes::ModuleField;
 use wast_reach::Reaches;
-
-/// Appends the name section of a module with this name, where there are names. It needs where in these fields those of each
-/// kind stand.
-fn put_names_once<S: Sink>(
-    fields: &[ModuleField],
-    name: Option<&str>,
-    reaches: &Reaches,
-    out: &mut S,
-) -> Result<(), Refusal>
-    requires reaches { IsTrue (are_reaches fields.now reaches.now) }
-    ensures { Writes S.rules (All InRangePart (names_part (name_subsections (text_seen name.entry) fields.now))
-        × InRangeNames (text_seen name.entry) fields.now)
-        out.old out.new (flat_map part (names_part (name_subsections (text_seen name.entry) fields.now))) result }
-{
-    let extent = names_extent(fields, name, reaches)?;
-    put_names(fields, name, reaches, &extent, out)
-}
 
 /// The name section; none where a custom section is called `name`. It needs where in these fields those of each kind stand.
 fn put_given_names<S: Sink>(
@@ -56,7 +37,7 @@ fn put_given_names<S: Sink>(
     if has_own_names(fields, reaches) {
         return Ok(());
     }
-    put_names_once(fields, name, reaches, out)
+    put_names(fields, name, reaches, out)
 }
 
 /// Appends what stands in a place. It needs where in these fields those of each kind stand, and whether an index of a data

@@ -3,7 +3,6 @@ pub mod Each
 pub mod FieldsWithoutNames
 pub mod ImportedNames
 pub mod ListedNames
-pub mod MapExtents
 pub mod NameEntries
 pub mod NameMaps
 pub mod NamesComputed

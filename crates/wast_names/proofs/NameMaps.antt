@@ -1,28 +1,33 @@
 -- Subsections of names, and the name section, as they are written.
-use Rattle.std.proofs.Common.{◌≡◌, ◌<◌, ◌≤◌, ◌+◌, ℕ, false, List, [], ◌∷◌, ◌++◌, length, Option, Result, Ok, Err, inl, inr, refl, sym, ap, ◌∙◌, subst, arith, length-append, map}
+use Rattle.std.proofs.Common.{◌≡◌, ◌<◌, ◌≤◌, ◌+◌, ℕ, Bool, true, false, nat_lt, List, [], ◌∷◌, ◌++◌, length, Option, Result, Ok, Err, inl, inr, refl, sym, ap, ◌∙◌, subst, arith, length-append, append-nil, map, take, get_or}
 use Rattle.std.specs.Prelude.{All, codes}
 use Rattle.std.specs.List.{flat_map}
+use Rattle.std.proofs.lemmas.Bool.{lt-ltb, ltb-true, ltb-false}
 use Rattle.std.proofs.lemmas.Grind.{flat_map-append}
 use Rattle.std.proofs.lemmas.List.{append_assoc}
 use Rattle.std.proofs.lemmas.List.Elements.{All-nil, All-head, All-append}
 use Rattle.std.proofs.lemmas.List.Concat.{flat_map-cons}
 use Rattle.std.proofs.lemmas.List.Folds.{flat_map-map}
 use Rattle.wasm_ops.specs.declared.sink.Refusal.{Refusal}
-use Rattle.wasm_ops.specs.Leb128.{unsigned, unsigned_in}
+use Rattle.wasm_ops.specs.Leb128.{unsigned}
 use Rattle.wasm_ops.specs.Spelling.{InRangeSized, InRangeU32, sized, name, InRangeName}
-use Rattle.wasm_ops.specs.Sinks.{SinkRules, Writes, AppendLaws}
+use Rattle.wasm_ops.specs.Sinks.{SinkRules, Writes, Sets, AppendLaws}
 use Rattle.wasm_ops.proofs.Everywhere.{all_left, all_right, all_one, flat_one, all_in_flat, all_of_flat, flat_in_flat}
-use Rattle.wasm_ops.proofs.Sinking.{written_as, one_written}
-use Rattle.wasm_out.specs.NameSectionBytes.{Named, Direct, Indirect, NameSubsection, subsection_id, name_payload, name_entry, map_entry, name_content, name_subsection, InRangeNameEntry, InRangeMapEntry, InRangeNameSubsection}
+use Rattle.wasm_ops.proofs.Numbers.{unsigned-small}
+use Rattle.wasm_ops.proofs.PutLengths.{number_set}
+use Rattle.wasm_ops.proofs.Sinking.{puts_as, written_as, one_written}
+use Rattle.wasm_out.specs.NameSectionBytes.{Named, Direct, Indirect, NameSubsection, subsection_id, name_entry, map_entry, name_content, name_subsection, InRangeNameEntry, InRangeMapEntry, InRangeNameSubsection}
 use Rattle.wasm_out.specs.Parts.{Part, Custom, part, InRangePart}
-use Rattle.wasm_ops.proofs.Numbers.{unsigned-nonempty}
 use Rattle.wast_base.specs.Spaces.{same_space}
-use Rattle.wast_names.specs.NamesPart.{names_part, names_payload_of}
+use Rattle.wast_names.specs.NamesPart.{names_part, payload_of, InRangePayload}
+use Rattle.wast_names.specs.declared.names_payload.NameMap.{NameMap}
+use Rattle.wast_names.specs.declared.names_payload.NameMap.TheVariants as map_of
 use Rattle.wast_names.specs.Tree.{Space}
 use Rattle.wast_names.specs.Tree.space
 use Rattle.wast_names.specs.Tree.ty
 use Rattle.wast_names.specs.FoundNames.{counted, InRangeMap, map_bytes}
 use Rattle.wast_names.specs.ModuleNames.{given_name_in, type_name, direct, indirect}
+use Rattle.wast_names.proofs.Each.{each_more, each_around}
 
 -- the names of items, each of one thing in a list
 pub names_of_each : {X : Type 0} (s : Space) (name_of : X → Space × Option (List ℕ)) (xs : List X) (items : List (Space × Option (List ℕ))) → map name_of xs ≡ items → flat_map (given_name_in s) items ≡ flat_map (λ x. given_name_in s (name_of x)) xs
@@ -45,6 +50,22 @@ pub map_counted : {A : Type 0} (entry : ℕ × A → List ℕ) (InRange : ℕ ×
 map_counted entry InRange [] count is some h = absurd (omega arith)
 map_counted entry InRange (e ∷ es) count is some h = let few : InRangeU32 (length (e ∷ es)) = h.1.0 in omega arith
 
+-- none where none is counted
+pub no_map : {S A : Type 0} (rules : SinkRules S) (entry : ℕ × A → List ℕ) (InRange : ℕ × A → Type 0) (a : S) (es : List (ℕ × A)) (id count : ℕ) → AppendLaws rules → count ≡ counted (length es) → count ≡ 0
+    → Writes {A = Unit {0}} rules (InRangeMap entry InRange es) a a (map_bytes id entry es) (Ok tt)
+no_map rules entry InRange a [] id count laws is none = (laws.none a, tt)
+no_map rules entry InRange a (e ∷ es) id count laws is none = absurd (omega arith)
+
+-- and else its entries behind their number
+pub map_put : {S R A : Type 0} (rules : SinkRules S) (entry : ℕ × A → List ℕ) (InRange : ℕ × A → Type 0) (a b : S) (es : List (ℕ × A)) (id count : ℕ) (r : Result R Refusal) → count ≡ length es → 0 < count
+    → Writes rules (Unit {0} × (InRangeU32 (length (unsigned count ++ flat_map entry es)) × (InRangeU32 count × All InRange es))) a b (id ∷ (unsigned (length (unsigned count ++ flat_map entry es)) ++ (unsigned count ++ flat_map entry es))) r
+    → Writes rules (InRangeMap entry InRange es) a b (map_bytes id entry es) r
+map_put rules entry InRange a b [] id count r is some p = absurd (omega arith)
+map_put rules entry InRange a b (e ∷ es) id count r is some p =
+    let all = e ∷ es in
+    puts_as rules (Unit {0} × InRangeMap entry InRange all) (InRangeMap entry InRange all) a b (map_bytes id entry all) r (λ h. h.1) (λ h. (tt, h))
+    (subst (λ n. Writes rules (Unit {0} × (InRangeU32 (length (unsigned n ++ flat_map entry all)) × (InRangeU32 n × All InRange all))) a b (id ∷ (unsigned (length (unsigned n ++ flat_map entry all)) ++ (unsigned n ++ flat_map entry all))) r) is p)
+
 pub direct_written : {S R : Type 0} (rules : SinkRules S) (a b : S) (of : Named) (names : List (ℕ × List ℕ)) (id : ℕ) (r : Result R Refusal)
     → id ≡ subsection_id of → Writes rules (InRangeMap name_entry InRangeNameEntry names) a b (map_bytes id name_entry names) r
     → Writes rules (All InRangeNameSubsection (direct of names)) a b (flat_map name_subsection (direct of names)) r
@@ -56,6 +77,19 @@ pub indirect_written : {S R : Type 0} (rules : SinkRules S) (a b : S) (of : Name
     → Writes rules (All InRangeNameSubsection (indirect of lists)) a b (flat_map name_subsection (indirect of lists)) r
 indirect_written rules a b of [] id r id_is p = written_as rules (Unit {0}) (All InRangeNameSubsection []) a b [] [] r (λ h. All-nil InRangeNameSubsection) (λ h. tt) refl p
 indirect_written rules a b of (e ∷ es) id r id_is p = subsection_written rules a b (record { of = of; content = Indirect (e ∷ es) }) id r id_is p
+
+-- whether a map has a subsection
+pub direct_some : (of : Named) (es : List (ℕ × List ℕ)) → nat_lt 0 (length es) ≡ nat_lt 0 (length (direct of es))
+direct_some of [] = refl
+direct_some of (e ∷ es) = lt-ltb 0 (length (e ∷ es)) (omega arith)
+
+pub indirect_some : (of : Named) (es : List (ℕ × List (ℕ × List ℕ))) → nat_lt 0 (length es) ≡ nat_lt 0 (length (indirect of es))
+indirect_some of [] = refl
+indirect_some of (e ∷ es) = lt-ltb 0 (length (e ∷ es)) (omega arith)
+
+-- what is read where no map stands
+abbrev pub first_map : NameMap
+first_map = map_of.Items space.Func
 
 -- some items, and those of each of a list
 pub together : {X Y : Type 0} (spell : Y → List ℕ) (f : X → List Y) (ys : List Y) (xs : List X) → flat_map spell ys ++ flat_map (λ x. flat_map spell (f x)) xs ≡ flat_map spell (ys ++ flat_map f xs)
@@ -79,66 +113,64 @@ front_refused rules all part a b x whole e laws le has p = (
 )
 
 -- the subsections behind the name of the section
-pub front_written : {S A X : Type 0} (rules : SinkRules S) (f : X → List NameSubsection) (ys : List NameSubsection) (xs : List X) (a b : S) (size : ℕ) (r : Result A Refusal)
-    → Writes rules ((Unit {0} × (InRangeU32 size × (InRangeName (codes "name") × All InRangeNameSubsection ys))) × All (λ x. All InRangeNameSubsection (f x)) xs) a b
-    ((0 ∷ (unsigned size ++ (name (codes "name") ++ flat_map name_subsection ys))) ++ flat_map (λ x. flat_map name_subsection (f x)) xs) r
-    → Writes rules (Unit {0} × (InRangeU32 size × (InRangeName (codes "name") × All InRangeNameSubsection (ys ++ flat_map f xs)))) a b
-    (0 ∷ (unsigned size ++ name_payload (flat_map name_subsection (ys ++ flat_map f xs)))) r
-front_written rules f ys xs a b size r p =
-    let all : Type 0 = All InRangeNameSubsection (ys ++ flat_map f xs) in
-    let first = flat_map name_subsection ys in
-    let rest = flat_map (λ x. flat_map name_subsection (f x)) xs in
-    let text = name (codes "name") in
-    written_as rules ((Unit {0} × (InRangeU32 size × (InRangeName (codes "name") × All InRangeNameSubsection ys))) × All (λ x. All InRangeNameSubsection (f x)) xs)
-    (Unit {0} × (InRangeU32 size × (InRangeName (codes "name") × all))) a b
-    ((0 ∷ (unsigned size ++ (text ++ first))) ++ rest) (0 ∷ (unsigned size ++ name_payload (flat_map name_subsection (ys ++ flat_map f xs)))) r
-    (λ h. (tt, (h.0.1.0, (h.0.1.1.0, all_together InRangeNameSubsection f ys xs h.0.1.1.1 h.1))))
-    (λ h. let apart = all_apart InRangeNameSubsection f ys xs h.1.1.1 in ((tt, (h.1.0, (h.1.1.0, apart.0))), apart.1))
-    (ap (λ z. 0 ∷ z) (append_assoc (unsigned size) (text ++ first) rest ∙ ap (λ z. unsigned size ++ z) (append_assoc text first rest ∙ ap (λ z. text ++ z) (together name_subsection f ys xs))))
-    p
+module _ {X : Type 0} (f : X → List NameSubsection) (ys : List NameSubsection) (xs : List X) where
+  abbrev whole : List NameSubsection
+  whole = ys ++ flat_map f xs
 
-pub names_absent : {S : Type 0} (rules : SinkRules S) (a : S) (subsections : List NameSubsection) (size : ℕ) → AppendLaws rules → size ≡ length (names_payload_of subsections) → size ≡ 0
+  abbrev Apart : Type 0
+  Apart = (InRangeName (codes "name") × All InRangeNameSubsection ys) × All (λ x. All InRangeNameSubsection (f x)) xs
+
+  abbrev first : List ℕ
+  first = name (codes "name") ++ flat_map name_subsection ys
+
+  abbrev rest : List ℕ
+  rest = flat_map (λ x. flat_map name_subsection (f x)) xs
+
+  payload_bytes : first ++ rest ≡ payload_of whole
+  payload_bytes =
+      let text = name (codes "name") in
+      append_assoc text (flat_map name_subsection ys) rest ∙ ap (λ z. text ++ z) (together name_subsection f ys xs)
+
+  payload_fits : Apart → InRangePayload whole
+  payload_fits h = (h.0.0, all_together InRangeNameSubsection f ys xs h.0.1 h.1)
+
+  parts_fit : InRangePayload whole → Apart
+  parts_fit h = let apart = all_apart InRangeNameSubsection f ys xs h.1 in ((h.0, apart.0), apart.1)
+
+  pub payload_written : {S A : Type 0} (rules : SinkRules S) (a b : S) (r : Result A Refusal) → Writes rules Apart a b (first ++ rest) r → Writes rules (InRangePayload whole) a b (payload_of whole) r
+  payload_written rules a b r p = written_as rules Apart (InRangePayload whole) a b (first ++ rest) (payload_of whole) r payload_fits parts_fit payload_bytes p
+
+  -- behind its length too
+  pub sized_written : {S A : Type 0} (rules : SinkRules S) (a b : S) (size : ℕ) (r : Result A Refusal) → size ≡ length (payload_of whole)
+      → Writes rules ((InRangeU32 size × (InRangeName (codes "name") × All InRangeNameSubsection ys)) × All (λ x. All InRangeNameSubsection (f x)) xs) a b ((unsigned size ++ first) ++ rest) r
+      → Writes rules (InRangeSized InRangePayload payload_of whole) a b (sized payload_of whole) r
+  sized_written rules a b size r is p =
+      written_as rules ((InRangeU32 size × (InRangeName (codes "name") × All InRangeNameSubsection ys)) × All (λ x. All InRangeNameSubsection (f x)) xs) (InRangeSized InRangePayload payload_of whole) a b
+      ((unsigned size ++ first) ++ rest) (sized payload_of whole) r
+      (λ h. (subst InRangeU32 is h.0.0, payload_fits (h.0.1, h.1)))
+      (λ h. let parts = parts_fit h.1 in ((subst InRangeU32 (sym is) h.0, parts.0), parts.1))
+      (append_assoc (unsigned size) first rest ∙ ap (λ z. unsigned size ++ z) payload_bytes ∙ ap (λ n. unsigned n ++ payload_of whole) is)
+      p
+
+-- a byte 0 that keeps the place of a length, set anew
+pub byte_kept : {S : Type 0} (rules : SinkRules S) (a b c : S) (n : ℕ) (says : Bool)
+    → AppendLaws rules → rules.appended a b (0 ∷ []) → n ≡ rules.size_of a → Sets rules b c n 0 says → says ≡ true → rules.appended a c (0 ∷ [])
+byte_kept rules a b c n says laws h at set says_yes =
+    subst (rules.appended a c) (append-nil (unsigned 0) ∙ unsigned-small 0 (omega arith)) (number_set rules a b c 0 0 [] n says laws h at set says_yes)
+
+-- a section is left out where it has no subsections
+pub names_absent : {S : Type 0} (rules : SinkRules S) (a : S) (subsections : List NameSubsection) → AppendLaws rules → nat_lt 0 (length subsections) ≡ false
     → Writes {A = Unit {0}} rules (All InRangePart (names_part subsections) × All InRangeNameSubsection subsections) a a (flat_map part (names_part subsections)) (Ok tt)
-names_absent rules a [] size laws is none = (laws.none a, (All-nil InRangePart, All-nil InRangeNameSubsection))
-names_absent rules a (s ∷ ss) size laws is none =
-    let text = codes "name" in
-    absurd (omega (arith, length-append (unsigned (length text) ++ text) (flat_map name_subsection (s ∷ ss)), length-append (unsigned (length text)) text, unsigned-nonempty (length text)))
+names_absent rules a [] laws none = (laws.none a, (All-nil InRangePart, All-nil InRangeNameSubsection))
+names_absent rules a (s ∷ ss) laws none = absurd (omega (arith, ltb-false 0 (length (s ∷ ss)) none))
 
-pub names_in_range : (subsections : List NameSubsection) → (length subsections ≡ 0 → ⊥) → All InRangePart (names_part subsections) × All InRangeNameSubsection subsections
-    → InRangeU32 (length (name_payload (flat_map name_subsection subsections))) × (InRangeName (codes "name") × All InRangeNameSubsection subsections)
-names_in_range [] some h = absurd (some refl)
-names_in_range (s ∷ ss) some h = let one = All-head InRangePart (record { kind = Custom; items = record { name = codes "name"; bytes = flat_map name_subsection (s ∷ ss) } }) [] h.0 in (one.0, (one.1, h.1))
-
--- how long the payload is, of how long its subsections are
-pub payload_length : (subsections : List NameSubsection) (size : ℕ) → size ≡ length (flat_map name_subsection subsections) → (size ≡ 0 → ⊥) → 5 + size ≡ length (names_payload_of subsections)
-unfolding unsigned unsigned_in
-payload_length [] size is some = absurd (some is)
-payload_length (s ∷ ss) size is some = omega (arith, length-append (unsigned (length (codes "name")) ++ codes "name") (flat_map name_subsection (s ∷ ss)))
-
-pub payload_none : (subsections : List NameSubsection) (size : ℕ) → size ≡ length (flat_map name_subsection subsections) → size ≡ 0 → 0 ≡ length (names_payload_of subsections)
-payload_none [] size is none = refl
-payload_none (s ∷ ss) size is none = absurd (omega (arith, ap length (flat_map-cons name_subsection s ss), length-append (name_subsection s) (flat_map name_subsection ss)))
-
--- what has its payload in range has its subsections so
-pub subsections_in_range : (subsections : List NameSubsection) → All InRangePart (names_part subsections) × All InRangeNameSubsection subsections → InRangeSized (All InRangeNameSubsection) (flat_map name_subsection) subsections
-subsections_in_range [] h = (omega arith, h.1)
-subsections_in_range (s ∷ ss) h =
-    let small = (names_in_range (s ∷ ss) (λ z. omega arith) h).0 in
-    let text = unsigned (length (codes "name")) ++ codes "name" in
-    (omega (arith, length-append text (flat_map name_subsection (s ∷ ss))), h.1)
-
-pub payload_in_range : (subsections : List NameSubsection) (size : ℕ) → size ≡ length (flat_map name_subsection subsections) → (size ≡ 0 → ⊥) → All InRangePart (names_part subsections) × All InRangeNameSubsection subsections → 5 + size < 4294967296
-payload_in_range [] size is some h = absurd (some is)
-payload_in_range (s ∷ ss) size is some h = let small = (names_in_range (s ∷ ss) (λ z. omega arith) h).0 in omega (arith, payload_length (s ∷ ss) size is some)
-
--- the name section, where there are subsections, of how long its payload is
-pub names_written : {S A : Type 0} (rules : SinkRules S) (a b : S) (subsections : List NameSubsection) (size : ℕ) (r : Result A Refusal) → size ≡ length (names_payload_of subsections) → (size ≡ 0 → ⊥)
-    → Writes rules (Unit {0} × (InRangeU32 size × (InRangeName (codes "name") × All InRangeNameSubsection subsections))) a b (0 ∷ (unsigned size ++ name_payload (flat_map name_subsection subsections))) r
+-- and else its payload stands behind its id and its length
+pub names_written : {S A : Type 0} (rules : SinkRules S) (a b : S) (subsections : List NameSubsection) (r : Result A Refusal) → nat_lt 0 (length subsections) ≡ true
+    → Writes rules (InRangeSized InRangePayload payload_of subsections) a b (0 ∷ sized payload_of subsections) r
     → Writes rules (All InRangePart (names_part subsections) × All InRangeNameSubsection subsections) a b (flat_map part (names_part subsections)) r
-names_written rules a b [] size r is some p = absurd (some is)
-names_written rules a b (s ∷ ss) size r is some p =
+names_written rules a b [] r some p = absurd cc
+names_written rules a b (s ∷ ss) r some p =
     let bytes = flat_map name_subsection (s ∷ ss) in
     let it : Part = record { kind = Custom; items = record { name = codes "name"; bytes = bytes } } in
-    written_as rules (Unit {0} × (InRangeU32 (length (name_payload bytes)) × (InRangeName (codes "name") × All InRangeNameSubsection (s ∷ ss)))) (All InRangePart (it ∷ []) × All InRangeNameSubsection (s ∷ ss)) a b (part it) (flat_map part (it ∷ [])) r
-    (λ h. (all_one InRangePart it (h.1.0, h.1.1.0), h.1.1.1)) (λ h. (tt, names_in_range (s ∷ ss) (λ z. omega arith) h)) (sym (flat_one part it))
-    (subst (λ (m : ℕ). Writes rules (Unit {0} × (InRangeU32 m × (InRangeName (codes "name") × All InRangeNameSubsection (s ∷ ss)))) a b (0 ∷ (unsigned m ++ name_payload bytes)) r) is p)
+    written_as rules (InRangeSized InRangePayload payload_of (s ∷ ss)) (All InRangePart (it ∷ []) × All InRangeNameSubsection (s ∷ ss)) a b (part it) (flat_map part (it ∷ [])) r
+    (λ h. (all_one InRangePart it (h.0, h.1.0), h.1.1)) (λ h. let one = All-head InRangePart it [] h.0 in (one.0, (one.1, h.1))) (sym (flat_one part it)) p

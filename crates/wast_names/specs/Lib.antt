@@ -2,7 +2,6 @@ pub mod Checkpoints
 pub mod FieldsWithNames
 pub mod FoundNames
 pub mod GivenNames
-pub mod MapExtents
 pub mod ModuleNames
 pub mod NamesPart
 pub mod Tree

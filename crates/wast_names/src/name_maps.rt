@@ -1,17 +1,14 @@
 //! Maps of names: the entries of items, by their positions.
 
-ghost use Rattle.std.specs.Prelude.{◌≡◌, ◌+◌, ℕ, List, [], ◌∷◌, Option, length, All, IfOk, IfErr, IsTrue, true};
+ghost use Rattle.std.specs.Prelude.{◌≡◌, ◌+◌, nat_lt, ℕ, List, [], ◌∷◌, Option, length, All, IfOk, IsTrue, true};
 ghost use Rattle.std.specs.List.{flat_map};
 ghost use Rattle.std.specs.Option.{option_to_list};
 ghost use Rattle.wasm_ops.specs.Sinks.{Writes};
-ghost use Rattle.wasm_ops.specs.declared.sink.Refusal.TheVariants as refusal;
 ghost use Rattle.wasm_out.specs.NameSectionBytes.{name_entry, InRangeNameEntry};
-ghost use Rattle.wast_names.specs.MapExtents.{is_extent};
 ghost use Rattle.wast_names.specs.GivenNames.{named_from};
 ghost use Rattle.wast_names.specs.FoundNames.{counted, text_seen, WritesItems, map_bytes, InRangeMap, entry_spelling, InRangeEntryOf};
 
-use crate::extents::MapExtent;
-use wasm_ops::{Encode, Name, Refusal, Sink, length_of};
+use wasm_ops::{Encode, Name, Refusal, Sink, WithLength};
 
 /// A way to see items in values of a type, each with an entry of a map of names, or without one. Positions and counts
 /// stay at the greatest `u64` where they would pass it: from 2^32 on, no entry stands at a position, and no count is in
@@ -52,6 +49,18 @@ pub(crate) fn count_each<T, W: CountItems<T>>(way: &W, parts: &[T]) -> u64
         sum = sum.saturating_add(way.count(part));
     }
     sum
+}
+
+/// Whether any item in a list has an entry. It goes no further than the first value with one.
+pub(crate) fn any_of<'b, T, W: CountItems<T> + Copy>(way: W, parts: &'b [T]) -> bool
+    ensures { result ≡ nat_lt 0 (length (named_from 0 (flat_map (W.items way) parts.now))) }
+{
+    for part in parts {
+        if way.count(part) != 0 {
+            return true;
+        }
+    }
+    false
 }
 
 /// Appends the entries of the items in a list, and answers the position behind the last.
@@ -121,20 +130,20 @@ impl<T, W: NameItems<T>> Encode for Entries<'_, T, W> {
     }
 }
 
-/// The extent of a map of as many entries. It refuses as too large, where a number, count or length in it is out of range.
-pub(crate) fn extent_of<'b, T, W: NameItems<T> + Copy>(
+/// A map of the items in a list as a subsection of this id, where it has entries. It needs to know how many it has.
+pub(crate) fn put_map<'b, T, W: NameItems<T> + Copy, S: Sink>(
+    id: u8,
+    count: u64,
     way: W,
     parts: &'b [T],
-    count: u64,
-) -> Result<MapExtent, Refusal>
+    out: &'b mut S,
+) -> Result<(), Refusal>
     requires { count ≡ counted (length (named_from 0 (flat_map (W.items way) parts.now))) }
-    ensures ok { IfOk result (λ e. IsTrue (is_extent W.entry (named_from 0 (flat_map (W.items way) parts.now)) e)
-        × InRangeMap W.entry W.in_range (named_from 0 (flat_map (W.items way) parts.now))) }
-    ensures err { IfErr result (λ e. (e ≡ refusal.TooLarge)
-        × (InRangeMap W.entry W.in_range (named_from 0 (flat_map (W.items way) parts.now)) → ⊥)) }
+    ensures { Writes S.rules (InRangeMap W.entry W.in_range (named_from 0 (flat_map (W.items way) parts.now)))
+        out.old out.new (map_bytes id W.entry (named_from 0 (flat_map (W.items way) parts.now))) result }
 {
     if count == 0 {
-        return Ok(MapExtent { count: 0, size: 0 });
+        return Ok(());
     }
     let Ok(count) = u32::try_from(count) else {
         return Err(Refusal::TooLarge);
@@ -144,44 +153,20 @@ pub(crate) fn extent_of<'b, T, W: NameItems<T> + Copy>(
         first: 0,
         parts,
     };
-    let size = length_of(&(count, entries))?;
-    Ok(MapExtent { count, size })
+    (id, WithLength((count, entries))).encode(out)
 }
 
 /// The same of items that are counted.
-pub(crate) fn measured<'b, T, W: CountItems<T> + Copy>(
-    way: W,
-    parts: &'b [T],
-) -> Result<MapExtent, Refusal>
-    ensures ok { IfOk result (λ e. IsTrue (is_extent W.entry (named_from 0 (flat_map (W.items way) parts.now)) e)
-        × InRangeMap W.entry W.in_range (named_from 0 (flat_map (W.items way) parts.now))) }
-    ensures err { IfErr result (λ e. (e ≡ refusal.TooLarge)
-        × (InRangeMap W.entry W.in_range (named_from 0 (flat_map (W.items way) parts.now)) → ⊥)) }
-{
-    extent_of(way, parts, count_each(&way, parts))
-}
-
-/// A map as a subsection of this id, where it has entries. It needs its extent.
-pub(crate) fn put_map<'b, T, W: NameItems<T> + Copy, S: Sink>(
+pub(crate) fn put_counted<'b, T, W: CountItems<T> + Copy, S: Sink>(
     id: u8,
-    extent: MapExtent,
     way: W,
     parts: &'b [T],
     out: &'b mut S,
 ) -> Result<(), Refusal>
-    requires { IsTrue (is_extent W.entry (named_from 0 (flat_map (W.items way) parts.now)) extent) }
     ensures { Writes S.rules (InRangeMap W.entry W.in_range (named_from 0 (flat_map (W.items way) parts.now)))
         out.old out.new (map_bytes id W.entry (named_from 0 (flat_map (W.items way) parts.now))) result }
 {
-    if extent.count == 0 {
-        return Ok(());
-    }
-    let entries = Entries {
-        way,
-        first: 0,
-        parts,
-    };
-    (id, (extent.size, (extent.count, entries))).encode(out)
+    put_map(id, count_each(&way, parts), way, parts, out)
 }
 
 /// Appends the name of an item at its position, where it has one, and answers the position behind it.

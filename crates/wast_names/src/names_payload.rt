@@ -1,27 +1,28 @@
 //! The name section of a module.
 
-ghost use Rattle.std.specs.Prelude.{◌≡◌, ◌<◌, ◌++◌, length, true, All, IfOk, IfErr, IsTrue, ◌+◌, ℕ, List, Option, map};
+ghost use Rattle.std.specs.Prelude.{◌≡◌, ◌<◌, ◌++◌, nat_lt, length, true, All, IfOk, IfErr, IsTrue, ◌∷◌, ◌+◌, ℕ, List, Option, map};
 ghost use Rattle.std.specs.List.{flat_map};
 ghost use Rattle.wasm_ops.specs.Sinks.{Writes};
+ghost use Rattle.wasm_ops.specs.Spelling.{sized, InRangeSized};
 ghost use Rattle.wasm_ops.specs.declared.sink.Refusal.TheVariants as refusal;
 ghost use Rattle.wasm_out.specs.NameSectionBytes.{name_entry, map_entry, name_subsection, subsection_id, InRangeNameEntry, InRangeMapEntry, InRangeNameSubsection};
 ghost use Rattle.wasm_out.specs.Parts.{part, InRangePart};
 ghost use Rattle.wast_reach.specs.Reaches.{are_reaches};
 ghost use Rattle.wast_names.specs.Checkpoints.{Tells};
-ghost use Rattle.wast_names.specs.MapExtents.{is_extent, is_map_extent, each_extent, are_map_extents};
-ghost use Rattle.wast_names.specs.NamesPart.{names_part, names_payload_of};
+ghost use Rattle.wast_names.specs.NamesPart.{names_part, payload_of, InRangePayload};
 ghost use Rattle.wast_names.specs.GivenNames.{id_text, given_name, named_from};
 ghost use Rattle.wast_names.specs.FoundNames.{text_seen, items_seen, counted, WritesItems, map_bytes, InRangeMap};
 ghost use Rattle.wast_names.specs.WithinItems.{types_within};
 ghost use Rattle.wast_names.specs.ModuleNames.{type_name, sig_name, item_names_in, given_name_in, names_given, named_of, named_within, map_names, module_name, name_maps, name_subsections, InRangeNames};
 
 use crate::arities::{Checkpoints, FieldTypes, Places, TypesOf};
-use crate::extents::{MapExtent, NamesExtent, map_extents, subsections_size};
 use crate::imported::{count_imported, put_imported};
-use crate::name_maps::{CountItems, NameItems, count_each, put_each, put_map, put_name};
+use crate::name_maps::{
+    CountItems, NameItems, any_of, count_each, put_counted, put_each, put_map, put_name,
+};
 use crate::named_fields::{reach_of_types, with_items, with_lists};
-use crate::within::{PutLists, Within, WithinItems};
-use wasm_ops::{Encode, Name, Refusal, Sink, WithLength, length_of};
+use crate::within::{PutLists, Within, WithinItems, any_lists, count_lists};
+use wasm_ops::{Encode, Length, Name, Refusal, Sink, WithLength};
 use wast_base::{Id, NameAnnotation, Space};
 use wast_nodes::{ImportItems, ItemSig, ModuleField, Type};
 use wast_reach::{FieldKind, Reaches};
@@ -239,17 +240,17 @@ pub(crate) enum NameMap {
     Within(Within),
 }
 
-/// Appends the subsection of the lists of names within items of some of these fields, where there are any. It needs the
-/// extent of the map of them, and the checkpoints of these fields.
+/// Appends the subsection of the lists of names within items of some of these fields, where there are any. It needs to know
+/// how many items have one, and the checkpoints of these fields.
 fn put_lists<'b, T: FieldTypes + PutLists, S: Sink>(
     fields: &'b [T],
     there: &'b [T],
     within: Within,
-    extent: MapExtent,
+    count: u64,
     checkpoints: Checkpoints<'b>,
     out: &'b mut S,
 ) -> Result<(), Refusal>
-    requires extent { IsTrue (is_extent map_entry (named_from 0 (flat_map (T.lists (flat_map T.types fields.now) within) there.now)) extent) }
+    requires count { count ≡ counted (length (named_from 0 (flat_map (T.lists (flat_map T.types fields.now) within) there.now))) }
     requires checkpoints { Tells T.types fields.now checkpoints.places checkpoints.before.now }
     ensures { Writes S.rules (InRangeMap map_entry InRangeMapEntry (named_from 0 (flat_map (T.lists (flat_map T.types fields.now) within) there.now)))
         out.old out.new (map_bytes (subsection_id (named_within within)) map_entry (named_from 0 (flat_map (T.lists (flat_map T.types fields.now) within) there.now))) result }
@@ -257,19 +258,18 @@ fn put_lists<'b, T: FieldTypes + PutLists, S: Sink>(
     let id = id_within(within);
     let arities = TypesOf::new(fields, checkpoints);
     let way = WithinItems { arities, within };
-    put_map(id, extent, way, there, out)
+    put_map(id, count, way, there, out)
 }
 
-/// Appends the subsection of a map of the names in these fields, where there are any. It needs the extent of the map.
+/// Appends the subsection of a map of the names in these fields, where there are any. It goes through those fields that can
+/// have such names once for their number, and where there are any once more.
 fn put_subsection<S: Sink>(
     fields: &[ModuleField],
     map: &NameMap,
-    extent: MapExtent,
     reaches: &Reaches,
     checkpoints: Checkpoints,
     out: &mut S,
 ) -> Result<(), Refusal>
-    requires extent { IsTrue (is_map_extent fields.now map.now extent) }
     requires reaches { IsTrue (are_reaches fields.now reaches.now) }
     requires checkpoints { Tells types_within fields.now checkpoints.places checkpoints.before.now }
     ensures { Writes S.rules (All InRangeNameSubsection (map_names fields.now map.now))
@@ -278,25 +278,24 @@ fn put_subsection<S: Sink>(
     match map {
         NameMap::Items(space) => {
             let there = with_items(*space, fields, reaches);
-            put_map(id_of(*space), extent, *space, there, out)
+            put_counted(id_of(*space), *space, there, out)
         }
         NameMap::Within(within) => {
             let there = with_lists(*within, fields, reaches);
-            put_lists(fields, there, *within, extent, checkpoints, out)
+            let count = count_lists(fields, there, *within, checkpoints);
+            put_lists(fields, there, *within, count, checkpoints, out)
         }
     }
 }
 
-/// Appends the subsections of maps of the names in these fields, one after another. It needs their extents.
+/// Appends the subsections of maps of the names in these fields, one after another.
 fn put_subsections<S: Sink>(
     fields: &[ModuleField],
     maps: &[NameMap],
-    extents: &[MapExtent],
     reaches: &Reaches,
     checkpoints: Checkpoints,
     out: &mut S,
 ) -> Result<(), Refusal>
-    requires extents { IsTrue (each_extent fields.now maps.now extents.now) }
     requires reaches { IsTrue (are_reaches fields.now reaches.now) }
     requires checkpoints { Tells types_within fields.now checkpoints.places checkpoints.before.now }
     ensures { Writes S.rules (All (λ m. All InRangeNameSubsection (map_names fields.now m)) maps.now)
@@ -304,13 +303,55 @@ fn put_subsections<S: Sink>(
 {
     let start = out.size();
     for i in 0..maps.len() {
-        let result = put_subsection(fields, &maps[i], extents[i], reaches, checkpoints, out);
+        let result = put_subsection(fields, &maps[i], reaches, checkpoints, out);
         if result.is_err() {
             out.cut(start);
             return result;
         }
     }
     Ok(())
+}
+
+/// Whether there are names in these fields of which this is the map. It goes no further than the first field with one.
+fn any_in_map(
+    fields: &[ModuleField],
+    map: &NameMap,
+    reaches: &Reaches,
+    checkpoints: Checkpoints,
+) -> bool
+    requires reaches { IsTrue (are_reaches fields.now reaches.now) }
+    requires checkpoints { Tells types_within fields.now checkpoints.places checkpoints.before.now }
+    ensures { result ≡ nat_lt 0 (length (map_names fields.now map.now)) }
+{
+    match map {
+        NameMap::Items(space) => {
+            let there = with_items(*space, fields, reaches);
+            any_of(*space, there)
+        }
+        NameMap::Within(within) => {
+            let there = with_lists(*within, fields, reaches);
+            any_lists(fields, there, *within, checkpoints)
+        }
+    }
+}
+
+/// Whether there are names in these fields for any of the maps.
+fn any_in_maps(
+    fields: &[ModuleField],
+    maps: &[NameMap],
+    reaches: &Reaches,
+    checkpoints: Checkpoints,
+) -> bool
+    requires reaches { IsTrue (are_reaches fields.now reaches.now) }
+    requires checkpoints { Tells types_within fields.now checkpoints.places checkpoints.before.now }
+    ensures { result ≡ nat_lt 0 (length (flat_map (map_names fields.now) maps.now)) }
+{
+    for i in 0..maps.len() {
+        if any_in_map(fields, &maps[i], reaches, checkpoints) {
+            return true;
+        }
+    }
+    false
 }
 
 /// The maps of names, in the order of their subsections.
@@ -349,17 +390,35 @@ impl Encode for ModuleName<'_> {
     }
 }
 
-/// Appends what stands before the maps of names, and then those of these fields. It needs their extents.
+/// Whether the name section of a module with this name and these fields has subsections.
+fn has_names(
+    fields: &[ModuleField],
+    name: Option<&str>,
+    reaches: &Reaches,
+    checkpoints: Checkpoints,
+) -> bool
+    requires reaches { IsTrue (are_reaches fields.now reaches.now) }
+    requires checkpoints { Tells types_within fields.now checkpoints.places checkpoints.before.now }
+    ensures { result ≡ nat_lt 0 (length (name_subsections (text_seen name.entry) fields.now)) }
+{
+    match name {
+        Some(_) => true,
+        None => {
+            let maps = NAME_MAPS;
+            any_in_maps(fields, &maps, reaches, checkpoints)
+        }
+    }
+}
+
+/// Appends what stands before the maps of names, and then those of these fields.
 fn put_behind<P: Encode, S: Sink>(
     fields: &[ModuleField],
     front: &P,
-    extents: &[MapExtent],
     reaches: &Reaches,
     checkpoints: Checkpoints,
     out: &mut S,
 ) -> Result<(), Refusal>
     requires front { IsTrue (P.is_ready front.now) }
-    requires extents { IsTrue (are_map_extents fields.now extents.now) }
     requires reaches { IsTrue (are_reaches fields.now reaches.now) }
     requires checkpoints { Tells types_within fields.now checkpoints.places checkpoints.before.now }
     ensures { Writes S.rules (P.in_range front.now × All (λ m. All InRangeNameSubsection (map_names fields.now m)) name_maps)
@@ -368,26 +427,155 @@ fn put_behind<P: Encode, S: Sink>(
     let start = out.size();
     front.encode(out)?;
     let maps = NAME_MAPS;
-    let second = put_subsections(fields, &maps, extents, reaches, checkpoints, out);
+    let second = put_subsections(fields, &maps, reaches, checkpoints, out);
     if second.is_err() {
         out.cut(start);
     }
     second
 }
 
-/// The places of the checkpoints of these fields. Where no type is looked up, they are not walked over; and else those alone
-/// that can have types.
-fn places_of<'b>(
-    fields: &'b [ModuleField],
-    reaches: &'b Reaches,
-    is_asked: bool,
-    room: &'b mut [u32],
-) -> Places
+/// Appends what stands behind the length of the name section: that it is called `name`, and its subsections.
+fn put_payload<S: Sink>(
+    fields: &[ModuleField],
+    name: Option<&str>,
+    reaches: &Reaches,
+    checkpoints: Checkpoints,
+    out: &mut S,
+) -> Result<(), Refusal>
+    requires reaches { IsTrue (are_reaches fields.now reaches.now) }
+    requires checkpoints { Tells types_within fields.now checkpoints.places checkpoints.before.now }
+    ensures { Writes S.rules (InRangePayload (name_subsections (text_seen name.entry) fields.now))
+        out.old out.new (payload_of (name_subsections (text_seen name.entry) fields.now)) result }
+{
+    let front = (Name("name"), ModuleName(name));
+    put_behind(fields, &front, reaches, checkpoints, out)
+}
+
+/// Appends that payload behind its length, which is told.
+fn put_sized<S: Sink>(
+    fields: &[ModuleField],
+    name: Option<&str>,
+    reaches: &Reaches,
+    checkpoints: Checkpoints,
+    size: u32,
+    out: &mut S,
+) -> Result<(), Refusal>
+    requires reaches { IsTrue (are_reaches fields.now reaches.now) }
+    requires checkpoints { Tells types_within fields.now checkpoints.places checkpoints.before.now }
+    requires size { size ≡ length (payload_of (name_subsections (text_seen name) fields.now)) }
+    ensures { Writes S.rules (InRangeSized InRangePayload payload_of (name_subsections (text_seen name.entry) fields.now))
+        out.old out.new (sized payload_of (name_subsections (text_seen name.entry) fields.now)) result }
+{
+    let front = (size, (Name("name"), ModuleName(name)));
+    put_behind(fields, &front, reaches, checkpoints, out)
+}
+
+/// How long that payload is, which is counted as it would be written. It refuses as too large, where a number, count or length
+/// in it is out of range, or its own.
+fn payload_length(
+    fields: &[ModuleField],
+    name: Option<&str>,
+    reaches: &Reaches,
+    checkpoints: Checkpoints,
+) -> Result<u32, Refusal>
+    requires reaches { IsTrue (are_reaches fields.now reaches.now) }
+    requires checkpoints { Tells types_within fields.now checkpoints.places checkpoints.before.now }
+    ensures ok { IfOk result (λ n. n ≡ length (payload_of (name_subsections (text_seen name.entry) fields.now))) }
+    ensures err { IfErr result (λ e. (e ≡ refusal.TooLarge)
+        × (InRangeSized InRangePayload payload_of (name_subsections (text_seen name.entry) fields.now) → ⊥)) }
+{
+    let mut length = Length::new();
+    put_payload(fields, name, reaches, checkpoints, &mut length)?;
+    match u32::try_from(length.count()) {
+        Ok(count) => Ok(count),
+        Err(_) => Err(Refusal::TooLarge),
+    }
+}
+
+/// Appends that payload behind its length, which is counted first: for a sink that sets no number where one was put.
+fn put_length_first<S: Sink>(
+    fields: &[ModuleField],
+    name: Option<&str>,
+    reaches: &Reaches,
+    checkpoints: Checkpoints,
+    out: &mut S,
+) -> Result<(), Refusal>
+    requires reaches { IsTrue (are_reaches fields.now reaches.now) }
+    requires checkpoints { Tells types_within fields.now checkpoints.places checkpoints.before.now }
+    ensures { Writes S.rules (InRangeSized InRangePayload payload_of (name_subsections (text_seen name.entry) fields.now))
+        out.old out.new (sized payload_of (name_subsections (text_seen name.entry) fields.now)) result }
+{
+    let size = payload_length(fields, name, reaches, checkpoints)?;
+    put_sized(fields, name, reaches, checkpoints, size, out)
+}
+
+/// Appends that payload behind its length, as [`WithLength`] does with what is a value: so the names are gone through once,
+/// and their length is set where a byte kept its place.
+fn put_with_length<S: Sink>(
+    fields: &[ModuleField],
+    name: Option<&str>,
+    reaches: &Reaches,
+    checkpoints: Checkpoints,
+    out: &mut S,
+) -> Result<(), Refusal>
+    requires reaches { IsTrue (are_reaches fields.now reaches.now) }
+    requires checkpoints { Tells types_within fields.now checkpoints.places checkpoints.before.now }
+    ensures { Writes S.rules (InRangeSized InRangePayload payload_of (name_subsections (text_seen name.entry) fields.now))
+        out.old out.new (sized payload_of (name_subsections (text_seen name.entry) fields.now)) result }
+{
+    let start = out.size();
+    out.push_bytes(&[0])?;
+    if !out.set_number(start, 0) {
+        out.cut(start);
+        return put_length_first(fields, name, reaches, checkpoints, out);
+    }
+    let payload = put_payload(fields, name, reaches, checkpoints, out);
+    if payload.is_err() {
+        out.cut(start);
+        return payload;
+    }
+    let length = out.size() - start - 1;
+    let Ok(size) = u32::try_from(length) else {
+        out.cut(start);
+        return Err(Refusal::TooLarge);
+    };
+    if out.set_number(start, length) {
+        return Ok(());
+    }
+    out.cut(start);
+    put_sized(fields, name, reaches, checkpoints, size, out)
+}
+
+/// Appends that payload behind the id of a custom section and its length.
+fn put_section<S: Sink>(
+    fields: &[ModuleField],
+    name: Option<&str>,
+    reaches: &Reaches,
+    checkpoints: Checkpoints,
+    out: &mut S,
+) -> Result<(), Refusal>
+    requires reaches { IsTrue (are_reaches fields.now reaches.now) }
+    requires checkpoints { Tells types_within fields.now checkpoints.places checkpoints.before.now }
+    ensures { Writes S.rules (InRangeSized InRangePayload payload_of (name_subsections (text_seen name.entry) fields.now))
+        out.old out.new (0 ∷ sized payload_of (name_subsections (text_seen name.entry) fields.now)) result }
+{
+    let start = out.size();
+    out.push_bytes(&[0])?;
+    let second = put_with_length(fields, name, reaches, checkpoints, out);
+    if second.is_err() {
+        out.cut(start);
+    }
+    second
+}
+
+/// The places of the checkpoints of these fields. Where no type can be looked up, they are not walked over; and else those
+/// alone that can have types.
+fn places_of<'b>(fields: &'b [ModuleField], reaches: &'b Reaches, room: &'b mut [u32]) -> Places
     requires reaches { IsTrue (are_reaches fields.now reaches.now) }
     requires room { 0 < length room.old }
     ensures { Tells types_within fields.now result room.new }
 {
-    if !is_asked {
+    if asked_fields(reaches) == 0 {
         return Places::none(room);
     }
     let reach = reach_of_types(reaches);
@@ -403,112 +591,44 @@ fn asked_fields(reaches: &Reaches) -> usize {
     reach.end.saturating_sub(reach.first)
 }
 
-/// The extent of the name section, with room for so many checkpoints.
-fn extent_within(
-    fields: &[ModuleField],
-    name: Option<&str>,
-    reaches: &Reaches,
-    room: &mut [u32],
-) -> Result<NamesExtent, Refusal>
-    requires reaches { IsTrue (are_reaches fields.now reaches.now) }
-    requires room { 0 < length room.old }
-    ensures ok { IfOk result (λ e. (e.size ≡ length (names_payload_of (name_subsections (text_seen name.entry) fields.now)))
-        × IsTrue (are_map_extents fields.now e.maps)) }
-    ensures err { IfErr result (λ e. (e ≡ refusal.TooLarge)
-        × (All InRangePart (names_part (name_subsections (text_seen name.entry) fields.now))
-        × InRangeNames (text_seen name.entry) fields.now → ⊥)) }
-{
-    let places = places_of(&*fields, &*reaches, asked_fields(reaches) != 0, room);
-    let checkpoints = Checkpoints {
-        places,
-        before: &*room,
-    };
-    let maps = map_extents(fields, reaches, checkpoints)?;
-    let front = length_of(&ModuleName(name))?;
-    let subsections = u64::from(front) + subsections_size(&maps);
-    if subsections == 0 {
-        return Ok(NamesExtent { size: 0, maps });
-    }
-    // `name` as a name: its length, and four bytes
-    match u32::try_from(5 + subsections) {
-        Ok(size) => Ok(NamesExtent { size, maps }),
-        Err(_) => Err(Refusal::TooLarge),
-    }
-}
-
-/// The extent of the name section of a module with this name and these resolved fields: how long its payload is, 0 where
-/// there are no names, and the section is left out; and how many entries each map of names has, and how long these are
-/// (custom sections, name section). It needs where in these fields those of each kind stand, as [`Reaches::of`] tells it, and
-/// goes through those alone that can have names: for each map once, and where it has names once more. It takes no memory, and
-/// refuses only as too large, where a number, count or length in the section is out of range.
-pub fn names_extent(
-    fields: &[ModuleField],
-    name: Option<&str>,
-    reaches: &Reaches,
-) -> Result<NamesExtent, Refusal>
-    requires { IsTrue (are_reaches fields.now reaches.now) }
-    ensures ok { IfOk result (λ e. (e.size ≡ length (names_payload_of (name_subsections (text_seen name.entry) fields.now)))
-        × IsTrue (are_map_extents fields.now e.maps)) }
-    ensures err { IfErr result (λ e. (e ≡ refusal.TooLarge)
-        × (All InRangePart (names_part (name_subsections (text_seen name.entry) fields.now))
-        × InRangeNames (text_seen name.entry) fields.now → ⊥)) }
-{
-    let asked = asked_fields(reaches);
-    if asked <= FEW {
-        let mut room = [0u32; 64];
-        return extent_within(fields, name, reaches, &mut room);
-    }
-    let mut room = [0u32; 1024];
-    extent_within(fields, name, reaches, &mut room)
-}
-
 /// Appends the name section, where there are names, with room for so many checkpoints.
 fn put_within<S: Sink>(
     fields: &[ModuleField],
     name: Option<&str>,
     reaches: &Reaches,
-    extent: &NamesExtent,
     room: &mut [u32],
     out: &mut S,
 ) -> Result<(), Refusal>
     requires reaches { IsTrue (are_reaches fields.now reaches.now) }
-    requires size { extent.now.size ≡ length (names_payload_of (name_subsections (text_seen name) fields.now)) }
-    requires maps { IsTrue (are_map_extents fields.now extent.now.maps) }
     requires room { 0 < length room.old }
     ensures { Writes S.rules (All InRangePart (names_part (name_subsections (text_seen name.entry) fields.now))
         × InRangeNames (text_seen name.entry) fields.now)
         out.old out.new (flat_map part (names_part (name_subsections (text_seen name.entry) fields.now))) result }
 {
-    let size = extent.size;
-    if size == 0 {
-        return Ok(());
-    }
-    // types are looked up for the names of locals alone, which the second map has
-    let is_asked = extent.maps[1].count != 0 && asked_fields(reaches) != 0;
-    let places = places_of(&*fields, &*reaches, is_asked, room);
+    let places = places_of(&*fields, &*reaches, room);
     let checkpoints = Checkpoints {
         places,
         before: &*room,
     };
-    let front = (0u8, (size, (Name("name"), ModuleName(name))));
-    put_behind(fields, &front, &extent.maps, reaches, checkpoints, out)
+    if !has_names(fields, name, reaches, checkpoints) {
+        return Ok(());
+    }
+    put_section(fields, name, reaches, checkpoints, out)
 }
 
 /// Appends the name section of a module with this name and these resolved fields, where there are names (custom sections,
 /// name section). It needs where in these fields those of each kind stand, as [`Reaches::of`] tells it, and goes through
-/// those alone that can have names, once for each map that has some; and it needs the extent of the section, as
-/// [`names_extent`] gives it. It refuses as [`Encode::encode`] does, as too large where a number, count or length is out of
-/// range; then nothing was appended.
+/// those alone that can have names: for each map once for the number of its entries, and where it has some once more to
+/// write them. Whether there are names is seen before, up to the first. Where the sink sets a number behind, as
+/// [`Sink::set_number`] does it, nothing is measured before it is written. It takes no memory of its own. It refuses as
+/// [`Encode::encode`] does, as too large where a number, count or length is out of range; then nothing was appended.
 pub fn put_names<S: Sink>(
     fields: &[ModuleField],
     name: Option<&str>,
     reaches: &Reaches,
-    extent: &NamesExtent,
     out: &mut S,
 ) -> Result<(), Refusal>
     requires reaches { IsTrue (are_reaches fields.now reaches.now) }
-    requires size { extent.now.size ≡ length (names_payload_of (name_subsections (text_seen name) fields.now)) }
-    requires maps { IsTrue (are_map_extents fields.now extent.now.maps) }
     ensures { Writes S.rules (All InRangePart (names_part (name_subsections (text_seen name.entry) fields.now))
         × InRangeNames (text_seen name.entry) fields.now)
         out.old out.new (flat_map part (names_part (name_subsections (text_seen name.entry) fields.now))) result }
@@ -516,8 +636,8 @@ pub fn put_names<S: Sink>(
     let asked = asked_fields(reaches);
     if asked <= FEW {
         let mut room = [0u32; 64];
-        return put_within(fields, name, reaches, extent, &mut room, out);
+        return put_within(fields, name, reaches, &mut room, out);
     }
     let mut room = [0u32; 1024];
-    put_within(fields, name, reaches, extent, &mut room, out)
+    put_within(fields, name, reaches, &mut room, out)
 }

@@ -1,7 +1,7 @@
 //! What stands within items and has names of its own: locals and labels of functions, fields of structs, parameters of
 //! types and of tags.
 
-ghost use Rattle.std.specs.Prelude.{◌≡◌, ◌+◌, ℕ, List, Option, length, map, IfOk};
+ghost use Rattle.std.specs.Prelude.{◌≡◌, ◌+◌, nat_lt, ℕ, List, Option, length, map, IfOk};
 ghost use Rattle.std.specs.List.{flat_map};
 ghost use Rattle.wasm_out.specs.NameSectionBytes.{map_entry, InRangeMapEntry};
 ghost use Rattle.wast_names.specs.Tree.ty;
@@ -390,4 +390,24 @@ pub(crate) fn count_lists<'b, T: FieldTypes + CountLists>(
         sum = sum.saturating_add(part.count_lists(within, &arities));
     }
     sum
+}
+
+/// Whether any item of some of these fields has a list of names. It goes no further than the first field with one, and needs
+/// the checkpoints of these fields.
+pub(crate) fn any_lists<'b, T: FieldTypes + CountLists>(
+    fields: &'b [T],
+    there: &'b [T],
+    within: Within,
+    checkpoints: Checkpoints<'b>,
+) -> bool
+    requires { Tells T.types fields.now checkpoints.places checkpoints.before.now }
+    ensures { result ≡ nat_lt 0 (length (named_from 0 (flat_map (T.lists (flat_map T.types fields.now) within) there.now))) }
+{
+    let arities = TypesOf::new(fields, checkpoints);
+    for part in there {
+        if part.count_lists(within, &arities) != 0 {
+            return true;
+        }
+    }
+    false
 }

@@ -7,8 +7,8 @@ use Rattle.wast_names.proofs.Checkpoints.{tells_first}
 use Rattle.wast_names.proofs.FieldsWithoutNames.{no_types}
 use Rattle.wast_names.proofs.names_payload.places_of.Goals as goal
 
-pub returns-then-not-is_asked : goal.returns-then-not-is_asked
-returns-then-not-is_asked c = tells_first types_within c.args.fields.now c.none.result c.none.new.room c.none.ensures.first c.none.ensures.count c.none.ensures.total c.none.ensures.room c.none.ensures.before
+pub returns-then-asked_fields-eq0 : goal.returns-then-asked_fields-eq0
+returns-then-asked_fields-eq0 c = tells_first types_within c.args.fields.now c.none.result c.none.new.room c.none.ensures.first c.none.ensures.count c.none.ensures.total c.none.ensures.room c.none.ensures.before
 
 pub of-requires-clause-inside : goal.of-requires-clause-inside
 of-requires-clause-inside c =

@@ -5,12 +5,8 @@ use Rattle.std.proofs.lemmas.Result.{err_from_is_err_and}
 use Rattle.wasm_ops.proofs.Sinking.{cut_back}
 use Rattle.wasm_out.specs.NameSectionBytes.{name_subsection, InRangeNameSubsection}
 use Rattle.wast_names.specs.ModuleNames.{map_names, name_maps}
-use Rattle.wast_names.proofs.MapExtents.{extents_told}
 use Rattle.wast_names.proofs.NameMaps.{front_refused}
 use Rattle.wast_names.proofs.names_payload.put_behind.Goals as goal
-
-pub put_subsections-second-requires-clause-extents : goal.put_subsections-second-requires-clause-extents
-put_subsections-second-requires-clause-extents g c = extents_told c.args.fields.now c.args.extents.now c.requires.extents
 
 pub returns-in_err-encode : goal.returns-in_err-encode
 returns-in_err-encode g c =

@@ -1,15 +1,14 @@
-use Rattle.std.proofs.Common.{◌≡◌, true, subst, sym}
+use Rattle.std.proofs.Common.{◌≡◌, length, subst, sym}
 use Rattle.std.specs.List.{flat_map}
 use Rattle.wasm_ops.specs.Sinks.{Writes}
 use Rattle.wasm_out.specs.NameSectionBytes.{map_entry, InRangeMapEntry}
 use Rattle.wast_names.specs.GivenNames.{named_from}
-use Rattle.wast_names.specs.FoundNames.{map_bytes, InRangeMap}
-use Rattle.wast_names.specs.MapExtents.{is_extent}
+use Rattle.wast_names.specs.FoundNames.{counted, map_bytes, InRangeMap}
 use Rattle.wast_names.proofs.names_payload.put_lists.Goals as goal
 
 pub put_map-requires : goal.put_map-requires
 put_map-requires g c =
-    subst (λ fs. is_extent map_entry (named_from 0 (flat_map (g.T.PutLists.lists (flat_map g.T.FieldTypes.types fs) c.args.within) c.args.there.now)) c.args.extent ≡ true) (sym c.new-arities.ensures) c.requires.extent
+    subst (λ fs. c.args.count ≡ counted (length (named_from 0 (flat_map (g.T.PutLists.lists (flat_map g.T.FieldTypes.types fs) c.args.within) c.args.there.now)))) (sym c.new-arities.ensures) c.requires.count
 
 pub returns : goal.returns
 returns g c =

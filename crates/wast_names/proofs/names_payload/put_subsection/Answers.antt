@@ -1,34 +1,20 @@
-use Rattle.std.proofs.Common.{◌≡◌, true, subst, sym, refl}
+use Rattle.std.proofs.Common.{subst, refl}
 use Rattle.wasm_ops.specs.Sinks.{Writes}
 use Rattle.wasm_out.specs.NameSectionBytes.{subsection_id, name_entry, map_entry, InRangeNameEntry, InRangeMapEntry}
 use Rattle.wast_names.specs.GivenNames.{named_from}
 use Rattle.wast_names.specs.FoundNames.{map_bytes, InRangeMap}
-use Rattle.wast_names.specs.MapExtents.{is_extent, is_map_extent}
 use Rattle.wast_names.specs.ModuleNames.{named_of, named_items, named_within, named_lists}
 use Rattle.wast_names.specs.WithinItems.{types_of}
 use Rattle.wast_names.proofs.NameMaps.{direct_written, indirect_written}
 use Rattle.wast_names.proofs.names_payload.put_subsection.Goals as goal
-
-pub put_map-requires : goal.put_map-requires
-put_map-requires g c =
-    let extent = c.args.extent in
-    subst (λ xs. is_extent name_entry (named_from 0 xs) extent ≡ true) (sym c.with_items-there.ensures)
-    (subst (λ m. is_map_extent c.args.fields.now m extent ≡ true) c.in-Items.is c.requires.extent)
-
-pub put_lists-requires-clause-extent : goal.put_lists-requires-clause-extent
-put_lists-requires-clause-extent g c =
-    let fields = c.args.fields.now in
-    let extent = c.args.extent in
-    subst (λ xs. is_extent map_entry (named_from 0 xs) extent ≡ true) (sym (c.with_lists-there.ensures (types_of fields)))
-    (subst (λ m. is_map_extent fields m extent ≡ true) c.in-Within.is c.requires.extent)
 
 pub returns-in-Items : goal.returns-in-Items
 returns-in-Items g c =
     let rules = g.S.Sink.rules in
     let space = c.in-Items.space in
     let id = c.id_of.result in
-    rw c.in-Items.is (direct_written rules c.args.out.now c.put_map.new.out (named_of space) (named_items space c.args.fields.now) id c.put_map.result c.id_of.ensures
-    (subst (λ xs. Writes rules (InRangeMap name_entry InRangeNameEntry (named_from 0 xs)) c.args.out.now c.put_map.new.out (map_bytes id name_entry (named_from 0 xs)) c.put_map.result) c.with_items-there.ensures c.put_map.ensures))
+    rw c.in-Items.is (direct_written rules c.args.out.now c.put_counted.new.out (named_of space) (named_items space c.args.fields.now) id c.put_counted.result c.id_of.ensures
+    (subst (λ xs. Writes rules (InRangeMap name_entry InRangeNameEntry (named_from 0 xs)) c.args.out.now c.put_counted.new.out (map_bytes id name_entry (named_from 0 xs)) c.put_counted.result) c.with_items-there.ensures c.put_counted.ensures))
 
 pub returns-in-Within : goal.returns-in-Within
 returns-in-Within g c =

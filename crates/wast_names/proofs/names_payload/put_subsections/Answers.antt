@@ -7,17 +7,8 @@ use Rattle.wasm_ops.proofs.Sinking.{cut_back, one_item_more}
 use Rattle.wasm_out.specs.NameSectionBytes.{name_subsection, InRangeNameSubsection}
 use Rattle.wast_names.specs.declared.names_payload.NameMap.{NameMap}
 use Rattle.wast_names.specs.ModuleNames.{map_names}
-use Rattle.wast_names.proofs.MapExtents.{first_map, no_extent, extent_at}
+use Rattle.wast_names.proofs.NameMaps.{first_map}
 use Rattle.wast_names.proofs.names_payload.put_subsections.Goals as goal
-
-pub bounds-extents-i : goal.bounds-extents-i
-bounds-extents-i g c = (extent_at c.args.fields.now c.args.maps.now c.args.extents.now c.loop-i.i first_map no_extent c.requires.extents (omega arith)).0
-
-pub put_subsection-result-requires-clause-extent : goal.put_subsection-result-requires-clause-extent
-put_subsection-result-requires-clause-extent g c = (extent_at c.args.fields.now c.args.maps.now c.args.extents.now c.loop-i.i first_map no_extent c.requires.extents (omega arith)).1
-
-pub offset_bounds-extents-i : goal.offset_bounds-extents-i
-offset_bounds-extents-i g c = omega (arith, c.well_formed, (extent_at c.args.fields.now c.args.maps.now c.args.extents.now c.loop-i.i first_map no_extent c.requires.extents (omega arith)).0)
 
 pub returns-then-is_err : goal.returns-then-is_err
 returns-then-is_err g c =
