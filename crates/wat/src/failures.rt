@@ -17,12 +17,25 @@ pub(crate) enum Failure {
 }
 
 impl Failure {
+    /// The number of the exit status of a run that ends so.
+    fn number(self) -> u8 {
+        match self {
+            Failure::Text => 1,
+            Failure::System => 2,
+            Failure::Memory => 3,
+        }
+    }
+
     /// The exit status of a run that ends so.
     pub fn status(self) -> ExitCode {
-        match self {
-            Failure::Text => ExitCode::FAILURE,
-            Failure::System => ExitCode::from(2),
-            Failure::Memory => ExitCode::from(3),
+        ExitCode::from(self.number())
+    }
+
+    /// Returns the failure with the greater exit status: this one, or one before it.
+    pub fn worse(self, before: Option<Failure>) -> Failure {
+        match before {
+            Some(other) if other.number() > self.number() => other,
+            _ => self,
         }
     }
 
@@ -50,12 +63,29 @@ impl Failure {
         Failure::System
     }
 
-    /// Reports that the output cannot be written.
+    /// Reports that standard output cannot be written.
     pub fn of_write(rt: &HostRuntime, error: io::Error) -> Failure {
         if let io::ErrorKind::OutOfMemory = error.kind() {
             return Failure::memory(rt);
         }
         let _ = eprintln!(rt; "error: cannot write output: {error}");
+        Failure::System
+    }
+
+    /// Reports that the file of an output cannot be written.
+    pub fn of_write_to(rt: &HostRuntime, file: Escaped<'_>, error: io::Error) -> Failure {
+        if let io::ErrorKind::OutOfMemory = error.kind() {
+            return Failure::memory(rt);
+        }
+        let _ = eprintln!(rt; "error: cannot write {file}: {error}");
+        Failure::System
+    }
+
+    /// Reports that the bytes of a module would go to a terminal.
+    pub fn terminal(rt: &HostRuntime) -> Failure {
+        let _ = eprintln!(rt;
+            "error: bytes are not written to a terminal: use `-o FILE`, `--hex`, or `-o -` (see `wat --help`)"
+        );
         Failure::System
     }
 }

@@ -1,6 +1,7 @@
 //! What the ids of a text denote, as lines.
 
-use std::io;
+use std::alloc::{AllocError, Global};
+use std::fmt::Write;
 use wat_bytes::Denoted;
 
 /// Whether ids without quotes are made of it (text format, identifiers).
@@ -13,21 +14,22 @@ fn is_id_byte(byte: u8) -> bool {
         )
 }
 
-/// Prints what one id denotes: the space, the id as a text has it, and the number.
-fn print_name(rt: &HostRuntime, denoted: &Denoted<'_>) -> io::Result<()> {
+/// Adds a line for what one id denotes: the space, the id as a text has it, and the number.
+fn add_line(lines: &mut String, denoted: &Denoted<'_>) -> Result<(), AllocError> {
     let (space, number) = (denoted.space, denoted.number);
     let name = denoted.id.name();
     if name.as_bytes().iter().all(|byte| is_id_byte(*byte)) {
-        return println!(rt; "{space} ${name} {number}");
+        return writeln!(lines, "{space} ${name} {number}");
     }
     let escaped = name.escape_default();
-    println!(rt; "{space} $\"{escaped}\" {number}")
+    writeln!(lines, "{space} $\"{escaped}\" {number}")
 }
 
-/// Prints what ids denote, a line for each.
-pub(crate) fn print_names(rt: &HostRuntime, names: &[Denoted<'_>]) -> io::Result<()> {
+/// Returns what ids denote, a line for each.
+pub(crate) fn name_lines(alloc: Global, names: &[Denoted<'_>]) -> Result<Vec<u8>, AllocError> {
+    let mut lines = String::new(alloc);
     for denoted in names {
-        print_name(rt, denoted)?;
+        add_line(&mut lines, denoted)?;
     }
-    Ok(())
+    Ok(lines.into_bytes())
 }

@@ -1,8 +1,129 @@
-//! What the arguments ask for.
+//! The options of the command, and what the arguments ask for.
 
 use crate::escapes::Escaped;
+use std::alloc::{AllocError, Global};
 use std::env::Args;
 use std::fmt;
+
+/// The file name that stands for standard input and standard output.
+pub(crate) const STANDARD: &str = "-";
+
+/// What an option asks for.
+#[derive(Clone, Copy)]
+enum Action {
+    /// The output goes to a file.
+    Target,
+    /// The outputs go into a folder.
+    Folder,
+    /// Hexadecimal digits are written.
+    Hex,
+    /// The index of each id is written.
+    Names,
+    /// The name section is left out.
+    NoNames,
+    /// The help is printed.
+    Help,
+    /// The version is printed.
+    Version,
+}
+
+/// An option of the command.
+#[derive(Clone, Copy)]
+pub(crate) struct Choice {
+    /// Its short form; empty if it has none.
+    pub short: &'static str,
+    /// Its long form.
+    pub long: &'static str,
+    /// The name of its value; empty if it takes none.
+    pub value: &'static str,
+    /// What it does, in one line.
+    pub help: &'static str,
+    /// What it asks for.
+    action: Action,
+}
+
+/// The options, in the order of the help. `tools/manual` reads this table, and writes the man page
+/// and the completions of shells from it.
+pub(crate) const OPTIONS: [Choice; 7] = [
+    Choice {
+        short: "-o",
+        long: "--output",
+        value: "FILE",
+        help: "write to FILE, whole or not at all (`-` is standard output)",
+        action: Action::Target,
+    },
+    Choice {
+        short: "",
+        long: "--out-dir",
+        value: "FOLDER",
+        help: "write FOLDER/NAME.wasm for each NAME.wat",
+        action: Action::Folder,
+    },
+    Choice {
+        short: "",
+        long: "--hex",
+        value: "",
+        help: "write the bytes as one line of hexadecimal digits",
+        action: Action::Hex,
+    },
+    Choice {
+        short: "",
+        long: "--names",
+        value: "",
+        help: "write the index of each id instead of the bytes, one line each",
+        action: Action::Names,
+    },
+    Choice {
+        short: "",
+        long: "--no-names",
+        value: "",
+        help: "leave the name section out",
+        action: Action::NoNames,
+    },
+    Choice {
+        short: "-h",
+        long: "--help",
+        value: "",
+        help: "print this help",
+        action: Action::Help,
+    },
+    Choice {
+        short: "-V",
+        long: "--version",
+        value: "",
+        help: "print the version",
+        action: Action::Version,
+    },
+];
+
+/// Returns the option that a word names.
+fn choice_of(word: &str) -> Option<Choice> {
+    for choice in OPTIONS.iter() {
+        if word == choice.long || (word == choice.short && !word.is_empty()) {
+            return Some(*choice);
+        }
+    }
+    None
+}
+
+/// Returns whether a word is an option, or `--`.
+fn is_option(word: &str) -> bool {
+    word.starts_with('-') && word != STANDARD
+}
+
+/// Returns the long option and the value of a word that has both, for example `--output=FILE`.
+fn joined(alloc: Global, word: &str) -> Result<Option<(Choice, String)>, AllocError> {
+    let Some((name, value)) = word.split_once('=') else {
+        return Ok(None);
+    };
+    match choice_of(name) {
+        Some(choice) if name == choice.long => {
+            let value = String::from_str(alloc, value)?;
+            Ok(Some((choice, value)))
+        }
+        _ => Ok(None),
+    }
+}
 
 /// What is written of a module.
 #[derive(Clone, Copy)]
@@ -15,19 +136,25 @@ pub(crate) enum Output {
     Names,
 }
 
-/// What to read, and what to write of it.
+/// What to read, and what to write of it, and where.
 #[derive(Drop)]
 pub(crate) struct Options {
-    /// The file to read; `None` for standard input.
-    pub file: Option<String>,
+    /// The files to read, `-` for standard input; if there are none, standard input is read.
+    pub files: Vec<String>,
+    /// The file to write, `-` for standard output.
+    pub target: Option<String>,
+    /// The folder of the outputs.
+    pub folder: Option<String>,
     /// What is written.
     pub output: Output,
+    /// Whether the name section is left out.
+    pub omits_names: bool,
 }
 
 /// What the arguments ask for.
 #[derive(Drop)]
 pub(crate) enum Request {
-    /// A module is converted.
+    /// Modules are converted.
     Convert(Options),
     /// The help is printed.
     Help,
@@ -35,15 +162,27 @@ pub(crate) enum Request {
     Version,
 }
 
-/// Why arguments are wrong. It is printed as the message, in one line.
+/// Why arguments are not accepted. It is printed as the message, in one line.
 #[derive(Drop)]
 pub(crate) enum Misuse {
     /// No option has this name.
     UnknownOption(String),
-    /// This file is named after another.
-    SecondFile(String),
     /// This option is given after another that says what is written.
     SecondOutput(String),
+    /// An option that takes no value has one here.
+    UnwantedValue(String),
+    /// This option has no value.
+    NoValue(Choice),
+    /// This option is given twice.
+    Repeated(Choice),
+    /// These two options exclude each other.
+    Conflict(&'static str, &'static str),
+    /// One file is to be written for several.
+    OneForSeveral,
+    /// The output of standard input has no name.
+    Unnamed,
+    /// Memory was refused.
+    Memory,
 }
 
 impl fmt::Display for Misuse {
@@ -53,78 +192,235 @@ impl fmt::Display for Misuse {
                 let word = Escaped(word.as_str());
                 write!(f, "unknown option `{word}`")
             }
-            Misuse::SecondFile(word) => {
-                let word = Escaped(word.as_str());
-                write!(f, "more than one file: `{word}`")
-            }
             Misuse::SecondOutput(word) => {
                 let word = Escaped(word.as_str());
                 write!(f, "more than one of `--hex` and `--names`: `{word}`")
             }
+            Misuse::UnwantedValue(word) => {
+                let word = Escaped(word.as_str());
+                write!(f, "option takes no value: `{word}`")
+            }
+            Misuse::NoValue(choice) => {
+                let (long, value) = (choice.long, choice.value);
+                write!(f, "`{long}` needs {value}")
+            }
+            Misuse::Repeated(choice) => {
+                let long = choice.long;
+                write!(f, "more than one `{long}`")
+            }
+            Misuse::Conflict(first, second) => {
+                write!(f, "`{first}` and `{second}` exclude each other")
+            }
+            Misuse::OneForSeveral => f.write_str("`--output` with more than one file"),
+            Misuse::Unnamed => f.write_str("output of standard input needs `--output`"),
+            Misuse::Memory => f.write_str("out of memory"),
         }
     }
+}
+
+/// The arguments that were read so far.
+#[derive(Drop)]
+struct Reading {
+    /// What they ask for.
+    options: Options,
+    /// The option whose value is the next word.
+    awaited: Option<Choice>,
+    /// Whether `--` was read, after which each word is a file.
+    is_past_options: bool,
 }
 
 impl Request {
     /// Reads the arguments, of which the first is the program's name, from left to right. The first
-    /// that asks for the help or the version decides, and so does the first that is wrong.
-    pub fn new(arguments: Args) -> Result<Request, Misuse> {
-        let mut options = Options {
-            file: None,
-            output: Output::Bytes,
-        };
-        for argument in arguments.skip(1) {
-            if argument.as_str() == "--help" {
-                return Ok(Request::Help);
+    /// that asks for the help or the version decides, and so does the first that is wrong. What
+    /// does not go together is looked for at the end.
+    pub fn new(alloc: Global, arguments: Args) -> Result<Request, Misuse> {
+        let mut reading = Reading::new(alloc);
+        for word in arguments.skip(1) {
+            if let Some(request) = reading.request_of(word.as_str()) {
+                return Ok(request);
             }
-            if argument.as_str() == "--version" {
-                return Ok(Request::Version);
-            }
-            options = options.with(argument)?;
+            reading.take_word(alloc, word)?;
         }
-        Ok(Request::Convert(options))
+        reading.end()
+    }
+}
+
+impl Reading {
+    /// Begins to read arguments.
+    fn new(alloc: Global) -> Reading {
+        let options = Options {
+            files: Vec::new(alloc),
+            target: None,
+            folder: None,
+            output: Output::Bytes,
+            omits_names: false,
+        };
+        Reading {
+            options,
+            awaited: None,
+            is_past_options: false,
+        }
+    }
+
+    /// Returns what is asked for if the next word asks for the help or the version.
+    fn request_of(&self, word: &str) -> Option<Request> {
+        if self.awaited.is_some() || self.is_past_options {
+            return None;
+        }
+        match choice_of(word)?.action {
+            Action::Help => Some(Request::Help),
+            Action::Version => Some(Request::Version),
+            _ => None,
+        }
+    }
+
+    /// Reads one more word.
+    fn take_word(&mut self, alloc: Global, word: String) -> Result<(), Misuse> {
+        if let Some(choice) = self.awaited {
+            self.awaited = None;
+            return self.options.set_value(choice, word);
+        }
+        if self.is_past_options || !is_option(word.as_str()) {
+            return self.options.add_file(word);
+        }
+        if word.as_str() == "--" {
+            self.is_past_options = true;
+            return Ok(());
+        }
+        match choice_of(word.as_str()) {
+            Some(choice) => self.take_choice(choice, word),
+            None => self.take_joined(alloc, word),
+        }
+    }
+
+    /// Reads an option, whose word this is.
+    fn take_choice(&mut self, choice: Choice, word: String) -> Result<(), Misuse> {
+        if choice.value.is_empty() {
+            return self.options.set_flag(choice, word);
+        }
+        self.awaited = Some(choice);
+        Ok(())
+    }
+
+    /// Reads a word that can only be an option with its value.
+    fn take_joined(&mut self, alloc: Global, word: String) -> Result<(), Misuse> {
+        match joined(alloc, word.as_str()) {
+            Ok(Some((choice, value))) => {
+                if choice.value.is_empty() {
+                    return Err(Misuse::UnwantedValue(word));
+                }
+                self.options.set_value(choice, value)
+            }
+            Ok(None) => Err(Misuse::UnknownOption(word)),
+            Err(_) => Err(Misuse::Memory),
+        }
+    }
+
+    /// Ends to read arguments.
+    fn end(self) -> Result<Request, Misuse> {
+        let Reading {
+            options,
+            awaited,
+            ..
+        } = self;
+        if let Some(choice) = awaited {
+            return Err(Misuse::NoValue(choice));
+        }
+        match options.conflict() {
+            Some(misuse) => Err(misuse),
+            None => Ok(Request::Convert(options)),
+        }
     }
 }
 
 impl Options {
-    /// Adds one more argument.
-    fn with(self, argument: String) -> Result<Options, Misuse> {
-        if argument.as_str() == "--hex" {
-            return self.with_output(Output::Hex, argument);
+    /// Adds a file to read.
+    fn add_file(&mut self, file: String) -> Result<(), Misuse> {
+        match self.files.push(file) {
+            Ok(()) => Ok(()),
+            Err(_) => Err(Misuse::Memory),
         }
-        if argument.as_str() == "--names" {
-            return self.with_output(Output::Names, argument);
-        }
-        if argument.as_str().starts_with('-') {
-            return Err(Misuse::UnknownOption(argument));
-        }
-        self.with_file(argument)
     }
 
-    /// Changes what is written, as this argument says.
-    fn with_output(self, output: Output, argument: String) -> Result<Options, Misuse> {
+    /// Does what an option without a value asks for, whose word this is.
+    fn set_flag(&mut self, choice: Choice, word: String) -> Result<(), Misuse> {
+        match choice.action {
+            Action::Hex => self.set_output(Output::Hex, word),
+            Action::Names => self.set_output(Output::Names, word),
+            _ => {
+                self.omits_names = true;
+                Ok(())
+            }
+        }
+    }
+
+    /// Changes what is written, as this word says.
+    fn set_output(&mut self, output: Output, word: String) -> Result<(), Misuse> {
         match self.output {
-            Output::Bytes => Ok(Options { output, ..self }),
-            Output::Hex | Output::Names => Err(Misuse::SecondOutput(argument)),
+            Output::Bytes => {
+                self.output = output;
+                Ok(())
+            }
+            Output::Hex | Output::Names => Err(Misuse::SecondOutput(word)),
         }
     }
 
-    /// Adds the file to read.
-    fn with_file(self, file: String) -> Result<Options, Misuse> {
-        match self.file {
-            Some(_) => Err(Misuse::SecondFile(file)),
-            None => Ok(Options {
-                file: Some(file),
-                output: self.output,
-            }),
+    /// Does what an option with this value asks for.
+    fn set_value(&mut self, choice: Choice, value: String) -> Result<(), Misuse> {
+        match choice.action {
+            Action::Folder => self.set_folder(choice, value),
+            _ => self.set_target(choice, value),
         }
     }
 
-    /// The name of the file, as messages have it.
-    pub fn name(&self) -> Escaped<'_> {
-        match &self.file {
-            Some(path) => Escaped(path.as_str()),
-            None => Escaped("<stdin>"),
+    /// Sets the file to write.
+    fn set_target(&mut self, choice: Choice, file: String) -> Result<(), Misuse> {
+        if self.target.is_some() {
+            return Err(Misuse::Repeated(choice));
         }
+        self.target = Some(file);
+        Ok(())
+    }
+
+    /// Sets the folder of the outputs.
+    fn set_folder(&mut self, choice: Choice, folder: String) -> Result<(), Misuse> {
+        if self.folder.is_some() {
+            return Err(Misuse::Repeated(choice));
+        }
+        self.folder = Some(folder);
+        Ok(())
+    }
+
+    /// Returns whether standard input is read.
+    fn reads_standard_input(&self) -> bool {
+        self.files.is_empty() || self.files.iter().any(|file| file.as_str() == STANDARD)
+    }
+
+    /// Returns what does not go together.
+    fn conflict(&self) -> Option<Misuse> {
+        if self.omits_names && matches!(self.output, Output::Names) {
+            return Some(Misuse::Conflict("--names", "--no-names"));
+        }
+        if self.target.is_some() && self.folder.is_some() {
+            return Some(Misuse::Conflict("--output", "--out-dir"));
+        }
+        if self.target.is_some() && self.files.len() > 1 {
+            return Some(Misuse::OneForSeveral);
+        }
+        if self.names_outputs() && self.reads_standard_input() {
+            return Some(Misuse::Unnamed);
+        }
+        None
+    }
+
+    /// Returns whether each output has the name of its source: those of several files, and those in
+    /// a folder.
+    pub fn names_outputs(&self) -> bool {
+        self.folder.is_some() || self.files.len() > 1
+    }
+
+    /// Returns whether bytes are written to standard output without an option that says so.
+    pub fn prints_bytes(&self) -> bool {
+        matches!(self.output, Output::Bytes) && self.target.is_none() && !self.names_outputs()
     }
 }

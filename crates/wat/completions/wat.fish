@@ -1,0 +1,10 @@
+# fish completion of the command `wat`, written by tools/manual.
+
+complete -c wat -s o -l output -r -F -d 'write to FILE, whole or not at all (`-` is standard output)'
+complete -c wat -l out-dir -x -a '(__fish_complete_directories)' -d 'write FOLDER/NAME.wasm for each NAME.wat'
+complete -c wat -l hex -d 'write the bytes as one line of hexadecimal digits'
+complete -c wat -l names -d 'write the index of each id instead of the bytes, one line each'
+complete -c wat -l no-names -d 'leave the name section out'
+complete -c wat -s h -l help -d 'print this help'
+complete -c wat -s V -l version -d 'print the version'
+complete -c wat -k -a '(__fish_complete_suffix .wat)'

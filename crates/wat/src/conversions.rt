@@ -1,0 +1,191 @@
+//! The conversion of one text.
+
+use crate::diagnostics::{report, report_malformed, warn};
+use crate::escapes::Escaped;
+use crate::failures::Failure;
+use crate::names::name_lines;
+use crate::options::{Options, Output, STANDARD};
+use crate::outputs::{output_path, print_bytes, write_file};
+use crate::sections::without_names;
+use std::alloc::{AllocError, Global};
+use std::fs::File;
+use std::io::{self, Read};
+use std::str;
+use wat_bytes::{encode_text, names_of_text};
+use wat_text::Strings;
+
+/// Returns the name of a file, as messages have it.
+fn shown(file: &str) -> Escaped<'_> {
+    if file == STANDARD {
+        return Escaped("<stdin>");
+    }
+    Escaped(file)
+}
+
+/// Reads all bytes of a file, or of standard input.
+fn input(rt: &HostRuntime, file: &str) -> io::Result<Vec<u8>> {
+    let mut bytes = Vec::new(rt.alloc());
+    if file == STANDARD {
+        let mut reader = rt.stdin();
+        let _count = reader.read_to_end(&mut bytes)?;
+    } else {
+        let mut reader = File::open(rt, file)?;
+        let _count = reader.read_to_end(&mut bytes)?;
+    }
+    Ok(bytes)
+}
+
+/// Leaves the name section out, if that is asked for.
+fn selected(alloc: Global, options: &Options, bytes: Vec<u8>) -> Result<Vec<u8>, AllocError> {
+    if options.omits_names {
+        return without_names(alloc, bytes.as_slice());
+    }
+    Ok(bytes)
+}
+
+/// Returns bytes as one line of hexadecimal digits.
+fn hex_line(alloc: Global, bytes: &[u8]) -> Result<Vec<u8>, AllocError> {
+    let mut line = hex::encode(alloc, bytes)?;
+    line.push('\n')?;
+    Ok(line.into_bytes())
+}
+
+/// Returns what is written of the bytes of a module.
+fn output_of_bytes(
+    alloc: Global,
+    options: &Options,
+    bytes: Vec<u8>,
+) -> Result<Vec<u8>, AllocError> {
+    let bytes = selected(alloc, options, bytes)?;
+    if let Output::Hex = options.output {
+        return hex_line(alloc, bytes.as_slice());
+    }
+    Ok(bytes)
+}
+
+/// Returns an output, or reports that memory was refused.
+fn allocated(rt: &HostRuntime, output: Result<Vec<u8>, AllocError>) -> Result<Vec<u8>, Failure> {
+    match output {
+        Ok(bytes) => Ok(bytes),
+        Err(_) => Err(Failure::memory(rt)),
+    }
+}
+
+/// Returns what is written of the bytes of the module of a text, or reports why it has none.
+fn module_output<'a>(
+    rt: &HostRuntime,
+    options: &Options,
+    file: Escaped<'_>,
+    text: &'a str,
+    strings: &'a Strings,
+) -> Result<Vec<u8>, Failure> {
+    match encode_text(rt.alloc(), text, strings) {
+        Ok(bytes) => allocated(rt, output_of_bytes(rt.alloc(), options, bytes)),
+        Err(refused) => Err(report(rt, rt.alloc(), file, text, &refused)),
+    }
+}
+
+/// Returns the index of each id of a text, or reports why they have none.
+fn names_output<'a>(
+    rt: &HostRuntime,
+    file: Escaped<'_>,
+    text: &'a str,
+    strings: &'a Strings,
+) -> Result<Vec<u8>, Failure> {
+    match names_of_text(rt.alloc(), text, strings) {
+        Ok(names) => allocated(rt, name_lines(rt.alloc(), names.as_slice())),
+        Err(refused) => Err(report(rt, rt.alloc(), file, text, &refused)),
+    }
+}
+
+/// Returns what is written of a text.
+fn output_of_text(
+    rt: &HostRuntime,
+    options: &Options,
+    file: Escaped<'_>,
+    text: &str,
+) -> Result<Vec<u8>, Failure> {
+    warn(rt, file, text);
+    let strings = Strings::new(rt.alloc());
+    match options.output {
+        Output::Names => names_output(rt, file, text, &strings),
+        Output::Bytes | Output::Hex => module_output(rt, options, file, text, &strings),
+    }
+}
+
+/// Returns the part of the bytes that is UTF-8, up to this offset.
+fn text_before(bytes: &[u8], offset: usize) -> &str {
+    match bytes.get(..offset) {
+        Some(part) => str::from_utf8(part).unwrap_or(""),
+        None => "",
+    }
+}
+
+/// Returns what is written of the bytes of a file.
+fn output_of(
+    rt: &HostRuntime,
+    options: &Options,
+    file: Escaped<'_>,
+    bytes: &[u8],
+) -> Result<Vec<u8>, Failure> {
+    match str::from_utf8(bytes) {
+        Ok(text) => output_of_text(rt, options, file, text),
+        Err(error) => {
+            let text = text_before(bytes, error.valid_up_to());
+            Err(report_malformed(rt, file, text))
+        }
+    }
+}
+
+/// Writes to standard output, or reports why that failed.
+fn print_output(rt: &HostRuntime, output: &[u8]) -> Result<(), Failure> {
+    match print_bytes(rt, output) {
+        Ok(()) => Ok(()),
+        Err(error) => Err(Failure::of_write(rt, error)),
+    }
+}
+
+/// Writes to the file with this path, or reports why that failed.
+fn write_output_to(rt: &HostRuntime, path: &str, output: &[u8]) -> Result<(), Failure> {
+    match write_file(rt, path, output) {
+        Ok(()) => Ok(()),
+        Err(error) => Err(Failure::of_write_to(rt, Escaped(path), error)),
+    }
+}
+
+/// Writes to the file that `--output` names.
+fn write_target(rt: &HostRuntime, target: &str, output: &[u8]) -> Result<(), Failure> {
+    if target == STANDARD {
+        return print_output(rt, output);
+    }
+    write_output_to(rt, target, output)
+}
+
+/// Writes the output of a file to where it belongs.
+fn write_output(
+    rt: &HostRuntime,
+    options: &Options,
+    file: &str,
+    output: &[u8],
+) -> Result<(), Failure> {
+    if let Some(target) = &options.target {
+        return write_target(rt, target.as_str(), output);
+    }
+    if !options.names_outputs() {
+        return print_output(rt, output);
+    }
+    match output_path(rt.alloc(), options, file) {
+        Ok(path) => write_output_to(rt, path.as_str(), output),
+        Err(_) => Err(Failure::memory(rt)),
+    }
+}
+
+/// Reads a file, and writes what is asked for of it.
+pub(crate) fn convert_file(rt: &HostRuntime, options: &Options, file: &str) -> Result<(), Failure> {
+    let bytes = match input(rt, file) {
+        Ok(bytes) => bytes,
+        Err(error) => return Err(Failure::of_read(rt, shown(file), error)),
+    };
+    let output = output_of(rt, options, shown(file), bytes.as_slice())?;
+    write_output(rt, options, file, output.as_slice())
+}
