@@ -81,6 +81,14 @@ impl Failure {
         Failure::System
     }
 
+    /// Reports that two files would have the same output.
+    pub fn shared_output(rt: &HostRuntime, file: Escaped<'_>) -> Failure {
+        let _ = eprintln!(rt;
+            "error: more than one file has the output `{file}` (see `wat --help`)"
+        );
+        Failure::System
+    }
+
     /// Reports that the bytes of a module would go to a terminal.
     pub fn terminal(rt: &HostRuntime) -> Failure {
         let _ = eprintln!(rt;

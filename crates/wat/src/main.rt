@@ -17,9 +17,11 @@ mod outputs;
 mod sections;
 
 use conversions::convert_file;
+use escapes::Escaped;
 use failures::Failure;
 use help::print_help;
 use options::{Misuse, Options, Request, STANDARD};
+use outputs::shared_path;
 use std::env;
 use std::io::{self, IsTerminal};
 use std::process::ExitCode;
@@ -42,10 +44,22 @@ fn convert_files(rt: &HostRuntime, options: &Options) -> Result<(), Failure> {
     }
 }
 
+/// Reports two files that would have the same output, because only one would be left.
+fn check_outputs(rt: &HostRuntime, options: &Options) -> Result<(), Failure> {
+    match shared_path(rt.alloc(), options) {
+        Ok(None) => Ok(()),
+        Ok(Some(path)) => Err(Failure::shared_output(rt, Escaped(path.as_str()))),
+        Err(_) => Err(Failure::memory(rt)),
+    }
+}
+
 /// Converts what is asked for.
 fn convert(rt: &HostRuntime, options: &Options) -> Result<(), Failure> {
     if options.prints_bytes() && rt.stdout().is_terminal() {
         return Err(Failure::terminal(rt));
+    }
+    if options.names_outputs() {
+        check_outputs(rt, options)?;
     }
     if options.files.is_empty() {
         return convert_file(rt, options, STANDARD);

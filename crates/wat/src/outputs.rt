@@ -71,6 +71,30 @@ pub(crate) fn output_path(
     format!(in alloc; "{folder}{slash}{stem}{extension}")
 }
 
+/// Returns the paths of the outputs of all files, in the order of texts.
+fn sorted_paths(alloc: Global, options: &Options) -> Result<Vec<String>, AllocError> {
+    let mut paths = Vec::new(alloc);
+    for file in options.files.iter() {
+        let path = output_path(alloc, options, file.as_str())?;
+        paths.push(path)?;
+    }
+    paths.sort()?;
+    Ok(paths)
+}
+
+/// Returns a path that is that of the outputs of two files.
+pub(crate) fn shared_path(alloc: Global, options: &Options) -> Result<Option<String>, AllocError> {
+    let paths = sorted_paths(alloc, options)?;
+    let mut previous = String::new(alloc);
+    for path in paths {
+        if path.as_str() == previous.as_str() {
+            return Ok(Some(path));
+        }
+        previous = path;
+    }
+    Ok(None)
+}
+
 /// Writes to standard output.
 pub(crate) fn print_bytes(rt: &HostRuntime, bytes: &[u8]) -> io::Result<()> {
     let mut writer = rt.stdout();
