@@ -8,9 +8,9 @@ use std::alloc::Global;
 use std::process::Abort;
 use wast_core::{Module, ModuleKind, discard_module};
 use wast_tree::{
-    BareOp, BlockKind, BlockType, BrTableIndices, Export, ExportKind, Func, FunctionType, Gensym, I32Op, Id, Index,
-    InnerTypeKind, Instruction, Local, Maker, ModuleField, NameAnnotation, Plain, Seq, Span,
-    StorageType, StructAccess, StructField, StructType, Type, TypeDef, TypeUse, ValType,
+    BareOp, BlockKind, BlockType, BrTableIndices, Export, ExportKind, Func, FunctionType, Gensym,
+    I32Op, Id, Index, InnerTypeKind, Instruction, Local, Maker, ModuleField, NameAnnotation, Plain,
+    Seq, Span, StorageType, StructAccess, StructField, StructType, Type, TypeDef, TypeUse, ValType,
 };
 
 fn at(offset: usize) -> Span {
