@@ -1,10 +1,11 @@
 //! The encoder.
 
-ghost use Rattle.std.specs.Prelude.{◌≡◌, ⊤, All, IfOk, IfErr, IsTrue};
+ghost use Rattle.std.specs.Prelude.{◌≡◌, ⊥, ⊤, All, IfOk, IfErr, IsTrue};
 ghost use Rattle.wast_base.specs.Faults.{out_of_memory};
+ghost use Rattle.wasm_ops.specs.declared.sink.Refusal.TheVariants as refusal;
 ghost use Rattle.wasm_out.specs.Built.{IsRefused};
 ghost use Rattle.wasm_out.specs.Reads.{Reads};
-ghost use Rattle.wast_core.specs.Bounded.{IsWritable};
+ghost use Rattle.wast_core.specs.Bounded.{IsWritable, InRangeModule};
 ghost use Rattle.wast_conv.specs.Encodable.{is_encodable, is_at_rest};
 ghost use Rattle.wast_core.specs.DataCounts.{may_be_counted};
 ghost use Rattle.wast_core.specs.Headline.{Encodes, joined, name_of_module};
@@ -18,7 +19,7 @@ use crate::module::{Module, ModuleKind};
 use crate::sections::put_sections;
 use crate::utf8_names::names_law;
 use std::alloc::Global;
-use wasm_ops::Sink;
+use wasm_ops::{Length, Refusal, Sink};
 use wast_base::{Error, Fault, Gensym};
 use wast_names::given_name;
 use wast_nodes::ModuleField;
@@ -30,6 +31,34 @@ fn as_it_is(bytes: Vec<u8>) -> Vec<u8>
     ensures { result ≡ bytes }
 {
     bytes
+}
+
+/// How many bytes the segments of data have together, up to the greatest `u64`.
+fn data_length(fields: &[ModuleField]) -> u64 {
+    let mut sum = 0u64;
+    for field in fields {
+        if let ModuleField::Data(data) = field {
+            for piece in &data.bytes {
+                sum = sum.saturating_add(piece.len() as u64);
+            }
+        }
+    }
+    sum
+}
+
+/// Counts the bytes of a module without writing them, and refuses what is too large. It needs what writing them needs.
+fn count_sections(
+    fields: &[ModuleField],
+    name: Option<&str>,
+    has_data_index: bool,
+) -> Result<(), Refusal>
+    requires encodable { IsTrue (is_encodable fields.now) }
+    requires data { IsTrue (may_be_counted fields.now has_data_index) }
+    ensures { IfErr result (λ e. (e ≡ refusal.TooLarge)
+        × (InRangeModule (text_seen name.entry) fields.now → ⊥)) }
+{
+    let mut length = Length::new();
+    put_sections(fields, name, has_data_index, &mut length)
 }
 
 /// The bytes of a module with this name, of these resolved fields. It needs names that are UTF-8, and whether an index of a data
@@ -46,6 +75,10 @@ fn encode_fields<'e>(
     ensures bytes { IfOk result (λ v. Reads v.items (parts (text_seen name.entry) fields.now)) }
     ensures refusal { IfErr result (IsRefused (IsWritable (text_seen name.entry) fields.now)) }
 {
+    if data_length(fields) > u64::from(u32::MAX) {
+        // a piece may stand in many segments, so that a small module has more bytes than memory holds
+        count_sections(fields, name, has_data_index)?;
+    }
     let mut bytes = Vec::new(alloc);
     put_sections(fields, name, has_data_index, &mut bytes)?;
     let written = as_it_is(bytes);
