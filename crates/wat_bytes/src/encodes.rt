@@ -1,8 +1,8 @@
 //! The bytes of a text.
 
-ghost use Rattle.std.specs.Prelude.{IfErr};
-ghost use Rattle.wast_core.specs.Modules.{IsReady};
-ghost use Rattle.wat_bytes.specs.Texts.{EncodesModule, EncodesText, IsPlaced, OfText, Tells};
+ghost use Rattle.std.specs.Prelude.{IfErr, IsTrue};
+ghost use Rattle.wast_core.specs.Modules.{IsReady, is_well_formed};
+ghost use Rattle.wat_bytes.specs.Texts.{EncodesModule, EncodesText, IsPlaced, OfText, Tells, module_of};
 
 use crate::modules::{is_ready, module_of, read_text, unready};
 use crate::refusals::{Refused, UncoveredForm};
@@ -43,6 +43,24 @@ fn encoded<'a>(alloc: Global, module: &mut Module<'a>) -> Result<Vec<u8>, Refuse
     }
 }
 
+/// Resolves and encodes a module, of which it may be told that it is well formed.
+fn encoded_module<'a>(
+    alloc: Global,
+    text: TextModule<'a>,
+    is_told: bool,
+) -> Result<Vec<u8>, Refused<'a>>
+    requires told { IsTrue is_told → IsTrue (is_well_formed (module_of text.entry)) }
+    ensures { EncodesText text.entry result }
+{
+    let mut module = module_of(text);
+    let answer = match is_ready(&mut module, is_told) {
+        true => encoded(alloc, &mut module),
+        false => Err(Refused::Text(unready(&mut module))),
+    };
+    discard_module(module);
+    answer
+}
+
 /// Resolves and encodes a module that was read (binary format, modules).
 ///
 /// # Errors
@@ -63,25 +81,21 @@ fn encoded<'a>(alloc: Global, module: &mut Module<'a>) -> Result<Vec<u8>, Refuse
 pub fn encoded_text<'a>(alloc: Global, text: TextModule<'a>) -> Result<Vec<u8>, Refused<'a>>
     ensures { EncodesText text.entry result }
 {
-    let mut module = module_of(text);
-    let answer = match is_ready(&mut module) {
-        true => encoded(alloc, &mut module),
-        false => Err(Refused::Text(unready(&mut module))),
-    };
-    discard_module(module);
-    answer
+    encoded_module(alloc, text, false)
 }
 
-/// The bytes of the module of this text. A form that no encoder covers has its word.
+/// The bytes of the module of this text, which is well formed. A form that no encoder covers has its
+/// word.
 fn encoded_in<'a>(
     alloc: Global,
     text: &'a str,
     strings: &'a Strings,
     module: TextModule<'a>,
 ) -> Result<Vec<u8>, Refused<'a>>
+    requires well_formed { IsTrue (is_well_formed (module_of «module».entry)) }
     ensures { EncodesText «module».entry result }
 {
-    match encoded_text(alloc, module) {
+    match encoded_module(alloc, module, true) {
         Err(Refused::Uncovered(found)) => {
             let written = as_written(alloc, text, strings, found);
             Err(Refused::Uncovered(written))

@@ -1,7 +1,7 @@
 //! A text as a module to resolve and encode.
 
-ghost use Rattle.std.specs.Prelude.{◌≡◌, ◌≤◌, length, IfErr, IsTrue, IsFalse};
-ghost use Rattle.wast_core.specs.Modules.{IsReady};
+ghost use Rattle.std.specs.Prelude.{◌≡◌, ◌≤◌, length, IfOk, IfErr, IsTrue, IsFalse};
+ghost use Rattle.wast_core.specs.Modules.{IsReady, is_well_formed};
 ghost use Rattle.wat_bytes.specs.Texts.{IsRead, module_of, unready};
 
 use std::alloc::Global;
@@ -19,6 +19,7 @@ pub(crate) fn read_text<'a>(
     strings: &'a Strings,
 ) -> Result<TextModule<'a>, TextError>
     ensures read { IsRead text.now result }
+    ensures well_formed { IfOk result (λ t. IsTrue (is_well_formed (module_of t))) }
     ensures place { IfErr result (λ e. e.span.offset ≤ length text.now) }
 {
     read(alloc, text, strings)
@@ -46,14 +47,17 @@ pub(crate) fn module_of<'a>(text: TextModule<'a>) -> Module<'a>
     }
 }
 
-/// Whether a module can be resolved with a counter at 1. It takes `&mut` and changes nothing,
-/// because the prover would compare the type of the whole tree with itself for a `&`.
-pub(crate) fn is_ready(module: &mut Module<'_>) -> bool
+/// Whether a module can be resolved with a counter at 1. A module of which it is told that it is
+/// well formed, as each one is that was just read, is not walked over for that. It takes `&mut` and
+/// changes nothing, because the prover would compare the type of the whole tree with itself for a
+/// `&`.
+pub(crate) fn is_ready(module: &mut Module<'_>, is_told: bool) -> bool
+    requires told { IsTrue is_told → IsTrue (is_well_formed «module».old) }
     ensures ready { IsTrue result → IsReady «module».old 1 }
     ensures unready { IsFalse result → IsReady «module».old 1 → ⊥ }
     ensures stays { «module».new ≡ «module».old }
 {
-    module.well_formed() && module.gensym_bound() < 1
+    (is_told || module.well_formed()) && module.gensym_bound() < 1
 }
 
 /// Why a module cannot be resolved with a counter at 1. It takes `&mut` as [`is_ready`] does.

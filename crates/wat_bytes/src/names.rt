@@ -98,7 +98,7 @@ fn resolved_text<'a>(alloc: Global, text: TextModule<'a>) -> Result<Names<'a>, R
     ensures { ResolvesText text.entry result }
 {
     let mut module = module_of(text);
-    let answer = match is_ready(&mut module) {
+    let answer = match is_ready(&mut module, false) {
         true => match resolved(alloc, &mut module) {
             Ok(names) => Ok(names),
             Err(error) => Err(Refused::Module(error)),
