@@ -1,10 +1,11 @@
 //! The encoder.
 
-ghost use Rattle.std.specs.Prelude.{◌≡◌, ⊤, All, IfOk, IfErr, IsTrue};
+ghost use Rattle.std.specs.Prelude.{◌≡◌, ⊥, ⊤, All, IfOk, IfErr, IsTrue};
 ghost use Rattle.wast_base.specs.Faults.{out_of_memory};
+ghost use Rattle.wasm_ops.specs.declared.sink.Refusal.TheVariants as refusal;
 ghost use Rattle.wasm_out.specs.Built.{IsRefused};
 ghost use Rattle.wasm_out.specs.Reads.{Reads};
-ghost use Rattle.wast_core.specs.Bounded.{IsWritable};
+ghost use Rattle.wast_core.specs.Bounded.{IsWritable, InRangeModule};
 ghost use Rattle.wast_conv.specs.Encodable.{is_encodable, is_at_rest};
 ghost use Rattle.wast_core.specs.DataCounts.{may_be_counted};
 ghost use Rattle.wast_core.specs.Headline.{Encodes, joined, name_of_module};
@@ -18,10 +19,10 @@ use crate::module::{Module, ModuleKind};
 use crate::sections::put_sections;
 use crate::utf8_names::names_law;
 use std::alloc::Global;
-use wasm_ops::Sink;
+use wasm_ops::{Length, Refusal, Sink};
 use wast_base::{Error, Fault, Gensym};
 use wast_names::given_name;
-use wast_nodes::ModuleField;
+use wast_nodes::{Custom, ModuleField};
 use wast_resolve::{discard_names, resolved_laws};
 use wast_visits::survey;
 
@@ -30,6 +31,52 @@ fn as_it_is(bytes: Vec<u8>) -> Vec<u8>
     ensures { result ≡ bytes }
 {
     bytes
+}
+
+/// How many bytes the field holds in pieces, up to the greatest `u64`: those of a data segment or of a
+/// custom section.
+fn pieces_length(field: &ModuleField) -> u64 {
+    let mut sum = 0u64;
+    match field {
+        ModuleField::Data(data) => {
+            for piece in &data.bytes {
+                sum = sum.saturating_add(piece.len() as u64);
+            }
+        }
+        ModuleField::Custom(Custom::Raw(section)) => {
+            for piece in &section.bytes {
+                sum = sum.saturating_add(piece.len() as u64);
+            }
+        }
+        _ => {}
+    }
+    sum
+}
+
+/// Whether the pieces of the module have 4 GiB or more together. They can have more bytes than memory
+/// holds, because a slice may be in many pieces.
+fn is_huge(fields: &[ModuleField]) -> bool {
+    let mut sum = 0u64;
+    for field in fields {
+        sum = sum.saturating_add(pieces_length(field));
+    }
+    sum > u64::from(u32::MAX)
+}
+
+/// Counts the bytes of a module without writing them, and refuses a module that is too large. It
+/// needs what writing them needs.
+fn count_sections(
+    fields: &[ModuleField],
+    name: Option<&str>,
+    has_data_index: bool,
+) -> Result<(), Refusal>
+    requires encodable { IsTrue (is_encodable fields.now) }
+    requires data { IsTrue (may_be_counted fields.now has_data_index) }
+    ensures { IfErr result (λ e. (e ≡ refusal.TooLarge)
+        × (InRangeModule (text_seen name.entry) fields.now → ⊥)) }
+{
+    let mut length = Length::new();
+    put_sections(fields, name, has_data_index, &mut length)
 }
 
 /// The bytes of a module with this name, of these resolved fields. It needs names that are UTF-8, and whether an index of a data
@@ -46,6 +93,10 @@ fn encode_fields<'e>(
     ensures bytes { IfOk result (λ v. Reads v.items (parts (text_seen name.entry) fields.now)) }
     ensures refusal { IfErr result (IsRefused (IsWritable (text_seen name.entry) fields.now)) }
 {
+    if is_huge(fields) {
+        // counted first, because 4 GiB would be written before a section is found to be too large
+        count_sections(fields, name, has_data_index)?;
+    }
     let mut bytes = Vec::new(alloc);
     put_sections(fields, name, has_data_index, &mut bytes)?;
     let written = as_it_is(bytes);
@@ -136,7 +187,7 @@ impl EncodeOptions {
     /// ([`one_meaning`](crate::laws::one_meaning)). A refusal of resolving is answered and kept, and a refused module answers
     /// what it keeps; a refusal of encoding leaves the module resolved: E11, first and without memory, exactly where a form
     /// stands in the resolved fields that no encoder covers, and it names the first one; E10 where a count, length or position
-    /// is 2^32 or more or the bytes are more than the greatest usize, E12 where memory is refused. A binary module gives its
+    /// is 2^32 or more, E12 where memory is refused. A binary module gives its
     /// pieces, one after another, and stays as it is. The module is well formed afterwards, and its span, id and name stay. The
     /// counter is left as [`Module::resolve`] leaves it.
     pub fn encode_module<'a>(

@@ -23,3 +23,9 @@ returns-in_err-put_sections-clause-refusal c =
       | inl h ↦ inl (p.2 ∙ ap refused_as h.0)
       | inr h ↦ inr (p.2 ∙ ap refused_as h.0, λ w. h.1 w.in_range)
     ])
+
+pub returns-in_err-count_sections-clause-refusal : goal.returns-in_err-count_sections-clause-refusal
+returns-in_err-count_sections-clause-refusal c =
+    let p = err_from_is_err_and c.from_residual.result c.from_residual.ensures.1 in
+    let is = c.in_err-count_sections.ensures in
+    rw p.1 (inr (p.2 ∙ ap refused_as is.0, λ w. is.1 w.in_range))
