@@ -11,7 +11,6 @@ mod instr_sink;
 mod instrs;
 pub mod laws;
 mod leb128;
-mod lengths;
 mod memargs;
 mod opcodes;
 mod pieces;
@@ -36,7 +35,6 @@ pub use instrs::{
 };
 pub use laws::{instruction_law, signed_law, type_spelling_law, unsigned_law};
 pub use leb128::{width, write_s32, write_s33, write_s64, write_u32, write_u64};
-pub use lengths::whole_size;
 pub use memargs::{MemArg, MemArgOrdering, MemArgTarget, Ordering};
 pub use opcodes::Opcode;
 pub use ref_types::{AbstractHeapType, HeapType, RefType};

@@ -140,7 +140,7 @@ impl Spell<Dylink0Subsection<'_>> for Resolved {
 /// What stands behind the length of a custom section: its name and its bytes (binary format, custom section). It needs one
 /// without an architecture.
 #[derive(Clone, Copy)]
-pub struct CustomPayload<'b, 'a>(pub &'b Custom<'a>);
+pub(crate) struct CustomPayload<'b, 'a>(pub &'b Custom<'a>);
 
 impl Encode for CustomPayload<'_, '_> {
     ghost spelling = { λ p. custom_payload p.0.now };

@@ -17,7 +17,7 @@ mod segment_items;
 mod segment_values;
 mod values;
 
-pub use custom_values::{CustomPayload, SubsectionContent};
+pub use custom_values::SubsectionContent;
 pub use hint_values::BodyHints;
 pub use section_items::{FuncSectionTy, RecOrType, SectionItem};
 pub use values::Resolved;
