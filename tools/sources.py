@@ -1,6 +1,6 @@
 """Reads the sources of this repository: what each file declares, what each crate passes on, which clauses a function has.
 
-tools/reference and tools/check-docs stand on it. It goes by the layout that `rt fmt` gives: what a file declares begins at
+tools/reference, tools/check-docs and tools/trust use it. It goes by the layout that `rt fmt` gives: what a file declares begins at
 the left edge, what stands in it four places further right, and it ends with a brace at the place where it began.
 """
 
@@ -375,3 +375,28 @@ def all_items():
         for path in gathered(crate):
             found.extend((crate, item) for item in declared(path))
     return found
+
+
+def functions(crates, path):
+    """The functions of this path in some crates, or what the trait says that a type has."""
+    parts = path.split("::")
+    found = []
+    for crate, item in all_items():
+        if crate not in crates and crate not in parts[:1]:
+            continue
+        if item.kind == "fn" and item.name == parts[-1] and (len(parts) == 1 or parts[-2] in (crate, item.path.stem) or passes_on(crate, parts)):
+            found.append(item)
+        elif len(parts) > 1 and item.name == parts[-2]:
+            found.extend(m for m in item.members if m.name == parts[-1] and m.kind == "fn")
+    if not found and len(parts) > 1:
+        for crate, item in all_items():
+            if item.kind == "trait":
+                called = [m for m in item.members if m.name == parts[-1]]
+                if called and any(i.name == parts[-2] and item.name in i.traits for _, i in all_items()):
+                    found.extend(called)
+    return found
+
+
+def passes_on(crate, parts):
+    """Whether a crate passes the function on in a module of this name."""
+    return any(prefix == parts[:-1] and item.name == parts[-1] for prefix, item in surface(crate)) if (ROOT / "crates" / crate / "src/lib.rt").exists() else False
