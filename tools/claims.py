@@ -6,7 +6,6 @@ read as one text, so that a claim may go over the end of a line; shell blocks an
 """
 
 import functools
-import importlib.machinery
 import re
 
 import sources
@@ -28,11 +27,6 @@ def value(word):
     return int(word) if word.isdigit() else WORDS.index(word.lower())
 
 
-def program(name):
-    """A tool of this repository as a module: what it counts is not counted a second way here."""
-    return importlib.machinery.SourceFileLoader(name, str(ROOT / "tools" / name)).load_module()
-
-
 def rows_of_table():
     """How many rows the opcode table has: the sum of its runs, as `(0x07, 3, Index ∷ [])`."""
     text = (ROOT / "crates/wasm_ops/specs/Table.antt").read_text(encoding="utf-8")
@@ -43,8 +37,6 @@ def rows_of_table():
 @functools.lru_cache(maxsize=None)
 def figures():
     """Patterns of the docs, with the numbers that their groups must say, and the name of what is counted."""
-    growing = program("growing")
-    instruction, field = growing.places("instruction", "ref_func"), growing.places("field", "Tag")
     faces, rows = len(sources.FACES), rows_of_table()
     in_ci = {path.parent.parent.name for path in ROOT.glob("crates/*/must-fail/*.edit")}
     return [
@@ -52,16 +44,6 @@ def figures():
         (rf"\bcallers meet (?:these )?{NUMBER}\b", [faces], "crates that callers meet"),
         (rf"\b(?:beside|of) the {SEVERAL}\b|\bthe {SEVERAL} crates\b", [faces], "crates that callers meet"),
         (rf"{NUMBER} crates have (?:wrong bodies|mutants) in", [len(in_ci)], "crates with mutants in CI"),
-        (
-            rf"an instruction with one index has {NUMBER}, and a field, as `Tag`, {NUMBER} in {NUMBER} files",
-            [growing.count(instruction), growing.count(field), growing.files(field)],
-            "places that tools/growing lists",
-        ),
-        (
-            rf"{NUMBER} lines in all: {NUMBER} of code, {NUMBER} of definitions, and an answer of {NUMBER}",
-            [growing.count(instruction), *(growing.count(instruction, part) for part in growing.PARTS)],
-            "places that tools/growing lists",
-        ),
     ]
 
 
@@ -142,7 +124,12 @@ def table_claims(text):
 
 def figure_claims(text):
     """What a page says in figures."""
-    for pattern, numbers, name in figures():
+    return compared(text, figures())
+
+
+def compared(text, figures):
+    """What a page says in these figures, each with whether it is what was counted; `tools/growing` has figures of its own."""
+    for pattern, numbers, name in figures:
         for match in re.finditer(pattern, text, re.I):
             said = [value(word) for word in match.groups() if word]
             yield match, said == numbers, f"{name}: {', '.join(map(str, said))} told, {', '.join(map(str, numbers))} counted"

@@ -1,4 +1,4 @@
-"""Reads the definitions of crates/*/specs and the contracts of crates/*/src, and tells what each of them names, for `tools/trust`.
+"""Reads the definitions of crates/*/specs and the contracts of crates/*/src, and tells what each of them names.
 
 A file of specs/ has a header of `use` lines, then definitions: a signature, such as `abbrev pub name : type`, `pub data` or
 `pub record`, and its clauses below it. A name in it is one that a binder gives (a pattern, `(x : A)`, `λ x.`, `let x =`, a field of a
@@ -12,7 +12,7 @@ A name leads to one of these, which are called targets here:
 - a `KitName`: a name of the kit's library, which is not followed;
 - a `Lemma`: a name of proofs/ or of `specs.contracts`, which is proved or derived, so nobody has to believe it.
 
-`Missing` is raised for a name that leads nowhere.
+`Missing` is raised for a name that leads nowhere. `tools/trust` and `tools/growing` use it.
 """
 
 import functools
