@@ -1,11 +1,11 @@
 //! The encoder.
 
-ghost use Rattle.std.specs.Prelude.{◌≡◌, ⊥, ⊤, All, IfOk, IfErr, IsTrue};
+ghost use Rattle.std.specs.Prelude.{◌≡◌, ⊤, All, IfOk, IfErr, IsTrue};
 ghost use Rattle.wast_base.specs.Faults.{out_of_memory};
 ghost use Rattle.wasm_ops.specs.declared.sink.Refusal.TheVariants as refusal;
 ghost use Rattle.wasm_out.specs.Built.{IsRefused};
 ghost use Rattle.wasm_out.specs.Reads.{Reads};
-ghost use Rattle.wast_core.specs.Bounded.{IsWritable, InRangeModule};
+ghost use Rattle.wast_core.specs.Bounded.{IsWritable};
 ghost use Rattle.wast_conv.specs.Encodable.{is_encodable, is_at_rest};
 ghost use Rattle.wast_core.specs.DataCounts.{may_be_counted};
 ghost use Rattle.wast_core.specs.Headline.{Encodes, joined, name_of_module};
@@ -73,7 +73,7 @@ fn count_sections(
     requires encodable { IsTrue (is_encodable fields.now) }
     requires data { IsTrue (may_be_counted fields.now has_data_index) }
     ensures { IfErr result (λ e. (e ≡ refusal.TooLarge)
-        × (InRangeModule (text_seen name.entry) fields.now → ⊥)) }
+        × (IsWritable (text_seen name.entry) fields.now → ⊥)) }
 {
     let mut length = Length::new();
     put_sections(fields, name, has_data_index, &mut length)

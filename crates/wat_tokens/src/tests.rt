@@ -74,7 +74,8 @@ fn texts_are_cut_into_tokens(rt: HostRuntime) {
     let error = tokens_of(rt.alloc(), r#" "a\q""#, &strings).err();
     assert!(rt; error == Some(TextError::new(Span { offset: 3 }, TextFault::Escape)));
     let tokens = written_tokens_of(rt.alloc(), r#" "a\q""#).expect(&rt, "memory");
-    assert!(rt; matches!(tokens[0].token, Token::String(b"a\\q")) && tokens[0].span.offset == 1);
+    assert!(rt; tokens.len() == 1 && tokens[0].span.offset == 1);
+    assert!(rt; tokens.len() == 1 && matches!(tokens[0].token, Token::String(b"a\\q")));
 }
 
 #[test]

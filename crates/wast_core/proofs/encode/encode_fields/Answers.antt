@@ -18,7 +18,7 @@ returns-clause-bytes c =
 
 pub returns-in_err-put_sections-clause-refusal : goal.returns-in_err-put_sections-clause-refusal
 returns-in_err-put_sections-clause-refusal c =
-    let p = err_from_is_err_and c.from_residual.result c.from_residual.ensures.1 in
+    let p = err_from_is_err_and c.from_residual-in_err-put_sections.result c.from_residual-in_err-put_sections.ensures.1 in
     rw p.1 (elim c.in_err-put_sections.ensures.1 [
       | inl h ↦ inl (p.2 ∙ ap refused_as h.0)
       | inr h ↦ inr (p.2 ∙ ap refused_as h.0, λ w. h.1 w.in_range)
@@ -28,4 +28,4 @@ pub returns-in_err-count_sections-clause-refusal : goal.returns-in_err-count_sec
 returns-in_err-count_sections-clause-refusal c =
     let p = err_from_is_err_and c.from_residual.result c.from_residual.ensures.1 in
     let is = c.in_err-count_sections.ensures in
-    rw p.1 (inr (p.2 ∙ ap refused_as is.0, λ w. is.1 w.in_range))
+    rw p.1 (inr (p.2 ∙ ap refused_as is.0, is.1))
