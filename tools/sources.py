@@ -15,7 +15,7 @@ ROOT = pathlib.Path(__file__).resolve().parent.parent
 FACES = ["wast_tree", "wasm_ops", "wasm_out", "wast_expand", "wast_resolve", "wast_core", "wast_rows"]
 
 HEAD = re.compile(
-    r"^(?P<indent> *)(?P<pub>pub(?:\([a-z]+\))? )?"
+    r"^(?P<indent> *)(?P<pub>pub(?:\([a-z]+\))? )?(?:extern \"C\" )?"
     r"(?:(?P<kind>fn|struct|enum|trait|type|const|mod|use|static) )(?P<name>\w+)?"
 )
 IMPL = re.compile(r"^impl(?:<.*?>)? (?:(?P<trait>[\w:]+(?:<.*>)?) for )?(?P<type>&?(?:'\w+ )?[\w:]+)")
