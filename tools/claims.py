@@ -110,16 +110,37 @@ def relation_claims(text):
             yield match, is_told_right(crate, names), f"crates.txt differs: {crate} depends on {', '.join(sorted(dependencies()[crate]))}"
 
 
+def picture_claims(text):
+    """A picture of crates in mermaid: each arrow is a dependency, and the arrows lead to all that a crate of the picture depends on."""
+    for match in re.finditer(r"^```mermaid\n(.*?)^```", text, re.M | re.S):
+        arrows = {}
+        for line in match.group(1).splitlines():
+            names = [name.strip() for name in line.split("-->")]
+            for name, below in zip(names, names[1:]):
+                arrows.setdefault(name, set()).add(below)
+        known = dependencies()
+        drawn = set(arrows).union(*arrows.values())
+        for name in sorted(drawn):
+            found, left = set(), [name]
+            while left:
+                for below in arrows.get(left.pop(), set()) - found:
+                    found.add(below)
+                    left.append(below)
+            right = known.get(name, set()) & drawn
+            yield match, name in known and found == right, f"crates.txt differs: {name} depends on {', '.join(sorted(right))}, the picture has {', '.join(sorted(found))}"
+        for name in sorted(sources.FACES):
+            yield match, name in drawn, f"the picture lacks {name}"
+
+
 def table_claims(text):
-    """The table of crates: each row has a crate, its internal crates, and what these depend on besides."""
-    for match in re.finditer(r"^\| `(\w+)`: [^|]*\|([^|]*)\|([^|]*)\|$", text, re.M):
-        crate = match.group(1)
-        names = [name for name in re.findall(r"`(\w+)`", match.group(2) + match.group(3)) if name in sources.crates()]
-        if crate in sources.crates() and match.group(3).strip():
-            below = dependencies()[crate]
-            yield match, is_told_right(crate, [name for name in names if name in below]), f"crates.txt differs: {crate} depends on {', '.join(sorted(below))}"
-            for name in re.findall(r"`(\w+)`", match.group(3)):
-                yield match, name in below, f"crates.txt differs: {crate} does not depend on {name}"
+    """A table of public crates: each depends on the internal crates in its row, and each public crate has a row."""
+    for table in re.finditer(r"^\| public crate \|.*\n\|[-|]+\n((?:\|.*\n)+)", text, re.M):
+        rows = [[re.findall(r"`(\w+)`", cell) for cell in line.split("|")[1:3]] for line in table.group(1).splitlines()]
+        yield table, sorted(name for crate, _ in rows for name in crate) == sorted(sources.FACES), "the table has other public crates"
+        for crate, internal in rows:
+            for name in internal:
+                if name in sources.crates():
+                    yield table, name in dependencies()[crate[0]], f"crates.txt differs: {crate[0]} does not depend on {name}"
 
 
 def figure_claims(text):
@@ -137,6 +158,6 @@ def compared(text, figures):
 
 def claims(text):
     """Each claim of a page: the number of its line, whether it holds, and what is wrong."""
-    for found in (figure_claims, relation_claims, table_claims, fault_claims):
+    for found in (figure_claims, relation_claims, picture_claims, table_claims, fault_claims):
         for match, holds, problem in found(text):
             yield text.count("\n", 0, match.start()) + 1, holds, problem
