@@ -41,6 +41,7 @@ def figures():
     in_ci = {path.parent.parent.name for path in ROOT.glob("crates/*/must-fail/*.edit")}
     return [
         (rf"{NUMBER} rows\b(?= is written once|; instructions)", [rows], "rows of the opcode table"),
+        (rf"\btable(?: of instructions)?(?:,\s+which)?\s+has\s+{NUMBER}\s+rows\b", [rows], "rows of the opcode table"),
         (rf"\bcallers meet (?:these )?{NUMBER}\b", [faces], "crates that callers meet"),
         (rf"\b(?:beside|of) the {SEVERAL}\b|\bthe {SEVERAL} crates\b", [faces], "crates that callers meet"),
         (rf"{NUMBER} crates have (?:wrong bodies|mutants) in", [len(in_ci)], "crates with mutants in CI"),
