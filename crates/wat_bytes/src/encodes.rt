@@ -49,7 +49,7 @@ fn encoded_module<'a>(
     text: TextModule<'a>,
     is_told: bool,
 ) -> Result<Vec<u8>, Refused<'a>>
-    requires told { IsTrue is_told → IsTrue (is_well_formed (module_of text.entry)) }
+    requires told { IsTrue is_told → IsTrue (is_well_formed (module_of text)) }
     ensures { EncodesText text.entry result }
 {
     let mut module = module_of(text);
@@ -92,7 +92,7 @@ fn encoded_in<'a>(
     strings: &'a Strings,
     module: TextModule<'a>,
 ) -> Result<Vec<u8>, Refused<'a>>
-    requires well_formed { IsTrue (is_well_formed (module_of «module».entry)) }
+    requires well_formed { IsTrue (is_well_formed (module_of «module»)) }
     ensures { EncodesText «module».entry result }
 {
     match encoded_module(alloc, module, true) {
