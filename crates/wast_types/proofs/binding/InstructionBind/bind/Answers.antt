@@ -1,6 +1,6 @@
 use Rattle.std.proofs.Common.{◌≡◌, [], ◌++◌, ap, sym, ◌∙◌, subst}
 use Rattle.wast_nodes.specs.Sites.{start, uncovered, in_index, in_ref, in_pair, in_cast, in_select, in_instr}
-use Rattle.wast_map.specs.Mapped.{mapped_block, mapped_instr}
+use Rattle.wast_map.specs.Mapped.{mapped_block, mapped_indirect, mapped_instr}
 use Rattle.wast_types.specs.Tree.{ResumeTable}
 use Rattle.wast_types.specs.Tree.form
 use Rattle.wast_types.specs.Tree.space
@@ -22,11 +22,12 @@ returns-in-select-clause-adds c =
 
 pub returns-in_ok-bind-in-call_indirect-clause-bound : goal.returns-in_ok-bind-in-call_indirect-clause-bound
 returns-in_ok-bind-in-call_indirect-clause-bound c = λ more.
-    ap instr.call_indirect (c.in_ok-bind-in-call_indirect.ensures.bound more) ∙ sym (ap (mapped_instr (binding (found_in c.bind-in-call_indirect.new.binder.cx more)) start) c.in-call_indirect.is)
+    ap instr.call_indirect (c.in_ok-bind-in-call_indirect.ensures.bound more ∙ ap (mapped_indirect (binding (found_in c.bind-in-call_indirect.new.binder.cx more))) c.get_mut-in-call_indirect.ensures.value)
+    ∙ sym (ap (mapped_instr (binding (found_in c.bind-in-call_indirect.new.binder.cx more)) start) c.in-call_indirect.is)
 
 pub returns-in_ok-bind-in-return_call_indirect-clause-bound : goal.returns-in_ok-bind-in-return_call_indirect-clause-bound
 returns-in_ok-bind-in-return_call_indirect-clause-bound c = λ more.
-    ap instr.return_call_indirect (c.in_ok-bind-in-return_call_indirect.ensures.bound more)
+    ap instr.return_call_indirect (c.in_ok-bind-in-return_call_indirect.ensures.bound more ∙ ap (mapped_indirect (binding (found_in c.bind-in-return_call_indirect.new.binder.cx more))) c.get_mut-in-return_call_indirect.ensures.value)
     ∙ sym (ap (mapped_instr (binding (found_in c.bind-in-return_call_indirect.new.binder.cx more)) start) c.in-return_call_indirect.is)
 
 pub returns-in_ok-bind-in-block-clause-bound : goal.returns-in_ok-bind-in-block-clause-bound
