@@ -1,7 +1,8 @@
 """Reads the sources of this repository: what each file declares, what each crate passes on, which clauses a function has.
 
-tools/reference, tools/check-docs, tools/trust and tools/growing use it. It goes by the layout that `rt fmt` gives: what a file declares
-begins at the left edge, what stands in it four places further right, and it ends with a brace at the place where it began.
+tools/reference, tools/check-docs, tools/trust, tools/growing and tools/tree-names use it. It goes by the layout that `rt fmt`
+gives: what a file declares begins at the left edge, what stands in it four places further right, and it ends with a brace at the
+place where it began.
 """
 
 import functools
