@@ -211,6 +211,19 @@ fn unless<'a>(
     }
 }
 
+/// Reads the fields up to the end of the text, and before it `)` if the module is in parentheses.
+fn rest_of_fields<'a>(
+    reader: Reader<'a>,
+    is_written: bool,
+) -> Result<Seq<ModuleField<'a>>, TextError>
+    ensures { IfOk result (λ fields. is_well_formed fields ≡ true) }
+{
+    let mut reader = reader;
+    let fields = reader.fields();
+    reader.module_end(is_written);
+    unless(reader.finish(), fields)
+}
+
 /// The module at a place, of fields that are read up to the end of the text.
 fn module_of_fields<'a>(
     reader: Reader<'a>,
@@ -219,10 +232,7 @@ fn module_of_fields<'a>(
 ) -> Result<TextModule<'a>, TextError>
     ensures { IfOk result (λ m. IsTrue (is_well_formed_text m.kind)) }
 {
-    let mut reader = reader;
-    let fields = reader.fields();
-    reader.module_end(head.keyword.is_some());
-    let fields = unless(reader.finish(), fields)?;
+    let fields = rest_of_fields(reader, head.keyword.is_some())?;
     Ok(TextModule {
         span,
         id: head.id,
@@ -328,4 +338,28 @@ pub fn read<'a>(
             })
         }
     }
+}
+
+/// Reads the fields of a module from its tokens, as [`read`] does from its text. The tokens are those of a text that the caller
+/// has changed, for example to give ids other names or other positions. `end` is the position after the last one. Modules
+/// `(module binary ..)` and `(module quote ..)` are not read.
+///
+/// It allocates memory for the tree. The id and the name annotation of the module are left out.
+///
+/// # Errors
+/// A [`TextFault`] with its position, which is that of a token or `end`: the tokens are not a module, or its fields are not well
+/// formed, or allocation failed ([`TextFault::Memory`]).
+///
+/// # Guarantees
+/// `well_formed`: the fields are well formed.
+pub fn read_tokens<'a>(
+    alloc: Global,
+    tokens: Vec<Placed<'a>>,
+    end: Span,
+) -> Result<Seq<ModuleField<'a>>, TextError>
+    ensures well_formed { IfOk result (λ fields. IsTrue (is_well_formed fields)) }
+{
+    let mut reader = Reader::new(alloc, tokens, end);
+    let head = reader.module_head();
+    rest_of_fields(reader, head.keyword.is_some())
 }

@@ -126,7 +126,8 @@ fn annotation(name: &str) -> Option<Annotation> {
 #[derive(Drop)]
 struct Scan<'a> {
     alloc: Global,
-    strings: &'a Strings,
+    /// Where strings with escapes are kept; if it is `None`, strings stay as they are written.
+    strings: Option<&'a Strings>,
     length: usize,
     rest: &'a str,
     /// How many parentheses are open since an annotation that means nothing.
@@ -237,7 +238,10 @@ impl<'a> Scan<'a> {
         let begin = self.place();
         let content = self.take(count);
         let _quote = self.take(1);
-        match self.strings.read(self.alloc, content.as_bytes()) {
+        let Some(strings) = self.strings else {
+            return Ok(content.as_bytes());
+        };
+        match strings.read(self.alloc, content.as_bytes()) {
             Ok(bytes) => Ok(bytes),
             Err(error) => {
                 let offset = begin.offset.saturating_add(error.offset);
@@ -335,16 +339,11 @@ impl<'a> Scan<'a> {
     }
 }
 
-/// Returns the tokens of a text, without white space, comments and annotations that mean nothing (text format, tokens). Strings
-/// with escapes are kept in `strings`. It allocates memory for the tokens.
-///
-/// # Errors
-/// A [`TextFault`] with its position: that of the token or the comment that is wrong, and in a string that of the escape or the
-/// control character.
-pub fn tokens_of<'a>(
+/// Cuts a text into tokens, with its strings as `strings` gives them.
+fn scanned<'a>(
     alloc: Global,
     text: &'a str,
-    strings: &'a Strings,
+    strings: Option<&'a Strings>,
 ) -> Result<Vec<Placed<'a>>, TextError> {
     let mut scan = Scan {
         alloc,
@@ -357,4 +356,28 @@ pub fn tokens_of<'a>(
     };
     scan.run()?;
     Ok(scan.tokens)
+}
+
+/// Returns the tokens of a text, without white space, comments and annotations that mean nothing (text format, tokens). Strings
+/// with escapes are kept in `strings`. It allocates memory for the tokens.
+///
+/// # Errors
+/// A [`TextFault`] with its position: that of the token or the comment that is wrong, and in a string that of the escape or the
+/// control character.
+pub fn tokens_of<'a>(
+    alloc: Global,
+    text: &'a str,
+    strings: &'a Strings,
+) -> Result<Vec<Placed<'a>>, TextError> {
+    scanned(alloc, text, Some(strings))
+}
+
+/// Returns the tokens of a text as [`tokens_of`] does, but with each string as it is written between its quotes, escapes
+/// included. The tokens are parts of the text alone, so they need no [`Strings`] that live as long. For example the token of
+/// `"\01"` has the three bytes `\01`. It allocates memory for the tokens.
+///
+/// # Errors
+/// A [`TextFault`] with the position of the token or the comment that is wrong. No escape is wrong, because none is read.
+pub fn written_tokens_of<'a>(alloc: Global, text: &'a str) -> Result<Vec<Placed<'a>>, TextError> {
+    scanned(alloc, text, None)
 }
