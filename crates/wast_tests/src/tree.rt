@@ -1,12 +1,14 @@
 //! What is made for a tree, and what is told of it.
 
 use std::alloc::Global;
+use std::mem::size_of;
 use std::process::Abort;
 use wast_tree::{
-    BlockKind, BlockType, DataVal, Expression, Id, ImportItems, Imports, Index, Instruction,
-    ItemKind, ItemSig, Maker, MemArg, MemArgTarget, MemOp, ModuleField, Seq, Span, TryTableCatch,
-    TryTableCatchKind, TypeUse, discard_data, discard_expression, discard_field, discard_fields,
-    discard_instruction, fields_with_capacity, push_field,
+    BlockKind, BlockType, BrOnCast, BrOnCastDescEq, BrOnCastDescEqFail, BrOnCastFail, CallIndirect,
+    DataVal, Expression, Id, ImportItems, Imports, Index, Instruction, ItemKind, ItemSig, Maker,
+    MemArg, MemArgTarget, MemOp, ModuleField, RefType, ResumeTable, ResumeThrow, Seq, Span,
+    TryTableCatch, TryTableCatchKind, TypeUse, discard_data, discard_expression, discard_field,
+    discard_fields, discard_instruction, fields_with_capacity, push_field,
 };
 
 fn at(offset: usize) -> Span {
@@ -181,4 +183,75 @@ fn openers_of_blocks_are_made(rt: HostRuntime) {
         assert!(rt; opens(instruction));
     }
     discard_expression(Expression::new(alloc, instrs));
+}
+
+/// The label of a branch on a cast, or the tag or the table that another instruction with a box names first.
+fn first_index<'a>(instruction: &Instruction<'a>) -> Option<Index<'a>> {
+    match instruction {
+        Instruction::call_indirect(call) | Instruction::return_call_indirect(call) => {
+            Some(call.get().table)
+        }
+        Instruction::br_on_cast(cast) => Some(cast.get().label),
+        Instruction::br_on_cast_fail(cast) => Some(cast.get().label),
+        Instruction::br_on_cast_desc_eq(cast) => Some(cast.get().label),
+        Instruction::br_on_cast_desc_eq_fail(cast) => Some(cast.get().label),
+        Instruction::resume_throw(resume) => Some(resume.get().tag_index),
+        _ => None,
+    }
+}
+
+#[test]
+fn an_instruction_has_96_bytes(rt: HostRuntime) {
+    assert!(rt; size_of::<Instruction<'static>>() == 96);
+}
+
+#[test]
+fn large_immediates_get_memory_of_their_own(rt: HostRuntime) {
+    let alloc = rt.alloc();
+    let mut maker = Maker::new(alloc);
+    let (label, ty) = (Index::Num(7, at(1)), RefType::funcref());
+    let (from_type, to_type) = (ty, ty);
+    let table = ResumeTable {
+        handlers: Seq::new(alloc),
+    };
+    let made = [
+        maker.call_indirect(CallIndirect {
+            table: label,
+            ty: TypeUse::none(),
+        }),
+        maker.return_call_indirect(CallIndirect {
+            table: label,
+            ty: TypeUse::none(),
+        }),
+        maker.br_on_cast(BrOnCast {
+            label,
+            from_type,
+            to_type,
+        }),
+        maker.br_on_cast_fail(BrOnCastFail {
+            label,
+            from_type,
+            to_type,
+        }),
+        maker.br_on_cast_desc_eq(BrOnCastDescEq {
+            label,
+            from_type,
+            to_type,
+        }),
+        maker.br_on_cast_desc_eq_fail(BrOnCastDescEqFail {
+            label,
+            from_type,
+            to_type,
+        }),
+        maker.resume_throw(ResumeThrow {
+            type_index: Index::Num(8, at(2)),
+            tag_index: label,
+            table,
+        }),
+    ];
+    assert!(rt; !maker.is_refused());
+    for instruction in made {
+        assert!(rt; first_index(&instruction) == Some(label));
+        discard_instruction(instruction);
+    }
 }
