@@ -1,21 +1,18 @@
-//! The fields of worked modules, by number, with the places of their texts.
+//! The fields of worked modules, by number, with the places of their texts, and of small modules of one form each.
 //!
-//! A function named for a module gives its fields. Where the maker was refused memory, they are not all there; whoever made
-//! the maker asks it at the end.
+//! A row is a text that `wat_text` reads ([`texts`]), or, if no text gives its fields, it is built by hand ([`built_rows`]). The
+//! modules of forms are built by hand too, because their contract says which form is in the fields ([`forms`]).
+//!
+//! A function named for a module that is built gives its fields. If the maker was refused memory, they are not all there; whoever
+//! made the maker asks it at the end.
 #![tactic(auto)]
 
-mod block_samples;
-mod custom_samples;
-mod field_samples;
-mod form_samples;
-mod hint_samples;
-mod ill_formed_samples;
-mod inline_samples;
-mod instr_samples;
+mod built_rows;
+mod forms;
+mod parts;
 mod samples;
-mod struct_samples;
-mod type_samples;
+mod texts;
 mod ways;
 
-pub use form_samples::form_fields;
+pub use forms::form_fields;
 pub use samples::{sample_fields, twin_fields};

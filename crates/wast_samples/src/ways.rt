@@ -1,8 +1,5 @@
 //! The two ways to write the ids of a row: as its text has them, and as those of its twin.
 
-use crate::samples::id;
-use wast_base::Id;
-
 /// How the ids of a row are written.
 #[derive(Clone, Copy)]
 pub(crate) enum Way {
@@ -13,11 +10,31 @@ pub(crate) enum Way {
 }
 
 impl Way {
-    /// An id at a place, of which this is the name in the twin. The text has it without the `r`.
-    pub(crate) fn id<'a>(self, twin: &'a str, offset: usize) -> Id<'a> {
+    /// The name of an id that has this name in the row's text.
+    pub(crate) fn name<'a>(self, name: &'a str) -> &'a str {
         match self {
-            Way::Plain => id(twin.strip_prefix("r").unwrap_or(twin), offset),
-            Way::Twin => id(twin, offset),
+            Way::Plain => name,
+            Way::Twin => twin_name(name),
         }
+    }
+}
+
+/// A name with an `r` before it. The table has the names of all ids of the rows; another name stays as it is.
+fn twin_name<'a>(name: &'a str) -> &'a str {
+    match name {
+        "a" => "ra",
+        "b" => "rb",
+        "e" => "re",
+        "f" => "rf",
+        "g" => "rg",
+        "h" => "rh",
+        "l" => "rl",
+        "m" => "rm",
+        "p" => "rp",
+        "s" => "rs",
+        "t" => "rt",
+        "x" => "rx",
+        "y" => "ry",
+        name => name,
     }
 }

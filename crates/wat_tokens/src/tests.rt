@@ -2,7 +2,7 @@
 
 use crate::{
     Key, StringError, Strings, TextError, TextFault, Token, Word, float32, float64, integer32,
-    tokens_of, unsigned64,
+    tokens_of, unsigned64, written_tokens_of,
 };
 use wast_base::Span;
 
@@ -73,6 +73,8 @@ fn texts_are_cut_into_tokens(rt: HostRuntime) {
     assert!(rt; error == Some(TextError::new(Span::default(), TextFault::OpenComment)));
     let error = tokens_of(rt.alloc(), r#" "a\q""#, &strings).err();
     assert!(rt; error == Some(TextError::new(Span { offset: 3 }, TextFault::Escape)));
+    let tokens = written_tokens_of(rt.alloc(), r#" "a\q""#).expect(&rt, "memory");
+    assert!(rt; matches!(tokens[0].token, Token::String(b"a\\q")) && tokens[0].span.offset == 1);
 }
 
 #[test]

@@ -1,25 +1,37 @@
 //! The fields of small modules, each with one form that no encoder covers.
 
-ghost use Rattle.std.specs.Prelude.{◌≡◌, [], None, IfOk, IfErr};
+ghost use Rattle.std.specs.Prelude.{◌≡◌, [], ◌∷◌, None, Some, IfOk, IfErr};
 ghost use Rattle.wast_base.specs.Faults.{out_of_memory};
+ghost use Rattle.wast_base.specs.Ids.{written};
 ghost use Rattle.wast_makers.specs.Makers.{Makes};
 ghost use Rattle.wast_base.specs.declared.faults.Form.TheVariants as form;
 ghost use Rattle.wast_nodes.specs.declared.fields.ModuleField.TheVariants as field;
+ghost use Rattle.wast_nodes.specs.WorkedModules.{plain_def};
 ghost use Rattle.wast_samples.specs.SampledForms.{HoldsAlone};
 
-use crate::block_samples::func_of;
-use crate::custom_samples::architecture;
-use crate::field_samples::import;
-use crate::instr_samples::{one_instruction, wide_sum};
-use crate::samples::{at, empty_type, id, one, two};
+use crate::parts::{at, func_of, one, one_instruction};
 use std::alloc::Global;
 use wast_base::{Error, Form, Id, Index, MemOp, Seq};
 use wast_makers::Maker;
 use wast_nodes::{
-    ArrayType, ContType, FunctionType, GlobalType, ImportItems, Imports, InnerTypeKind,
-    Instruction, ItemKind, ItemSig, MemArg, MemArgTarget, ModuleField, Ordered, Ordering,
-    StorageType, Type, TypeDef, TypeUse, ValType,
+    ArrayType, ContType, Custom, Dylink0, Dylink0Subsection, FunctionType, GlobalType, ImportItems,
+    Imports, InnerTypeKind, Instruction, ItemKind, ItemSig, MemArg, MemArgTarget, ModuleField,
+    Ordered, Ordering, StorageType, Type, TypeDef, TypeUse, ValType,
 };
+
+/// A list of two fields.
+fn two<'a>(
+    alloc: Global,
+    maker: &mut Maker,
+    first: ModuleField<'a>,
+    second: ModuleField<'a>,
+) -> Seq<ModuleField<'a>>
+    ensures { Makes maker.old maker.new (result ≡ first.entry ∷ second.entry ∷ []) }
+{
+    let mut fields = one(alloc, maker, first);
+    maker.push_field(&mut fields, second);
+    fields
+}
 
 /// `(type ..)` of a composite type, at a place.
 fn type_of<'a>(
@@ -47,17 +59,22 @@ fn type_of<'a>(
     ModuleField::Ty(Type::new(at(offset), id, def))
 }
 
+/// `(type $a (func))` at the beginning of a module.
+fn empty_type<'a>(alloc: Global, name: &'a str) -> ModuleField<'a>
+    ensures { result ≡ field.Ty (record { span = record { offset = 9 }; id = Some (written name.entry (record { offset = 14 })); name = None; def = plain_def }) }
+{
+    let func = InnerTypeKind::Func(FunctionType::empty(alloc));
+    let id = Id::new(name, at(14));
+    type_of(alloc, Some(id), 9, func, false)
+}
+
 /// `(module (type $f (func)) (type (cont $f)))`
 fn continuation<'a>(alloc: Global, maker: &mut Maker) -> Seq<ModuleField<'a>>
     ensures { Makes maker.old maker.new (HoldsAlone form.StackSwitching result) }
 {
-    let cont = InnerTypeKind::Cont(ContType(Index::Id(id("f", 37))));
-    two(
-        alloc,
-        maker,
-        ModuleField::Ty(empty_type(alloc, Some(id("f", 14)), 9)),
-        type_of(alloc, None, 26, cont, false),
-    )
+    let cont = InnerTypeKind::Cont(ContType(Index::Id(Id::new("f", at(37)))));
+    let written = empty_type(alloc, "f");
+    two(alloc, maker, written, type_of(alloc, None, 26, cont, false))
 }
 
 /// `(module (type (shared (func))))`
@@ -85,10 +102,10 @@ fn atomic_global<'a>(alloc: Global, maker: &mut Maker) -> Seq<ModuleField<'a>>
 {
     let value = maker.one_instruction(Instruction::i32_const(0));
     let ty = GlobalType::new(ValType::I32, true);
-    let global = wast_nodes::Global::new(alloc, at(9), Some(id("g", 16)), ty, value);
+    let global = wast_nodes::Global::new(alloc, at(9), Some(Id::new("g", at(16))), ty, value);
     let access = Ordered {
         ordering: Ordering::SeqCst,
-        inner: Index::Id(id("g", 76)),
+        inner: Index::Id(Id::new("g", at(76))),
     };
     let mut instrs = Seq::new(alloc);
     maker.push_instruction(&mut instrs, Instruction::GlobalAtomic(access));
@@ -100,25 +117,17 @@ fn atomic_global<'a>(alloc: Global, maker: &mut Maker) -> Seq<ModuleField<'a>>
 fn exact_import<'a>(alloc: Global, maker: &mut Maker) -> Seq<ModuleField<'a>>
     ensures { Makes maker.old maker.new (HoldsAlone form.Descriptor result) }
 {
-    let exact = ItemKind::FuncExact(TypeUse::of(Index::Id(id("t", 60))));
-    two(
-        alloc,
-        maker,
-        ModuleField::Ty(empty_type(alloc, Some(id("t", 14)), 9)),
-        import(26, "m", "f", 42, None, exact),
-    )
+    let exact = ItemKind::FuncExact(TypeUse::of(Index::Id(Id::new("t", at(60)))));
+    let sig = ItemSig::new(at(42), None, exact);
+    let import = ModuleField::Import(Imports::single(at(26), "m", "f", sig));
+    two(alloc, maker, empty_type(alloc, "t"), import)
 }
 
 /// `(module (import "m" (item "a") (item "b") (func)))`
 fn grouped_import<'a>(alloc: Global, maker: &mut Maker) -> Seq<ModuleField<'a>>
     ensures { Makes maker.old maker.new (HoldsAlone form.CompactImports result) }
 {
-    let sig = ItemSig {
-        span: at(43),
-        id: None,
-        name: None,
-        kind: ItemKind::Func(TypeUse::none()),
-    };
+    let sig = ItemSig::new(at(43), None, ItemKind::Func(TypeUse::none()));
     let names: [&'a str; 2] = ["a", "b"];
     let items = ImportItems::Group2 {
         module: "m",
@@ -140,14 +149,31 @@ fn array_load<'a>(alloc: Global, maker: &mut Maker) -> Seq<ModuleField<'a>>
     let arg = MemArg {
         align: 4,
         offset: 0,
-        target: MemArgTarget::Array(Index::Id(id("a", 57))),
+        target: MemArgTarget::Array(Index::Id(Id::new("a", at(57)))),
         ordering: None,
     };
     let mut instrs = Seq::new(alloc);
     maker.push_instruction(&mut instrs, Instruction::Mem(MemOp::i32_load, arg));
-    let written = type_of(alloc, Some(id("a", 14)), 9, array, false);
+    let written = type_of(alloc, Some(Id::new("a", at(14))), 9, array, false);
     let func = func_of(alloc, 37, instrs);
     two(alloc, maker, written, func)
+}
+
+/// `(module (@dylink.0 ..))`, a section for a dynamic linker that names an architecture.
+fn architecture<'a>(alloc: Global, maker: &mut Maker) -> Seq<ModuleField<'a>>
+    ensures { Makes maker.old maker.new (HoldsAlone form.TargetArch result) }
+{
+    let mut subsections = Seq::new(alloc);
+    maker.push_subsection(&mut subsections, Dylink0Subsection::TargetArch("a"));
+    let info = Custom::Dylink0(Dylink0 { subsections });
+    one(alloc, maker, ModuleField::Custom(info))
+}
+
+/// `(module (func i64.add128))`
+fn wide_sum<'a>(alloc: Global, maker: &mut Maker) -> Seq<ModuleField<'a>>
+    ensures { Makes maker.old maker.new (HoldsAlone form.Beyond result) }
+{
+    one_instruction(alloc, maker, Instruction::Beyond("i64.add128"))
 }
 
 /// The fields of a module that holds this form.
