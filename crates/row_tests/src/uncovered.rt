@@ -6,7 +6,7 @@ use std::alloc::Global;
 use std::process::Abort;
 use wast_core::Module;
 use wast_tree::{
-    BlockKind, BrOnCastDescEq, BrOnCastDescEqFail, ContBind, ElemKind, ElemPayload, Error,
+    BlockKind, Boxed, BrOnCastDescEq, BrOnCastDescEqFail, ContBind, ElemKind, ElemPayload, Error,
     GlobalKind, Handle, HeapType, Index, Instruction, LaneArg, LoadOrStoreLane, Maker, MemArg,
     MemArgOrdering, MemArgTarget, MemLaneOp, MemOp, MemoryArg, ModuleField, Ordered, Ordering,
     RefCastDescEq, RefType, Resume, ResumeTable, ResumeThrow, ResumeThrowRef, Seq, StructAccess,
@@ -129,22 +129,33 @@ fn with_immediate<'a>(uncovered: Uncovered, named: Named<'a>) -> Instruction<'a>
 }
 
 /// An instruction on descriptors, or one of those above.
-fn on_descriptors<'a>(uncovered: Uncovered, named: Named<'a>) -> Instruction<'a> {
+fn on_descriptors<'a>(
+    rt: &impl Abort,
+    alloc: Global,
+    uncovered: Uncovered,
+    named: Named<'a>,
+) -> Instruction<'a> {
     match uncovered {
         Uncovered::New => Instruction::struct_new_desc(named[0]),
         Uncovered::NewDefault => Instruction::struct_new_default_desc(named[0]),
         Uncovered::Get => Instruction::ref_get_desc(named[0]),
         Uncovered::Cast => Instruction::ref_cast_desc_eq(RefCastDescEq { rt: to(named[0]) }),
-        Uncovered::OnCast => Instruction::br_on_cast_desc_eq(BrOnCastDescEq {
-            label: named[0],
-            from_type: to(named[2]),
-            to_type: to(named[1]),
-        }),
-        Uncovered::OnFail => Instruction::br_on_cast_desc_eq_fail(BrOnCastDescEqFail {
-            label: named[0],
-            from_type: to(named[2]),
-            to_type: to(named[1]),
-        }),
+        Uncovered::OnCast => {
+            let cast = BrOnCastDescEq {
+                label: named[0],
+                from_type: to(named[2]),
+                to_type: to(named[1]),
+            };
+            Instruction::br_on_cast_desc_eq(Boxed::new(alloc, cast).expect(rt, "memory"))
+        }
+        Uncovered::OnFail => {
+            let cast = BrOnCastDescEqFail {
+                label: named[0],
+                from_type: to(named[2]),
+                to_type: to(named[1]),
+            };
+            Instruction::br_on_cast_desc_eq_fail(Boxed::new(alloc, cast).expect(rt, "memory"))
+        }
         _ => with_immediate(uncovered, named),
     }
 }
@@ -183,11 +194,14 @@ fn on_continuations<'a>(
             type_index: named[0],
             table: handlers(rt, alloc, named[1], named[2], named[3]),
         }),
-        Uncovered::ResumeThrow => Instruction::resume_throw(ResumeThrow {
-            type_index: named[0],
-            tag_index: named[1],
-            table: handlers(rt, alloc, named[2], named[3], Index::Num(0, at(0))),
-        }),
+        Uncovered::ResumeThrow => {
+            let resume = ResumeThrow {
+                type_index: named[0],
+                tag_index: named[1],
+                table: handlers(rt, alloc, named[2], named[3], Index::Num(0, at(0))),
+            };
+            Instruction::resume_throw(Boxed::new(alloc, resume).expect(rt, "memory"))
+        }
         Uncovered::ResumeThrowRef => Instruction::resume_throw_ref(ResumeThrowRef {
             type_index: named[0],
             table: handlers(rt, alloc, named[1], named[2], named[3]),
@@ -196,7 +210,7 @@ fn on_continuations<'a>(
             type_index: named[0],
             tag_index: named[1],
         }),
-        _ => on_descriptors(uncovered, named),
+        _ => on_descriptors(rt, alloc, uncovered, named),
     }
 }
 

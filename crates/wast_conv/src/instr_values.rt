@@ -13,6 +13,7 @@ ghost use Rattle.wasm_ops.specs.SelectInstrs.{select_instr};
 ghost use Rattle.wasm_ops.specs.Sinks.{Writes};
 ghost use Rattle.wasm_ops.specs.Table.{instr, InRangeInstr};
 ghost use Rattle.wasm_ops.specs.VectorInstrs.{lanes_instr, lane_instr, mem_lane_instr};
+ghost use Rattle.wasm_ops.specs.declared.casts.BrCastOp.TheVariants as branch;
 ghost use Rattle.wasm_ops.specs.declared.instrs.IndexPairOp.TheVariants as pair;
 ghost use Rattle.wasm_ops.specs.declared.vectors.LanesOp.TheVariants as lanes;
 ghost use Rattle.wast_conv.specs.Encodable.{are_encodable, encodable, is_encodable_catch, is_encodable_instr};
@@ -30,9 +31,9 @@ use wasm_ops::{
 };
 use wast_base::{Boxed, Index, LaneOp, MemLaneOp, MemOp};
 use wast_nodes::{
-    ArrayNewFixed, BlockType, BrTableIndices, CallIndirect, HeapType, Instruction, LaneArg,
-    LoadOrStoreLane, MemArg, Ordering, RefType, SelectTypes, StructAccess, TryTable, TryTableCatch,
-    V128Const,
+    ArrayNewFixed, BlockType, BrOnCast, BrOnCastFail, BrTableIndices, CallIndirect, HeapType,
+    Instruction, LaneArg, LoadOrStoreLane, MemArg, Ordering, RefType, SelectTypes, StructAccess,
+    TryTable, TryTableCatch, V128Const,
 };
 
 /// An instruction whose one immediate is an index.
@@ -81,6 +82,19 @@ fn put_indirect<S: Sink>(op: IndexPairOp, call: &CallIndirect, out: &mut S) -> R
         second: conv::index(&call.table),
     }
     .encode(out)
+}
+
+/// An indirect call in memory of its own.
+fn put_boxed_call<S: Sink>(
+    op: IndexPairOp,
+    call: &Boxed<CallIndirect>,
+    out: &mut S,
+) -> Result<(), Refusal>
+    requires { IsTrue (encodable (in_indirect call.now)) }
+    ensures { Writes S.rules (InRangeInstr (index_pair_instr op (meaning.type_index call.now.ty) (meaning.number call.now.table)))
+        out.old out.new (instr (index_pair_instr op (meaning.type_index call.now.ty) (meaning.number call.now.table))) result }
+{
+    put_indirect(op, call.get(), out)
 }
 
 /// A load or a store.
@@ -180,6 +194,42 @@ fn put_br_cast<S: Sink>(
         to: conv::ref_type(to),
     }
     .encode(out)
+}
+
+/// `br_on_cast`.
+fn put_br_on_cast<S: Sink>(arg: &Boxed<BrOnCast>, out: &mut S) -> Result<(), Refusal>
+    requires { IsTrue (encodable (in_cast start.blocks arg.now.label arg.now.to_type arg.now.from_type)) }
+    ensures { Writes S.rules
+        (InRangeInstr (br_cast_instr branch.Succeeds (meaning.number arg.now.label) (meaning.as_ref_type arg.now.from_type) (meaning.as_ref_type arg.now.to_type)))
+        out.old out.new
+        (instr (br_cast_instr branch.Succeeds (meaning.number arg.now.label) (meaning.as_ref_type arg.now.from_type) (meaning.as_ref_type arg.now.to_type))) result }
+{
+    let arg = arg.get();
+    put_br_cast(
+        BrCastOp::Succeeds,
+        &arg.label,
+        &arg.from_type,
+        &arg.to_type,
+        out,
+    )
+}
+
+/// `br_on_cast_fail`.
+fn put_br_on_cast_fail<S: Sink>(arg: &Boxed<BrOnCastFail>, out: &mut S) -> Result<(), Refusal>
+    requires { IsTrue (encodable (in_cast start.blocks arg.now.label arg.now.to_type arg.now.from_type)) }
+    ensures { Writes S.rules
+        (InRangeInstr (br_cast_instr branch.Fails (meaning.number arg.now.label) (meaning.as_ref_type arg.now.from_type) (meaning.as_ref_type arg.now.to_type)))
+        out.old out.new
+        (instr (br_cast_instr branch.Fails (meaning.number arg.now.label) (meaning.as_ref_type arg.now.from_type) (meaning.as_ref_type arg.now.to_type))) result }
+{
+    let arg = arg.get();
+    put_br_cast(
+        BrCastOp::Fails,
+        &arg.label,
+        &arg.from_type,
+        &arg.to_type,
+        out,
+    )
 }
 
 /// A vector.
@@ -314,9 +364,13 @@ impl Spell<Instruction<'_>> for Resolved {
             Instruction::throw(tag) => put_index(IndexOp::Throw, tag, out),
             Instruction::call(func) => put_index(IndexOp::Call, func, out),
             Instruction::return_call(func) => put_index(IndexOp::ReturnCall, func, out),
-            Instruction::call_indirect(call) => put_indirect(IndexPairOp::CallIndirect, call, out),
+            Instruction::call_indirect(call) => put_boxed_call(
+                IndexPairOp::CallIndirect,
+                call,
+                out,
+            ),
             Instruction::return_call_indirect(call) => {
-                put_indirect(IndexPairOp::ReturnCallIndirect, call, out)
+                put_boxed_call(IndexPairOp::ReturnCallIndirect, call, out)
             }
             Instruction::call_ref(ty) => put_index(IndexOp::CallRef, ty, out),
             Instruction::return_call_ref(ty) => put_index(IndexOp::ReturnCallRef, ty, out),
@@ -385,24 +439,8 @@ impl Spell<Instruction<'_>> for Resolved {
             }
             Instruction::ref_test(arg) => put_cast(CastOp::Test, &arg.rt, out),
             Instruction::ref_cast(arg) => put_cast(CastOp::Cast, &arg.rt, out),
-            Instruction::br_on_cast(arg) => {
-                put_br_cast(
-                    BrCastOp::Succeeds,
-                    &arg.label,
-                    &arg.from_type,
-                    &arg.to_type,
-                    out,
-                )
-            }
-            Instruction::br_on_cast_fail(arg) => {
-                put_br_cast(
-                    BrCastOp::Fails,
-                    &arg.label,
-                    &arg.from_type,
-                    &arg.to_type,
-                    out,
-                )
-            }
+            Instruction::br_on_cast(arg) => put_br_on_cast(arg, out),
+            Instruction::br_on_cast_fail(arg) => put_br_on_cast_fail(arg, out),
             Instruction::v128_const(value) => put_v128(value, out),
             Instruction::i8x16_shuffle(arg) => {
                 LanesInstr {

@@ -1,6 +1,6 @@
 //! A maker of the lists that a tree holds.
 
-ghost use Rattle.std.specs.Prelude.{◌≡◌, [], ◌∷◌, ◌++◌, true, false, IfOk, IfErr};
+ghost use Rattle.std.specs.Prelude.{◌≡◌, [], ◌∷◌, ◌++◌, true, false, Some, IfOk, IfErr, IfSome};
 ghost use Rattle.wast_base.specs.Faults.{out_of_memory};
 ghost use Rattle.wast_makers.specs.Makers.{Makes, MayPut, MayMake, opener};
 ghost use Rattle.wast_makers.specs.Tree.bytes;
@@ -8,10 +8,11 @@ ghost use Rattle.wast_makers.specs.Tree.instr;
 
 use std::alloc::Global;
 use std::marker::Model;
-use wast_base::{Boxed, Error, Fault, Id, Index, NameAnnotation, Seq};
+use wast_base::{BareOp, Boxed, Error, Fault, Id, Index, NameAnnotation, Plain, Seq};
 use wast_nodes::{
-    BlockType, BranchHint, DataVal, Dylink0Subsection, Expression, FunctionType, InlineExport,
-    Instruction, Local, ModuleField, StructField, TryTable, TryTableCatch, Type, ValType,
+    BlockType, BrOnCast, BrOnCastDescEq, BrOnCastDescEqFail, BrOnCastFail, BranchHint,
+    CallIndirect, DataVal, Dylink0Subsection, Expression, FunctionType, InlineExport, Instruction,
+    Local, ModuleField, ResumeThrow, StructField, TryTable, TryTableCatch, Type, ValType,
     boxed_block, discard_fields, push_data, push_expression, push_field, push_instruction,
     push_subsection, push_type,
 };
@@ -105,6 +106,90 @@ impl Maker {
     {
         if push_instruction(instrs, instruction).is_err() {
             self.refused = true;
+        }
+    }
+
+    /// A value in memory of its own, or `None` where that is refused.
+    fn boxed<T: Drop>(&mut self, value: T) -> Option<Boxed<T>>
+        ensures made { Makes self.old self.new (result ≡ Some value) }
+        ensures value { IfSome result (λ b. b ≡ value) }
+    {
+        match Boxed::new(self.alloc, value) {
+            Ok(value) => Some(value),
+            Err(_) => {
+                self.refused = true;
+                None
+            }
+        }
+    }
+
+    /// `call_indirect $t (type $f)`, or `unreachable` where memory is refused (text format, control instructions).
+    pub fn call_indirect<'a>(&mut self, arg: CallIndirect<'a>) -> Instruction<'a>
+        ensures made { Makes self.old self.new (result ≡ instr.call_indirect arg.entry) }
+    {
+        match self.boxed(arg) {
+            Some(arg) => Instruction::call_indirect(arg),
+            None => Instruction::Plain(Plain::Bare(BareOp::unreachable)),
+        }
+    }
+
+    /// `return_call_indirect $t (type $f)`, or `unreachable` where memory is refused (text format, control instructions).
+    pub fn return_call_indirect<'a>(&mut self, arg: CallIndirect<'a>) -> Instruction<'a>
+        ensures made { Makes self.old self.new (result ≡ instr.return_call_indirect arg.entry) }
+    {
+        match self.boxed(arg) {
+            Some(arg) => Instruction::return_call_indirect(arg),
+            None => Instruction::Plain(Plain::Bare(BareOp::unreachable)),
+        }
+    }
+
+    /// `br_on_cast $l anyref (ref $t)`, or `unreachable` where memory is refused (text format, control instructions).
+    pub fn br_on_cast<'a>(&mut self, arg: BrOnCast<'a>) -> Instruction<'a>
+        ensures made { Makes self.old self.new (result ≡ instr.br_on_cast arg.entry) }
+    {
+        match self.boxed(arg) {
+            Some(arg) => Instruction::br_on_cast(arg),
+            None => Instruction::Plain(Plain::Bare(BareOp::unreachable)),
+        }
+    }
+
+    /// `br_on_cast_fail $l anyref (ref $t)`, or `unreachable` where memory is refused (text format, control instructions).
+    pub fn br_on_cast_fail<'a>(&mut self, arg: BrOnCastFail<'a>) -> Instruction<'a>
+        ensures made { Makes self.old self.new (result ≡ instr.br_on_cast_fail arg.entry) }
+    {
+        match self.boxed(arg) {
+            Some(arg) => Instruction::br_on_cast_fail(arg),
+            None => Instruction::Plain(Plain::Bare(BareOp::unreachable)),
+        }
+    }
+
+    /// `br_on_cast_desc_eq $l anyref (ref $t)`, or `unreachable` where memory is refused (text format, control instructions).
+    pub fn br_on_cast_desc_eq<'a>(&mut self, arg: BrOnCastDescEq<'a>) -> Instruction<'a>
+        ensures made { Makes self.old self.new (result ≡ instr.br_on_cast_desc_eq arg.entry) }
+    {
+        match self.boxed(arg) {
+            Some(arg) => Instruction::br_on_cast_desc_eq(arg),
+            None => Instruction::Plain(Plain::Bare(BareOp::unreachable)),
+        }
+    }
+
+    /// `br_on_cast_desc_eq_fail $l anyref (ref $t)`, or `unreachable` where memory is refused (text format, control instructions).
+    pub fn br_on_cast_desc_eq_fail<'a>(&mut self, arg: BrOnCastDescEqFail<'a>) -> Instruction<'a>
+        ensures made { Makes self.old self.new (result ≡ instr.br_on_cast_desc_eq_fail arg.entry) }
+    {
+        match self.boxed(arg) {
+            Some(arg) => Instruction::br_on_cast_desc_eq_fail(arg),
+            None => Instruction::Plain(Plain::Bare(BareOp::unreachable)),
+        }
+    }
+
+    /// `resume_throw $t $x (on $e $l)`, or `unreachable` where memory is refused (text format, control instructions).
+    pub fn resume_throw<'a>(&mut self, arg: ResumeThrow<'a>) -> Instruction<'a>
+        ensures made { Makes self.old self.new (result ≡ instr.resume_throw arg.entry) }
+    {
+        match self.boxed(arg) {
+            Some(arg) => Instruction::resume_throw(arg),
+            None => Instruction::Plain(Plain::Bare(BareOp::unreachable)),
         }
     }
 

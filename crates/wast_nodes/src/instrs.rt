@@ -20,6 +20,9 @@ use std::alloc::Global;
 use wast_base::{Boxed, Error, Id, Index, LaneOp, MemLaneOp, MemOp, Plain, Seq};
 
 /// An instruction (text format, instructions). Each variant but the classes has the name of its text, with `_` for `.`.
+///
+/// An instruction has 96 bytes. Larger immediates, as those of `call_indirect`, are in memory of their own ([`Boxed`]), because
+/// each walk over a list reads all its bytes.
 #[allow(non_camel_case_types)]
 #[derive(Debug, Drop)]
 pub enum Instruction<'a> {
@@ -68,9 +71,9 @@ pub enum Instruction<'a> {
     /// `return_call $f`
     return_call(Index<'a>),
     /// `call_indirect $t (type $f)`
-    call_indirect(CallIndirect<'a>),
+    call_indirect(Boxed<CallIndirect<'a>>),
     /// `return_call_indirect $t (type $f)`
-    return_call_indirect(CallIndirect<'a>),
+    return_call_indirect(Boxed<CallIndirect<'a>>),
     /// `call_ref $t`
     call_ref(Index<'a>),
     /// `return_call_ref $t`
@@ -172,13 +175,13 @@ pub enum Instruction<'a> {
     /// `ref.cast_desc_eq (ref $t)` (custom descriptors)
     ref_cast_desc_eq(RefCastDescEq<'a>),
     /// `br_on_cast $l anyref (ref $t)`
-    br_on_cast(BrOnCast<'a>),
+    br_on_cast(Boxed<BrOnCast<'a>>),
     /// `br_on_cast_fail $l anyref (ref $t)`
-    br_on_cast_fail(BrOnCastFail<'a>),
+    br_on_cast_fail(Boxed<BrOnCastFail<'a>>),
     /// `br_on_cast_desc_eq $l anyref (ref $t)` (custom descriptors)
-    br_on_cast_desc_eq(BrOnCastDescEq<'a>),
+    br_on_cast_desc_eq(Boxed<BrOnCastDescEq<'a>>),
     /// `br_on_cast_desc_eq_fail $l anyref (ref $t)` (custom descriptors)
-    br_on_cast_desc_eq_fail(BrOnCastDescEqFail<'a>),
+    br_on_cast_desc_eq_fail(Boxed<BrOnCastDescEqFail<'a>>),
     /// `v128.const i32x4 1 2 3 4`
     v128_const(V128Const),
     /// `i8x16.shuffle 0 1 2 3 4 5 6 7 8 9 10 11 12 13 14 31`
@@ -208,7 +211,7 @@ pub enum Instruction<'a> {
     /// `resume $t (on $e $l)` (stack switching)
     resume(Resume<'a>),
     /// `resume_throw $t $x (on $e $l)` (stack switching)
-    resume_throw(ResumeThrow<'a>),
+    resume_throw(Boxed<ResumeThrow<'a>>),
     /// `resume_throw_ref $t (on $e $l)` (stack switching)
     resume_throw_ref(ResumeThrowRef<'a>),
     /// `switch $t $e` (stack switching)

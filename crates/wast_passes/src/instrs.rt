@@ -22,9 +22,10 @@ use std::alloc::{AllocError, Global};
 use wast_base::{Boxed, Error, Fault, Id, Index, Seq, Space};
 use wast_labels::Labels;
 use wast_nodes::{
-    ArrayInit, BlockType, BrTableIndices, CallIndirect, Expression, FunctionType, Handle,
-    Instruction, MemArg, MemArgTarget, RefType, Resume, ResumeTable, ResumeThrow, ResumeThrowRef,
-    SelectTypes, StructAccess, TryTable, TryTableCatch, TryTableCatchKind, TypeUse, ValType,
+    ArrayInit, BlockType, BrOnCast, BrOnCastDescEq, BrOnCastDescEqFail, BrOnCastFail,
+    BrTableIndices, CallIndirect, Expression, FunctionType, Handle, Instruction, MemArg,
+    MemArgTarget, RefType, Resume, ResumeTable, ResumeThrow, ResumeThrowRef, SelectTypes,
+    StructAccess, TryTable, TryTableCatch, TryTableCatchKind, TypeUse, ValType,
 };
 
 /// Walks over an index of a space. No block is opened.
@@ -101,6 +102,16 @@ fn walk_indirect<'a>(names: &Resolver<'a>, call: &mut CallIndirect<'a>) -> Resul
     walk_outside_index(names, Space::Table, &mut call.table)?;
     walk_body_type(names, &mut call.ty)?;
     Ok(())
+}
+
+/// Walks over an indirect call in memory of its own.
+fn walk_boxed_call<'a>(
+    names: &Resolver<'a>,
+    call: &mut Boxed<CallIndirect<'a>>,
+) -> Result<(), Error<'a>>
+    ensures { WalksBodies names.now in_indirect mapped_indirect call.old call.new result }
+{
+    walk_indirect(names, call.get_mut())
 }
 
 /// Opens a block: E10 where 4,294,967,295 are open, E12 where memory is refused.
@@ -265,6 +276,82 @@ fn walk_cast<'a>(
     Ok(())
 }
 
+/// Walks over the label and the types of `br_on_cast`.
+fn walk_br_on_cast<'a>(
+    names: &Resolver<'a>,
+    labels: &Labels<'a>,
+    arg: &mut Boxed<BrOnCast<'a>>,
+) -> Result<(), Error<'a>>
+    ensures { WalksCast names.now labels.now (arg.old.label, (arg.old.to_type, arg.old.from_type))
+        (arg.new.label, (arg.new.to_type, arg.new.from_type)) result }
+{
+    let arg = arg.get_mut();
+    walk_cast(
+        names,
+        labels,
+        &mut arg.label,
+        &mut arg.to_type,
+        &mut arg.from_type,
+    )
+}
+
+/// Walks over the label and the types of `br_on_cast_fail`.
+fn walk_br_on_cast_fail<'a>(
+    names: &Resolver<'a>,
+    labels: &Labels<'a>,
+    arg: &mut Boxed<BrOnCastFail<'a>>,
+) -> Result<(), Error<'a>>
+    ensures { WalksCast names.now labels.now (arg.old.label, (arg.old.to_type, arg.old.from_type))
+        (arg.new.label, (arg.new.to_type, arg.new.from_type)) result }
+{
+    let arg = arg.get_mut();
+    walk_cast(
+        names,
+        labels,
+        &mut arg.label,
+        &mut arg.to_type,
+        &mut arg.from_type,
+    )
+}
+
+/// Walks over the label and the types of `br_on_cast_desc_eq`.
+fn walk_br_on_cast_desc_eq<'a>(
+    names: &Resolver<'a>,
+    labels: &Labels<'a>,
+    arg: &mut Boxed<BrOnCastDescEq<'a>>,
+) -> Result<(), Error<'a>>
+    ensures { WalksCast names.now labels.now (arg.old.label, (arg.old.to_type, arg.old.from_type))
+        (arg.new.label, (arg.new.to_type, arg.new.from_type)) result }
+{
+    let arg = arg.get_mut();
+    walk_cast(
+        names,
+        labels,
+        &mut arg.label,
+        &mut arg.to_type,
+        &mut arg.from_type,
+    )
+}
+
+/// Walks over the label and the types of `br_on_cast_desc_eq_fail`.
+fn walk_br_on_cast_desc_eq_fail<'a>(
+    names: &Resolver<'a>,
+    labels: &Labels<'a>,
+    arg: &mut Boxed<BrOnCastDescEqFail<'a>>,
+) -> Result<(), Error<'a>>
+    ensures { WalksCast names.now labels.now (arg.old.label, (arg.old.to_type, arg.old.from_type))
+        (arg.new.label, (arg.new.to_type, arg.new.from_type)) result }
+{
+    let arg = arg.get_mut();
+    walk_cast(
+        names,
+        labels,
+        &mut arg.label,
+        &mut arg.to_type,
+        &mut arg.from_type,
+    )
+}
+
 /// Walks over the tag of a handler of a resumption.
 fn walk_handler_tag<'a>(names: &Resolver<'a>, handle: &mut Handle<'a>) -> Result<(), Error<'a>>
     ensures { WalksSites names.now in_handler_tag with_handler_tag handle.old handle.new result }
@@ -356,6 +443,19 @@ fn walk_resume_throw<'a>(
     Ok(())
 }
 
+/// Walks over a resumption that throws, in memory of its own.
+fn walk_boxed_throw<'a>(
+    names: &Resolver<'a>,
+    labels: &Labels<'a>,
+    resume: &mut Boxed<ResumeThrow<'a>>,
+) -> Result<(), Error<'a>>
+    ensures { WalksBodies names.now
+        (λ a. asking (in_pair space.Ty a.type_index space.Tag a.tag_index) ++ in_handlers labels.now a.table)
+        (λ f a. record { type_index = f.index space.Ty a.type_index; tag_index = f.index space.Tag a.tag_index; table = mapped_handlers f labels.now a.table }) resume.old resume.new result }
+{
+    walk_resume_throw(names, labels, resume.get_mut())
+}
+
 /// Walks over a resumption that throws what is referred to: its type, and then its handlers.
 fn walk_resume_throw_ref<'a>(
     names: &Resolver<'a>,
@@ -404,8 +504,8 @@ fn walk_instr<'a>(
         Instruction::throw(tag) => walk_number(names, Space::Tag, tag),
         Instruction::call(func) => walk_number(names, Space::Func, func),
         Instruction::return_call(func) => walk_number(names, Space::Func, func),
-        Instruction::call_indirect(call) => walk_indirect(names, call),
-        Instruction::return_call_indirect(call) => walk_indirect(names, call),
+        Instruction::call_indirect(call) => walk_boxed_call(names, call),
+        Instruction::return_call_indirect(call) => walk_boxed_call(names, call),
         Instruction::call_ref(ty) => walk_number(names, Space::Ty, ty),
         Instruction::return_call_ref(ty) => walk_number(names, Space::Ty, ty),
         Instruction::select(types) => walk_part(names, types),
@@ -456,42 +556,12 @@ fn walk_instr<'a>(
         Instruction::ref_test(arg) => walk_part(names, &mut arg.rt),
         Instruction::ref_cast(arg) => walk_part(names, &mut arg.rt),
         Instruction::ref_cast_desc_eq(arg) => walk_part(names, &mut arg.rt),
-        Instruction::br_on_cast(arg) => {
-            walk_cast(
-                names,
-                labels,
-                &mut arg.label,
-                &mut arg.to_type,
-                &mut arg.from_type,
-            )
-        }
-        Instruction::br_on_cast_fail(arg) => {
-            walk_cast(
-                names,
-                labels,
-                &mut arg.label,
-                &mut arg.to_type,
-                &mut arg.from_type,
-            )
-        }
-        Instruction::br_on_cast_desc_eq(arg) => {
-            walk_cast(
-                names,
-                labels,
-                &mut arg.label,
-                &mut arg.to_type,
-                &mut arg.from_type,
-            )
-        }
-        Instruction::br_on_cast_desc_eq_fail(arg) => {
-            walk_cast(
-                names,
-                labels,
-                &mut arg.label,
-                &mut arg.to_type,
-                &mut arg.from_type,
-            )
-        }
+        Instruction::br_on_cast(arg) => walk_br_on_cast(names, labels, arg),
+        Instruction::br_on_cast_fail(arg) => walk_br_on_cast_fail(names, labels, arg),
+        Instruction::br_on_cast_desc_eq(arg) => walk_br_on_cast_desc_eq(names, labels, arg),
+        Instruction::br_on_cast_desc_eq_fail(arg) => walk_br_on_cast_desc_eq_fail(
+            names, labels, arg,
+        ),
         Instruction::v128_const(_) => Ok(()),
         Instruction::i8x16_shuffle(_) => Ok(()),
         Instruction::atomic_fence(_) => Ok(()),
@@ -508,7 +578,7 @@ fn walk_instr<'a>(
         Instruction::cont_bind(arg) => walk_part(names, arg),
         Instruction::suspend(tag) => walk_number(names, Space::Tag, tag),
         Instruction::resume(arg) => walk_resume(names, labels, arg),
-        Instruction::resume_throw(arg) => walk_resume_throw(names, labels, arg),
+        Instruction::resume_throw(arg) => walk_boxed_throw(names, labels, arg),
         Instruction::resume_throw_ref(arg) => walk_resume_throw_ref(names, labels, arg),
         Instruction::switch(arg) => walk_part(names, arg),
         Instruction::memory_discard(arg) => walk_number(names, Space::Memory, &mut arg.mem),
@@ -684,12 +754,12 @@ fn reach_labels<'a>(labels: &mut Labels<'a>, instr: &Instruction<'a>) -> Result<
         | Instruction::delegate(label) => labels.reach(label),
         Instruction::br_table(table) => reach_all(labels, table),
         Instruction::try_table(table) => reach_caught(labels, &table.catches),
-        Instruction::br_on_cast(arg) => labels.reach(&arg.label),
-        Instruction::br_on_cast_fail(arg) => labels.reach(&arg.label),
-        Instruction::br_on_cast_desc_eq(arg) => labels.reach(&arg.label),
-        Instruction::br_on_cast_desc_eq_fail(arg) => labels.reach(&arg.label),
+        Instruction::br_on_cast(arg) => labels.reach(&arg.get().label),
+        Instruction::br_on_cast_fail(arg) => labels.reach(&arg.get().label),
+        Instruction::br_on_cast_desc_eq(arg) => labels.reach(&arg.get().label),
+        Instruction::br_on_cast_desc_eq_fail(arg) => labels.reach(&arg.get().label),
         Instruction::resume(arg) => reach_handled(labels, &arg.table),
-        Instruction::resume_throw(arg) => reach_handled(labels, &arg.table),
+        Instruction::resume_throw(arg) => reach_handled(labels, &arg.get().table),
         Instruction::resume_throw_ref(arg) => reach_handled(labels, &arg.table),
         _ => Ok(()),
     }

@@ -216,7 +216,8 @@ pub(crate) fn cast_out_of_a_block<'a>(alloc: Global, maker: &mut Maker) -> Seq<M
     };
     let mut instrs = Seq::new(alloc);
     maker.push_block(&mut instrs, BlockKind::Block, labelled(None));
-    maker.push_instruction(&mut instrs, Instruction::br_on_cast(cast));
+    let cast = maker.br_on_cast(cast);
+    maker.push_instruction(&mut instrs, cast);
     close(maker, &mut instrs);
     let func = func_of(alloc, 9, instrs);
     one(alloc, maker, func)

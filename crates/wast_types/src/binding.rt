@@ -342,11 +342,11 @@ impl<'a> Bind<'a> for Instruction<'a> {
             Instruction::call(_) => Ok(()),
             Instruction::return_call(_) => Ok(()),
             Instruction::call_indirect(call) => {
-                call.bind(binder)?;
+                call.get_mut().bind(binder)?;
                 Ok(())
             }
             Instruction::return_call_indirect(call) => {
-                call.bind(binder)?;
+                call.get_mut().bind(binder)?;
                 Ok(())
             }
             Instruction::call_ref(_) => Ok(()),

@@ -561,7 +561,7 @@ fn visit_instr<V: Visitor>(instr: &Instruction<'_>, visitor: &mut V)
             func,
         ),
         Instruction::call_indirect(call) | Instruction::return_call_indirect(call) => {
-            call.visit(visitor)
+            call.get().visit(visitor)
         }
         Instruction::call_ref(ty)
         | Instruction::return_call_ref(ty)
@@ -604,15 +604,19 @@ fn visit_instr<V: Visitor>(instr: &Instruction<'_>, visitor: &mut V)
         Instruction::ref_cast(arg) => arg.rt.visit(visitor),
         Instruction::ref_cast_desc_eq(arg) => visit_uncovered(&arg.rt, Form::Descriptor, visitor),
         Instruction::br_on_cast(arg) => {
+            let arg = arg.get();
             visit_cast(&arg.label, &arg.to_type, &arg.from_type, visitor)
         }
         Instruction::br_on_cast_fail(arg) => {
+            let arg = arg.get();
             visit_cast(&arg.label, &arg.to_type, &arg.from_type, visitor)
         }
         Instruction::br_on_cast_desc_eq(arg) => {
+            let arg = arg.get();
             visit_uncovered_cast(&arg.label, &arg.to_type, &arg.from_type, visitor)
         }
         Instruction::br_on_cast_desc_eq_fail(arg) => {
+            let arg = arg.get();
             visit_uncovered_cast(&arg.label, &arg.to_type, &arg.from_type, visitor)
         }
         Instruction::v128_const(_) | Instruction::i8x16_shuffle(_) => {}
@@ -644,7 +648,7 @@ fn visit_instr<V: Visitor>(instr: &Instruction<'_>, visitor: &mut V)
             visit_uncovered_index(Space::Tag, tag, Form::StackSwitching, visitor)
         }
         Instruction::resume(arg) => arg.visit(visitor),
-        Instruction::resume_throw(arg) => arg.visit(visitor),
+        Instruction::resume_throw(arg) => arg.get().visit(visitor),
         Instruction::resume_throw_ref(arg) => arg.visit(visitor),
         Instruction::switch(arg) => arg.visit(visitor),
         Instruction::memory_discard(arg) => {

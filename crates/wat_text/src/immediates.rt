@@ -278,22 +278,22 @@ impl<'a> Reader<'a> {
         let from_type = self.ref_type();
         let to_type = self.ref_type();
         match op {
-            OwnOp::br_on_cast => Instruction::br_on_cast(BrOnCast {
+            OwnOp::br_on_cast => self.make.br_on_cast(BrOnCast {
                 label,
                 from_type,
                 to_type,
             }),
-            OwnOp::br_on_cast_fail => Instruction::br_on_cast_fail(BrOnCastFail {
+            OwnOp::br_on_cast_fail => self.make.br_on_cast_fail(BrOnCastFail {
                 label,
                 from_type,
                 to_type,
             }),
-            OwnOp::br_on_cast_desc_eq => Instruction::br_on_cast_desc_eq(BrOnCastDescEq {
+            OwnOp::br_on_cast_desc_eq => self.make.br_on_cast_desc_eq(BrOnCastDescEq {
                 label,
                 from_type,
                 to_type,
             }),
-            _ => Instruction::br_on_cast_desc_eq_fail(BrOnCastDescEqFail {
+            _ => self.make.br_on_cast_desc_eq_fail(BrOnCastDescEqFail {
                 label,
                 from_type,
                 to_type,
@@ -320,7 +320,7 @@ impl<'a> Reader<'a> {
             OwnOp::resume_throw => {
                 let tag_index = self.index();
                 let table = self.resume_table();
-                Instruction::resume_throw(ResumeThrow {
+                self.make.resume_throw(ResumeThrow {
                     type_index,
                     tag_index,
                     table,
@@ -339,9 +339,13 @@ impl<'a> Reader<'a> {
             OwnOp::else_ => Instruction::else_(self.id()),
             OwnOp::end_ => Instruction::end_(self.id()),
             OwnOp::br_table => self.br_table(),
-            OwnOp::call_indirect => Instruction::call_indirect(self.call_indirect()),
+            OwnOp::call_indirect => {
+                let call = self.call_indirect();
+                self.make.call_indirect(call)
+            }
             OwnOp::return_call_indirect => {
-                Instruction::return_call_indirect(self.call_indirect())
+                let call = self.call_indirect();
+                self.make.return_call_indirect(call)
             }
             OwnOp::select => self.select(),
             OwnOp::cont_bind

@@ -126,52 +126,52 @@ returns-in-br_on_cast-clause-walks c l numbers =
     let s = scope_of c.args.names.now in
     let blocks = c.args.labels.now in
     let x = c.in-br_on_cast.arg in
-    rw c.in-br_on_cast.is (walks_made_in ⊤ (HasMany (open_counts (in_cast blocks x.label x.to_type x.from_type))) (λ (q : Index × (RefType × RefType)). instr.br_on_cast (record { label = q.0; from_type = q.1.1; to_type = q.1.0 })) (site_demands s (in_cast blocks x.label x.to_type x.from_type)) ((numbering s).label blocks x.label, (mapped_ref (numbering s).index x.to_type, mapped_ref (numbering s).index x.from_type)) (c.walk_cast.new.label, (c.walk_cast.new.to, c.walk_cast.new.from)) c.walk_cast.result c.walk_cast.ensures)
+    rw c.in-br_on_cast.is (walks_made_in ⊤ (HasMany (open_counts (in_cast blocks x.label x.to_type x.from_type))) (λ (q : Index × (RefType × RefType)). instr.br_on_cast (record { label = q.0; from_type = q.1.1; to_type = q.1.0 })) (site_demands s (in_cast blocks x.label x.to_type x.from_type)) ((numbering s).label blocks x.label, (mapped_ref (numbering s).index x.to_type, mapped_ref (numbering s).index x.from_type)) (c.walk_br_on_cast.new.arg.label, (c.walk_br_on_cast.new.arg.to_type, c.walk_br_on_cast.new.arg.from_type)) c.walk_br_on_cast.result c.walk_br_on_cast.ensures)
 
 pub returns-in-br_on_cast-clause-blocks : goal.returns-in-br_on_cast-clause-blocks
 returns-in-br_on_cast-clause-blocks c l =
     let labels = c.args.labels.now in
     let x = c.in-br_on_cast.arg in
-    rw c.in-br_on_cast.is (still_moves labels l (in_cast labels x.label x.to_type x.from_type) c.walk_cast.result (cast_stays (here l labels) labels x.label x.to_type x.from_type))
+    rw c.in-br_on_cast.is (still_moves labels l (in_cast labels x.label x.to_type x.from_type) c.walk_br_on_cast.result (cast_stays (here l labels) labels x.label x.to_type x.from_type))
 
 pub returns-in-br_on_cast_fail-clause-walks : goal.returns-in-br_on_cast_fail-clause-walks
 returns-in-br_on_cast_fail-clause-walks c l numbers =
     let s = scope_of c.args.names.now in
     let blocks = c.args.labels.now in
     let x = c.in-br_on_cast_fail.arg in
-    rw c.in-br_on_cast_fail.is (walks_made_in ⊤ (HasMany (open_counts (in_cast blocks x.label x.to_type x.from_type))) (λ (q : Index × (RefType × RefType)). instr.br_on_cast_fail (record { label = q.0; from_type = q.1.1; to_type = q.1.0 })) (site_demands s (in_cast blocks x.label x.to_type x.from_type)) ((numbering s).label blocks x.label, (mapped_ref (numbering s).index x.to_type, mapped_ref (numbering s).index x.from_type)) (c.walk_cast-in-br_on_cast_fail.new.label, (c.walk_cast-in-br_on_cast_fail.new.to, c.walk_cast-in-br_on_cast_fail.new.from)) c.walk_cast-in-br_on_cast_fail.result c.walk_cast-in-br_on_cast_fail.ensures)
+    rw c.in-br_on_cast_fail.is (walks_made_in ⊤ (HasMany (open_counts (in_cast blocks x.label x.to_type x.from_type))) (λ (q : Index × (RefType × RefType)). instr.br_on_cast_fail (record { label = q.0; from_type = q.1.1; to_type = q.1.0 })) (site_demands s (in_cast blocks x.label x.to_type x.from_type)) ((numbering s).label blocks x.label, (mapped_ref (numbering s).index x.to_type, mapped_ref (numbering s).index x.from_type)) (c.walk_br_on_cast_fail.new.arg.label, (c.walk_br_on_cast_fail.new.arg.to_type, c.walk_br_on_cast_fail.new.arg.from_type)) c.walk_br_on_cast_fail.result c.walk_br_on_cast_fail.ensures)
 
 pub returns-in-br_on_cast_fail-clause-blocks : goal.returns-in-br_on_cast_fail-clause-blocks
 returns-in-br_on_cast_fail-clause-blocks c l =
     let labels = c.args.labels.now in
     let x = c.in-br_on_cast_fail.arg in
-    rw c.in-br_on_cast_fail.is (still_moves labels l (in_cast labels x.label x.to_type x.from_type) c.walk_cast-in-br_on_cast_fail.result (cast_stays (here l labels) labels x.label x.to_type x.from_type))
+    rw c.in-br_on_cast_fail.is (still_moves labels l (in_cast labels x.label x.to_type x.from_type) c.walk_br_on_cast_fail.result (cast_stays (here l labels) labels x.label x.to_type x.from_type))
 
 pub returns-in-br_on_cast_desc_eq-clause-walks : goal.returns-in-br_on_cast_desc_eq-clause-walks
 returns-in-br_on_cast_desc_eq-clause-walks c l numbers =
     let s = scope_of c.args.names.now in
     let blocks = c.args.labels.now in
     let x = c.in-br_on_cast_desc_eq.arg in
-    rw c.in-br_on_cast_desc_eq.is (walks_before ⊤ (HasMany (open_counts (in_cast blocks x.label x.to_type x.from_type ++ asking (uncovered form.Descriptor)))) s (in_cast blocks x.label x.to_type x.from_type) (Covered form.Descriptor false) refl (λ (q : Index × (RefType × RefType)). instr.br_on_cast_desc_eq (record { label = q.0; from_type = q.1.1; to_type = q.1.0 })) ((numbering s).label blocks x.label, (mapped_ref (numbering s).index x.to_type, mapped_ref (numbering s).index x.from_type)) (c.walk_cast-in-br_on_cast_desc_eq.new.label, (c.walk_cast-in-br_on_cast_desc_eq.new.to, c.walk_cast-in-br_on_cast_desc_eq.new.from)) c.walk_cast-in-br_on_cast_desc_eq.result c.walk_cast-in-br_on_cast_desc_eq.ensures)
+    rw c.in-br_on_cast_desc_eq.is (walks_before ⊤ (HasMany (open_counts (in_cast blocks x.label x.to_type x.from_type ++ asking (uncovered form.Descriptor)))) s (in_cast blocks x.label x.to_type x.from_type) (Covered form.Descriptor false) refl (λ (q : Index × (RefType × RefType)). instr.br_on_cast_desc_eq (record { label = q.0; from_type = q.1.1; to_type = q.1.0 })) ((numbering s).label blocks x.label, (mapped_ref (numbering s).index x.to_type, mapped_ref (numbering s).index x.from_type)) (c.walk_br_on_cast_desc_eq.new.arg.label, (c.walk_br_on_cast_desc_eq.new.arg.to_type, c.walk_br_on_cast_desc_eq.new.arg.from_type)) c.walk_br_on_cast_desc_eq.result c.walk_br_on_cast_desc_eq.ensures)
 
 pub returns-in-br_on_cast_desc_eq-clause-blocks : goal.returns-in-br_on_cast_desc_eq-clause-blocks
 returns-in-br_on_cast_desc_eq-clause-blocks c l =
     let labels = c.args.labels.now in
     let x = c.in-br_on_cast_desc_eq.arg in
-    rw c.in-br_on_cast_desc_eq.is (still_moves labels l (in_cast labels x.label x.to_type x.from_type ++ asking (uncovered form.Descriptor)) c.walk_cast-in-br_on_cast_desc_eq.result (behind_stays (here l labels) (in_cast labels x.label x.to_type x.from_type) (uncovered form.Descriptor) (cast_stays (here l labels) labels x.label x.to_type x.from_type)))
+    rw c.in-br_on_cast_desc_eq.is (still_moves labels l (in_cast labels x.label x.to_type x.from_type ++ asking (uncovered form.Descriptor)) c.walk_br_on_cast_desc_eq.result (behind_stays (here l labels) (in_cast labels x.label x.to_type x.from_type) (uncovered form.Descriptor) (cast_stays (here l labels) labels x.label x.to_type x.from_type)))
 
 pub returns-in-br_on_cast_desc_eq_fail-clause-walks : goal.returns-in-br_on_cast_desc_eq_fail-clause-walks
 returns-in-br_on_cast_desc_eq_fail-clause-walks c l numbers =
     let s = scope_of c.args.names.now in
     let blocks = c.args.labels.now in
     let x = c.in-br_on_cast_desc_eq_fail.arg in
-    rw c.in-br_on_cast_desc_eq_fail.is (walks_before ⊤ (HasMany (open_counts (in_cast blocks x.label x.to_type x.from_type ++ asking (uncovered form.Descriptor)))) s (in_cast blocks x.label x.to_type x.from_type) (Covered form.Descriptor false) refl (λ (q : Index × (RefType × RefType)). instr.br_on_cast_desc_eq_fail (record { label = q.0; from_type = q.1.1; to_type = q.1.0 })) ((numbering s).label blocks x.label, (mapped_ref (numbering s).index x.to_type, mapped_ref (numbering s).index x.from_type)) (c.walk_cast-in-br_on_cast_desc_eq_fail.new.label, (c.walk_cast-in-br_on_cast_desc_eq_fail.new.to, c.walk_cast-in-br_on_cast_desc_eq_fail.new.from)) c.walk_cast-in-br_on_cast_desc_eq_fail.result c.walk_cast-in-br_on_cast_desc_eq_fail.ensures)
+    rw c.in-br_on_cast_desc_eq_fail.is (walks_before ⊤ (HasMany (open_counts (in_cast blocks x.label x.to_type x.from_type ++ asking (uncovered form.Descriptor)))) s (in_cast blocks x.label x.to_type x.from_type) (Covered form.Descriptor false) refl (λ (q : Index × (RefType × RefType)). instr.br_on_cast_desc_eq_fail (record { label = q.0; from_type = q.1.1; to_type = q.1.0 })) ((numbering s).label blocks x.label, (mapped_ref (numbering s).index x.to_type, mapped_ref (numbering s).index x.from_type)) (c.walk_br_on_cast_desc_eq_fail.new.arg.label, (c.walk_br_on_cast_desc_eq_fail.new.arg.to_type, c.walk_br_on_cast_desc_eq_fail.new.arg.from_type)) c.walk_br_on_cast_desc_eq_fail.result c.walk_br_on_cast_desc_eq_fail.ensures)
 
 pub returns-in-br_on_cast_desc_eq_fail-clause-blocks : goal.returns-in-br_on_cast_desc_eq_fail-clause-blocks
 returns-in-br_on_cast_desc_eq_fail-clause-blocks c l =
     let labels = c.args.labels.now in
     let x = c.in-br_on_cast_desc_eq_fail.arg in
-    rw c.in-br_on_cast_desc_eq_fail.is (still_moves labels l (in_cast labels x.label x.to_type x.from_type ++ asking (uncovered form.Descriptor)) c.walk_cast-in-br_on_cast_desc_eq_fail.result (behind_stays (here l labels) (in_cast labels x.label x.to_type x.from_type) (uncovered form.Descriptor) (cast_stays (here l labels) labels x.label x.to_type x.from_type)))
+    rw c.in-br_on_cast_desc_eq_fail.is (still_moves labels l (in_cast labels x.label x.to_type x.from_type ++ asking (uncovered form.Descriptor)) c.walk_br_on_cast_desc_eq_fail.result (behind_stays (here l labels) (in_cast labels x.label x.to_type x.from_type) (uncovered form.Descriptor) (cast_stays (here l labels) labels x.label x.to_type x.from_type)))
 
 pub returns-in-resume-clause-blocks : goal.returns-in-resume-clause-blocks
 returns-in-resume-clause-blocks c l =
@@ -183,7 +183,7 @@ pub returns-in-resume_throw-clause-blocks : goal.returns-in-resume_throw-clause-
 returns-in-resume_throw-clause-blocks c l =
     let labels = c.args.labels.now in
     let x = c.in-resume_throw.arg in
-    rw c.in-resume_throw.is (still_moves labels l (asking (in_pair space.Ty x.type_index space.Tag x.tag_index) ++ in_handlers labels x.table) c.walk_resume_throw.result (handlers_stay (here l labels) labels x.table))
+    rw c.in-resume_throw.is (still_moves labels l (asking (in_pair space.Ty x.type_index space.Tag x.tag_index) ++ in_handlers labels x.table) c.walk_boxed_throw.result (handlers_stay (here l labels) labels x.table))
 
 pub returns-in-resume_throw_ref-clause-blocks : goal.returns-in-resume_throw_ref-clause-blocks
 returns-in-resume_throw_ref-clause-blocks c l =

@@ -32,11 +32,11 @@ put_try_table-requires g c = subst (λ i. is_encodable_instr i ≡ true) c.in-tr
 pub put_br_table-requires : goal.put_br_table-requires
 put_br_table-requires g c = subst (λ i. is_encodable_instr i ≡ true) c.in-br_table.is c.requires
 
-pub put_indirect-requires : goal.put_indirect-requires
-put_indirect-requires g c = subst (λ i. is_encodable_instr i ≡ true) c.in-call_indirect.is c.requires
+pub put_boxed_call-requires : goal.put_boxed_call-requires
+put_boxed_call-requires g c = subst (λ i. is_encodable_instr i ≡ true) c.in-call_indirect.is c.requires
 
-pub put_indirect-requires-in-return_call_indirect : goal.put_indirect-requires-in-return_call_indirect
-put_indirect-requires-in-return_call_indirect g c = subst (λ i. is_encodable_instr i ≡ true) c.in-return_call_indirect.is c.requires
+pub put_boxed_call-requires-in-return_call_indirect : goal.put_boxed_call-requires-in-return_call_indirect
+put_boxed_call-requires-in-return_call_indirect g c = subst (λ i. is_encodable_instr i ≡ true) c.in-return_call_indirect.is c.requires
 
 pub put_select-requires : goal.put_select-requires
 put_select-requires g c = sym (asking_passes (in_select c.in-select.types)) ∙ subst (λ i. is_encodable_instr i ≡ true) c.in-select.is c.requires
@@ -65,11 +65,11 @@ put_cast-requires g c = sym (asking_passes (in_ref c.in-ref_test.arg.rt)) ∙ su
 pub put_cast-requires-in-ref_cast : goal.put_cast-requires-in-ref_cast
 put_cast-requires-in-ref_cast g c = sym (asking_passes (in_ref c.in-ref_cast.arg.rt)) ∙ subst (λ i. is_encodable_instr i ≡ true) c.in-ref_cast.is c.requires
 
-pub put_br_cast-requires : goal.put_br_cast-requires
-put_br_cast-requires g c = subst (λ i. is_encodable_instr i ≡ true) c.in-br_on_cast.is c.requires
+pub put_br_on_cast-requires : goal.put_br_on_cast-requires
+put_br_on_cast-requires g c = subst (λ i. is_encodable_instr i ≡ true) c.in-br_on_cast.is c.requires
 
-pub put_br_cast-requires-in-br_on_cast_fail : goal.put_br_cast-requires-in-br_on_cast_fail
-put_br_cast-requires-in-br_on_cast_fail g c = subst (λ i. is_encodable_instr i ≡ true) c.in-br_on_cast_fail.is c.requires
+pub put_br_on_cast_fail-requires : goal.put_br_on_cast_fail-requires
+put_br_on_cast_fail-requires g c = subst (λ i. is_encodable_instr i ≡ true) c.in-br_on_cast_fail.is c.requires
 
 pub put_fence-requires : goal.put_fence-requires
 put_fence-requires g c = (both_pass (is_sequential c.in-atomic_fence.ordering) true (subst (λ i. is_encodable_instr i ≡ true) c.in-atomic_fence.is c.requires)).0
@@ -132,10 +132,10 @@ pub returns-in-return_call : goal.returns-in-return_call
 returns-in-return_call g c = rw c.in-return_call.is c.put_index-in-return_call.ensures
 
 pub returns-in-call_indirect : goal.returns-in-call_indirect
-returns-in-call_indirect g c = rw c.in-call_indirect.is c.put_indirect.ensures
+returns-in-call_indirect g c = rw c.in-call_indirect.is c.put_boxed_call.ensures
 
 pub returns-in-return_call_indirect : goal.returns-in-return_call_indirect
-returns-in-return_call_indirect g c = rw c.in-return_call_indirect.is c.put_indirect-in-return_call_indirect.ensures
+returns-in-return_call_indirect g c = rw c.in-return_call_indirect.is c.put_boxed_call-in-return_call_indirect.ensures
 
 pub returns-in-call_ref : goal.returns-in-call_ref
 returns-in-call_ref g c = rw c.in-call_ref.is c.put_index-in-call_ref.ensures
@@ -295,10 +295,10 @@ pub returns-in-ref_cast : goal.returns-in-ref_cast
 returns-in-ref_cast g c = rw c.in-ref_cast.is c.put_cast-in-ref_cast.ensures
 
 pub returns-in-br_on_cast : goal.returns-in-br_on_cast
-returns-in-br_on_cast g c = rw c.in-br_on_cast.is c.put_br_cast.ensures
+returns-in-br_on_cast g c = rw c.in-br_on_cast.is c.put_br_on_cast.ensures
 
 pub returns-in-br_on_cast_fail : goal.returns-in-br_on_cast_fail
-returns-in-br_on_cast_fail g c = rw c.in-br_on_cast_fail.is c.put_br_cast-in-br_on_cast_fail.ensures
+returns-in-br_on_cast_fail g c = rw c.in-br_on_cast_fail.is c.put_br_on_cast_fail.ensures
 
 pub returns-in-v128_const : goal.returns-in-v128_const
 returns-in-v128_const g c = rw c.in-v128_const.is c.put_v128.ensures
