@@ -57,11 +57,6 @@ def figures():
             [growing.count(instruction), growing.count(field), growing.files(field)],
             "places that tools/growing lists",
         ),
-        (
-            rf"{NUMBER} lines in all: {NUMBER} of code, {NUMBER} of definitions, and an answer of {NUMBER}",
-            [growing.count(instruction), *(growing.count(instruction, part) for part in growing.PARTS)],
-            "places that tools/growing lists",
-        ),
     ]
 
 
