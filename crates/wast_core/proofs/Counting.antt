@@ -15,8 +15,8 @@ use Rattle.wasm_out.specs.Parts.{Data, DataCount, Part, section, part, InRangePa
 use Rattle.wast_nodes.specs.Sites.{Here, behind, param_marks, local_marks, body_here}
 use Rattle.wast_map.specs.Mapped.{Change, mapped_instr, mapped_instrs, mapped_func_kind, mapped}
 use Rattle.wast_map.specs.Laws.{all_mapped}
-use Rattle.wast_reach.specs.Kinds.{is_of}
-use Rattle.wast_reach.specs.declared.kinds.FieldKind.TheVariants as kind
+use Rattle.wast_nodes.specs.Kinds.{is_of}
+use Rattle.wast_nodes.specs.declared.kinds.FieldKind.TheVariants as kind
 use Rattle.wast_reach.specs.declared.stretches.Reach.{Reach}
 use Rattle.wast_reach.specs.Reaches.{is_reach, there}
 use Rattle.wast_reach.proofs.Reaching.{all_there}

@@ -9,9 +9,9 @@ use Rattle.wasm_ops.specs.declared.sink.Refusal.{Refusal}
 use Rattle.wasm_out.specs.NameSectionBytes.{InRangeNameSubsection}
 use Rattle.wasm_out.specs.Parts.{part, InRangePart}
 use Rattle.wast_nodes.specs.Customs.{custom_place, place_rank}
-use Rattle.wast_reach.specs.Kinds.{is_of}
+use Rattle.wast_nodes.specs.Kinds.{is_of}
 use Rattle.wast_reach.specs.Reaches.{none_pass}
-use Rattle.wast_reach.specs.declared.kinds.FieldKind.TheVariants as kind
+use Rattle.wast_nodes.specs.declared.kinds.FieldKind.TheVariants as kind
 use Rattle.wast_core.specs.Tree.{CustomPlace, ModuleField}
 use Rattle.wast_core.specs.Tree.field
 use Rattle.wast_core.specs.Meaning.{has_own_names, subsections_of}

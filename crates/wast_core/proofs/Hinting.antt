@@ -19,8 +19,8 @@ use Rattle.wast_nodes.specs.Imports.{item_sigs}
 use Rattle.wast_names.specs.GivenNames.{named_from}
 use Rattle.wast_names.proofs.Each.{each_more, each_around}
 use Rattle.wast_names.proofs.NameEntries.{named_append, as_many}
-use Rattle.wast_reach.specs.Kinds.{is_of}
-use Rattle.wast_reach.specs.declared.kinds.FieldKind.TheVariants as kind
+use Rattle.wast_nodes.specs.Kinds.{is_of}
+use Rattle.wast_nodes.specs.declared.kinds.FieldKind.TheVariants as kind
 use Rattle.wast_nodes.specs.Items.{space_of_kind}
 use Rattle.wast_core.specs.Tree.{Func, FuncKind, ImportItems, ItemSig, ModuleField}
 use Rattle.wast_core.specs.Tree.space

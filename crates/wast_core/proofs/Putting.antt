@@ -6,8 +6,8 @@ use Rattle.std.proofs.lemmas.Bool.{eqb-true, eqb-false, ne_eqb}
 use Rattle.wast_nodes.specs.Customs.{custom_place, place_rank, stands_at, customs_in}
 use Rattle.wast_core.specs.Tree.{Custom, CustomPlace}
 use Rattle.wasm_out.specs.Parts.{SectionKind, Types, Imports, Functions, Tables, Memories, Tags, Globals, Exports, Elements, Code, Data}
-use Rattle.wast_reach.specs.Kinds.{is_of}
-use Rattle.wast_reach.specs.declared.kinds.FieldKind.TheVariants as kind
+use Rattle.wast_nodes.specs.Kinds.{is_of}
+use Rattle.wast_nodes.specs.declared.kinds.FieldKind.TheVariants as kind
 use Rattle.wast_core.specs.Meaning.{entries_in, starts_in}
 use Rattle.wast_core.specs.Putting.{puts}
 use Rattle.wast_core.specs.Tree.{ModuleField}

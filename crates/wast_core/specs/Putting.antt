@@ -1,8 +1,8 @@
 -- Which fields put something into the section of a kind, by what kind of fields they are.
 use Rattle.std.specs.Prelude.{Bool, ◌||◌}
 use Rattle.wasm_out.specs.Parts.{SectionKind, Types, Imports, Functions, Tables, Memories, Tags, Globals, Exports, Elements, Code, Data}
-use Rattle.wast_reach.specs.Kinds.{is_of}
-use Rattle.wast_reach.specs.declared.kinds.FieldKind.TheVariants as kind
+use Rattle.wast_nodes.specs.Kinds.{is_of}
+use Rattle.wast_nodes.specs.declared.kinds.FieldKind.TheVariants as kind
 use Rattle.wast_core.specs.Tree.{ModuleField}
 
 -- whether a field can have an entry in the section of a kind

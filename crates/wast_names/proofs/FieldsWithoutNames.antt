@@ -5,7 +5,7 @@ use Rattle.wast_nodes.specs.Imports.{item_sigs}
 use Rattle.wast_nodes.specs.Items.{space_of_kind}
 use Rattle.wast_base.specs.Spaces.{same_space}
 use Rattle.wast_reach.specs.Reaches.{none_pass}
-use Rattle.wast_reach.specs.declared.kinds.FieldKind.TheVariants as knd
+use Rattle.wast_nodes.specs.declared.kinds.FieldKind.TheVariants as knd
 use Rattle.wast_reach.specs.declared.stretches.Reach.{Reach}
 use Rattle.wast_reach.proofs.Reaching.{all_there, reach_whole}
 use Rattle.wast_names.specs.FieldsWithNames.{is_either, has_items, has_lists}

@@ -1,8 +1,8 @@
 -- Which fields can have items of a space, or lists of names within their items, by what kind of fields they are (text format, modules).
 use Rattle.std.specs.Prelude.{Bool, ◌||◌}
-use Rattle.wast_reach.specs.Kinds.{is_of}
-use Rattle.wast_reach.specs.declared.kinds.FieldKind.{FieldKind}
-use Rattle.wast_reach.specs.declared.kinds.FieldKind.TheVariants as kind
+use Rattle.wast_nodes.specs.Kinds.{is_of}
+use Rattle.wast_nodes.specs.declared.kinds.FieldKind.{FieldKind}
+use Rattle.wast_nodes.specs.declared.kinds.FieldKind.TheVariants as kind
 use Rattle.wast_names.specs.Tree.{Space, ModuleField}
 use Rattle.wast_names.specs.Tree.space
 use Rattle.wast_names.specs.declared.within.Within.{Within}

@@ -3,7 +3,7 @@
 ghost use Rattle.std.specs.Prelude.{◌≡◌, List, IsTrue};
 ghost use Rattle.std.specs.List.{flat_map};
 ghost use Rattle.wast_reach.specs.Reaches.{is_reach, are_reaches};
-ghost use Rattle.wast_reach.specs.declared.kinds.FieldKind.TheVariants as kind;
+ghost use Rattle.wast_nodes.specs.declared.kinds.FieldKind.TheVariants as kind;
 ghost use Rattle.wast_names.specs.FieldsWithNames.{is_either, has_items, has_lists};
 ghost use Rattle.wast_names.specs.ModuleNames.{names_given};
 ghost use Rattle.wast_names.specs.Tree.{ModuleField};

@@ -6,7 +6,7 @@ use Rattle.wast_nodes.specs.Tree.inner
 use Rattle.wast_nodes.specs.Tree.ty
 use Rattle.wast_nodes.specs.Tree.import_items
 use Rattle.wast_nodes.specs.Tree.kind
-use Rattle.wast_nodes.specs.Tree.field
+use Rattle.wast_nodes.specs.Profiles.{Defined, Nothing, Types, Imported, Lone, profile_of}
 use Rattle.wast_base.specs.Ids.{Mark, marked}
 
 -- an item of a space, with its id if it has one; of a struct type also the ids of its fields, in their order
@@ -54,20 +54,15 @@ items_of_import (import_items.Group1 source items) = flat_map (λ p. item_of_sig
 items_of_import (import_items.Group2 source sig names) = flat_map (λ name. item_of_sig sig ∷ []) names
 
 -- the types of a group are items one by one
+abbrev pub items_defined : Defined → List Item
+items_defined Nothing = []
+items_defined (Types ts) = flat_map items_of_type ts
+items_defined (Imported i) = items_of_import i
+items_defined (Lone a) = item a.space a.id [] ∷ []
+
+-- the items of a field
 abbrev pub items_in : ModuleField → List Item
-items_in (field.Ty t) = items_of_type t
-items_in (field.Rec r) = flat_map items_of_type r.types
-items_in (field.Import i) = items_of_import i.items
-items_in (field.Func f) = item space.Func f.id [] ∷ []
-items_in (field.Table t) = item space.Table t.id [] ∷ []
-items_in (field.Memory m) = item space.Memory m.id [] ∷ []
-items_in (field.Global g) = item space.Global g.id [] ∷ []
-items_in (field.Export e) = []
-items_in (field.Start i) = []
-items_in (field.Elem e) = item space.Elem e.id [] ∷ []
-items_in (field.Data d) = item space.Data d.id [] ∷ []
-items_in (field.Tag t) = item space.Tag t.id [] ∷ []
-items_in (field.Custom c) = []
+items_in f = items_defined (profile_of f).items
 
 -- each field after the one before it
 abbrev pub items : List ModuleField → List Item

@@ -11,10 +11,10 @@ use Rattle.wast_nodes.specs.declared.customs.CustomPlaceAnchor.TheVariants as an
 use Rattle.wast_nodes.specs.declared.customs.CustomPlace.TheVariants as at
 use Rattle.wast_nodes.specs.Customs.{anchor_rank, place_rank}
 use Rattle.wast_reach.specs.declared.finding.Reaches.{Reaches}
-use Rattle.wast_reach.specs.declared.kinds.FieldKind.{FieldKind}
-use Rattle.wast_reach.specs.declared.kinds.FieldKind.TheVariants as kind
+use Rattle.wast_nodes.specs.declared.kinds.FieldKind.{FieldKind}
+use Rattle.wast_nodes.specs.declared.kinds.FieldKind.TheVariants as kind
 use Rattle.wast_reach.specs.declared.stretches.Reach.{Reach}
-use Rattle.wast_reach.specs.Kinds.{kind_in, kind_rank, kinds, is_of}
+use Rattle.wast_nodes.specs.Kinds.{kind_in, kind_rank, kinds, is_of}
 use Rattle.wast_reach.specs.Reaches.{none_pass, is_inside, is_reach, reach_of, are_reaches}
 use Rattle.wast_reach.proofs.Reaching.{passed_over}
 

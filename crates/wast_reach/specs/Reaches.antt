@@ -2,8 +2,8 @@
 use Rattle.std.specs.Prelude.{nat_le, Bool, ◌&&◌, not, List, length, take, drop, slice_index_or}
 use Rattle.std.specs.List.{list_all, slice_range}
 use Rattle.wast_nodes.specs.declared.fields.ModuleField.{ModuleField}
-use Rattle.wast_reach.specs.Kinds.{kind_rank, kinds, is_of}
-use Rattle.wast_reach.specs.declared.kinds.FieldKind.{FieldKind}
+use Rattle.wast_nodes.specs.Kinds.{kind_rank, kinds, is_of}
+use Rattle.wast_nodes.specs.declared.kinds.FieldKind.{FieldKind}
 use Rattle.wast_reach.specs.declared.stretches.Reach.{Reach}
 use Rattle.wast_reach.specs.declared.finding.Reaches.{Reaches}
 

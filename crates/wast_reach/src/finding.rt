@@ -2,14 +2,14 @@
 
 ghost use Rattle.std.specs.Prelude.{◌≡◌, ◌<◌, false, [], ◌∷◌, ◌++◌, length, List, IsTrue};
 ghost use Rattle.wast_nodes.specs.declared.fields.ModuleField.{ModuleField};
-ghost use Rattle.wast_reach.specs.Kinds.{is_of};
+ghost use Rattle.wast_nodes.specs.Kinds.{is_of};
 ghost use Rattle.wast_reach.specs.Reaches.{none_pass, is_reach, reach_of, are_reaches};
-ghost use Rattle.wast_reach.specs.declared.kinds.FieldKind.TheVariants as kind;
+ghost use Rattle.wast_nodes.specs.declared.kinds.FieldKind.{FieldKind};
+ghost use Rattle.wast_nodes.specs.declared.kinds.FieldKind.TheVariants as kind;
 ghost use Rattle.wast_nodes.specs.declared.customs.CustomPlace.{CustomPlace};
 
-use crate::kinds::FieldKind;
 use crate::stretches::Reach;
-use wast_nodes::ModuleField;
+use wast_nodes::{FieldKind, ModuleField};
 
 /// Where in a list the fields of each kind stand.
 #[derive(Clone, Copy)]

@@ -2,12 +2,11 @@
 #![tactic(auto)]
 
 mod finding;
-mod kinds;
 mod stretches;
 
 pub use finding::Reaches;
-pub use kinds::FieldKind;
 pub use stretches::Reach;
+pub use wast_nodes::FieldKind;
 
 #[cfg(test)]
 mod tests;

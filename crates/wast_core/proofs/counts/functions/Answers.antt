@@ -1,5 +1,5 @@
-use Rattle.wast_reach.specs.Kinds.{is_of}
-use Rattle.wast_reach.specs.declared.kinds.FieldKind.TheVariants as kind
+use Rattle.wast_nodes.specs.Kinds.{is_of}
+use Rattle.wast_nodes.specs.declared.kinds.FieldKind.TheVariants as kind
 use Rattle.wast_reach.proofs.Reaching.{is_inside_of}
 use Rattle.wast_core.proofs.Counting.{functions_need}
 use Rattle.wast_core.proofs.counts.functions.Goals as goal

@@ -1,8 +1,8 @@
 use Rattle.wast_conv.specs.Encodable.{is_encodable_field}
 use Rattle.wast_nodes.specs.Customs.{customs_in}
 use Rattle.wast_core.proofs.Putting.{no_custom_elsewhere}
-use Rattle.wast_reach.specs.Kinds.{is_of}
-use Rattle.wast_reach.specs.declared.kinds.FieldKind.TheVariants as kind
+use Rattle.wast_nodes.specs.Kinds.{is_of}
+use Rattle.wast_nodes.specs.declared.kinds.FieldKind.TheVariants as kind
 use Rattle.wast_reach.proofs.Reaching.{all_there, all_pass_there, is_inside_of}
 use Rattle.wast_core.proofs.customs.custom_fields.Goals as goal
 

@@ -1,8 +1,8 @@
 use Rattle.wast_conv.specs.Encodable.{is_encodable_field}
 use Rattle.wast_core.specs.Hints.{functions_in}
 use Rattle.wast_core.proofs.Hinting.{is_function_or_import, no_function_elsewhere}
-use Rattle.wast_reach.specs.Kinds.{is_of}
-use Rattle.wast_reach.specs.declared.kinds.FieldKind.TheVariants as kind
+use Rattle.wast_nodes.specs.Kinds.{is_of}
+use Rattle.wast_nodes.specs.declared.kinds.FieldKind.TheVariants as kind
 use Rattle.wast_reach.proofs.Reaching.{all_there, all_pass_there, is_inside_of}
 use Rattle.wast_core.proofs.hints.function_fields.Goals as goal
 

@@ -1,4 +1,4 @@
-use Rattle.wast_reach.specs.Kinds.{is_of}
+use Rattle.wast_nodes.specs.Kinds.{is_of}
 use Rattle.wast_names.proofs.named_fields.either.Goals as goal
 
 pub returns : goal.returns

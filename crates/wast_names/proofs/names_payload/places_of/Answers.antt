@@ -1,5 +1,5 @@
 use Rattle.std.proofs.Common.{take, drop}
-use Rattle.wast_reach.specs.declared.kinds.FieldKind.TheVariants as kind
+use Rattle.wast_nodes.specs.declared.kinds.FieldKind.TheVariants as kind
 use Rattle.wast_reach.proofs.Reaching.{reach_parts}
 use Rattle.wast_names.specs.FieldsWithNames.{is_either}
 use Rattle.wast_names.specs.WithinItems.{types_within}

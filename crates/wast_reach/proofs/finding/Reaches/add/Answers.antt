@@ -1,5 +1,5 @@
 use Rattle.std.proofs.Common.{arith}
-use Rattle.wast_reach.specs.Kinds.{is_of}
+use Rattle.wast_nodes.specs.Kinds.{is_of}
 use Rattle.wast_reach.proofs.Found.{one_more}
 use Rattle.wast_reach.proofs.finding.Reaches.add.Goals as goal
 

@@ -1,6 +1,6 @@
 use Rattle.std.proofs.Common.{◌∙◌, sym, ap, arith}
 use Rattle.std.proofs.lemmas.List.{take_all}
-use Rattle.wast_reach.specs.Kinds.{is_of}
+use Rattle.wast_nodes.specs.Kinds.{is_of}
 use Rattle.wast_reach.specs.Reaches.{is_reach, reach_of}
 use Rattle.wast_reach.proofs.Found.{none_found, all_found}
 use Rattle.wast_reach.proofs.finding.Reaches.of.Goals as goal

@@ -1,6 +1,6 @@
 use Rattle.std.proofs.Common.{◌≡◌, true, take}
-use Rattle.wast_reach.specs.declared.kinds.FieldKind.{FieldKind}
-use Rattle.wast_reach.specs.Kinds.{is_of}
+use Rattle.wast_nodes.specs.declared.kinds.FieldKind.{FieldKind}
+use Rattle.wast_nodes.specs.Kinds.{is_of}
 use Rattle.wast_reach.specs.Reaches.{is_reach, reach_of}
 use Rattle.wast_reach.proofs.finding.Reaches.of.Given as goal
 

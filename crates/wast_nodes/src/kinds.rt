@@ -1,9 +1,11 @@
 //! The kinds of fields.
 
 ghost use Rattle.std.specs.Prelude.{◌≡◌, ◌<◌};
-ghost use Rattle.wast_reach.specs.Kinds.{kind_in, kind_rank, is_of};
+ghost use Rattle.wast_nodes.specs.Kinds.{kind_in, kind_rank, is_of};
 
-use wast_nodes::{CustomPlace, ModuleField};
+use crate::customs::CustomPlace;
+use crate::fields::ModuleField;
+use crate::profiles::profile_of;
 
 /// A kind of fields: one for each variant of [`ModuleField`] (text format, modules), and of custom sections one for each
 /// place.
@@ -43,21 +45,7 @@ impl FieldKind {
         ensures same { result ≡ kind_rank (kind_in field.now) }
         ensures within { result < 38 }
     {
-        match field {
-            ModuleField::Ty(_) => 0,
-            ModuleField::Rec(_) => 1,
-            ModuleField::Import(_) => 2,
-            ModuleField::Func(_) => 3,
-            ModuleField::Table(_) => 4,
-            ModuleField::Memory(_) => 5,
-            ModuleField::Global(_) => 6,
-            ModuleField::Export(_) => 7,
-            ModuleField::Start(_) => 8,
-            ModuleField::Elem(_) => 9,
-            ModuleField::Data(_) => 10,
-            ModuleField::Tag(_) => 11,
-            ModuleField::Custom(custom) => 12 + custom.place().rank(),
-        }
+        profile_of(field).kind.rank()
     }
 
     /// The number of the kind, below 38. It takes no memory.

@@ -1,26 +1,14 @@
 -- The kinds of fields (text format, modules).
 use Rattle.std.specs.Prelude.{ℕ, ◌+◌, ◌==◌, Bool, List, ◌∷◌, map}
-use Rattle.wast_nodes.specs.declared.fields.ModuleField.{ModuleField}
-use Rattle.wast_nodes.specs.declared.fields.ModuleField.TheVariants as field
-use Rattle.wast_nodes.specs.Customs.{custom_place, place_rank, places}
-use Rattle.wast_reach.specs.declared.kinds.FieldKind.{FieldKind}
-use Rattle.wast_reach.specs.declared.kinds.FieldKind.TheVariants as kind
+use Rattle.wast_nodes.specs.Tree.{ModuleField}
+use Rattle.wast_nodes.specs.Customs.{place_rank, places}
+use Rattle.wast_nodes.specs.Profiles.{profile_of}
+use Rattle.wast_nodes.specs.declared.kinds.FieldKind.{FieldKind}
+use Rattle.wast_nodes.specs.declared.kinds.FieldKind.TheVariants as kind
 
 -- the kind of a field
 abbrev pub kind_in : ModuleField → FieldKind
-kind_in (field.Ty t) = kind.Ty
-kind_in (field.Rec r) = kind.Rec
-kind_in (field.Import i) = kind.Import
-kind_in (field.Func f) = kind.Func
-kind_in (field.Table t) = kind.Table
-kind_in (field.Memory m) = kind.Memory
-kind_in (field.Global g) = kind.Global
-kind_in (field.Export e) = kind.Export
-kind_in (field.Start i) = kind.Start
-kind_in (field.Elem e) = kind.Elem
-kind_in (field.Data d) = kind.Data
-kind_in (field.Tag t) = kind.Tag
-kind_in (field.Custom c) = kind.Custom (custom_place c)
+kind_in f = (profile_of f).kind
 
 -- the place of a kind among all; custom sections of each place are a kind of their own
 abbrev pub kind_rank : FieldKind → ℕ
