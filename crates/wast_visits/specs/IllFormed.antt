@@ -1,11 +1,10 @@
 -- Where a list of fields is not well formed: the first clause that fails, and the nearest place.
 use Rattle.std.specs.Prelude.{ℕ, ◌==◌, List, [], ◌∷◌, ◌++◌, map, flat_map, Option, codes, if◌then◌else◌}
 use Rattle.wast_base.specs.Ids.{span_of_index}
-use Rattle.wast_visits.specs.Tree.{Span, Custom, ModuleField}
-use Rattle.wast_visits.specs.Tree.custom
-use Rattle.wast_visits.specs.Tree.field
+use Rattle.wast_visits.specs.Tree.{Span, ModuleField}
 use Rattle.wast_visits.specs.declared.first_failing.IllFormed.{IllFormed}
 use Rattle.wast_nodes.specs.Items.{items}
+use Rattle.wast_nodes.specs.Profiles.{profile_of}
 use Rattle.wast_nodes.specs.Sites.{Ask, Wants, Within, Unasked, Clause, Covered, asked, in_field}
 use Rattle.wast_nodes.specs.Known.{Known, known}
 use Rattle.wast_nodes.specs.Uncovered.{first}
@@ -32,27 +31,9 @@ found_from found_at before (a ∷ asks) = let here = nearest before a in found_a
 abbrev pub failing_from : Known → Span → List Ask → List IllFormed
 failing_from k before asks = found_from (failing_at k) before asks
 
--- the place of a custom section; nothing that stands in one fails
-abbrev pub custom_place : Custom → Span
-custom_place (custom.Raw section) = section.span
-custom_place (custom.Producers producers) = record { offset = 0 }
-custom_place (custom.Dylink0 info) = record { offset = 0 }
-
 -- the place of a field
 abbrev pub field_place : ModuleField → Span
-field_place (field.Ty t) = t.span
-field_place (field.Rec r) = r.span
-field_place (field.Import i) = i.span
-field_place (field.Func f) = f.span
-field_place (field.Table t) = t.span
-field_place (field.Memory m) = m.span
-field_place (field.Global g) = g.span
-field_place (field.Export e) = e.span
-field_place (field.Start i) = span_of_index i
-field_place (field.Elem e) = e.span
-field_place (field.Data d) = d.span
-field_place (field.Tag t) = t.span
-field_place (field.Custom c) = custom_place c
+field_place f = (profile_of f).span
 
 -- the clauses that fail in a field, by what the items of the module make known
 abbrev pub failing_in : Known → ModuleField → List IllFormed

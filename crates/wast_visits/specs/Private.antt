@@ -1,3 +1,2 @@
 -- What only contracts of private functions cite: a caller needs none of it.
 pub mod Bearers
-pub mod FieldItems

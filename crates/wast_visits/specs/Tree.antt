@@ -21,7 +21,4 @@ pub use Rattle.wast_nodes.specs.declared.instrs.Instruction.{Instruction}
 pub use Rattle.wast_nodes.specs.declared.instrs.Expression.{Expression}
 pub use Rattle.wast_nodes.specs.declared.fields.Local.{Local}
 pub use Rattle.wast_nodes.specs.declared.fields.FuncKind.TheVariants as func
-pub use Rattle.wast_nodes.specs.declared.customs.Custom.{Custom}
-pub use Rattle.wast_nodes.specs.declared.customs.Custom.TheVariants as custom
 pub use Rattle.wast_nodes.specs.declared.fields.ModuleField.{ModuleField}
-pub use Rattle.wast_nodes.specs.declared.fields.ModuleField.TheVariants as field

@@ -4,14 +4,14 @@ ghost use Rattle.std.specs.Prelude.{◌≡◌, ◌==◌, ◌≤◌, ◌-◌, ◌
 ghost use Rattle.std.specs.List.{list_any};
 ghost use Rattle.wast_base.specs.Ids.{name_of, marked};
 ghost use Rattle.wast_base.specs.Spaces.{is_called, name_if};
-ghost use Rattle.wast_nodes.specs.Items.{Item, item, fields_of, item_of_sig, items_in};
+ghost use Rattle.wast_nodes.specs.Items.{Item, item, fields_of, item_of_sig, items_of_import, items_defined, items_in};
+ghost use Rattle.wast_nodes.specs.Profiles.{items_read};
 ghost use Rattle.wast_visits.specs.Tree.space;
 ghost use Rattle.wast_visits.specs.Private.Bearers.{bears, bears_at, items_at, items_behind, items_before, steps_on, steps_back};
-ghost use Rattle.wast_visits.specs.Private.FieldItems.{items_read};
 
-use crate::field_items::{FieldItems, items_of};
+use crate::field_items::items_of;
 use wast_base::{Id, Space};
-use wast_nodes::{ItemSig, ModuleField, Type};
+use wast_nodes::{FieldItems, ImportItems, ItemSig, ModuleField, Type};
 
 /// Whether an optional id is this one.
 fn is_called(bearer: &Option<Id<'_>>, id: &Id<'_>) -> bool
@@ -108,22 +108,34 @@ fn look_at_shared(sig: &ItemSig<'_>, names: &[&str], item: usize, space: Space, 
     }
 }
 
-/// Looks at an item of those that are read from something.
+/// Looks at an item of an import.
+fn look_at_import(items: &ImportItems<'_>, item: usize, space: Space, id: &Id<'_>) -> Look
+    ensures items { result.items ≡ length (items_of_import items.now) }
+    ensures found { result.found ≡ bears_at space (name_of id.now) (items_of_import items.now) item }
+{
+    match items {
+        ImportItems::Single { sig, .. } => Look::at_one(item, sig.bears(space, id)),
+        ImportItems::Group1 { items, .. } => look_at_each(items.as_slice(), item, space, id),
+        ImportItems::Group2 { sig, items, .. } => {
+            look_at_shared(sig, items.as_slice(), item, space, id)
+        }
+    }
+}
+
+/// Looks at an item of a field.
 fn look_among(items: FieldItems<'_, '_>, item: usize, space: Space, id: &Id<'_>) -> Look
-    ensures items { result.items ≡ length (items_read items.entry) }
-    ensures found { result.found ≡ bears_at space (name_of id.now) (items_read items.entry) item }
+    ensures items { result.items ≡ length (items_defined (items_read items.entry)) }
+    ensures found { result.found ≡ bears_at space (name_of id.now) (items_defined (items_read items.entry)) item }
 {
     match items {
         FieldItems::Nothing => Look {
             items: 0,
             found: false,
         },
-        FieldItems::Lone(own, bearer) => Look::at_one(item, bears(own, bearer, space, id)),
+        FieldItems::Lone(own) => Look::at_one(item, bears(own.space, own.id, space, id)),
         FieldItems::Type(ty) => Look::at_one(item, ty.bears(space, id)),
         FieldItems::Types(types) => look_at_each(types, item, space, id),
-        FieldItems::Signature(sig) => Look::at_one(item, sig.bears(space, id)),
-        FieldItems::Signatures(items) => look_at_each(items, item, space, id),
-        FieldItems::Shared(sig, names) => look_at_shared(sig, names, item, space, id),
+        FieldItems::Imported(items) => look_at_import(items, item, space, id),
     }
 }
 
@@ -135,22 +147,30 @@ fn generation_in(own: Space, bearer: &Option<Id<'_>>, space: Space) -> u64 {
     }
 }
 
-/// The same of an item of those that are read from something.
+/// The same of an item of an import.
+fn generation_in_import(items: &ImportItems<'_>, item: usize, space: Space) -> u64 {
+    match items {
+        ImportItems::Single { sig, .. } | ImportItems::Group2 { sig, .. } => {
+            generation_in(sig.kind.space(), &sig.id, space)
+        }
+        ImportItems::Group1 { items, .. } => match items.as_slice().get(item) {
+            Some(named) => generation_in(named.1.kind.space(), &named.1.id, space),
+            None => 0,
+        },
+    }
+}
+
+/// The same of an item of a field.
 fn generation_among(items: FieldItems<'_, '_>, item: usize, space: Space) -> u64 {
     match items {
         FieldItems::Nothing => 0,
-        FieldItems::Lone(own, bearer) => generation_in(own, bearer, space),
+        FieldItems::Lone(own) => generation_in(own.space, own.id, space),
         FieldItems::Type(ty) => generation_in(Space::Ty, &ty.id, space),
         FieldItems::Types(types) => match types.get(item) {
             Some(ty) => generation_in(Space::Ty, &ty.id, space),
             None => 0,
         },
-        FieldItems::Signature(sig) => generation_in(sig.kind.space(), &sig.id, space),
-        FieldItems::Signatures(items) => match items.get(item) {
-            Some(named) => generation_in(named.1.kind.space(), &named.1.id, space),
-            None => 0,
-        },
-        FieldItems::Shared(sig, _) => generation_in(sig.kind.space(), &sig.id, space),
+        FieldItems::Imported(items) => generation_in_import(items, item, space),
     }
 }
 

@@ -1,7 +1,7 @@
 //! Where fields are not well formed.
 
 ghost use Rattle.std.specs.Prelude.{◌≡◌, List, Some, None, is_none, map, flat_map};
-ghost use Rattle.wast_visits.specs.IllFormed.{clause_text, nearest, failing_at, failing_from, custom_place, field_place, first_ill_formed};
+ghost use Rattle.wast_visits.specs.IllFormed.{clause_text, nearest, failing_at, failing_from, field_place, first_ill_formed};
 ghost use Rattle.wast_nodes.specs.Known.{known};
 ghost use Rattle.wast_nodes.specs.Sites.{Ask, in_field, asked};
 ghost use Rattle.wast_visits.specs.Tree.{Span};
@@ -13,7 +13,7 @@ use crate::settling::{Bearers, Settler, is_written};
 use crate::visits::{Visit, Visitor};
 use std::fmt;
 use wast_base::{Form, Id, Index, Space, Span};
-use wast_nodes::{Custom, ModuleField};
+use wast_nodes::{ModuleField, profile_of};
 
 /// A clause of "well formed" that fails, and where.
 #[derive(Clone, Copy, Debug, PartialEq, Eq)]
@@ -48,36 +48,11 @@ impl fmt::Display for IllFormed {
     }
 }
 
-/// The place of a custom section.
-fn custom_place(custom: &Custom<'_>) -> Span
-    ensures { result ≡ custom_place custom.now }
-{
-    match custom {
-        Custom::Raw(section) => section.span,
-        Custom::Producers(_) => Span { offset: 0 },
-        Custom::Dylink0(_) => Span { offset: 0 },
-    }
-}
-
 /// The place of a field.
 pub(crate) fn field_place(field: &ModuleField<'_>) -> Span
     ensures { result ≡ field_place field.now }
 {
-    match field {
-        ModuleField::Ty(ty) => ty.span,
-        ModuleField::Rec(rec) => rec.span,
-        ModuleField::Import(import) => import.span,
-        ModuleField::Func(func) => func.span,
-        ModuleField::Table(table) => table.span,
-        ModuleField::Memory(memory) => memory.span,
-        ModuleField::Global(global) => global.span,
-        ModuleField::Export(export) => export.span,
-        ModuleField::Start(func) => func.span(),
-        ModuleField::Elem(elem) => elem.span,
-        ModuleField::Data(data) => data.span,
-        ModuleField::Tag(tag) => tag.span,
-        ModuleField::Custom(custom) => custom_place(custom),
-    }
+    profile_of(field).span
 }
 
 /// The first clause that fails, of all that it was told, and the last place.

@@ -8,18 +8,19 @@ ghost use Rattle.wast_base.specs.Blocks.{Blocks};
 ghost use Rattle.wast_visits.specs.Tree.{TypeUse, FunctionType};
 ghost use Rattle.wast_visits.specs.Tree.form;
 ghost use Rattle.wast_visits.specs.Tree.space;
-ghost use Rattle.wast_nodes.specs.Items.{Item, item, item_of_sig, fields_of, items_of_type, items_in, items};
+ghost use Rattle.wast_nodes.specs.Items.{Item, item, item_of_sig, fields_of, items_of_type, items_of_import, items_in, items};
 ghost use Rattle.wast_nodes.specs.Sites.{Ask, Wants, Within, Unasked, Clause, Covered, Here, if_there, in_index, in_id, in_heap, in_ref, in_val, in_storage, in_param, in_signature, in_struct_field, in_struct, in_array, in_inner, in_descriptor, in_def, in_type, in_rec, in_type_use, in_block, in_caught, in_catch, in_try_table, in_br_table, in_target, in_mem_arg, in_pair, in_access, in_cast, uncovered, asking, in_select, in_indirect, in_instr, in_instrs, in_expression, in_constant, in_local, in_func_kind, in_func, in_field, in_module, asked};
 ghost use Rattle.wast_visits.specs.Visits.{Visits};
 
 use crate::clauses::{hints_stand, is_balanced, is_continuation, is_sequential};
-use crate::field_items::{FieldItems, items_of};
+use crate::field_items::items_of;
 use wast_base::{Form, Id, Index, NameAnnotation, Seq, Space};
 use wast_nodes::{
-    ArrayType, BlockType, BrTableIndices, CallIndirect, ContType, Expression, Func, FuncKind,
-    FunctionType, HeapType, InnerTypeKind, Instruction, ItemSig, Local, MemArg, MemArgTarget,
-    ModuleField, Rec, RefType, SelectTypes, StorageType, StructAccess, StructField, StructType,
-    TryTable, TryTableCatch, TryTableCatchKind, Type, TypeDef, TypeUse, ValType,
+    ArrayType, BlockType, BrTableIndices, CallIndirect, ContType, Expression, FieldItems, Func,
+    FuncKind, FunctionType, HeapType, ImportItems, InnerTypeKind, Instruction, ItemSig, Local,
+    MemArg, MemArgTarget, ModuleField, Rec, RefType, SelectTypes, StorageType, StructAccess,
+    StructField, StructType, TryTable, TryTableCatch, TryTableCatchKind, Type, TypeDef, TypeUse,
+    ValType,
 };
 
 /// What is told of the items of a module (text format, modules), as a count or a list of them.
@@ -78,12 +79,21 @@ pub(crate) fn visit_items_in<'a, V: ItemVisitor<'a>>(field: &ModuleField<'a>, vi
 {
     match items_of(field) {
         FieldItems::Nothing => {}
-        FieldItems::Lone(space, id) => visitor.item(space, id, &[]),
+        FieldItems::Lone(item) => visitor.item(item.space, item.id, &[]),
         FieldItems::Type(ty) => visit_type(ty, visitor),
         FieldItems::Types(types) => visit_members(types, visitor),
-        FieldItems::Signature(sig) => visit_sig(sig, visitor),
-        FieldItems::Signatures(items) => visit_sigs(items, visitor),
-        FieldItems::Shared(sig, names) => visit_shared(sig, names, visitor),
+        FieldItems::Imported(items) => visit_import(items, visitor),
+    }
+}
+
+/// Tells a visitor of the items of an import.
+fn visit_import<'a, V: ItemVisitor<'a>>(items: &ImportItems<'a>, visitor: &mut V)
+    ensures { Visits V.told visitor.old (items_of_import items.now) visitor.new }
+{
+    match items {
+        ImportItems::Single { sig, .. } => visit_sig(sig, visitor),
+        ImportItems::Group1 { items, .. } => visit_sigs(items.as_slice(), visitor),
+        ImportItems::Group2 { sig, items, .. } => visit_shared(sig, items.as_slice(), visitor),
     }
 }
 
