@@ -1,20 +1,20 @@
 -- Names as the code finds and writes them: texts, without where they lie in memory (custom sections, name section).
-use Rattle.std.specs.Prelude.{ℕ, ◌≡◌, ◌-◌, ◌^◌, min, List, [], ◌∷◌, ◌++◌, map, Option, Some, None, option_map, Result, All}
+use Rattle.std.specs.Prelude.{ℕ, ◌≡◌, ◌-◌, ◌^◌, min, List, [], ◌∷◌, ◌++◌, Option, Some, None, option_map, Result, All}
 use Rattle.std.specs.List.{flat_map}
 use Rattle.std.specs.Borrow.{Bor}
+use Rattle.wast_nodes.specs.declared.profiles.FieldItems.{FieldItems}
+use Rattle.wast_nodes.specs.Profiles.{items_read}
 use Rattle.wasm_ops.specs.declared.sink.Refusal.{Refusal}
 use Rattle.wasm_ops.specs.Sinks.{SinkRules, Writes}
 use Rattle.wasm_ops.specs.Leb128.{unsigned}
 use Rattle.wasm_ops.specs.Spelling.{InRangeU32, vec, sized, InRangeVec, InRangeSized}
-use Rattle.wast_names.specs.declared.names_payload.Items.{Items}
-use Rattle.wast_names.specs.declared.names_payload.Items.TheVariants as items
 use Rattle.wast_names.specs.declared.name_lists.Listed.{Listed}
 use Rattle.wast_names.specs.declared.name_lists.Listed.TheVariants as listed
 use Rattle.wast_names.specs.declared.within.Lists.{Lists}
 use Rattle.wast_names.specs.declared.within.Lists.TheVariants as lists
 use Rattle.wast_names.specs.declared.within.Within.{Within}
-use Rattle.wast_names.specs.GivenNames.{given_name, named_from}
-use Rattle.wast_names.specs.ModuleNames.{type_name, import_names}
+use Rattle.wast_names.specs.GivenNames.{named_from}
+use Rattle.wast_names.specs.ModuleNames.{names_defined}
 use Rattle.wast_names.specs.WithinItems.{param_name, field_name, local_name, label_in, where_named, lists_in_type, lists_in_import}
 use Rattle.wast_names.specs.Tree.{Space}
 
@@ -28,11 +28,8 @@ item_seen None = []
 item_seen (Some text) = text_seen text ∷ []
 
 -- the items that are found in a field, each with its space and its name
-abbrev pub items_seen : Items → List (Space × Option (List ℕ))
-items_seen items.Nothing = []
-items_seen (items.One own annotation id) = (own, given_name annotation.now id.now) ∷ []
-items_seen (items.Types types) = map type_name types.now
-items_seen (items.Imported i) = import_names i.now
+abbrev pub items_seen : FieldItems → List (Space × Option (List ℕ))
+items_seen i = names_defined (items_read i)
 
 -- what a `u64` that counted so far holds: from the greatest on, it stays
 abbrev pub counted : ℕ → ℕ

@@ -4,10 +4,10 @@ use Rattle.std.specs.List.{flat_map}
 use Rattle.wast_base.specs.Spaces.{same_space}
 use Rattle.wast_nodes.specs.Items.{space_of_kind}
 use Rattle.wast_nodes.specs.Imports.{item_sigs}
+use Rattle.wast_nodes.specs.Profiles.{Defined, Nothing, Types, Imported, Lone, profile_of}
 use Rattle.wast_names.specs.Tree.{Space, ItemSig, ImportItems, ModuleField}
 use Rattle.wast_names.specs.Tree.space
 use Rattle.wast_names.specs.Tree.ty
-use Rattle.wast_names.specs.Tree.field
 use Rattle.wast_names.specs.declared.within.Within.{Within}
 use Rattle.wast_names.specs.declared.within.Within.TheVariants as within
 use Rattle.wast_names.specs.declared.names_payload.NameMap.{NameMap}
@@ -29,21 +29,16 @@ sig_name sig = (space_of_kind sig.kind, given_name sig.name sig.id)
 abbrev pub import_names : ImportItems → List (Space × Option (List ℕ))
 import_names i = map sig_name (item_sigs i)
 
--- the names of the items of a field, each with its space
+-- the names of the items that a field defines, each with its space
+abbrev pub names_defined : Defined → List (Space × Option (List ℕ))
+names_defined Nothing = []
+names_defined (Types ts) = map type_name ts
+names_defined (Imported i) = import_names i
+names_defined (Lone a) = (a.space, given_name a.name a.id) ∷ []
+
+-- the same of the field
 abbrev pub item_names_in : ModuleField → List (Space × Option (List ℕ))
-item_names_in (field.Ty t) = type_name t ∷ []
-item_names_in (field.Rec r) = map type_name r.types
-item_names_in (field.Import i) = import_names i.items
-item_names_in (field.Func f) = (space.Func, given_name f.name f.id) ∷ []
-item_names_in (field.Table t) = (space.Table, given_name t.name t.id) ∷ []
-item_names_in (field.Memory m) = (space.Memory, given_name m.name m.id) ∷ []
-item_names_in (field.Global g) = (space.Global, given_name g.name g.id) ∷ []
-item_names_in (field.Export e) = []
-item_names_in (field.Start i) = []
-item_names_in (field.Custom c) = []
-item_names_in (field.Elem e) = (space.Elem, given_name e.name e.id) ∷ []
-item_names_in (field.Data d) = (space.Data, given_name d.name d.id) ∷ []
-item_names_in (field.Tag t) = (space.Tag, given_name t.name t.id) ∷ []
+item_names_in f = names_defined (profile_of f).items
 
 -- the name of an item, where it is an item of the space
 abbrev pub given_name_in : Space → Space × Option (List ℕ) → List (Option (List ℕ))

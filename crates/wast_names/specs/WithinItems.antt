@@ -13,6 +13,7 @@ use Rattle.wast_names.specs.declared.within.Within.{Within}
 use Rattle.wast_names.specs.declared.within.Within.TheVariants as within
 use Rattle.wast_nodes.specs.Imports.{item_sigs}
 use Rattle.wast_nodes.specs.Instrs.{block_of}
+use Rattle.wast_nodes.specs.Types as own
 use Rattle.wast_names.specs.GivenNames.{given_name, named_from}
 
 -- the name of a parameter
@@ -68,19 +69,7 @@ arity_of (Some t) = arity t.def.kind
 
 -- the types of a field, one by one, as they stand in the type space
 abbrev pub types_within : ModuleField → List ty.«Type»
-types_within (field.Ty t) = t ∷ []
-types_within (field.Rec r) = r.types
-types_within (field.Import i) = []
-types_within (field.Func f) = []
-types_within (field.Table t) = []
-types_within (field.Memory m) = []
-types_within (field.Global g) = []
-types_within (field.Export e) = []
-types_within (field.Start i) = []
-types_within (field.Elem e) = []
-types_within (field.Data d) = []
-types_within (field.Custom c) = []
-types_within (field.Tag t) = []
+types_within f = own.types_of f
 
 -- the type space of these fields
 abbrev pub types_of : List ModuleField → List ty.«Type»

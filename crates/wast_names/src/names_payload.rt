@@ -24,7 +24,7 @@ use crate::named_fields::{reach_of_types, with_items, with_lists};
 use crate::within::{PutLists, Within, WithinItems, any_lists, count_lists};
 use wasm_ops::{Encode, Length, Name, Refusal, Sink, WithLength};
 use wast_base::{Id, NameAnnotation, Space};
-use wast_nodes::{ImportItems, ItemSig, ModuleField, Type};
+use wast_nodes::{FieldItems, ItemSig, ModuleField, Type, profile_of};
 use wast_reach::{FieldKind, Reaches};
 
 fn id_text<'a>(id: &Option<Id<'a>>) -> Option<&'a str>
@@ -50,37 +50,12 @@ pub fn given_name<'a>(
     }
 }
 
-/// The items of a field, with their names.
-#[derive(Clone, Copy)]
-enum Items<'b, 'a> {
-    /// No item.
-    Nothing,
-    /// An item of a space, with its annotation and its id.
-    One(Space, &'b Option<NameAnnotation<'a>>, &'b Option<Id<'a>>),
-    /// The types of a group.
-    Types(&'b [Type<'a>]),
-    /// Those of an import.
-    Imported(&'b ImportItems<'a>),
-}
-
 /// Finds the items of a field.
 #[inline(always)]
-fn items_of<'b, 'a>(field: &'b ModuleField<'a>) -> Items<'b, 'a>
+fn items_of<'b, 'a>(field: &'b ModuleField<'a>) -> FieldItems<'b, 'a>
     ensures { items_seen result ≡ item_names_in field.now }
 {
-    match field {
-        ModuleField::Ty(ty) => Items::One(Space::Ty, &ty.name, &ty.id),
-        ModuleField::Rec(rec) => Items::Types(rec.types.as_slice()),
-        ModuleField::Import(imports) => Items::Imported(&imports.items),
-        ModuleField::Func(func) => Items::One(Space::Func, &func.name, &func.id),
-        ModuleField::Table(table) => Items::One(Space::Table, &table.name, &table.id),
-        ModuleField::Memory(memory) => Items::One(Space::Memory, &memory.name, &memory.id),
-        ModuleField::Global(global) => Items::One(Space::Global, &global.name, &global.id),
-        ModuleField::Elem(elem) => Items::One(Space::Elem, &elem.name, &elem.id),
-        ModuleField::Data(data) => Items::One(Space::Data, &data.name, &data.id),
-        ModuleField::Tag(tag) => Items::One(Space::Tag, &tag.name, &tag.id),
-        ModuleField::Export(_) | ModuleField::Start(_) | ModuleField::Custom(_) => Items::Nothing,
-    }
+    profile_of(field).items
 }
 
 /// One, where an item is of the space and has a name.
@@ -177,12 +152,13 @@ impl<'a> NameItems<ModuleField<'a>> for Space {
         out: &mut S,
     ) -> Result<u64, Refusal> {
         match items_of(part) {
-            Items::Nothing => Ok(position),
-            Items::One(own, annotation, id) => {
-                put_item(*self, own, annotation, id, position, out)
+            FieldItems::Nothing => Ok(position),
+            FieldItems::Type(ty) => put_item(*self, Space::Ty, &ty.name, &ty.id, position, out),
+            FieldItems::Types(types) => put_each(self, types, position, out),
+            FieldItems::Imported(items) => put_imported(*self, items, position, out),
+            FieldItems::Lone(item) => {
+                put_item(*self, item.space, item.name, item.id, position, out)
             }
-            Items::Types(types) => put_each(self, types, position, out),
-            Items::Imported(items) => put_imported(*self, items, position, out),
         }
     }
 }
@@ -190,10 +166,11 @@ impl<'a> NameItems<ModuleField<'a>> for Space {
 impl<'a> CountItems<ModuleField<'a>> for Space {
     fn count(&self, part: &ModuleField<'a>) -> u64 {
         match items_of(part) {
-            Items::Nothing => 0,
-            Items::One(own, annotation, id) => count_item(*self, own, annotation, id),
-            Items::Types(types) => count_each(self, types),
-            Items::Imported(items) => count_imported(*self, items),
+            FieldItems::Nothing => 0,
+            FieldItems::Type(ty) => count_item(*self, Space::Ty, &ty.name, &ty.id),
+            FieldItems::Types(types) => count_each(self, types),
+            FieldItems::Imported(items) => count_imported(*self, items),
+            FieldItems::Lone(item) => count_item(*self, item.space, item.name, item.id),
         }
     }
 }
