@@ -27,7 +27,8 @@ use Rattle.wast_alike.specs.Tree.memory
 use Rattle.wast_alike.specs.Tree.global
 use Rattle.wast_alike.specs.Tree.tag_kind
 use Rattle.wast_alike.specs.Tree.field
-use Rattle.wast_demands.specs.ImportOrder.{func_place, table_place, memory_place, global_place, tag_place, import_place, unless_import, defines, nothing_defined}
+use Rattle.wast_nodes.specs.Profiles.{is_imported_func, is_imported_table, is_imported_memory, is_imported_global, is_imported_tag}
+use Rattle.wast_demands.specs.ImportOrder.{imported_at, import_place, unless_import, defines, nothing_defined}
 use Rattle.wast_demands.specs.Scopes.{scope}
 use Rattle.wast_demands.specs.Explicit.{explicit}
 use Rattle.wast_demands.specs.Demands.{Demand, one_demand, first_unmet, each_after, own_demand, field_demands, item_demand, item_demands, site_demands, order_demands, demands}
@@ -48,25 +49,25 @@ module _ (last : Option Space) (ys : List ModuleField) where
   exported span k i (name ∷ names) = exported span k i names
 
   -- nor do segments
-  func_orders : (f : Func) (k : FuncKind) → orders_from last (func_alone f k ∷ ys) ≡ orders_at (func_place f.span k) space.Func last ys
+  func_orders : (f : Func) (k : FuncKind) → orders_from last (func_alone f k ∷ ys) ≡ orders_at (imported_at f.span (Some (is_imported_func k))) space.Func last ys
   func_orders f (func.Import source exact) = refl
   func_orders f (func.Inline locals e) = refl
 
-  table_orders : (t : Table) (k : TableKind) (i : Index) → orders_from last ((elem_in k t.span i ++ table_alone t k ∷ []) ++ ys) ≡ orders_at (table_place t.span k) space.Table last ys
+  table_orders : (t : Table) (k : TableKind) (i : Index) → orders_from last ((elem_in k t.span i ++ table_alone t k ∷ []) ++ ys) ≡ orders_at (imported_at t.span (Some (is_imported_table k))) space.Table last ys
   table_orders t (table.Import source ty) i = refl
   table_orders t (table.Normal ty init) i = refl
   table_orders t (table.Inline ty is64 shared p) i = refl
 
-  memory_orders : (m : Memory) (k : MemoryKind) (i : Index) → orders_from last ((data_in k m.span i ++ memory_alone m k ∷ []) ++ ys) ≡ orders_at (memory_place m.span k) space.Memory last ys
+  memory_orders : (m : Memory) (k : MemoryKind) (i : Index) → orders_from last ((data_in k m.span i ++ memory_alone m k ∷ []) ++ ys) ≡ orders_at (imported_at m.span (Some (is_imported_memory k))) space.Memory last ys
   memory_orders m (memory.Import source ty) i = refl
   memory_orders m (memory.Normal ty) i = refl
   memory_orders m (memory.Inline is64 pieces exponent) i = refl
 
-  global_orders : (g : Global) (k : GlobalKind) → orders_from last (global_alone g k ∷ ys) ≡ orders_at (global_place g.span k) space.Global last ys
+  global_orders : (g : Global) (k : GlobalKind) → orders_from last (global_alone g k ∷ ys) ≡ orders_at (imported_at g.span (Some (is_imported_global k))) space.Global last ys
   global_orders g (global.Import source) = refl
   global_orders g (global.Inline e) = refl
 
-  tag_orders : (t : Tag) (k : TagKind) → orders_from last (tag_alone t k ∷ ys) ≡ orders_at (tag_place t.span k) space.Tag last ys
+  tag_orders : (t : Tag) (k : TagKind) → orders_from last (tag_alone t k ∷ ys) ≡ orders_at (imported_at t.span (Some (is_imported_tag k))) space.Tag last ys
   tag_orders t (tag_kind.Import source) = refl
   tag_orders t tag_kind.Inline = refl
 

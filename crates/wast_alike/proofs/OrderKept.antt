@@ -1,5 +1,5 @@
 -- Binding type uses, giving ids to types and appending implied types leave what the order of imports demands.
-use Rattle.std.proofs.Common.{◌≡◌, ℕ, ◌+◌, Bool, true, false, List, [], ◌∷◌, ◌++◌, map, Option, None, refl, sym, ap, ◌∙◌}
+use Rattle.std.proofs.Common.{◌≡◌, ℕ, ◌+◌, Bool, true, false, List, [], ◌∷◌, ◌++◌, map, Option, Some, None, refl, sym, ap, ◌∙◌}
 use Rattle.std.specs.Option.{option_or}
 use Rattle.wast_map.specs.Mapped.{mapped_func_kind, mapped_table_kind, mapped_global_kind}
 use Rattle.wast_map.proofs.Alone.{defines_alone}
@@ -15,7 +15,8 @@ use Rattle.wast_alike.specs.Tree.table
 use Rattle.wast_alike.specs.Tree.global
 use Rattle.wast_alike.specs.Tree.field
 use Rattle.wast_nodes.specs.Imports.{defined_space}
-use Rattle.wast_demands.specs.ImportOrder.{func_place, table_place, global_place, import_place, unless_import, defines, nothing_defined}
+use Rattle.wast_nodes.specs.Profiles.{is_imported_func, is_imported_table, is_imported_global}
+use Rattle.wast_demands.specs.ImportOrder.{imported_at, import_place, unless_import, defines, nothing_defined}
 use Rattle.wast_demands.specs.Demands.{order_demands}
 use Rattle.wast_demands.proofs.Orders.{orders_from, orders_are}
 
@@ -31,15 +32,15 @@ one_alike last x y xs ys a rest =
     ∙ ap (λ ds. nothing_defined last (import_place y) ++ ds) (rest (option_or (defines y) last)))
 
 -- what is imported in place stays so
-bound_func : (find : LookUp) (span : Span) (u : TypeUse FunctionType) (k : FuncKind) → func_place span (mapped_func_kind (binding find) u k) ≡ func_place span k
+bound_func : (find : LookUp) (span : Span) (u : TypeUse FunctionType) (k : FuncKind) → imported_at span (Some (is_imported_func (mapped_func_kind (binding find) u k))) ≡ imported_at span (Some (is_imported_func k))
 bound_func find span u (func.Import source exact) = refl
 bound_func find span u (func.Inline locals e) = refl
 
-bound_table : (find : LookUp) (span : Span) (k : TableKind) → table_place span (mapped_table_kind (binding find) k) ≡ table_place span k
+bound_table : (find : LookUp) (span : Span) (k : TableKind) → imported_at span (Some (is_imported_table (mapped_table_kind (binding find) k))) ≡ imported_at span (Some (is_imported_table k))
 bound_table find span (table.Import source ty) = refl
 bound_table find span k = refl
 
-bound_global : (find : LookUp) (span : Span) (k : GlobalKind) → global_place span (mapped_global_kind (binding find) k) ≡ global_place span k
+bound_global : (find : LookUp) (span : Span) (k : GlobalKind) → imported_at span (Some (is_imported_global (mapped_global_kind (binding find) k))) ≡ imported_at span (Some (is_imported_global k))
 bound_global find span (global.Import source) = refl
 bound_global find span (global.Inline e) = refl
 

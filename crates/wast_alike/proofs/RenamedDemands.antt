@@ -29,7 +29,8 @@ use Rattle.wast_alike.specs.Tree.index
 use Rattle.wast_alike.specs.Tree.space
 use Rattle.wast_alike.specs.Tree.field
 use Rattle.wast_demands.specs.Scopes.{Shape, Function, Struct, Other, Scope, scope, denoted, type_at, local_number}
-use Rattle.wast_demands.specs.ImportOrder.{func_place, table_place, global_place, import_place, unless_import, last_defined, defined_word, nothing_defined, order_demand}
+use Rattle.wast_nodes.specs.Profiles.{is_imported_func, is_imported_table, is_imported_global}
+use Rattle.wast_demands.specs.ImportOrder.{imported_at, import_place, unless_import, last_defined, defined_word, nothing_defined, order_demand}
 use Rattle.wast_demands.specs.Matches.{same_number, same_type, matches}
 use Rattle.wast_demands.specs.Demands.{Demand, one_demand, first_unmet, known_index, each_after, new_name_in, own_demand, field_demand, field_demands, item_demand, item_demands, ask_demand, ask_demands, match_with, match_demands, match_if, use_demand, named_field, field_at, access_demand, repeated_demand, site_demand, site_demands, name_demands, order_demands, demands}
 use Rattle.wast_alike.specs.Renaming.{Renaming, IsRenaming, renamed_index, renamed_type, renamed_use, renaming, renamed_fields, mark_if, index_marks, ask_marks, told_marks, RenamesFault}
@@ -215,16 +216,16 @@ module _ (r : Renaming) (is : IsRenaming r) where
       (sites_told c d (numbers_are r is xs) (shapes_alike r is xs) sites))
 
   -- The order of imports.
-  func_kept : (span : Span) (u : TypeUse FunctionType) (k : FuncKind) → func_place span (mapped_func_kind (renaming r) u k) ≡ func_place span k
+  func_kept : (span : Span) (u : TypeUse FunctionType) (k : FuncKind) → imported_at span (Some (is_imported_func (mapped_func_kind (renaming r) u k))) ≡ imported_at span (Some (is_imported_func k))
   func_kept span u (func.Import source exact) = refl
   func_kept span u (func.Inline locals e) = refl
 
-  table_kept : (span : Span) (k : TableKind) → table_place span (mapped_table_kind (renaming r) k) ≡ table_place span k
+  table_kept : (span : Span) (k : TableKind) → imported_at span (Some (is_imported_table (mapped_table_kind (renaming r) k))) ≡ imported_at span (Some (is_imported_table k))
   table_kept span (table.Import source ty) = refl
   table_kept span (table.Normal ty init) = refl
   table_kept span (table.Inline ty is64 shared elements) = refl
 
-  global_kept : (span : Span) (k : GlobalKind) → global_place span (mapped_global_kind (renaming r) k) ≡ global_place span k
+  global_kept : (span : Span) (k : GlobalKind) → imported_at span (Some (is_imported_global (mapped_global_kind (renaming r) k))) ≡ imported_at span (Some (is_imported_global k))
   global_kept span (global.Import source) = refl
   global_kept span (global.Inline e) = refl
 

@@ -1,5 +1,5 @@
 -- The demands of a numbered list are met where those of the list were.
-use Rattle.std.proofs.Common.{◌≡◌, ℕ, ◌+◌, Bool, true, false, cond, List, [], ◌∷◌, ◌++◌, map, Option, None, refl, sym, ap, ◌∙◌, append-nil}
+use Rattle.std.proofs.Common.{◌≡◌, ℕ, ◌+◌, Bool, true, false, cond, List, [], ◌∷◌, ◌++◌, map, Option, Some, None, refl, sym, ap, ◌∙◌, append-nil}
 use Rattle.std.specs.Prelude.{if◌then◌else◌}
 use Rattle.std.specs.Option.{option_or}
 use Rattle.std.proofs.lemmas.Grind.{flat_map-append}
@@ -23,7 +23,8 @@ use Rattle.wast_alike.specs.Tree.table
 use Rattle.wast_alike.specs.Tree.global
 use Rattle.wast_alike.specs.Tree.field
 use Rattle.wast_demands.specs.Scopes.{Function, Struct, Other, struct_shape, shape_of, shapes_in, shapes, Scope, scope}
-use Rattle.wast_demands.specs.ImportOrder.{func_place, table_place, global_place, import_place, unless_import, defines, nothing_defined}
+use Rattle.wast_nodes.specs.Profiles.{is_imported_func, is_imported_table, is_imported_global}
+use Rattle.wast_demands.specs.ImportOrder.{imported_at, import_place, unless_import, defines, nothing_defined}
 use Rattle.wast_demands.specs.Demands.{first_unmet, item_demands, site_demand, site_demands, name_demands, order_demands, demands}
 use Rattle.wast_demands.specs.Resolved.{numbered_at, numbering, resolved}
 use Rattle.wast_demands.proofs.Unmet.{met_parts}
@@ -66,16 +67,16 @@ module _ (c : Scope) where
   shapes_still (x ∷ xs) = (λ i. in_still x i ++ shapes_still xs i) ∙ sym (map-append (numbered_shape k) (shapes_in x) (shapes xs))
 
   -- the order of imports
-  func_kept : (span : Span) (u : TypeUse FunctionType) (f : FuncKind) → func_place span (mapped_func_kind (numbering c) u f) ≡ func_place span f
+  func_kept : (span : Span) (u : TypeUse FunctionType) (f : FuncKind) → imported_at span (Some (is_imported_func (mapped_func_kind (numbering c) u f))) ≡ imported_at span (Some (is_imported_func f))
   func_kept span u (func.Import source exact) = refl
   func_kept span u (func.Inline locals e) = refl
 
-  table_kept : (span : Span) (t : TableKind) → table_place span (mapped_table_kind (numbering c) t) ≡ table_place span t
+  table_kept : (span : Span) (t : TableKind) → imported_at span (Some (is_imported_table (mapped_table_kind (numbering c) t))) ≡ imported_at span (Some (is_imported_table t))
   table_kept span (table.Import source ty) = refl
   table_kept span (table.Normal ty init) = refl
   table_kept span (table.Inline ty is64 shared elements) = refl
 
-  global_kept : (span : Span) (g : GlobalKind) → global_place span (mapped_global_kind (numbering c) g) ≡ global_place span g
+  global_kept : (span : Span) (g : GlobalKind) → imported_at span (Some (is_imported_global (mapped_global_kind (numbering c) g))) ≡ imported_at span (Some (is_imported_global g))
   global_kept span (global.Import source) = refl
   global_kept span (global.Inline e) = refl
 

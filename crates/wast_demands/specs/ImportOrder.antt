@@ -1,62 +1,31 @@
 -- The order of imports: each stands before what the module defines (text format: modules). A field whose item is imported in
 -- place is an import too (abbreviations).
-use Rattle.std.specs.Prelude.{ℕ, false, List, [], ◌∷◌, Option, Some, None, codes}
+use Rattle.std.specs.Prelude.{ℕ, Bool, true, false, List, [], ◌∷◌, Option, Some, None, codes}
 use Rattle.std.specs.Option.{option_or}
 use Rattle.wast_base.specs.Faults.{ImportAfter}
 use Rattle.wast_nodes.specs.Imports.{defined_space}
 use Rattle.wast_base.specs.Spaces.{word_of}
-use Rattle.wast_demands.specs.Tree.{Span, Space, FuncKind, TableKind, MemoryKind, GlobalKind, TagKind, ModuleField}
+use Rattle.wast_nodes.specs.Profiles.{Defined, Nothing, Types, Imported, Lone, profile_of}
+use Rattle.wast_demands.specs.Tree.{Span, Space, ModuleField}
 use Rattle.wast_demands.specs.Tree.space
-use Rattle.wast_demands.specs.Tree.func
-use Rattle.wast_demands.specs.Tree.table
-use Rattle.wast_demands.specs.Tree.memory
-use Rattle.wast_demands.specs.Tree.global
-use Rattle.wast_demands.specs.Tree.tag_kind
-use Rattle.wast_demands.specs.Tree.field
 use Rattle.wast_base.specs.FirstUnmet.{Demand, one_demand}
 
--- the place of a function, where it is imported in place
-abbrev pub func_place : Span → FuncKind → Option Span
-func_place span (func.Import source exact) = Some span
-func_place span (func.Inline locals e) = None
+-- the place of a field, where its item is imported in place
+abbrev pub imported_at : Span → Option Bool → Option Span
+imported_at span None = None
+imported_at span (Some false) = None
+imported_at span (Some true) = Some span
 
--- of a table
-abbrev pub table_place : Span → TableKind → Option Span
-table_place span (table.Import source ty) = Some span
-table_place span (table.Normal ty init) = None
-table_place span (table.Inline ty is64 shared elements) = None
+-- the place of a field that is an import, by what it defines
+abbrev pub import_at : Span → Defined → Option Span
+import_at span Nothing = None
+import_at span (Types ts) = None
+import_at span (Imported i) = Some span
+import_at span (Lone a) = imported_at span a.imported
 
--- of a memory
-abbrev pub memory_place : Span → MemoryKind → Option Span
-memory_place span (memory.Import source ty) = Some span
-memory_place span (memory.Normal ty) = None
-memory_place span (memory.Inline is64 pieces exponent) = None
-
--- of a global
-abbrev pub global_place : Span → GlobalKind → Option Span
-global_place span (global.Import source) = Some span
-global_place span (global.Inline e) = None
-
--- of a tag
-abbrev pub tag_place : Span → TagKind → Option Span
-tag_place span (tag_kind.Import source) = Some span
-tag_place span tag_kind.Inline = None
-
--- the place of a field that is an import
+-- the same of the field
 abbrev pub import_place : ModuleField → Option Span
-import_place (field.Ty t) = None
-import_place (field.Rec r) = None
-import_place (field.Import i) = Some i.span
-import_place (field.Func f) = func_place f.span f.kind
-import_place (field.Table t) = table_place t.span t.kind
-import_place (field.Memory m) = memory_place m.span m.kind
-import_place (field.Global g) = global_place g.span g.kind
-import_place (field.Export e) = None
-import_place (field.Start i) = None
-import_place (field.Elem e) = None
-import_place (field.Data d) = None
-import_place (field.Custom c) = None
-import_place (field.Tag t) = tag_place t.span t.kind
+import_place f = import_at (profile_of f).span (profile_of f).items
 
 -- what a field defines: an import defines nothing
 abbrev pub unless_import : Option Span → Option Space → Option Space

@@ -2,60 +2,53 @@
 
 ghost use Rattle.std.specs.Prelude.{◌≡◌, None, IfOk, IfErr, OnOk};
 ghost use Rattle.wast_base.specs.Faults.{told};
-ghost use Rattle.wast_nodes.specs.Imports.{defined_space};
+ghost use Rattle.wast_nodes.specs.Imports.{importable_space, defined_space};
+ghost use Rattle.wast_nodes.specs.Profiles.{items_read};
 ghost use Rattle.wast_base.specs.FirstUnmet.{first_unmet, Answers};
 ghost use Rattle.wast_base.specs.Outcomes.{Outcome};
-ghost use Rattle.wast_demands.specs.ImportOrder.{import_place, defines, defined_word, nothing_defined};
+ghost use Rattle.wast_demands.specs.ImportOrder.{imported_at, import_at, import_place, defines, defined_word, nothing_defined};
 ghost use Rattle.wast_demands.specs.Demands.{order_demands};
 
 use wast_base::{Error, Fault, Seq, Space, Span};
-use wast_nodes::{
-    Func, FuncKind, Global, GlobalKind, Imports, Memory, MemoryKind, ModuleField, Table, TableKind,
-    Tag, TagKind, discard_fields,
-};
+use wast_nodes::{FieldItems, ModuleField, discard_fields, profile_of};
+
+/// The place of a field, where its item is imported in place.
+fn imported_at(span: Span, imported: Option<bool>) -> Option<Span>
+    ensures { result ≡ imported_at span imported }
+{
+    match imported {
+        Some(true) => Some(span),
+        Some(false) | None => None,
+    }
+}
+
+/// The place of a field that is an import, by what it defines.
+fn import_at(span: Span, items: FieldItems<'_, '_>) -> Option<Span>
+    ensures { result ≡ import_at span (items_read items.entry) }
+{
+    match items {
+        FieldItems::Nothing | FieldItems::Type(_) | FieldItems::Types(_) => None,
+        FieldItems::Imported(_) => Some(span),
+        FieldItems::Lone(item) => imported_at(span, item.imported),
+    }
+}
 
 /// The place of a field that is an import, or whose item is imported in place.
 fn import_place(field: &ModuleField<'_>) -> Option<Span>
     ensures { result ≡ import_place field.now }
 {
-    match field {
-        ModuleField::Import(Imports { span, .. })
-        | ModuleField::Func(
-            Func {
-                span,
-                kind: FuncKind::Import(..),
-                ..
-            },
-        )
-        | ModuleField::Table(
-            Table {
-                span,
-                kind: TableKind::Import { .. },
-                ..
-            },
-        )
-        | ModuleField::Memory(
-            Memory {
-                span,
-                kind: MemoryKind::Import { .. },
-                ..
-            },
-        )
-        | ModuleField::Global(
-            Global {
-                span,
-                kind: GlobalKind::Import(_),
-                ..
-            },
-        )
-        | ModuleField::Tag(
-            Tag {
-                span,
-                kind: TagKind::Import(_),
-                ..
-            },
-        ) => Some(*span),
-        _ => None,
+    let profile = profile_of(field);
+    import_at(profile.span, profile.items)
+}
+
+/// The space of what a field defines, if that can be imported.
+fn importable_space(items: FieldItems<'_, '_>) -> Option<Space>
+    ensures { result ≡ importable_space (items_read items.entry) }
+{
+    match items {
+        FieldItems::Nothing | FieldItems::Type(_) | FieldItems::Types(_) => None,
+        FieldItems::Imported(_) => None,
+        FieldItems::Lone(item) => item.imported.map(|_| item.space),
     }
 }
 
@@ -63,21 +56,7 @@ fn import_place(field: &ModuleField<'_>) -> Option<Span>
 fn defined_space(field: &ModuleField<'_>) -> Option<Space>
     ensures { result ≡ defined_space field.now }
 {
-    match field {
-        ModuleField::Ty(_) => None,
-        ModuleField::Rec(_) => None,
-        ModuleField::Import(_) => None,
-        ModuleField::Func(_) => Some(Space::Func),
-        ModuleField::Table(_) => Some(Space::Table),
-        ModuleField::Memory(_) => Some(Space::Memory),
-        ModuleField::Global(_) => Some(Space::Global),
-        ModuleField::Export(_) => None,
-        ModuleField::Start(_) => None,
-        ModuleField::Elem(_) => None,
-        ModuleField::Data(_) => None,
-        ModuleField::Tag(_) => Some(Space::Tag),
-        ModuleField::Custom(_) => None,
-    }
+    importable_space(profile_of(field).items)
 }
 
 /// The same, unless its item is imported in place: an import defines nothing.
