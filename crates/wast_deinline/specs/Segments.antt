@@ -78,16 +78,5 @@ overflows_kind (memory.Inline is64 pieces exponent) = are_too_many pieces
 
 -- of a field
 abbrev pub overflows : ModuleField → Bool
-overflows (field.Ty t) = false
-overflows (field.Rec r) = false
-overflows (field.Import i) = false
-overflows (field.Func f) = false
-overflows (field.Table t) = false
 overflows (field.Memory m) = overflows_kind m.kind
-overflows (field.Global g) = false
-overflows (field.Export e) = false
-overflows (field.Start i) = false
-overflows (field.Elem e) = false
-overflows (field.Data d) = false
-overflows (field.Custom c) = false
-overflows (field.Tag t) = false
+overflows x = false

@@ -163,14 +163,7 @@ fn count_for(field: &ModuleField<'_>) -> usize
         }
         ModuleField::Global(global) => global.exports.names.len().saturating_add(1),
         ModuleField::Tag(tag) => tag.exports.names.len().saturating_add(1),
-        ModuleField::Ty(_)
-        | ModuleField::Rec(_)
-        | ModuleField::Import(_)
-        | ModuleField::Export(_)
-        | ModuleField::Start(_)
-        | ModuleField::Elem(_)
-        | ModuleField::Data(_)
-        | ModuleField::Custom(_) => 1,
+        _ => 1,
     }
 }
 
