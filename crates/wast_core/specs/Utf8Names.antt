@@ -14,16 +14,7 @@ HasUtf8Items (import_items.Group2 source sig names) = Unit {0}
 
 -- the names that a field puts into the sections are UTF-8
 abbrev pub HasUtf8Names : ModuleField → Type 0
-HasUtf8Names (field.Ty t) = Unit {0}
-HasUtf8Names (field.Rec r) = Unit {0}
 HasUtf8Names (field.Import i) = HasUtf8Items i.items
-HasUtf8Names (field.Func f) = Unit {0}
-HasUtf8Names (field.Table t) = Unit {0}
-HasUtf8Names (field.Memory m) = Unit {0}
-HasUtf8Names (field.Global g) = Unit {0}
 HasUtf8Names (field.Export e) = IsTrue (is_utf8 e.name.now)
-HasUtf8Names (field.Start i) = Unit {0}
-HasUtf8Names (field.Elem e) = Unit {0}
-HasUtf8Names (field.Data d) = Unit {0}
-HasUtf8Names (field.Tag t) = Unit {0}
 HasUtf8Names (field.Custom c) = IsTrue (is_utf8 (custom_name c))
+HasUtf8Names x = Unit {0}

@@ -31,11 +31,8 @@ fn field_law(field: &ModuleField)
     match field {
         ModuleField::Import(imports) => import_law(&imports.items),
         ModuleField::Export(export) => text_law(export.name),
-        ModuleField::Ty(_) | ModuleField::Rec(_) | ModuleField::Func(_) => {}
-        ModuleField::Table(_) | ModuleField::Memory(_) | ModuleField::Global(_) => {}
-        ModuleField::Start(_) | ModuleField::Elem(_) | ModuleField::Data(_) => {}
-        ModuleField::Tag(_) => {}
         ModuleField::Custom(custom) => text_law(custom.name()),
+        _ => {}
     }
 }
 
