@@ -185,7 +185,8 @@ def table():
     rows = []
     for line in re.search(r'^TABLE = """\n(.*?)\n"""', OPS, re.S | re.M)[1].split("\n"):
         kind, key, names = line.split(" ", 2)
-        rows += [row(kind, int(key, 16) + n, name) for n, name in enumerate(listed(names))]
+        if kind in ("Plain", "Mem", "Lane", "MemLane"):
+            rows += [row(kind, int(key, 16) + n, name) for n, name in enumerate(listed(names))]
     rows.sort(key=lambda row: row[0].split(".")[0])
     for _, group in itertools.groupby(rows, key=lambda row: row[0].split(".")[0]):
         group = list(group)

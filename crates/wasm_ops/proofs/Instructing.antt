@@ -54,8 +54,8 @@ use Rattle.wasm_ops.specs.declared.casts.CastOp.{CastOp}
 use Rattle.wasm_ops.specs.declared.casts.CastOp.TheVariants as cast
 use Rattle.wasm_ops.specs.declared.control.BlockOp.{BlockOp}
 use Rattle.wasm_ops.specs.declared.control.Delimiter.{Delimiter}
-use Rattle.wasm_ops.specs.declared.instrs.IndexOp.{IndexOp}
-use Rattle.wasm_ops.specs.declared.instrs.IndexPairOp.{IndexPairOp}
+use Rattle.wast_base.specs.declared.index_ops.IndexOp.{IndexOp}
+use Rattle.wast_base.specs.declared.index_ops.IndexPairOp.{IndexPairOp}
 use Rattle.wasm_ops.specs.declared.opcodes.Opcode.{Opcode}
 use Rattle.wasm_ops.specs.declared.opcodes.Opcode.TheVariants.{Byte, Prefixed}
 use Rattle.wasm_ops.specs.declared.ref_types.RefType.{RefType}
@@ -67,8 +67,7 @@ use Rattle.wasm_ops.specs.Control.{InRangeBlockType, catch_clause, InRangeCatch}
 use Rattle.wasm_ops.specs.ControlInstrs.{block_key, delimiter_key, br_table_instr, br_table_bytes, try_table_instr, try_table_bytes}
 use Rattle.wasm_ops.specs.Covered.{is_covered_val_type}
 use Rattle.wasm_ops.specs.Leb128.{unsigned}
-use Rattle.wasm_ops.specs.IndexInstrs.{index_key, index_pair_key}
-use Rattle.wasm_ops.specs.Keys.{bare_key, mem_key, i32_key, i64_key, f32_key, f64_key, ref_key, array_key, any_key, extern_key, i31_key, i8x16_key, i16x8_key, i32x4_key, i64x2_key, f32x4_key, f64x2_key, lane_key, v128_key, mem_lane_key, plain_key}
+use Rattle.wasm_ops.specs.Keys.{bare_key, index_key, index_pair_key, mem_key, i32_key, i64_key, f32_key, f64_key, ref_key, array_key, any_key, extern_key, i31_key, i8x16_key, i16x8_key, i32x4_key, i64x2_key, f32x4_key, f64x2_key, lane_key, v128_key, mem_lane_key, plain_key}
 use Rattle.wasm_ops.specs.Opcodes.{opcode_of, opcode_bytes, InRangeOpcode}
 use Rattle.wasm_ops.specs.SelectInstrs.{select_instr, select_bytes}
 use Rattle.wasm_ops.specs.Sinks.{SinkRules, Writes}

@@ -2,6 +2,10 @@
 use Rattle.std.specs.Prelude.{ℕ}
 use Rattle.wast_base.specs.declared.plain.BareOp.{BareOp}
 use Rattle.wast_base.specs.declared.plain.BareOp.TheVariants as bare
+use Rattle.wast_base.specs.declared.index_ops.IndexOp.{IndexOp}
+use Rattle.wast_base.specs.declared.index_ops.IndexOp.TheVariants as index
+use Rattle.wast_base.specs.declared.index_ops.IndexPairOp.{IndexPairOp}
+use Rattle.wast_base.specs.declared.index_ops.IndexPairOp.TheVariants as index_pair
 use Rattle.wast_base.specs.declared.mem_ops.MemOp.{MemOp}
 use Rattle.wast_base.specs.declared.mem_ops.MemOp.TheVariants as mem
 use Rattle.wast_base.specs.declared.plain.I32Op.{I32Op}
@@ -51,6 +55,65 @@ bare_key bare.throw_ref = 0x0a
 bare_key bare.return_ = 0x0f
 bare_key bare.catch_all = 0x19
 bare_key bare.drop = 0x1a
+
+-- the key of an instruction with an index
+abbrev pub index_key : IndexOp → ℕ
+index_key index.Catch = 0x07
+index_key index.Throw = 0x08
+index_key index.Rethrow = 0x09
+index_key index.Br = 0x0c
+index_key index.BrIf = 0x0d
+index_key index.Call = 0x10
+index_key index.ReturnCall = 0x12
+index_key index.CallRef = 0x14
+index_key index.ReturnCallRef = 0x15
+index_key index.Delegate = 0x18
+index_key index.LocalGet = 0x20
+index_key index.LocalSet = 0x21
+index_key index.LocalTee = 0x22
+index_key index.GlobalGet = 0x23
+index_key index.GlobalSet = 0x24
+index_key index.TableGet = 0x25
+index_key index.TableSet = 0x26
+index_key index.MemorySize = 0x3f
+index_key index.MemoryGrow = 0x40
+index_key index.RefFunc = 0xd2
+index_key index.BrOnNull = 0xd5
+index_key index.BrOnNonNull = 0xd6
+index_key index.StructNew = 0xfb0000
+index_key index.StructNewDefault = 0xfb0001
+index_key index.ArrayNew = 0xfb0006
+index_key index.ArrayNewDefault = 0xfb0007
+index_key index.ArrayGet = 0xfb000b
+index_key index.ArrayGetS = 0xfb000c
+index_key index.ArrayGetU = 0xfb000d
+index_key index.ArraySet = 0xfb000e
+index_key index.ArrayFill = 0xfb0010
+index_key index.DataDrop = 0xfc0009
+index_key index.MemoryFill = 0xfc000b
+index_key index.ElemDrop = 0xfc000d
+index_key index.TableGrow = 0xfc000f
+index_key index.TableSize = 0xfc0010
+index_key index.TableFill = 0xfc0011
+
+-- the key of an instruction with two
+abbrev pub index_pair_key : IndexPairOp → ℕ
+index_pair_key index_pair.CallIndirect = 0x11
+index_pair_key index_pair.ReturnCallIndirect = 0x13
+index_pair_key index_pair.StructGet = 0xfb0002
+index_pair_key index_pair.StructGetS = 0xfb0003
+index_pair_key index_pair.StructGetU = 0xfb0004
+index_pair_key index_pair.StructSet = 0xfb0005
+index_pair_key index_pair.ArrayNewFixed = 0xfb0008
+index_pair_key index_pair.ArrayNewData = 0xfb0009
+index_pair_key index_pair.ArrayNewElem = 0xfb000a
+index_pair_key index_pair.ArrayCopy = 0xfb0011
+index_pair_key index_pair.ArrayInitData = 0xfb0012
+index_pair_key index_pair.ArrayInitElem = 0xfb0013
+index_pair_key index_pair.MemoryInit = 0xfc0008
+index_pair_key index_pair.MemoryCopy = 0xfc000a
+index_pair_key index_pair.TableInit = 0xfc000c
+index_pair_key index_pair.TableCopy = 0xfc000e
 
 -- the key of an instruction with a memory argument
 abbrev pub mem_key : MemOp → ℕ

@@ -159,6 +159,7 @@ rows_of (run ∷ runs) = consecutive run.0 run.1 run.2 ++ rows_of runs
 -- the rows, in the order of their keys
 unfoldable pub table : List Row
 table = rows_of (
+    -- Written by tools/ops from here.
     (0x00, 2, [])  -- unreachable, nop
     ∷ (0x02, 3, Block ∷ [])  -- block, loop, if
     ∷ (0x05, 1, [])  -- else
@@ -175,17 +176,16 @@ table = rows_of (
     ∷ (0x14, 2, Index ∷ [])  -- call_ref, return_call_ref
     ∷ (0x18, 1, Index ∷ [])  -- delegate
     ∷ (0x19, 3, [])  -- catch_all, drop, select
-    ∷ (0x1c, 1, Types ∷ [])  -- select with types
+    ∷ (0x1c, 1, Types ∷ [])  -- select
     ∷ (0x1f, 1, Block ∷ Catches ∷ [])  -- try_table
-    ∷ (0x20, 3, Index ∷ [])  -- local.get, local.set, local.tee
-    ∷ (0x23, 4, Index ∷ [])  -- global.get, global.set, table.get, table.set
-    ∷ (0x28, 23, Memarg ∷ [])  -- loads and stores
+    ∷ (0x20, 7, Index ∷ [])  -- from local.get to table.set
+    ∷ (0x28, 23, Memarg ∷ [])  -- from i32.load to i64.store32
     ∷ (0x3f, 2, Index ∷ [])  -- memory.size, memory.grow
     ∷ (0x41, 1, Signed32 ∷ [])  -- i32.const
     ∷ (0x42, 1, Signed64 ∷ [])  -- i64.const
     ∷ (0x43, 1, Bits32 ∷ [])  -- f32.const
     ∷ (0x44, 1, Bits64 ∷ [])  -- f64.const
-    ∷ (0x45, 128, [])  -- of numbers, from i32.eqz to i64.extend32_s
+    ∷ (0x45, 128, [])  -- from i32.eqz to i64.extend32_s
     ∷ (0xd0, 1, Heap ∷ [])  -- ref.null
     ∷ (0xd1, 1, [])  -- ref.is_null
     ∷ (0xd2, 1, Index ∷ [])  -- ref.func
@@ -199,10 +199,10 @@ table = rows_of (
     ∷ (0xfb000f, 1, [])  -- array.len
     ∷ (0xfb0010, 1, Index ∷ [])  -- array.fill
     ∷ (0xfb0011, 3, Index ∷ Index ∷ [])  -- array.copy, array.init_data, array.init_elem
-    ∷ (0xfb0014, 4, Heap ∷ [])  -- ref.test and ref.cast, of references that are not null and of others
+    ∷ (0xfb0014, 4, Heap ∷ [])  -- ref.test, ref.cast
     ∷ (0xfb0018, 2, Nullables ∷ Index ∷ Heap ∷ Heap ∷ [])  -- br_on_cast, br_on_cast_fail
     ∷ (0xfb001a, 5, [])  -- any.convert_extern, extern.convert_any, ref.i31, i31.get_s, i31.get_u
-    ∷ (0xfc0000, 8, [])  -- i32.trunc_sat_f32_s to i64.trunc_sat_f64_u
+    ∷ (0xfc0000, 8, [])  -- from i32.trunc_sat_f32_s to i64.trunc_sat_f64_u
     ∷ (0xfc0008, 1, Index ∷ Index ∷ [])  -- memory.init
     ∷ (0xfc0009, 1, Index ∷ [])  -- data.drop
     ∷ (0xfc000a, 1, Index ∷ Index ∷ [])  -- memory.copy
@@ -231,9 +231,10 @@ table = rows_of (
     ∷ (0xfd00d5, 13, [])  -- from i64x2.mul to f32x4.neg
     ∷ (0xfd00e3, 11, [])  -- from f32x4.sqrt to f64x2.neg
     ∷ (0xfd00ef, 37, [])  -- from f64x2.sqrt to i32x4.relaxed_dot_i8x16_i7x16_add_s
-    ∷ (0xfe0000, 3, Memarg ∷ [])  -- from memory.atomic.notify to memory.atomic.wait64
+    ∷ (0xfe0000, 3, Memarg ∷ [])  -- memory.atomic.notify, memory.atomic.wait32, memory.atomic.wait64
     ∷ (0xfe0003, 1, Order ∷ [])  -- atomic.fence
     ∷ (0xfe0010, 63, Memarg ∷ [])  -- from i32.atomic.load to i64.atomic.rmw32.cmpxchg_u
+    -- To here.
     ∷ []
     )
 

@@ -22,15 +22,14 @@ use crate::casts::{BrCastInstr, BrCastOp, CastInstr, CastOp, Fence};
 use crate::control::{BlockInstr, BlockOp, BrTable, Delimiter, TryTable};
 use crate::encode::{Counted, Encode, Itself};
 use crate::instrs::{
-    F32Const, F64Const, I32Const, I64Const, IndexInstr, IndexOp, IndexPair, IndexPairOp, MemInstr,
-    RefNull, Select,
+    F32Const, F64Const, I32Const, I64Const, IndexInstr, IndexPair, MemInstr, RefNull, Select,
 };
 use crate::memargs::{MemArg, Ordering};
 use crate::ref_types::{HeapType, RefType};
 use crate::sink::{Refusal, Sink};
 use crate::types::ValType;
 use crate::vectors::{LaneInstr, LanesInstr, LanesOp, MemLaneInstr};
-use wast_base::{Error, LaneOp, MemLaneOp, MemOp, Plain};
+use wast_base::{Error, IndexOp, IndexPairOp, LaneOp, MemLaneOp, MemOp, Plain};
 
 /// The choice between two operands, with value types or without (binary format, parametric instructions).
 #[derive(Clone, Copy)]

@@ -2,10 +2,11 @@
 
 ghost use Rattle.std.specs.List.{All, list_all};
 ghost use Rattle.std.specs.Option.{option_map, option_to_list};
-ghost use Rattle.std.specs.Prelude.{◌≡◌, ◌&&◌, true};
+ghost use Rattle.std.specs.Prelude.{◌≡◌, ◌&&◌, ℕ, true};
 ghost use Rattle.wasm_ops.specs.ConstantInstrs.{i32_const_instr, i64_const_instr, f32_const_instr, f64_const_instr, ref_null_instr};
 ghost use Rattle.wasm_ops.specs.Covered.{is_covered_heap_type};
-ghost use Rattle.wasm_ops.specs.IndexInstrs.{index_key, index_instr, index_pair_key, index_pair_instr};
+ghost use Rattle.wasm_ops.specs.IndexInstrs.{index_instr, index_pair_instr};
+ghost use Rattle.wasm_ops.specs.Keys.{index_key, index_pair_key};
 ghost use Rattle.wasm_ops.specs.Memargs.{is_aligned, is_covered_memarg};
 ghost use Rattle.wasm_ops.specs.MemoryInstrs.{mem_instr};
 ghost use Rattle.wasm_ops.specs.Opcodes.{opcode_of};
@@ -19,94 +20,32 @@ use crate::opcodes::{Opcode, mem_opcode, plain_opcode};
 use crate::pieces::{push_number_after, push_numbers_after, push_signed_after};
 use crate::ref_types::HeapType;
 use crate::sink::{Refusal, Sink};
-use wast_base::{MemOp, Plain};
+use wast_base::{IndexOp, IndexPairOp, MemOp, Plain};
 
-/// An instruction whose one immediate is an index (binary format, instructions). The number of a variant is its key.
-#[derive(Clone, Copy, Debug, PartialEq, Eq)]
-pub enum IndexOp {
-    /// `catch`, of a tag
-    Catch = 0x07,
-    /// `throw`, of a tag
-    Throw,
-    /// `rethrow`, of a label
-    Rethrow,
-    /// `br`, to a label
-    Br = 0x0c,
-    /// `br_if`, to a label
-    BrIf,
-    /// `call`, of a function
-    Call = 0x10,
-    /// `return_call`, of a function
-    ReturnCall = 0x12,
-    /// `call_ref`, of a type
-    CallRef = 0x14,
-    /// `return_call_ref`, of a type
-    ReturnCallRef = 0x15,
-    /// `delegate`, to a label
-    Delegate = 0x18,
-    /// `local.get`
-    LocalGet = 0x20,
-    /// `local.set`
-    LocalSet = 0x21,
-    /// `local.tee`
-    LocalTee = 0x22,
-    /// `global.get`
-    GlobalGet = 0x23,
-    /// `global.set`
-    GlobalSet = 0x24,
-    /// `table.get`
-    TableGet = 0x25,
-    /// `table.set`
-    TableSet = 0x26,
-    /// `memory.size`
-    MemorySize = 0x3f,
-    /// `memory.grow`
-    MemoryGrow = 0x40,
-    /// `ref.func`
-    RefFunc = 0xd2,
-    /// `br_on_null`, to a label
-    BrOnNull = 0xd5,
-    /// `br_on_non_null`, to a label
-    BrOnNonNull = 0xd6,
-    /// `struct.new`, of a type
-    StructNew = 0xfb0000,
-    /// `struct.new_default`, of a type
-    StructNewDefault,
-    /// `array.new`, of a type
-    ArrayNew = 0xfb0006,
-    /// `array.new_default`, of a type
-    ArrayNewDefault,
-    /// `array.get`, of a type
-    ArrayGet = 0xfb000b,
-    /// `array.get_s`, of a type
-    ArrayGetS,
-    /// `array.get_u`, of a type
-    ArrayGetU,
-    /// `array.set`, of a type
-    ArraySet,
-    /// `array.fill`, of a type
-    ArrayFill = 0xfb0010,
-    /// `data.drop`
-    DataDrop = 0xfc0009,
-    /// `memory.fill`
-    MemoryFill = 0xfc000b,
-    /// `elem.drop`
-    ElemDrop = 0xfc000d,
-    /// `table.grow`
-    TableGrow = 0xfc000f,
-    /// `table.size`
-    TableSize = 0xfc0010,
-    /// `table.fill`
-    TableFill = 0xfc0011,
+/// An instruction by the opcode that comes before its immediates (binary format, instructions).
+pub trait HasOpcode {
+    /// The key of the opcode.
+    ghost key: { Self → ℕ };
+
+    /// The opcode. It takes no memory.
+    fn opcode(&self) -> Opcode
+        ensures { result ≡ opcode_of (key self.now) };
 }
 
-impl IndexOp {
-    /// The opcode that stands before the index (binary format, instructions).
+impl HasOpcode for IndexOp {
+    ghost key = { index_key };
+
     #[inline(always)]
-    pub fn opcode(self) -> Opcode
-        ensures { result ≡ opcode_of (index_key self) }
-    {
-        Opcode::of(self as u32)
+    fn opcode(&self) -> Opcode {
+        Opcode::of(*self as u32)
+    }
+}
+
+impl HasOpcode for IndexPairOp {
+    ghost key = { index_pair_key };
+
+    fn opcode(&self) -> Opcode {
+        Opcode::of(*self as u32)
     }
 }
 
@@ -132,52 +71,6 @@ impl Encode for IndexInstr {
             Opcode::Byte(byte) => push_number_after(byte, self.index, out),
             prefixed => (prefixed, self.index).encode(out),
         }
-    }
-}
-
-/// An instruction whose immediates are two indices, or an index and a length (binary format, instructions). The number of a variant is its key.
-#[derive(Clone, Copy, Debug, PartialEq, Eq)]
-pub enum IndexPairOp {
-    /// `call_indirect`, of a type and a table
-    CallIndirect = 0x11,
-    /// `return_call_indirect`, of a type and a table
-    ReturnCallIndirect = 0x13,
-    /// `struct.get`, of a type and a field
-    StructGet = 0xfb0002,
-    /// `struct.get_s`, of a type and a field
-    StructGetS,
-    /// `struct.get_u`, of a type and a field
-    StructGetU,
-    /// `struct.set`, of a type and a field
-    StructSet,
-    /// `array.new_fixed`, of a type and a length
-    ArrayNewFixed = 0xfb0008,
-    /// `array.new_data`, of a type and a data segment
-    ArrayNewData,
-    /// `array.new_elem`, of a type and an element segment
-    ArrayNewElem,
-    /// `array.copy`, of the type of the array that is written and that of the one that is read
-    ArrayCopy = 0xfb0011,
-    /// `array.init_data`, of a type and a data segment
-    ArrayInitData,
-    /// `array.init_elem`, of a type and an element segment
-    ArrayInitElem,
-    /// `memory.init`, of a data segment and a memory
-    MemoryInit = 0xfc0008,
-    /// `memory.copy`, of the memory that is written and the one that is read
-    MemoryCopy = 0xfc000a,
-    /// `table.init`, of an element segment and a table
-    TableInit = 0xfc000c,
-    /// `table.copy`, of the table that is written and the one that is read
-    TableCopy = 0xfc000e,
-}
-
-impl IndexPairOp {
-    /// The opcode that stands before the two (binary format, instructions).
-    pub fn opcode(self) -> Opcode
-        ensures { result ≡ opcode_of (index_pair_key self) }
-    {
-        Opcode::of(self as u32)
     }
 }
 

@@ -30,8 +30,8 @@ pub use encode::{
 pub use entities::{EntityType, GlobalType, MemoryType, TableType, TagType};
 pub use instr_sink::InstructionSink;
 pub use instrs::{
-    F32Const, F64Const, I32Const, I64Const, IndexInstr, IndexOp, IndexPair, IndexPairOp, MemInstr,
-    RefNull, Select,
+    F32Const, F64Const, HasOpcode, I32Const, I64Const, IndexInstr, IndexPair, MemInstr, RefNull,
+    Select,
 };
 pub use laws::{instruction_law, signed_law, type_spelling_law, unsigned_law};
 pub use leb128::{width, write_s32, write_s33, write_s64, write_u32, write_u64};
@@ -45,3 +45,4 @@ pub use types::{
     StorageType, StructType, SubType, ValType,
 };
 pub use vectors::{LaneInstr, LanesInstr, LanesOp, MemLaneInstr};
+pub use wast_base::{IndexOp, IndexPairOp};

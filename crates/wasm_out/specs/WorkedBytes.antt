@@ -9,7 +9,7 @@ use Rattle.wasm_ops.specs.declared.ref_types.RefType.{RefType}
 use Rattle.wasm_ops.specs.declared.types.ValType.TheVariants as val
 use Rattle.wasm_ops.specs.declared.types.ExportKind.TheVariants as kind
 use Rattle.wasm_ops.specs.declared.types.CompositeInnerType.TheVariants as inner
-use Rattle.wasm_ops.specs.declared.instrs.IndexOp.TheVariants as op
+use Rattle.wast_base.specs.declared.index_ops.IndexOp.TheVariants as op
 use Rattle.wasm_ops.specs.ConstantInstrs.{i32_const_instr, ref_null_instr}
 use Rattle.wasm_ops.specs.IndexInstrs.{index_instr}
 use Rattle.wasm_ops.specs.Table.{Instr}

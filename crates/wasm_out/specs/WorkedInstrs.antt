@@ -9,8 +9,8 @@ use Rattle.wasm_ops.specs.declared.blocks.BlockType.TheVariants.{Empty, Result, 
 use Rattle.wasm_ops.specs.declared.blocks.Catch.TheVariants as catches
 use Rattle.wasm_ops.specs.declared.control.BlockOp.TheVariants as block
 use Rattle.wasm_ops.specs.declared.control.Delimiter.TheVariants as delimiter
-use Rattle.wasm_ops.specs.declared.instrs.IndexOp.TheVariants as op
-use Rattle.wasm_ops.specs.declared.instrs.IndexPairOp.TheVariants as pair
+use Rattle.wast_base.specs.declared.index_ops.IndexOp.TheVariants as op
+use Rattle.wast_base.specs.declared.index_ops.IndexPairOp.TheVariants as pair
 use Rattle.wasm_ops.specs.declared.memargs.MemArg.{MemArg}
 use Rattle.wasm_ops.specs.declared.memargs.MemArgTarget.TheVariants.{Memory}
 use Rattle.wasm_ops.specs.declared.types.ValType.TheVariants as val

@@ -4,7 +4,7 @@
 ghost use Rattle.std.specs.Prelude.{◌≡◌, IfOk, OnOk, IsTrue};
 ghost use Rattle.std.specs.List.{list_all};
 ghost use Rattle.wasm_ops.specs.Covered.{is_covered_heap_type, is_covered_ref_type, is_covered_sub_type, is_covered_val_type};
-ghost use Rattle.wasm_ops.specs.declared.instrs.IndexOp.TheVariants as ops;
+ghost use Rattle.wast_base.specs.declared.index_ops.IndexOp.TheVariants as ops;
 ghost use Rattle.wasm_ops.specs.ConstantInstrs.{i32_const_instr, ref_null_instr};
 ghost use Rattle.wasm_ops.specs.IndexInstrs.{index_instr};
 ghost use Rattle.wasm_ops.specs.Table.{instr, IsInstr};

@@ -64,8 +64,8 @@ use Rattle.wasm_ops.specs.declared.opcodes.Opcode.TheVariants.{Byte}
 use Rattle.wasm_ops.specs.declared.vectors.LanesOp.TheVariants as lanes
 use Rattle.wasm_ops.specs.declared.control.BlockOp.TheVariants as opener
 use Rattle.wasm_ops.specs.declared.control.Delimiter.TheVariants as delimiter
-use Rattle.wasm_ops.specs.declared.instrs.IndexOp.TheVariants as op
-use Rattle.wasm_ops.specs.declared.instrs.IndexPairOp.TheVariants as pair
+use Rattle.wast_base.specs.declared.index_ops.IndexOp.TheVariants as op
+use Rattle.wast_base.specs.declared.index_ops.IndexPairOp.TheVariants as pair
 use Rattle.wasm_ops.specs.CastInstrs.{cast_instr, br_cast_instr, fence_instr}
 use Rattle.wasm_ops.specs.ConstantInstrs.{i32_const_instr, i64_const_instr, f32_const_instr, f64_const_instr, ref_null_instr}
 use Rattle.wasm_ops.specs.ControlInstrs.{block_instr, delimiter_instr, br_table_instr, try_table_instr}

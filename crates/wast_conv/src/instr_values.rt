@@ -14,7 +14,7 @@ ghost use Rattle.wasm_ops.specs.Sinks.{Writes};
 ghost use Rattle.wasm_ops.specs.Table.{instr, InRangeInstr};
 ghost use Rattle.wasm_ops.specs.VectorInstrs.{lanes_instr, lane_instr, mem_lane_instr};
 ghost use Rattle.wasm_ops.specs.declared.casts.BrCastOp.TheVariants as branch;
-ghost use Rattle.wasm_ops.specs.declared.instrs.IndexPairOp.TheVariants as pair;
+ghost use Rattle.wast_base.specs.declared.index_ops.IndexPairOp.TheVariants as pair;
 ghost use Rattle.wasm_ops.specs.declared.vectors.LanesOp.TheVariants as lanes;
 ghost use Rattle.wast_conv.specs.Encodable.{are_encodable, encodable, is_encodable_catch, is_encodable_instr};
 ghost use Rattle.wast_conv.specs.Meaning as meaning;

@@ -6,7 +6,7 @@ use Rattle.wasm_ops.specs.declared.types.CompositeInnerType.TheVariants as inner
 use Rattle.wasm_ops.specs.declared.types.ExportKind.TheVariants as kind
 use Rattle.wasm_ops.specs.declared.types.SubType.{SubType}
 use Rattle.wasm_ops.specs.declared.types.ValType.TheVariants as val
-use Rattle.wasm_ops.specs.declared.instrs.IndexOp.TheVariants as op
+use Rattle.wast_base.specs.declared.index_ops.IndexOp.TheVariants as op
 use Rattle.wasm_ops.specs.IndexInstrs.{index_instr}
 use Rattle.wasm_ops.specs.PlainInstrs.{plain_instr}
 use Rattle.wasm_ops.specs.Table.{Instr}

@@ -2,7 +2,7 @@ use Rattle.std.proofs.Common.{[], ◌∷◌}
 use Rattle.std.proofs.lemmas.List.Elements.{All-nil, All-cons}
 use Rattle.wast_base.specs.declared.plain.Plain.TheVariants as plain
 use Rattle.wast_base.specs.declared.plain.I32Op.TheVariants as i32
-use Rattle.wasm_ops.specs.declared.instrs.IndexOp.TheVariants as op
+use Rattle.wast_base.specs.declared.index_ops.IndexOp.TheVariants as op
 use Rattle.wasm_ops.specs.IndexInstrs.{index_instr}
 use Rattle.wasm_ops.specs.PlainInstrs.{plain_instr}
 use Rattle.wasm_ops.specs.Table.{IsInstr}

@@ -1,5 +1,5 @@
 use Rattle.std.proofs.Common.{◌∷◌, [], ◌++◌, sym, ap, ◌∙◌, subst, append-nil}
-use Rattle.wasm_ops.specs.declared.instrs.IndexOp.TheVariants.{Call}
+use Rattle.wast_base.specs.declared.index_ops.IndexOp.TheVariants.{Call}
 use Rattle.wasm_ops.specs.Covered.{is_covered_val_type}
 use Rattle.wasm_ops.specs.IndexInstrs.{index_instr}
 use Rattle.wasm_ops.specs.Spelling.{InRangeValType}

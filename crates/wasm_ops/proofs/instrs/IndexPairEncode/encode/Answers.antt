@@ -1,5 +1,5 @@
 use Rattle.std.proofs.Common.{◌++◌}
-use Rattle.wasm_ops.specs.IndexInstrs.{index_pair_key}
+use Rattle.wasm_ops.specs.Keys.{index_pair_key}
 use Rattle.wasm_ops.specs.Leb128.{unsigned}
 use Rattle.wasm_ops.specs.Spelling.{InRangeU32}
 use Rattle.wasm_ops.specs.Table.{Index}
