@@ -9,7 +9,7 @@ use std::alloc::Global;
 use wast_core::{Module, ModuleKind, discard_module};
 use wast_tree::{Form, Span, Uncovered, first_uncovered};
 use wat_text::{Strings, TextModule, read};
-use wat_tokens::{Key, MemoryOp, Placed, Token, Word, tokens_of};
+use wat_tokens::{Key, Placed, Token, UncoveredOp, Word, tokens_of};
 
 /// The first form of a module that no encoder covers. It takes `&mut` and changes nothing, because
 /// the prover would compare the type of the whole tree with itself for a `&`.
@@ -81,7 +81,7 @@ fn word_of<'a>(form: Form, token: &Token<'a>) -> Option<&'a str> {
         return None;
     };
     let belongs = match meaning {
-        Word::Beyond | Word::Memory(MemoryOp::memory_discard) => form == Form::Beyond,
+        Word::Beyond | Word::UncoveredOrZero(UncoveredOp::memory_discard) => form == Form::Beyond,
         _ => is_word_of(form, word),
     };
     match belongs {

@@ -4,15 +4,16 @@
 //! same list, because an `end` must close the block that was opened last, and a `)` must not close a block that has no `end`:
 //! `(func (block loop))` has no `end` for its `loop`.
 
-use crate::operators::{with_field, with_index, with_memory, with_table};
+use crate::operators::{with_index, with_pair, with_uncovered};
 use crate::reader::Reader;
 use std::alloc::Global;
 use std::mem;
+use wast_base::IndexOp;
 use wast_tree::{
     BareOp, BlockKind, BlockType, BranchHint, Expression, Instruction, Plain, Seq, Span,
     TryTableCatch, TryTableCatchKind, discard_expression,
 };
-use wat_tokens::{Annotation, BlockOp, IndexOp, Key, OwnOp, TextFault, Token, Word};
+use wat_tokens::{Annotation, BlockOp, Key, OwnOp, TextFault, Token, Word};
 
 /// What is open, and so what may come next and what closes it (text format, control instructions, folded instructions).
 #[derive(Clone, Copy)]
@@ -95,8 +96,8 @@ fn part_of_block(word: Word) -> Option<&'static str> {
     match word {
         Word::Own(OwnOp::end_) => Some("`end`"),
         Word::Own(OwnOp::else_) => Some("`else`"),
-        Word::Index(IndexOp::catch) => Some("`catch`"),
-        Word::Index(IndexOp::delegate) => Some("`delegate`"),
+        Word::Index(IndexOp::Catch) => Some("`catch`"),
+        Word::Index(IndexOp::Delegate) => Some("`delegate`"),
         Word::Plain(Plain::Bare(BareOp::catch_all)) => Some("`catch_all`"),
         _ => None,
     }
@@ -111,13 +112,13 @@ fn after_part(level: Level, word: Word) -> Option<Option<Level>> {
             Level::Plain | Level::PlainIf | Level::PlainTry | Level::PlainCatch,
         ) => Some(None),
         (Word::Own(OwnOp::else_), Level::PlainIf) => Some(Some(Level::Plain)),
-        (Word::Index(IndexOp::catch), Level::PlainTry | Level::PlainCatch) => {
+        (Word::Index(IndexOp::Catch), Level::PlainTry | Level::PlainCatch) => {
             Some(Some(Level::PlainCatch))
         }
         (Word::Plain(Plain::Bare(BareOp::catch_all)), Level::PlainTry | Level::PlainCatch) => Some(
             Some(Level::Plain),
         ),
-        (Word::Index(IndexOp::delegate), Level::PlainTry) => Some(None),
+        (Word::Index(IndexOp::Delegate), Level::PlainTry) => Some(None),
         _ => None,
     }
 }
@@ -255,7 +256,7 @@ impl<'a> Reader<'a> {
         let word = self.word(0);
         self.skip();
         let kind = match word {
-            Some(Word::Index(IndexOp::catch)) => TryTableCatchKind::Catch(self.index()),
+            Some(Word::Index(IndexOp::Catch)) => TryTableCatchKind::Catch(self.index()),
             Some(Word::Key(Key::CatchRef)) => TryTableCatchKind::CatchRef(self.index()),
             Some(Word::Key(Key::CatchAllRef)) => TryTableCatchKind::CatchAllRef,
             _ => TryTableCatchKind::CatchAll,
@@ -266,7 +267,7 @@ impl<'a> Reader<'a> {
     /// Whether a clause of `try_table` stands there.
     fn is_catch(&self) -> bool {
         let is_word = match self.word(1) {
-            Some(Word::Index(IndexOp::catch)) => true,
+            Some(Word::Index(IndexOp::Catch)) => true,
             Some(Word::Key(Key::CatchRef | Key::CatchAllRef)) => true,
             Some(Word::Plain(Plain::Bare(BareOp::catch_all))) => true,
             _ => false,
@@ -314,9 +315,21 @@ impl<'a> Reader<'a> {
             Word::Lane(op) => Instruction::Lane(op, self.lane_arg()),
             Word::MemLane(op, align) => Instruction::MemLane(op, self.load_or_store_lane(align)),
             Word::Index(op) => with_index(op, self.index()),
-            Word::Table(op) => with_table(op, self.index_or_zero()),
-            Word::Memory(op) => with_memory(op, self.index_or_zero()),
-            Word::Struct(op) => with_field(op, self.struct_access()),
+            Word::IndexOrZero(op) => with_index(op, self.index_or_zero()),
+            Word::Uncovered(op) => with_uncovered(op, self.index()),
+            Word::UncoveredOrZero(op) => with_uncovered(op, self.index_or_zero()),
+            Word::Pair(op) => {
+                let first = self.index();
+                with_pair(op, first, self.index())
+            }
+            Word::OneOrTwo(op) => {
+                let (first, second) = self.one_or_two();
+                with_pair(op, first, second)
+            }
+            Word::NoneOrTwo(op) => {
+                let (first, second) = self.none_or_two();
+                with_pair(op, first, second)
+            }
             Word::Own(op) => self.own(op),
             Word::Atomic(op) => self.atomic(op),
             Word::Beyond | Word::Block(_) | Word::Key(_) => Instruction::Beyond(name),
@@ -435,11 +448,11 @@ impl<'a> Reader<'a> {
     fn handler(&mut self, body: &mut Body<'a>, level: Level) {
         self.no_hint(body);
         match (self.word(0), level) {
-            (Some(Word::Index(IndexOp::catch)), Level::Do | Level::Catch) => self.catch_arm(body),
+            (Some(Word::Index(IndexOp::Catch)), Level::Do | Level::Catch) => self.catch_arm(body),
             (Some(Word::Plain(Plain::Bare(BareOp::catch_all))), Level::Do | Level::Catch) => {
                 self.catch_all_arm(body)
             }
-            (Some(Word::Index(IndexOp::delegate)), Level::Do) => self.delegate_arm(body),
+            (Some(Word::Index(IndexOp::Delegate)), Level::Do) => self.delegate_arm(body),
             (_, Level::Do) => self.expected("`catch`, `catch_all` or `delegate`"),
             _ => self.expected("`catch` or `catch_all`"),
         }

@@ -2,13 +2,12 @@
 
 use crate::reader::Reader;
 use wast_tree::{
-    ArrayCopy, ArrayInit, ArrayNewData, ArrayNewElem, ArrayNewFixed, BrOnCast, BrOnCastDescEq,
-    BrOnCastDescEqFail, BrOnCastFail, BrTableIndices, CallIndirect, ContBind, Handle, Index,
-    Instruction, LoadOrStoreLane, MemArg, MemArgOrdering, MemArgTarget, MemoryCopy, MemoryInit,
-    Ordered, Ordering, RefCast, RefCastDescEq, RefTest, Resume, ResumeTable, ResumeThrow,
-    ResumeThrowRef, SelectTypes, Seq, StructAccess, Switch, TableArg, TableCopy, TableInit,
+    ArrayNewFixed, BrOnCast, BrOnCastDescEq, BrOnCastDescEqFail, BrOnCastFail, BrTableIndices,
+    CallIndirect, Handle, Index, Instruction, LoadOrStoreLane, MemArg, MemArgOrdering,
+    MemArgTarget, Ordered, Ordering, RefCast, RefCastDescEq, RefTest, Resume, ResumeTable,
+    ResumeThrow, ResumeThrowRef, SelectTypes, Seq, StructAccess, TableArg,
 };
-use wat_tokens::{AtomicOp, Key, OwnOp, TextFault, Token, Word, unsigned64};
+use wat_tokens::{AtomicOp, Key, OwnOp, PairOp, TextFault, Token, Word, unsigned64};
 
 impl<'a> Reader<'a> {
     /// What stands behind `=` in a word that begins so, where one does.
@@ -175,7 +174,7 @@ impl<'a> Reader<'a> {
     }
 
     /// One index or two: where one stands there, the first is 0, at the place of the token before.
-    fn one_or_two(&mut self) -> (Index<'a>, Index<'a>) {
+    pub fn one_or_two(&mut self) -> (Index<'a>, Index<'a>) {
         let place = self.place_before();
         let first = self.index();
         match self.optional_index() {
@@ -185,7 +184,7 @@ impl<'a> Reader<'a> {
     }
 
     /// No index or two: where none stands there, both are 0, at the place of the token before.
-    fn none_or_two(&mut self) -> (Index<'a>, Index<'a>) {
+    pub fn none_or_two(&mut self) -> (Index<'a>, Index<'a>) {
         let place = self.place_before();
         match self.optional_index() {
             Some(first) => (first, self.index()),
@@ -196,7 +195,7 @@ impl<'a> Reader<'a> {
     /// A handler of a resumption (stack switching).
     fn handle(&mut self) -> Handle<'a> {
         let tag = self.index();
-        if let Some(Word::Own(OwnOp::switch)) = self.word(0) {
+        if let Some(Word::Pair(PairOp::switch)) = self.word(0) {
             self.skip();
             return Handle::OnSwitch { tag };
         }
@@ -218,58 +217,11 @@ impl<'a> Reader<'a> {
         ResumeTable { handlers }
     }
 
-    /// An instruction on tables or memories with two operands that are indices.
-    fn two_indices(&mut self, op: OwnOp) -> Instruction<'a> {
-        match op {
-            OwnOp::table_init => {
-                let (table, elem) = self.one_or_two();
-                Instruction::table_init(TableInit { table, elem })
-            }
-            OwnOp::table_copy => {
-                let (dst, src) = self.none_or_two();
-                Instruction::table_copy(TableCopy { dst, src })
-            }
-            OwnOp::memory_init => {
-                let (mem, segment) = self.one_or_two();
-                Instruction::memory_init(MemoryInit { segment, mem })
-            }
-            _ => {
-                let (dst, src) = self.none_or_two();
-                Instruction::memory_copy(MemoryCopy { src, dst })
-            }
-        }
-    }
-
-    /// An instruction on arrays that has an index beside the type.
-    fn array(&mut self, op: OwnOp) -> Instruction<'a> {
+    /// `array.new_fixed` (text format, aggregate instructions).
+    fn array_new_fixed(&mut self) -> Instruction<'a> {
         let array = self.index();
-        if let OwnOp::array_new_fixed = op {
-            let length = self.number32();
-            return Instruction::array_new_fixed(ArrayNewFixed { array, length });
-        }
-        let other = self.index();
-        match op {
-            OwnOp::array_new_data => Instruction::array_new_data(ArrayNewData {
-                array,
-                data_idx: other,
-            }),
-            OwnOp::array_new_elem => Instruction::array_new_elem(ArrayNewElem {
-                array,
-                elem_idx: other,
-            }),
-            OwnOp::array_init_data => Instruction::array_init_data(ArrayInit {
-                array,
-                segment: other,
-            }),
-            OwnOp::array_init_elem => Instruction::array_init_elem(ArrayInit {
-                array,
-                segment: other,
-            }),
-            _ => Instruction::array_copy(ArrayCopy {
-                dest_array: array,
-                src_array: other,
-            }),
-        }
+        let length = self.number32();
+        Instruction::array_new_fixed(ArrayNewFixed { array, length })
     }
 
     /// A branch by a cast (text format, control instructions).
@@ -305,14 +257,6 @@ impl<'a> Reader<'a> {
     fn resumption(&mut self, op: OwnOp) -> Instruction<'a> {
         let type_index = self.index();
         match op {
-            OwnOp::cont_bind => Instruction::cont_bind(ContBind {
-                argument_index: type_index,
-                result_index: self.index(),
-            }),
-            OwnOp::switch => Instruction::switch(Switch {
-                type_index,
-                tag_index: self.index(),
-            }),
             OwnOp::resume => {
                 let table = self.resume_table();
                 Instruction::resume(Resume { type_index, table })
@@ -348,17 +292,11 @@ impl<'a> Reader<'a> {
                 self.make.return_call_indirect(call)
             }
             OwnOp::select => self.select(),
-            OwnOp::cont_bind
-            | OwnOp::switch
-            | OwnOp::resume
-            | OwnOp::resume_throw
-            | OwnOp::resume_throw_ref => self.resumption(op),
+            OwnOp::resume | OwnOp::resume_throw | OwnOp::resume_throw_ref => self.resumption(op),
             OwnOp::br_on_cast
             | OwnOp::br_on_cast_fail
             | OwnOp::br_on_cast_desc_eq
             | OwnOp::br_on_cast_desc_eq_fail => self.cast_branch(op),
-            OwnOp::table_init | OwnOp::table_copy | OwnOp::memory_init | OwnOp::memory_copy =>
-                self.two_indices(op),
             OwnOp::i32_const => Instruction::i32_const(self.integer32()),
             OwnOp::i64_const => Instruction::i64_const(self.integer64()),
             OwnOp::f32_const => Instruction::f32_const(self.single()),
@@ -376,12 +314,7 @@ impl<'a> Reader<'a> {
             OwnOp::ref_cast_desc_eq => Instruction::ref_cast_desc_eq(RefCastDescEq {
                 rt: self.ref_type(),
             }),
-            OwnOp::array_new_fixed
-            | OwnOp::array_new_data
-            | OwnOp::array_new_elem
-            | OwnOp::array_copy
-            | OwnOp::array_init_data
-            | OwnOp::array_init_elem => self.array(op),
+            OwnOp::array_new_fixed => self.array_new_fixed(),
         }
     }
 }

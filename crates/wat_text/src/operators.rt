@@ -1,77 +1,129 @@
-//! Instructions by their class.
+//! Instructions with indices, by their words. `tools/ops` writes this file.
 
-use wast_tree::{ArrayFill, Index, Instruction, MemoryArg, StructAccess, TableArg};
-use wat_tokens::{IndexOp, MemoryOp, StructOp, TableOp};
+use wast_base::IndexOp;
+use wast_tree::{
+    ArrayCopy, ArrayFill, ArrayInit, ArrayNewData, ArrayNewElem, ContBind, Index, Instruction,
+    MemoryArg, MemoryCopy, MemoryInit, StructAccess, Switch, TableArg, TableCopy, TableInit,
+};
+use wat_tokens::{PairOp, UncoveredOp};
 
 /// An instruction with an index (text format, instructions).
 pub(crate) fn with_index<'a>(op: IndexOp, index: Index<'a>) -> Instruction<'a> {
     match op {
-        IndexOp::delegate => Instruction::delegate(index),
-        IndexOp::br => Instruction::br(index),
-        IndexOp::br_if => Instruction::br_if(index),
-        IndexOp::br_on_null => Instruction::br_on_null(index),
-        IndexOp::br_on_non_null => Instruction::br_on_non_null(index),
-        IndexOp::rethrow => Instruction::rethrow(index),
-        IndexOp::catch => Instruction::catch(index),
-        IndexOp::throw => Instruction::throw(index),
-        IndexOp::call => Instruction::call(index),
-        IndexOp::return_call => Instruction::return_call(index),
-        IndexOp::call_ref => Instruction::call_ref(index),
-        IndexOp::return_call_ref => Instruction::return_call_ref(index),
-        IndexOp::suspend => Instruction::suspend(index),
-        IndexOp::local_get => Instruction::local_get(index),
-        IndexOp::local_set => Instruction::local_set(index),
-        IndexOp::local_tee => Instruction::local_tee(index),
-        IndexOp::global_get => Instruction::global_get(index),
-        IndexOp::global_set => Instruction::global_set(index),
-        IndexOp::elem_drop => Instruction::elem_drop(index),
-        IndexOp::data_drop => Instruction::data_drop(index),
-        IndexOp::ref_func => Instruction::ref_func(index),
-        IndexOp::ref_get_desc => Instruction::ref_get_desc(index),
-        IndexOp::struct_new => Instruction::struct_new(index),
-        IndexOp::struct_new_default => Instruction::struct_new_default(index),
-        IndexOp::struct_new_desc => Instruction::struct_new_desc(index),
-        IndexOp::struct_new_default_desc => Instruction::struct_new_default_desc(index),
-        IndexOp::array_new => Instruction::array_new(index),
-        IndexOp::array_new_default => Instruction::array_new_default(index),
-        IndexOp::array_get => Instruction::array_get(index),
-        IndexOp::array_get_s => Instruction::array_get_s(index),
-        IndexOp::array_get_u => Instruction::array_get_u(index),
-        IndexOp::array_set => Instruction::array_set(index),
-        IndexOp::array_fill => Instruction::array_fill(ArrayFill { array: index }),
-        IndexOp::cont_new => Instruction::cont_new(index),
+        IndexOp::Catch => Instruction::catch(index),
+        IndexOp::Throw => Instruction::throw(index),
+        IndexOp::Rethrow => Instruction::rethrow(index),
+        IndexOp::Br => Instruction::br(index),
+        IndexOp::BrIf => Instruction::br_if(index),
+        IndexOp::Call => Instruction::call(index),
+        IndexOp::ReturnCall => Instruction::return_call(index),
+        IndexOp::CallRef => Instruction::call_ref(index),
+        IndexOp::ReturnCallRef => Instruction::return_call_ref(index),
+        IndexOp::Delegate => Instruction::delegate(index),
+        IndexOp::LocalGet => Instruction::local_get(index),
+        IndexOp::LocalSet => Instruction::local_set(index),
+        IndexOp::LocalTee => Instruction::local_tee(index),
+        IndexOp::GlobalGet => Instruction::global_get(index),
+        IndexOp::GlobalSet => Instruction::global_set(index),
+        IndexOp::TableGet => Instruction::table_get(TableArg { dst: index }),
+        IndexOp::TableSet => Instruction::table_set(TableArg { dst: index }),
+        IndexOp::MemorySize => Instruction::memory_size(MemoryArg { mem: index }),
+        IndexOp::MemoryGrow => Instruction::memory_grow(MemoryArg { mem: index }),
+        IndexOp::RefFunc => Instruction::ref_func(index),
+        IndexOp::BrOnNull => Instruction::br_on_null(index),
+        IndexOp::BrOnNonNull => Instruction::br_on_non_null(index),
+        IndexOp::StructNew => Instruction::struct_new(index),
+        IndexOp::StructNewDefault => Instruction::struct_new_default(index),
+        IndexOp::ArrayNew => Instruction::array_new(index),
+        IndexOp::ArrayNewDefault => Instruction::array_new_default(index),
+        IndexOp::ArrayGet => Instruction::array_get(index),
+        IndexOp::ArrayGetS => Instruction::array_get_s(index),
+        IndexOp::ArrayGetU => Instruction::array_get_u(index),
+        IndexOp::ArraySet => Instruction::array_set(index),
+        IndexOp::ArrayFill => Instruction::array_fill(ArrayFill { array: index }),
+        IndexOp::DataDrop => Instruction::data_drop(index),
+        IndexOp::MemoryFill => Instruction::memory_fill(MemoryArg { mem: index }),
+        IndexOp::ElemDrop => Instruction::elem_drop(index),
+        IndexOp::TableGrow => Instruction::table_grow(TableArg { dst: index }),
+        IndexOp::TableSize => Instruction::table_size(TableArg { dst: index }),
+        IndexOp::TableFill => Instruction::table_fill(TableArg { dst: index }),
     }
 }
 
-/// An instruction with a table (text format, table instructions).
-pub(crate) fn with_table<'a>(op: TableOp, dst: Index<'a>) -> Instruction<'a> {
-    let table = TableArg { dst };
+/// An instruction with an index, of a form that no encoder covers.
+pub(crate) fn with_uncovered<'a>(op: UncoveredOp, index: Index<'a>) -> Instruction<'a> {
     match op {
-        TableOp::table_get => Instruction::table_get(table),
-        TableOp::table_set => Instruction::table_set(table),
-        TableOp::table_grow => Instruction::table_grow(table),
-        TableOp::table_size => Instruction::table_size(table),
-        TableOp::table_fill => Instruction::table_fill(table),
+        UncoveredOp::struct_new_desc => Instruction::struct_new_desc(index),
+        UncoveredOp::struct_new_default_desc => Instruction::struct_new_default_desc(index),
+        UncoveredOp::ref_get_desc => Instruction::ref_get_desc(index),
+        UncoveredOp::cont_new => Instruction::cont_new(index),
+        UncoveredOp::suspend => Instruction::suspend(index),
+        UncoveredOp::memory_discard => Instruction::memory_discard(MemoryArg { mem: index }),
     }
 }
 
-/// An instruction with a memory (text format, memory instructions).
-pub(crate) fn with_memory<'a>(op: MemoryOp, mem: Index<'a>) -> Instruction<'a> {
-    let memory = MemoryArg { mem };
+/// An instruction with two indices, in the order of the text (text format, instructions).
+pub(crate) fn with_pair<'a>(op: PairOp, first: Index<'a>, second: Index<'a>) -> Instruction<'a> {
     match op {
-        MemoryOp::memory_size => Instruction::memory_size(memory),
-        MemoryOp::memory_grow => Instruction::memory_grow(memory),
-        MemoryOp::memory_fill => Instruction::memory_fill(memory),
-        MemoryOp::memory_discard => Instruction::memory_discard(memory),
-    }
-}
-
-/// An instruction with a field of a struct (text format, aggregate instructions).
-pub(crate) fn with_field<'a>(op: StructOp, access: StructAccess<'a>) -> Instruction<'a> {
-    match op {
-        StructOp::struct_get => Instruction::struct_get(access),
-        StructOp::struct_get_s => Instruction::struct_get_s(access),
-        StructOp::struct_get_u => Instruction::struct_get_u(access),
-        StructOp::struct_set => Instruction::struct_set(access),
+        PairOp::struct_get => Instruction::struct_get(StructAccess {
+            owner: first,
+            field: second,
+        }),
+        PairOp::struct_get_s => Instruction::struct_get_s(StructAccess {
+            owner: first,
+            field: second,
+        }),
+        PairOp::struct_get_u => Instruction::struct_get_u(StructAccess {
+            owner: first,
+            field: second,
+        }),
+        PairOp::struct_set => Instruction::struct_set(StructAccess {
+            owner: first,
+            field: second,
+        }),
+        PairOp::array_new_data => Instruction::array_new_data(ArrayNewData {
+            array: first,
+            data_idx: second,
+        }),
+        PairOp::array_new_elem => Instruction::array_new_elem(ArrayNewElem {
+            array: first,
+            elem_idx: second,
+        }),
+        PairOp::array_copy => Instruction::array_copy(ArrayCopy {
+            dest_array: first,
+            src_array: second,
+        }),
+        PairOp::array_init_data => Instruction::array_init_data(ArrayInit {
+            array: first,
+            segment: second,
+        }),
+        PairOp::array_init_elem => Instruction::array_init_elem(ArrayInit {
+            array: first,
+            segment: second,
+        }),
+        PairOp::memory_init => Instruction::memory_init(MemoryInit {
+            segment: second,
+            mem: first,
+        }),
+        PairOp::memory_copy => Instruction::memory_copy(MemoryCopy {
+            src: second,
+            dst: first,
+        }),
+        PairOp::table_init => Instruction::table_init(TableInit {
+            elem: second,
+            table: first,
+        }),
+        PairOp::table_copy => Instruction::table_copy(TableCopy {
+            dst: first,
+            src: second,
+        }),
+        PairOp::cont_bind => Instruction::cont_bind(ContBind {
+            argument_index: first,
+            result_index: second,
+        }),
+        PairOp::switch => Instruction::switch(Switch {
+            type_index: first,
+            tag_index: second,
+        }),
     }
 }

@@ -4,10 +4,11 @@ use crate::fields::is_funcref;
 use crate::operators::with_index;
 use crate::reader::Reader;
 use std::alloc::AllocError;
+use wast_base::IndexOp;
 use wast_tree::{
     Data, DataKind, DataVal, Elem, ElemKind, ElemPayload, Expression, Index, RefType, Seq, Span,
 };
-use wat_tokens::{IndexOp, Key};
+use wat_tokens::Key;
 
 /// Puts bytes, the lowest first.
 fn put<const N: usize>(out: &mut Vec<u8>, bytes: [u8; N]) -> Result<(), AllocError> {
@@ -81,7 +82,7 @@ impl<'a> Reader<'a> {
             if self.is_end() {
                 break;
             }
-            let reference = with_index(IndexOp::ref_func, self.index());
+            let reference = with_index(IndexOp::RefFunc, self.index());
             let expression = self.make.one_instruction(reference);
             self.make.push_expression(&mut exprs, expression);
         }

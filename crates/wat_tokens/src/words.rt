@@ -2,7 +2,7 @@
 
 use wast_base::{
     AnyOp, ArrayOp, BareOp, ExternOp, F32Op, F32x4Op, F64Op, F64x2Op, I8x16Op, I16x8Op, I31Op,
-    I32Op, I32x4Op, I64Op, I64x2Op, LaneOp, MemLaneOp, MemOp, Plain, RefOp, V128Op,
+    I32Op, I32x4Op, I64Op, I64x2Op, IndexOp, LaneOp, MemLaneOp, MemOp, Plain, RefOp, V128Op,
 };
 
 /// A word that means something of its own (text format, keywords).
@@ -18,12 +18,18 @@ pub enum Word {
     MemLane(MemLaneOp, u64),
     /// One with an index.
     Index(IndexOp),
-    /// One with a table, which may be left out.
-    Table(TableOp),
-    /// One with a memory, which may be left out.
-    Memory(MemoryOp),
-    /// One with a type and a field.
-    Struct(StructOp),
+    /// One with an index that may be left out.
+    IndexOrZero(IndexOp),
+    /// One with an index, of a form that no encoder covers.
+    Uncovered(UncoveredOp),
+    /// The same with an index that may be left out.
+    UncoveredOrZero(UncoveredOp),
+    /// One with two indices.
+    Pair(PairOp),
+    /// One with two indices, of which the first may be left out.
+    OneOrTwo(PairOp),
+    /// One with two indices, which may be left out together.
+    NoneOrTwo(PairOp),
     /// One that opens a block.
     Block(BlockOp),
     /// One with immediates of its own.
@@ -46,114 +52,28 @@ fn find(rows: &[(&'static str, Word)], name: &str) -> Option<Word> {
     None
 }
 
-/// An instruction with an index.
+/// An instruction with an index, of a form that no encoder covers.
 #[allow(non_camel_case_types)]
 #[derive(Clone, Copy)]
-pub enum IndexOp {
-    /// `delegate`
-    delegate,
-    /// `br`
-    br,
-    /// `br_if`
-    br_if,
-    /// `br_on_null`
-    br_on_null,
-    /// `br_on_non_null`
-    br_on_non_null,
-    /// `rethrow`
-    rethrow,
-    /// `catch`
-    catch,
-    /// `throw`
-    throw,
-    /// `call`
-    call,
-    /// `return_call`
-    return_call,
-    /// `call_ref`
-    call_ref,
-    /// `return_call_ref`
-    return_call_ref,
-    /// `suspend`
-    suspend,
-    /// `local.get`
-    local_get,
-    /// `local.set`
-    local_set,
-    /// `local.tee`
-    local_tee,
-    /// `global.get`
-    global_get,
-    /// `global.set`
-    global_set,
-    /// `elem.drop`
-    elem_drop,
-    /// `data.drop`
-    data_drop,
-    /// `ref.func`
-    ref_func,
-    /// `ref.get_desc`
-    ref_get_desc,
-    /// `struct.new`
-    struct_new,
-    /// `struct.new_default`
-    struct_new_default,
+pub enum UncoveredOp {
     /// `struct.new_desc`
     struct_new_desc,
     /// `struct.new_default_desc`
     struct_new_default_desc,
-    /// `array.new`
-    array_new,
-    /// `array.new_default`
-    array_new_default,
-    /// `array.get`
-    array_get,
-    /// `array.get_s`
-    array_get_s,
-    /// `array.get_u`
-    array_get_u,
-    /// `array.set`
-    array_set,
-    /// `array.fill`
-    array_fill,
+    /// `ref.get_desc`
+    ref_get_desc,
     /// `cont.new`
     cont_new,
-}
-
-/// An instruction with a table.
-#[allow(non_camel_case_types)]
-#[derive(Clone, Copy)]
-pub enum TableOp {
-    /// `table.get`
-    table_get,
-    /// `table.set`
-    table_set,
-    /// `table.grow`
-    table_grow,
-    /// `table.size`
-    table_size,
-    /// `table.fill`
-    table_fill,
-}
-
-/// An instruction with a memory.
-#[allow(non_camel_case_types)]
-#[derive(Clone, Copy)]
-pub enum MemoryOp {
-    /// `memory.size`
-    memory_size,
-    /// `memory.grow`
-    memory_grow,
-    /// `memory.fill`
-    memory_fill,
+    /// `suspend`
+    suspend,
     /// `memory.discard`
     memory_discard,
 }
 
-/// An instruction with a type and a field.
+/// An instruction with two indices.
 #[allow(non_camel_case_types)]
 #[derive(Clone, Copy)]
-pub enum StructOp {
+pub enum PairOp {
     /// `struct.get`
     struct_get,
     /// `struct.get_s`
@@ -162,6 +82,28 @@ pub enum StructOp {
     struct_get_u,
     /// `struct.set`
     struct_set,
+    /// `array.new_data`
+    array_new_data,
+    /// `array.new_elem`
+    array_new_elem,
+    /// `array.copy`
+    array_copy,
+    /// `array.init_data`
+    array_init_data,
+    /// `array.init_elem`
+    array_init_elem,
+    /// `memory.init`
+    memory_init,
+    /// `memory.copy`
+    memory_copy,
+    /// `table.init`
+    table_init,
+    /// `table.copy`
+    table_copy,
+    /// `cont.bind`
+    cont_bind,
+    /// `switch`
+    switch,
 }
 
 /// An instruction that opens a block.
@@ -196,30 +138,6 @@ pub enum OwnOp {
     return_call_indirect,
     /// `select`
     select,
-    /// `switch`
-    switch,
-    /// `resume`
-    resume,
-    /// `resume_throw`
-    resume_throw,
-    /// `resume_throw_ref`
-    resume_throw_ref,
-    /// `br_on_cast`
-    br_on_cast,
-    /// `br_on_cast_fail`
-    br_on_cast_fail,
-    /// `br_on_cast_desc_eq`
-    br_on_cast_desc_eq,
-    /// `br_on_cast_desc_eq_fail`
-    br_on_cast_desc_eq_fail,
-    /// `table.init`
-    table_init,
-    /// `table.copy`
-    table_copy,
-    /// `memory.init`
-    memory_init,
-    /// `memory.copy`
-    memory_copy,
     /// `i32.const`
     i32_const,
     /// `i64.const`
@@ -228,34 +146,36 @@ pub enum OwnOp {
     f32_const,
     /// `f64.const`
     f64_const,
+    /// `ref.null`
+    ref_null,
+    /// `array.new_fixed`
+    array_new_fixed,
+    /// `ref.test`
+    ref_test,
+    /// `ref.cast`
+    ref_cast,
+    /// `br_on_cast`
+    br_on_cast,
+    /// `br_on_cast_fail`
+    br_on_cast_fail,
     /// `v128.const`
     v128_const,
     /// `i8x16.shuffle`
     i8x16_shuffle,
     /// `atomic.fence`
     atomic_fence,
-    /// `ref.null`
-    ref_null,
-    /// `ref.test`
-    ref_test,
-    /// `ref.cast`
-    ref_cast,
+    /// `resume`
+    resume,
+    /// `resume_throw`
+    resume_throw,
+    /// `resume_throw_ref`
+    resume_throw_ref,
+    /// `br_on_cast_desc_eq`
+    br_on_cast_desc_eq,
+    /// `br_on_cast_desc_eq_fail`
+    br_on_cast_desc_eq_fail,
     /// `ref.cast_desc_eq`
     ref_cast_desc_eq,
-    /// `array.new_fixed`
-    array_new_fixed,
-    /// `array.new_data`
-    array_new_data,
-    /// `array.new_elem`
-    array_new_elem,
-    /// `array.copy`
-    array_copy,
-    /// `array.init_data`
-    array_init_data,
-    /// `array.init_elem`
-    array_init_elem,
-    /// `cont.bind`
-    cont_bind,
 }
 
 /// What an atomic instruction accesses, where that is no memory.
@@ -483,7 +403,7 @@ pub enum Key {
 }
 
 static WORDS_0: [(&str, Word); 16] = [
-    ("table.set", Word::Table(TableOp::table_set)),
+    ("table.set", Word::IndexOrZero(IndexOp::TableSet)),
     ("i32.load8_u", Word::Mem(MemOp::i32_load8_u, 1)),
     ("i64.load8_u", Word::Mem(MemOp::i64_load8_u, 1)),
     ("i32.clz", Word::Plain(Plain::I32(I32Op::i32_clz))),
@@ -510,7 +430,7 @@ static WORDS_0: [(&str, Word); 16] = [
 static WORDS_1: [(&str, Word); 9] = [
     (
         "struct.new_default_desc",
-        Word::Index(IndexOp::struct_new_default_desc),
+        Word::Uncovered(UncoveredOp::struct_new_default_desc),
     ),
     ("table.atomic.rmw.xchg", Word::Atomic(AtomicOp::Table)),
     ("return", Word::Plain(Plain::Bare(BareOp::return_))),
@@ -529,7 +449,7 @@ static WORDS_1: [(&str, Word); 9] = [
 ];
 
 static WORDS_2: [(&str, Word); 10] = [
-    ("delegate", Word::Index(IndexOp::delegate)),
+    ("delegate", Word::Index(IndexOp::Delegate)),
     (
         "f32.convert_i64_s",
         Word::Plain(Plain::F32(F32Op::f32_convert_i64_s)),
@@ -563,7 +483,7 @@ static WORDS_2: [(&str, Word); 10] = [
 ];
 
 static WORDS_3: [(&str, Word); 10] = [
-    ("br_on_non_null", Word::Index(IndexOp::br_on_non_null)),
+    ("br_on_non_null", Word::Index(IndexOp::BrOnNonNull)),
     (
         "v128.store16_lane",
         Word::MemLane(MemLaneOp::v128_store16_lane, 2),
@@ -585,10 +505,10 @@ static WORDS_3: [(&str, Word); 10] = [
 ];
 
 static WORDS_4: [(&str, Word); 13] = [
-    ("br_if", Word::Index(IndexOp::br_if)),
-    ("table.get", Word::Table(TableOp::table_get)),
-    ("memory.grow", Word::Memory(MemoryOp::memory_grow)),
-    ("cont.bind", Word::Own(OwnOp::cont_bind)),
+    ("br_if", Word::Index(IndexOp::BrIf)),
+    ("table.get", Word::IndexOrZero(IndexOp::TableGet)),
+    ("memory.grow", Word::IndexOrZero(IndexOp::MemoryGrow)),
+    ("cont.bind", Word::Pair(PairOp::cont_bind)),
     ("f32.floor", Word::Plain(Plain::F32(F32Op::f32_floor))),
     ("f64.floor", Word::Plain(Plain::F64(F64Op::f64_floor))),
     (
@@ -610,8 +530,8 @@ static WORDS_4: [(&str, Word); 13] = [
 ];
 
 static WORDS_5: [(&str, Word); 13] = [
-    ("elem.drop", Word::Index(IndexOp::elem_drop)),
-    ("data.drop", Word::Index(IndexOp::data_drop)),
+    ("data.drop", Word::Index(IndexOp::DataDrop)),
+    ("elem.drop", Word::Index(IndexOp::ElemDrop)),
     ("resume_throw", Word::Own(OwnOp::resume_throw)),
     ("i32.load16_u", Word::Mem(MemOp::i32_load16_u, 2)),
     ("i64.load16_u", Word::Mem(MemOp::i64_load16_u, 2)),
@@ -638,7 +558,7 @@ static WORDS_5: [(&str, Word); 13] = [
 ];
 
 static WORDS_6: [(&str, Word); 13] = [
-    ("array.init_elem", Word::Own(OwnOp::array_init_elem)),
+    ("array.init_elem", Word::Pair(PairOp::array_init_elem)),
     ("i64.mul_wide_s", Word::Beyond),
     ("drop", Word::Plain(Plain::Bare(BareOp::drop))),
     ("i32.ge_u", Word::Plain(Plain::I32(I32Op::i32_ge_u))),
@@ -663,7 +583,7 @@ static WORDS_6: [(&str, Word); 13] = [
 ];
 
 static WORDS_7: [(&str, Word); 10] = [
-    ("br_on_null", Word::Index(IndexOp::br_on_null)),
+    ("br_on_null", Word::Index(IndexOp::BrOnNull)),
     (
         "i32.atomic.store16",
         Word::Mem(MemOp::i32_atomic_store16, 2),
@@ -685,7 +605,7 @@ static WORDS_7: [(&str, Word); 10] = [
 ];
 
 static WORDS_8: [(&str, Word); 13] = [
-    ("rethrow", Word::Index(IndexOp::rethrow)),
+    ("rethrow", Word::Index(IndexOp::Rethrow)),
     (
         "memory.atomic.wait64",
         Word::Mem(MemOp::memory_atomic_wait64, 8),
@@ -713,7 +633,10 @@ static WORDS_8: [(&str, Word); 13] = [
 ];
 
 static WORDS_9: [(&str, Word); 9] = [
-    ("struct.new_desc", Word::Index(IndexOp::struct_new_desc)),
+    (
+        "struct.new_desc",
+        Word::Uncovered(UncoveredOp::struct_new_desc),
+    ),
     ("i32.atomic.rmw.or", Word::Mem(MemOp::i32_atomic_rmw_or, 4)),
     ("i64.atomic.rmw.or", Word::Mem(MemOp::i64_atomic_rmw_or, 8)),
     ("after", Word::Key(Key::After)),
@@ -725,7 +648,7 @@ static WORDS_9: [(&str, Word); 9] = [
 ];
 
 static WORDS_10: [(&str, Word); 12] = [
-    ("return_call", Word::Index(IndexOp::return_call)),
+    ("return_call", Word::Index(IndexOp::ReturnCall)),
     ("v128.load32x2_u", Word::Mem(MemOp::v128_load32x2_u, 8)),
     (
         "i32.atomic.rmw.xor",
@@ -792,9 +715,9 @@ static WORDS_11: [(&str, Word); 10] = [
 ];
 
 static WORDS_12: [(&str, Word); 15] = [
-    ("br", Word::Index(IndexOp::br)),
-    ("array.new", Word::Index(IndexOp::array_new)),
-    ("array.get_s", Word::Index(IndexOp::array_get_s)),
+    ("br", Word::Index(IndexOp::Br)),
+    ("array.new", Word::Index(IndexOp::ArrayNew)),
+    ("array.get_s", Word::Index(IndexOp::ArrayGetS)),
     ("resume", Word::Own(OwnOp::resume)),
     ("ref.cast_desc_eq", Word::Own(OwnOp::ref_cast_desc_eq)),
     ("struct.atomic.set", Word::Atomic(AtomicOp::Struct)),
@@ -919,7 +842,7 @@ static WORDS_17: [(&str, Word); 5] = [
 ];
 
 static WORDS_18: [(&str, Word); 12] = [
-    ("ref.func", Word::Index(IndexOp::ref_func)),
+    ("ref.func", Word::Index(IndexOp::RefFunc)),
     ("global.atomic.rmw.add", Word::Atomic(AtomicOp::Global)),
     ("global.atomic.rmw.and", Word::Atomic(AtomicOp::Global)),
     (
@@ -1003,8 +926,8 @@ static WORDS_20: [(&str, Word); 17] = [
 ];
 
 static WORDS_21: [(&str, Word); 15] = [
-    ("call", Word::Index(IndexOp::call)),
-    ("struct.get_u", Word::Struct(StructOp::struct_get_u)),
+    ("call", Word::Index(IndexOp::Call)),
+    ("struct.get_u", Word::Pair(PairOp::struct_get_u)),
     ("ref.test", Word::Own(OwnOp::ref_test)),
     ("throw_ref", Word::Plain(Plain::Bare(BareOp::throw_ref))),
     ("f32.trunc", Word::Plain(Plain::F32(F32Op::f32_trunc))),
@@ -1039,7 +962,7 @@ static WORDS_21: [(&str, Word); 15] = [
 ];
 
 static WORDS_22: [(&str, Word); 16] = [
-    ("table.init", Word::Own(OwnOp::table_init)),
+    ("table.init", Word::OneOrTwo(PairOp::table_init)),
     (
         "i32.atomic.rmw8.sub_u",
         Word::Mem(MemOp::i32_atomic_rmw8_sub_u, 1),
@@ -1088,8 +1011,8 @@ static WORDS_22: [(&str, Word); 16] = [
 ];
 
 static WORDS_23: [(&str, Word); 8] = [
-    ("catch", Word::Index(IndexOp::catch)),
     ("loop", Word::Block(BlockOp::loop_)),
+    ("catch", Word::Index(IndexOp::Catch)),
     (
         "i32.atomic.load8_u",
         Word::Mem(MemOp::i32_atomic_load8_u, 1),
@@ -1112,7 +1035,7 @@ static WORDS_23: [(&str, Word); 8] = [
 
 static WORDS_24: [(&str, Word); 11] = [
     ("if", Word::Block(BlockOp::if_)),
-    ("switch", Word::Own(OwnOp::switch)),
+    ("switch", Word::Pair(PairOp::switch)),
     ("i32.or", Word::Plain(Plain::I32(I32Op::i32_or))),
     ("i64.or", Word::Plain(Plain::I64(I64Op::i64_or))),
     (
@@ -1171,12 +1094,12 @@ static WORDS_26: [(&str, Word); 9] = [
 ];
 
 static WORDS_27: [(&str, Word); 15] = [
-    ("br_on_cast", Word::Own(OwnOp::br_on_cast)),
     ("i32.const", Word::Own(OwnOp::i32_const)),
     ("i64.const", Word::Own(OwnOp::i64_const)),
     ("f32.const", Word::Own(OwnOp::f32_const)),
     ("f64.const", Word::Own(OwnOp::f64_const)),
     ("array.new_fixed", Word::Own(OwnOp::array_new_fixed)),
+    ("br_on_cast", Word::Own(OwnOp::br_on_cast)),
     ("v128.load16_splat", Word::Mem(MemOp::v128_load16_splat, 2)),
     ("v128.load32_splat", Word::Mem(MemOp::v128_load32_splat, 4)),
     ("v128.load64_splat", Word::Mem(MemOp::v128_load64_splat, 8)),
@@ -1189,7 +1112,7 @@ static WORDS_27: [(&str, Word); 15] = [
 ];
 
 static WORDS_28: [(&str, Word); 13] = [
-    ("table.size", Word::Table(TableOp::table_size)),
+    ("table.size", Word::IndexOrZero(IndexOp::TableSize)),
     (
         "memory.atomic.notify",
         Word::Mem(MemOp::memory_atomic_notify, 4),
@@ -1217,11 +1140,11 @@ static WORDS_28: [(&str, Word); 13] = [
 ];
 
 static WORDS_29: [(&str, Word); 9] = [
-    ("array.fill", Word::Index(IndexOp::array_fill)),
     (
         "return_call_indirect",
         Word::Own(OwnOp::return_call_indirect),
     ),
+    ("array.fill", Word::Index(IndexOp::ArrayFill)),
     (
         "i16x8.splat",
         Word::Plain(Plain::I16x8(I16x8Op::i16x8_splat)),
@@ -1241,8 +1164,8 @@ static WORDS_29: [(&str, Word); 9] = [
 ];
 
 static WORDS_30: [(&str, Word); 10] = [
-    ("local.tee", Word::Index(IndexOp::local_tee)),
-    ("array.copy", Word::Own(OwnOp::array_copy)),
+    ("local.tee", Word::Index(IndexOp::LocalTee)),
+    ("array.copy", Word::Pair(PairOp::array_copy)),
     ("v128.load32_zero", Word::Mem(MemOp::v128_load32_zero, 4)),
     ("v128.load64_zero", Word::Mem(MemOp::v128_load64_zero, 8)),
     (
@@ -1319,7 +1242,7 @@ static WORDS_32: [(&str, Word); 17] = [
 ];
 
 static WORDS_33: [(&str, Word); 14] = [
-    ("return_call_ref", Word::Index(IndexOp::return_call_ref)),
+    ("return_call_ref", Word::Index(IndexOp::ReturnCallRef)),
     ("select", Word::Own(OwnOp::select)),
     ("array.atomic.set", Word::Atomic(AtomicOp::Array)),
     (
@@ -1363,10 +1286,10 @@ static WORDS_34: [(&str, Word); 15] = [
 ];
 
 static WORDS_35: [(&str, Word); 12] = [
-    ("struct.set", Word::Struct(StructOp::struct_set)),
     ("else", Word::Own(OwnOp::else_)),
     ("br_table", Word::Own(OwnOp::br_table)),
-    ("memory.init", Word::Own(OwnOp::memory_init)),
+    ("struct.set", Word::Pair(PairOp::struct_set)),
+    ("memory.init", Word::OneOrTwo(PairOp::memory_init)),
     ("struct.atomic.rmw.xor", Word::Atomic(AtomicOp::Struct)),
     ("nop", Word::Plain(Plain::Bare(BareOp::nop))),
     ("i32.rotl", Word::Plain(Plain::I32(I32Op::i32_rotl))),
@@ -1422,11 +1345,8 @@ static WORDS_36: [(&str, Word); 11] = [
 ];
 
 static WORDS_37: [(&str, Word); 17] = [
-    (
-        "struct.new_default",
-        Word::Index(IndexOp::struct_new_default),
-    ),
-    ("table.fill", Word::Table(TableOp::table_fill)),
+    ("struct.new_default", Word::Index(IndexOp::StructNewDefault)),
+    ("table.fill", Word::IndexOrZero(IndexOp::TableFill)),
     ("global.atomic.rmw.cmpxchg", Word::Atomic(AtomicOp::Global)),
     ("array.atomic.get", Word::Atomic(AtomicOp::Array)),
     (
@@ -1472,11 +1392,11 @@ static WORDS_37: [(&str, Word); 17] = [
 ];
 
 static WORDS_38: [(&str, Word); 15] = [
+    ("table.copy", Word::NoneOrTwo(PairOp::table_copy)),
     (
         "br_on_cast_desc_eq_fail",
         Word::Own(OwnOp::br_on_cast_desc_eq_fail),
     ),
-    ("table.copy", Word::Own(OwnOp::table_copy)),
     ("array.atomic.rmw.cmpxchg", Word::Atomic(AtomicOp::Array)),
     (
         "i32.atomic.rmw16.or_u",
@@ -1517,7 +1437,7 @@ static WORDS_38: [(&str, Word); 15] = [
 ];
 
 static WORDS_39: [(&str, Word); 10] = [
-    ("struct.get", Word::Struct(StructOp::struct_get)),
+    ("struct.get", Word::Pair(PairOp::struct_get)),
     ("i32.load", Word::Mem(MemOp::i32_load, 4)),
     ("i64.load", Word::Mem(MemOp::i64_load, 8)),
     ("f32.load", Word::Mem(MemOp::f32_load, 4)),
@@ -1547,7 +1467,7 @@ static WORDS_40: [(&str, Word); 8] = [
 ];
 
 static WORDS_41: [(&str, Word); 10] = [
-    ("memory.size", Word::Memory(MemoryOp::memory_size)),
+    ("memory.size", Word::IndexOrZero(IndexOp::MemorySize)),
     ("ref.null", Word::Own(OwnOp::ref_null)),
     ("table.atomic.set", Word::Atomic(AtomicOp::Table)),
     ("i64.add128", Word::Beyond),
@@ -1560,7 +1480,7 @@ static WORDS_41: [(&str, Word); 10] = [
 ];
 
 static WORDS_42: [(&str, Word); 13] = [
-    ("array.get_u", Word::Index(IndexOp::array_get_u)),
+    ("array.get_u", Word::Index(IndexOp::ArrayGetU)),
     ("i32.store16", Word::Mem(MemOp::i32_store16, 2)),
     ("i64.store16", Word::Mem(MemOp::i64_store16, 2)),
     (
@@ -1594,8 +1514,8 @@ static WORDS_42: [(&str, Word); 13] = [
 ];
 
 static WORDS_43: [(&str, Word); 6] = [
-    ("cont.new", Word::Index(IndexOp::cont_new)),
     ("ref.cast", Word::Own(OwnOp::ref_cast)),
+    ("cont.new", Word::Uncovered(UncoveredOp::cont_new)),
     (
         "v128.bitselect",
         Word::Plain(Plain::V128(V128Op::v128_bitselect)),
@@ -1609,8 +1529,8 @@ static WORDS_43: [(&str, Word); 6] = [
 ];
 
 static WORDS_44: [(&str, Word); 9] = [
-    ("suspend", Word::Index(IndexOp::suspend)),
-    ("array.new_data", Word::Own(OwnOp::array_new_data)),
+    ("array.new_data", Word::Pair(PairOp::array_new_data)),
+    ("suspend", Word::Uncovered(UncoveredOp::suspend)),
     ("v128.load32x2_s", Word::Mem(MemOp::v128_load32x2_s, 8)),
     ("f32.neg", Word::Plain(Plain::F32(F32Op::f32_neg))),
     ("f64.neg", Word::Plain(Plain::F64(F64Op::f64_neg))),
@@ -1751,8 +1671,8 @@ static WORDS_49: [(&str, Word); 14] = [
 ];
 
 static WORDS_50: [(&str, Word); 12] = [
-    ("memory.fill", Word::Memory(MemoryOp::memory_fill)),
     ("call_indirect", Word::Own(OwnOp::call_indirect)),
+    ("memory.fill", Word::IndexOrZero(IndexOp::MemoryFill)),
     (
         "i16x8.extract_lane_s",
         Word::Lane(LaneOp::i16x8_extract_lane_s),
@@ -1781,7 +1701,7 @@ static WORDS_50: [(&str, Word); 12] = [
 ];
 
 static WORDS_51: [(&str, Word); 9] = [
-    ("memory.copy", Word::Own(OwnOp::memory_copy)),
+    ("memory.copy", Word::NoneOrTwo(PairOp::memory_copy)),
     (
         "i64.extend_i32_u",
         Word::Plain(Plain::I64(I64Op::i64_extend_i32_u)),
@@ -1817,8 +1737,8 @@ static WORDS_51: [(&str, Word); 9] = [
 ];
 
 static WORDS_52: [(&str, Word); 13] = [
-    ("ref.get_desc", Word::Index(IndexOp::ref_get_desc)),
     ("try_table", Word::Block(BlockOp::try_table)),
+    ("ref.get_desc", Word::Uncovered(UncoveredOp::ref_get_desc)),
     (
         "f32.demote_f64",
         Word::Plain(Plain::F32(F32Op::f32_demote_f64)),
@@ -1879,7 +1799,7 @@ static WORDS_53: [(&str, Word); 13] = [
 ];
 
 static WORDS_54: [(&str, Word); 15] = [
-    ("call_ref", Word::Index(IndexOp::call_ref)),
+    ("call_ref", Word::Index(IndexOp::CallRef)),
     ("global.atomic.rmw.or", Word::Atomic(AtomicOp::Global)),
     ("v128.load16x4_s", Word::Mem(MemOp::v128_load16x4_s, 8)),
     ("i32.eqz", Word::Plain(Plain::I32(I32Op::i32_eqz))),
@@ -1906,11 +1826,11 @@ static WORDS_54: [(&str, Word); 15] = [
 ];
 
 static WORDS_55: [(&str, Word); 12] = [
-    ("global.set", Word::Index(IndexOp::global_set)),
-    ("struct.new", Word::Index(IndexOp::struct_new)),
-    ("table.grow", Word::Table(TableOp::table_grow)),
-    ("struct.get_s", Word::Struct(StructOp::struct_get_s)),
-    ("array.new_elem", Word::Own(OwnOp::array_new_elem)),
+    ("global.set", Word::Index(IndexOp::GlobalSet)),
+    ("struct.new", Word::Index(IndexOp::StructNew)),
+    ("struct.get_s", Word::Pair(PairOp::struct_get_s)),
+    ("array.new_elem", Word::Pair(PairOp::array_new_elem)),
+    ("table.grow", Word::IndexOrZero(IndexOp::TableGrow)),
     ("global.atomic.rmw.xor", Word::Atomic(AtomicOp::Global)),
     ("array.atomic.rmw.or", Word::Atomic(AtomicOp::Array)),
     ("i32.atomic.store8", Word::Mem(MemOp::i32_atomic_store8, 1)),
@@ -1924,8 +1844,8 @@ static WORDS_55: [(&str, Word); 12] = [
 ];
 
 static WORDS_56: [(&str, Word); 14] = [
-    ("throw", Word::Index(IndexOp::throw)),
-    ("array.set", Word::Index(IndexOp::array_set)),
+    ("throw", Word::Index(IndexOp::Throw)),
+    ("array.set", Word::Index(IndexOp::ArraySet)),
     ("global.atomic.rmw.xchg", Word::Atomic(AtomicOp::Global)),
     ("array.atomic.rmw.xor", Word::Atomic(AtomicOp::Array)),
     (
@@ -1974,8 +1894,8 @@ static WORDS_57: [(&str, Word); 9] = [
 ];
 
 static WORDS_58: [(&str, Word); 11] = [
-    ("local.set", Word::Index(IndexOp::local_set)),
-    ("array.new_default", Word::Index(IndexOp::array_new_default)),
+    ("local.set", Word::Index(IndexOp::LocalSet)),
+    ("array.new_default", Word::Index(IndexOp::ArrayNewDefault)),
     ("struct.atomic.rmw.sub", Word::Atomic(AtomicOp::Struct)),
     (
         "i32.trunc_f64_s",
@@ -1994,8 +1914,8 @@ static WORDS_58: [(&str, Word); 11] = [
 ];
 
 static WORDS_59: [(&str, Word); 11] = [
-    ("global.get", Word::Index(IndexOp::global_get)),
-    ("array.init_data", Word::Own(OwnOp::array_init_data)),
+    ("global.get", Word::Index(IndexOp::GlobalGet)),
+    ("array.init_data", Word::Pair(PairOp::array_init_data)),
     ("v128.load8x8_s", Word::Mem(MemOp::v128_load8x8_s, 8)),
     (
         "any.convert_extern",
@@ -2020,9 +1940,9 @@ static WORDS_59: [(&str, Word); 11] = [
 ];
 
 static WORDS_60: [(&str, Word); 11] = [
-    ("array.get", Word::Index(IndexOp::array_get)),
-    ("br_on_cast_desc_eq", Word::Own(OwnOp::br_on_cast_desc_eq)),
+    ("array.get", Word::Index(IndexOp::ArrayGet)),
     ("v128.const", Word::Own(OwnOp::v128_const)),
+    ("br_on_cast_desc_eq", Word::Own(OwnOp::br_on_cast_desc_eq)),
     ("i32.atomic.store", Word::Mem(MemOp::i32_atomic_store, 4)),
     ("i64.atomic.store", Word::Mem(MemOp::i64_atomic_store, 8)),
     ("i32.mul", Word::Plain(Plain::I32(I32Op::i32_mul))),
@@ -2048,7 +1968,7 @@ static WORDS_61: [(&str, Word); 5] = [
 ];
 
 static WORDS_62: [(&str, Word); 16] = [
-    ("local.get", Word::Index(IndexOp::local_get)),
+    ("local.get", Word::Index(IndexOp::LocalGet)),
     ("struct.atomic.get_u", Word::Atomic(AtomicOp::Struct)),
     ("struct.atomic.rmw.add", Word::Atomic(AtomicOp::Struct)),
     ("struct.atomic.rmw.and", Word::Atomic(AtomicOp::Struct)),
@@ -2082,7 +2002,10 @@ static WORDS_62: [(&str, Word); 16] = [
 ];
 
 static WORDS_63: [(&str, Word); 10] = [
-    ("memory.discard", Word::Memory(MemoryOp::memory_discard)),
+    (
+        "memory.discard",
+        Word::UncoveredOrZero(UncoveredOp::memory_discard),
+    ),
     ("i32.ne", Word::Plain(Plain::I32(I32Op::i32_ne))),
     ("i32.lt_u", Word::Plain(Plain::I32(I32Op::i32_lt_u))),
     ("i64.ne", Word::Plain(Plain::I64(I64Op::i64_ne))),
