@@ -42,17 +42,19 @@ instr_row (instruction.GlobalAtomic a) e = absurd (asks_fail (in_index space.Glo
 instr_row (instruction.TableAtomic a) e = absurd (asks_fail (in_index space.Table a.inner.dst) form.Atomic e)
 instr_row (instruction.StructAtomic a) e = absurd (sites_fail (in_access a.inner) form.Atomic e)
 instr_row (instruction.ArrayAtomic a) e = absurd (asks_fail (in_index space.Ty a.inner) form.Atomic e)
+instr_row (instruction.resume a) e = absurd (handlers_fail (at_index space.Ty a.type_index) a.table e)
+instr_row (instruction.resume_throw a) e = absurd (handlers_fail (asking (in_pair space.Ty a.type_index space.Tag a.tag_index)) a.table e)
+instr_row (instruction.resume_throw_ref a) e = absurd (handlers_fail (at_index space.Ty a.type_index) a.table e)
+-- Written by tools/ops from here.
 instr_row (instruction.struct_new_desc i) e = absurd (asks_fail (in_index space.Ty i) form.Descriptor e)
 instr_row (instruction.struct_new_default_desc i) e = absurd (asks_fail (in_index space.Ty i) form.Descriptor e)
 instr_row (instruction.ref_get_desc i) e = absurd (asks_fail (in_index space.Ty i) form.Descriptor e)
 instr_row (instruction.cont_new i) e = absurd (asks_fail (in_index space.Ty i) form.StackSwitching e)
 instr_row (instruction.cont_bind a) e = absurd (asks_fail (in_pair space.Ty a.argument_index space.Ty a.result_index) form.StackSwitching e)
 instr_row (instruction.suspend i) e = absurd (asks_fail (in_index space.Tag i) form.StackSwitching e)
-instr_row (instruction.resume a) e = absurd (handlers_fail (at_index space.Ty a.type_index) a.table e)
-instr_row (instruction.resume_throw a) e = absurd (handlers_fail (asking (in_pair space.Ty a.type_index space.Tag a.tag_index)) a.table e)
-instr_row (instruction.resume_throw_ref a) e = absurd (handlers_fail (at_index space.Ty a.type_index) a.table e)
 instr_row (instruction.switch a) e = absurd (asks_fail (in_pair space.Ty a.type_index space.Tag a.tag_index) form.StackSwitching e)
 instr_row (instruction.memory_discard a) e = absurd (asks_fail (in_index space.Memory a.mem) form.Beyond e)
+-- To here.
 instr_row (instruction.Beyond name) e = absurd (asks_fail [] form.Beyond e)
 instr_row i e = refl
 

@@ -353,17 +353,7 @@ impl Spell<Instruction<'_>> for Resolved {
             Instruction::try_(block) => put_block(BlockOp::Try, block, out),
             Instruction::try_table(table) => put_try_table(table, out),
             Instruction::end_(_) => Delimiter::End.encode(out),
-            Instruction::delegate(label) => put_index(IndexOp::Delegate, label, out),
-            Instruction::br(label) => put_index(IndexOp::Br, label, out),
-            Instruction::br_if(label) => put_index(IndexOp::BrIf, label, out),
             Instruction::br_table(table) => put_br_table(table, out),
-            Instruction::br_on_null(label) => put_index(IndexOp::BrOnNull, label, out),
-            Instruction::br_on_non_null(label) => put_index(IndexOp::BrOnNonNull, label, out),
-            Instruction::rethrow(label) => put_index(IndexOp::Rethrow, label, out),
-            Instruction::catch(tag) => put_index(IndexOp::Catch, tag, out),
-            Instruction::throw(tag) => put_index(IndexOp::Throw, tag, out),
-            Instruction::call(func) => put_index(IndexOp::Call, func, out),
-            Instruction::return_call(func) => put_index(IndexOp::ReturnCall, func, out),
             Instruction::call_indirect(call) => put_boxed_call(
                 IndexPairOp::CallIndirect,
                 call,
@@ -372,71 +362,13 @@ impl Spell<Instruction<'_>> for Resolved {
             Instruction::return_call_indirect(call) => {
                 put_boxed_call(IndexPairOp::ReturnCallIndirect, call, out)
             }
-            Instruction::call_ref(ty) => put_index(IndexOp::CallRef, ty, out),
-            Instruction::return_call_ref(ty) => put_index(IndexOp::ReturnCallRef, ty, out),
             Instruction::select(types) => put_select(types, out),
-            Instruction::local_get(local) => put_index(IndexOp::LocalGet, local, out),
-            Instruction::local_set(local) => put_index(IndexOp::LocalSet, local, out),
-            Instruction::local_tee(local) => put_index(IndexOp::LocalTee, local, out),
-            Instruction::global_get(global) => put_index(IndexOp::GlobalGet, global, out),
-            Instruction::global_set(global) => put_index(IndexOp::GlobalSet, global, out),
-            Instruction::table_get(arg) => put_index(IndexOp::TableGet, &arg.dst, out),
-            Instruction::table_set(arg) => put_index(IndexOp::TableSet, &arg.dst, out),
-            Instruction::table_init(arg) => {
-                put_pair(IndexPairOp::TableInit, &arg.elem, &arg.table, out)
-            }
-            Instruction::elem_drop(elem) => put_index(IndexOp::ElemDrop, elem, out),
-            Instruction::table_copy(arg) => {
-                put_pair(IndexPairOp::TableCopy, &arg.dst, &arg.src, out)
-            }
-            Instruction::table_grow(arg) => put_index(IndexOp::TableGrow, &arg.dst, out),
-            Instruction::table_size(arg) => put_index(IndexOp::TableSize, &arg.dst, out),
-            Instruction::table_fill(arg) => put_index(IndexOp::TableFill, &arg.dst, out),
-            Instruction::memory_size(arg) => put_index(IndexOp::MemorySize, &arg.mem, out),
-            Instruction::memory_grow(arg) => put_index(IndexOp::MemoryGrow, &arg.mem, out),
-            Instruction::memory_init(arg) => {
-                put_pair(IndexPairOp::MemoryInit, &arg.segment, &arg.mem, out)
-            }
-            Instruction::data_drop(data) => put_index(IndexOp::DataDrop, data, out),
-            Instruction::memory_copy(arg) => {
-                put_pair(IndexPairOp::MemoryCopy, &arg.dst, &arg.src, out)
-            }
-            Instruction::memory_fill(arg) => put_index(IndexOp::MemoryFill, &arg.mem, out),
             Instruction::i32_const(value) => I32Const(*value).encode(out),
             Instruction::i64_const(value) => I64Const(*value).encode(out),
             Instruction::f32_const(value) => F32Const(value.bits).encode(out),
             Instruction::f64_const(value) => F64Const(value.bits).encode(out),
             Instruction::ref_null(ty) => put_null(ty, out),
-            Instruction::ref_func(func) => put_index(IndexOp::RefFunc, func, out),
-            Instruction::struct_new(ty) => put_index(IndexOp::StructNew, ty, out),
-            Instruction::struct_new_default(ty) => put_index(IndexOp::StructNewDefault, ty, out),
-            Instruction::struct_get(arg) => put_access(IndexPairOp::StructGet, arg, out),
-            Instruction::struct_get_s(arg) => put_access(IndexPairOp::StructGetS, arg, out),
-            Instruction::struct_get_u(arg) => put_access(IndexPairOp::StructGetU, arg, out),
-            Instruction::struct_set(arg) => put_access(IndexPairOp::StructSet, arg, out),
-            Instruction::array_new(ty) => put_index(IndexOp::ArrayNew, ty, out),
-            Instruction::array_new_default(ty) => put_index(IndexOp::ArrayNewDefault, ty, out),
             Instruction::array_new_fixed(arg) => put_new_fixed(arg, out),
-            Instruction::array_new_data(arg) => {
-                put_pair(IndexPairOp::ArrayNewData, &arg.array, &arg.data_idx, out)
-            }
-            Instruction::array_new_elem(arg) => {
-                put_pair(IndexPairOp::ArrayNewElem, &arg.array, &arg.elem_idx, out)
-            }
-            Instruction::array_get(ty) => put_index(IndexOp::ArrayGet, ty, out),
-            Instruction::array_get_s(ty) => put_index(IndexOp::ArrayGetS, ty, out),
-            Instruction::array_get_u(ty) => put_index(IndexOp::ArrayGetU, ty, out),
-            Instruction::array_set(ty) => put_index(IndexOp::ArraySet, ty, out),
-            Instruction::array_fill(arg) => put_index(IndexOp::ArrayFill, &arg.array, out),
-            Instruction::array_copy(arg) => {
-                put_pair(IndexPairOp::ArrayCopy, &arg.dest_array, &arg.src_array, out)
-            }
-            Instruction::array_init_data(arg) => {
-                put_pair(IndexPairOp::ArrayInitData, &arg.array, &arg.segment, out)
-            }
-            Instruction::array_init_elem(arg) => {
-                put_pair(IndexPairOp::ArrayInitElem, &arg.array, &arg.segment, out)
-            }
             Instruction::ref_test(arg) => put_cast(CastOp::Test, &arg.rt, out),
             Instruction::ref_cast(arg) => put_cast(CastOp::Cast, &arg.rt, out),
             Instruction::br_on_cast(arg) => put_br_on_cast(arg, out),
@@ -457,18 +389,88 @@ impl Spell<Instruction<'_>> for Resolved {
             | Instruction::TableAtomic(_)
             | Instruction::StructAtomic(_)
             | Instruction::ArrayAtomic(_)
-            | Instruction::struct_new_desc(_)
+            | Instruction::resume(_)
+            | Instruction::resume_throw(_)
+            | Instruction::resume_throw_ref(_)
+            | Instruction::Beyond(_) => unreachable!(),
+            // Written by tools/ops from here.
+            Instruction::catch(tag) => put_index(IndexOp::Catch, tag, out),
+            Instruction::throw(tag) => put_index(IndexOp::Throw, tag, out),
+            Instruction::rethrow(label) => put_index(IndexOp::Rethrow, label, out),
+            Instruction::br(label) => put_index(IndexOp::Br, label, out),
+            Instruction::br_if(label) => put_index(IndexOp::BrIf, label, out),
+            Instruction::call(func) => put_index(IndexOp::Call, func, out),
+            Instruction::return_call(func) => put_index(IndexOp::ReturnCall, func, out),
+            Instruction::call_ref(ty) => put_index(IndexOp::CallRef, ty, out),
+            Instruction::return_call_ref(ty) => put_index(IndexOp::ReturnCallRef, ty, out),
+            Instruction::delegate(label) => put_index(IndexOp::Delegate, label, out),
+            Instruction::local_get(local) => put_index(IndexOp::LocalGet, local, out),
+            Instruction::local_set(local) => put_index(IndexOp::LocalSet, local, out),
+            Instruction::local_tee(local) => put_index(IndexOp::LocalTee, local, out),
+            Instruction::global_get(global) => put_index(IndexOp::GlobalGet, global, out),
+            Instruction::global_set(global) => put_index(IndexOp::GlobalSet, global, out),
+            Instruction::table_get(arg) => put_index(IndexOp::TableGet, &arg.dst, out),
+            Instruction::table_set(arg) => put_index(IndexOp::TableSet, &arg.dst, out),
+            Instruction::memory_size(arg) => put_index(IndexOp::MemorySize, &arg.mem, out),
+            Instruction::memory_grow(arg) => put_index(IndexOp::MemoryGrow, &arg.mem, out),
+            Instruction::ref_func(func) => put_index(IndexOp::RefFunc, func, out),
+            Instruction::br_on_null(label) => put_index(IndexOp::BrOnNull, label, out),
+            Instruction::br_on_non_null(label) => put_index(IndexOp::BrOnNonNull, label, out),
+            Instruction::struct_new(ty) => put_index(IndexOp::StructNew, ty, out),
+            Instruction::struct_new_default(ty) => put_index(IndexOp::StructNewDefault, ty, out),
+            Instruction::struct_get(arg) => put_access(IndexPairOp::StructGet, arg, out),
+            Instruction::struct_get_s(arg) => put_access(IndexPairOp::StructGetS, arg, out),
+            Instruction::struct_get_u(arg) => put_access(IndexPairOp::StructGetU, arg, out),
+            Instruction::struct_set(arg) => put_access(IndexPairOp::StructSet, arg, out),
+            Instruction::array_new(ty) => put_index(IndexOp::ArrayNew, ty, out),
+            Instruction::array_new_default(ty) => put_index(IndexOp::ArrayNewDefault, ty, out),
+            Instruction::array_new_data(arg) => {
+                put_pair(IndexPairOp::ArrayNewData, &arg.array, &arg.data_idx, out)
+            }
+            Instruction::array_new_elem(arg) => {
+                put_pair(IndexPairOp::ArrayNewElem, &arg.array, &arg.elem_idx, out)
+            }
+            Instruction::array_get(ty) => put_index(IndexOp::ArrayGet, ty, out),
+            Instruction::array_get_s(ty) => put_index(IndexOp::ArrayGetS, ty, out),
+            Instruction::array_get_u(ty) => put_index(IndexOp::ArrayGetU, ty, out),
+            Instruction::array_set(ty) => put_index(IndexOp::ArraySet, ty, out),
+            Instruction::array_fill(arg) => put_index(IndexOp::ArrayFill, &arg.array, out),
+            Instruction::array_copy(arg) => {
+                put_pair(IndexPairOp::ArrayCopy, &arg.dest_array, &arg.src_array, out)
+            }
+            Instruction::array_init_data(arg) => {
+                put_pair(IndexPairOp::ArrayInitData, &arg.array, &arg.segment, out)
+            }
+            Instruction::array_init_elem(arg) => {
+                put_pair(IndexPairOp::ArrayInitElem, &arg.array, &arg.segment, out)
+            }
+            Instruction::memory_init(arg) => {
+                put_pair(IndexPairOp::MemoryInit, &arg.segment, &arg.mem, out)
+            }
+            Instruction::data_drop(data) => put_index(IndexOp::DataDrop, data, out),
+            Instruction::memory_copy(arg) => {
+                put_pair(IndexPairOp::MemoryCopy, &arg.dst, &arg.src, out)
+            }
+            Instruction::memory_fill(arg) => put_index(IndexOp::MemoryFill, &arg.mem, out),
+            Instruction::table_init(arg) => {
+                put_pair(IndexPairOp::TableInit, &arg.elem, &arg.table, out)
+            }
+            Instruction::elem_drop(elem) => put_index(IndexOp::ElemDrop, elem, out),
+            Instruction::table_copy(arg) => {
+                put_pair(IndexPairOp::TableCopy, &arg.dst, &arg.src, out)
+            }
+            Instruction::table_grow(arg) => put_index(IndexOp::TableGrow, &arg.dst, out),
+            Instruction::table_size(arg) => put_index(IndexOp::TableSize, &arg.dst, out),
+            Instruction::table_fill(arg) => put_index(IndexOp::TableFill, &arg.dst, out),
+            Instruction::struct_new_desc(_)
             | Instruction::struct_new_default_desc(_)
             | Instruction::ref_get_desc(_)
             | Instruction::cont_new(_)
             | Instruction::cont_bind(_)
             | Instruction::suspend(_)
-            | Instruction::resume(_)
-            | Instruction::resume_throw(_)
-            | Instruction::resume_throw_ref(_)
             | Instruction::switch(_)
-            | Instruction::memory_discard(_)
-            | Instruction::Beyond(_) => unreachable!(),
+            | Instruction::memory_discard(_) => unreachable!(),
+            // To here.
         }
     }
 }

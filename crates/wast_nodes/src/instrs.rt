@@ -34,52 +34,27 @@ pub enum Instruction<'a> {
     Lane(LaneOp, LaneArg),
     /// A load or a store of a lane of a vector: `v128.load8_lane $m 3`
     MemLane(MemLaneOp, LoadOrStoreLane<'a>),
-    /// `block $l (result i32)`
-    block(Boxed<BlockType<'a>>),
-    /// `loop $l`
-    loop_(Boxed<BlockType<'a>>),
-    /// `if $l`
-    if_(Boxed<BlockType<'a>>),
-    /// `else $l`
-    else_(Option<Id<'a>>),
-    /// `try $l`, of exceptions as they were first proposed
-    try_(Boxed<BlockType<'a>>),
-    /// `try_table $l (catch $e $h)`
-    try_table(TryTable<'a>),
-    /// `end $l`
-    end_(Option<Id<'a>>),
-    /// `delegate $l`, of exceptions as they were first proposed
-    delegate(Index<'a>),
-    /// `br $l`
-    br(Index<'a>),
-    /// `br_if $l`
-    br_if(Index<'a>),
-    /// `br_table $a $b`
-    br_table(BrTableIndices<'a>),
-    /// `br_on_null $l`
-    br_on_null(Index<'a>),
-    /// `br_on_non_null $l`
-    br_on_non_null(Index<'a>),
-    /// `rethrow $l`, of exceptions as they were first proposed
-    rethrow(Index<'a>),
+    // Written by tools/ops from here.
     /// `catch $e`, of exceptions as they were first proposed
     catch(Index<'a>),
     /// `throw $e`
     throw(Index<'a>),
+    /// `rethrow $l`, of exceptions as they were first proposed
+    rethrow(Index<'a>),
+    /// `br $l`
+    br(Index<'a>),
+    /// `br_if $l`
+    br_if(Index<'a>),
     /// `call $f`
     call(Index<'a>),
     /// `return_call $f`
     return_call(Index<'a>),
-    /// `call_indirect $t (type $f)`
-    call_indirect(Boxed<CallIndirect<'a>>),
-    /// `return_call_indirect $t (type $f)`
-    return_call_indirect(Boxed<CallIndirect<'a>>),
     /// `call_ref $t`
     call_ref(Index<'a>),
     /// `return_call_ref $t`
     return_call_ref(Index<'a>),
-    /// `select (result i32)`
-    select(SelectTypes<'a>),
+    /// `delegate $l`, of exceptions as they were first proposed
+    delegate(Index<'a>),
     /// `local.get $x`
     local_get(Index<'a>),
     /// `local.set $x`
@@ -94,42 +69,16 @@ pub enum Instruction<'a> {
     table_get(TableArg<'a>),
     /// `table.set $t`
     table_set(TableArg<'a>),
-    /// `table.init $t $e`
-    table_init(TableInit<'a>),
-    /// `elem.drop $e`
-    elem_drop(Index<'a>),
-    /// `table.copy $to $from`
-    table_copy(TableCopy<'a>),
-    /// `table.grow $t`
-    table_grow(TableArg<'a>),
-    /// `table.size $t`
-    table_size(TableArg<'a>),
-    /// `table.fill $t`
-    table_fill(TableArg<'a>),
     /// `memory.size $m`
     memory_size(MemoryArg<'a>),
     /// `memory.grow $m`
     memory_grow(MemoryArg<'a>),
-    /// `memory.init $m $d`
-    memory_init(MemoryInit<'a>),
-    /// `data.drop $d`
-    data_drop(Index<'a>),
-    /// `memory.copy $to $from`
-    memory_copy(MemoryCopy<'a>),
-    /// `memory.fill $m`
-    memory_fill(MemoryArg<'a>),
-    /// `i32.const 1`
-    i32_const(i32),
-    /// `i64.const 1`
-    i64_const(i64),
-    /// `f32.const 1`
-    f32_const(F32),
-    /// `f64.const 1`
-    f64_const(F64),
-    /// `ref.null func`
-    ref_null(HeapType<'a>),
     /// `ref.func $f`
     ref_func(Index<'a>),
+    /// `br_on_null $l`
+    br_on_null(Index<'a>),
+    /// `br_on_non_null $l`
+    br_on_non_null(Index<'a>),
     /// `struct.new $t`
     struct_new(Index<'a>),
     /// `struct.new_default $t`
@@ -146,8 +95,6 @@ pub enum Instruction<'a> {
     array_new(Index<'a>),
     /// `array.new_default $t`
     array_new_default(Index<'a>),
-    /// `array.new_fixed $t 3`
-    array_new_fixed(ArrayNewFixed<'a>),
     /// `array.new_data $t $d`
     array_new_data(ArrayNewData<'a>),
     /// `array.new_elem $t $e`
@@ -168,6 +115,77 @@ pub enum Instruction<'a> {
     array_init_data(ArrayInit<'a>),
     /// `array.init_elem $t $e`
     array_init_elem(ArrayInit<'a>),
+    /// `memory.init $m $d`
+    memory_init(MemoryInit<'a>),
+    /// `data.drop $d`
+    data_drop(Index<'a>),
+    /// `memory.copy $to $from`
+    memory_copy(MemoryCopy<'a>),
+    /// `memory.fill $m`
+    memory_fill(MemoryArg<'a>),
+    /// `table.init $t $e`
+    table_init(TableInit<'a>),
+    /// `elem.drop $e`
+    elem_drop(Index<'a>),
+    /// `table.copy $to $from`
+    table_copy(TableCopy<'a>),
+    /// `table.grow $t`
+    table_grow(TableArg<'a>),
+    /// `table.size $t`
+    table_size(TableArg<'a>),
+    /// `table.fill $t`
+    table_fill(TableArg<'a>),
+    /// `struct.new_desc $t` (custom descriptors)
+    struct_new_desc(Index<'a>),
+    /// `struct.new_default_desc $t` (custom descriptors)
+    struct_new_default_desc(Index<'a>),
+    /// `ref.get_desc $t` (custom descriptors)
+    ref_get_desc(Index<'a>),
+    /// `cont.new $t` (stack switching)
+    cont_new(Index<'a>),
+    /// `cont.bind $a $r` (stack switching)
+    cont_bind(ContBind<'a>),
+    /// `suspend $e` (stack switching)
+    suspend(Index<'a>),
+    /// `switch $t $e` (stack switching)
+    switch(Switch<'a>),
+    /// `memory.discard $m` (memory control)
+    memory_discard(MemoryArg<'a>),
+    // To here.
+    /// `block $l (result i32)`
+    block(Boxed<BlockType<'a>>),
+    /// `loop $l`
+    loop_(Boxed<BlockType<'a>>),
+    /// `if $l`
+    if_(Boxed<BlockType<'a>>),
+    /// `else $l`
+    else_(Option<Id<'a>>),
+    /// `try $l`, of exceptions as they were first proposed
+    try_(Boxed<BlockType<'a>>),
+    /// `try_table $l (catch $e $h)`
+    try_table(TryTable<'a>),
+    /// `end $l`
+    end_(Option<Id<'a>>),
+    /// `br_table $a $b`
+    br_table(BrTableIndices<'a>),
+    /// `call_indirect $t (type $f)`
+    call_indirect(Boxed<CallIndirect<'a>>),
+    /// `return_call_indirect $t (type $f)`
+    return_call_indirect(Boxed<CallIndirect<'a>>),
+    /// `select (result i32)`
+    select(SelectTypes<'a>),
+    /// `i32.const 1`
+    i32_const(i32),
+    /// `i64.const 1`
+    i64_const(i64),
+    /// `f32.const 1`
+    f32_const(F32),
+    /// `f64.const 1`
+    f64_const(F64),
+    /// `ref.null func`
+    ref_null(HeapType<'a>),
+    /// `array.new_fixed $t 3`
+    array_new_fixed(ArrayNewFixed<'a>),
     /// `ref.test (ref $t)`
     ref_test(RefTest<'a>),
     /// `ref.cast (ref $t)`
@@ -196,28 +214,12 @@ pub enum Instruction<'a> {
     StructAtomic(Ordered<StructAccess<'a>>),
     /// An atomic access of an array of a type (shared-everything threads).
     ArrayAtomic(Ordered<Index<'a>>),
-    /// `struct.new_desc $t` (custom descriptors)
-    struct_new_desc(Index<'a>),
-    /// `struct.new_default_desc $t` (custom descriptors)
-    struct_new_default_desc(Index<'a>),
-    /// `ref.get_desc $t` (custom descriptors)
-    ref_get_desc(Index<'a>),
-    /// `cont.new $t` (stack switching)
-    cont_new(Index<'a>),
-    /// `cont.bind $a $r` (stack switching)
-    cont_bind(ContBind<'a>),
-    /// `suspend $e` (stack switching)
-    suspend(Index<'a>),
     /// `resume $t (on $e $l)` (stack switching)
     resume(Resume<'a>),
     /// `resume_throw $t $x (on $e $l)` (stack switching)
     resume_throw(Boxed<ResumeThrow<'a>>),
     /// `resume_throw_ref $t (on $e $l)` (stack switching)
     resume_throw_ref(ResumeThrowRef<'a>),
-    /// `switch $t $e` (stack switching)
-    switch(Switch<'a>),
-    /// `memory.discard $m` (memory control)
-    memory_discard(MemoryArg<'a>),
     /// An instruction that no encoder knows, by its name: `i64.add128`
     Beyond(&'a str),
 }

@@ -555,61 +555,11 @@ fn visit_instr<V: Visitor>(instr: &Instruction<'_>, visitor: &mut V)
         | Instruction::try_(block) => block.get().visit(visitor),
         Instruction::else_(label) | Instruction::end_(label) => label.visit(visitor),
         Instruction::try_table(table) => table.visit(visitor),
-        Instruction::delegate(label)
-        | Instruction::br(label)
-        | Instruction::br_if(label)
-        | Instruction::br_on_null(label)
-        | Instruction::br_on_non_null(label)
-        | Instruction::rethrow(label) => visitor.within(label),
         Instruction::br_table(table) => table.visit(visitor),
-        Instruction::local_get(local)
-        | Instruction::local_set(local)
-        | Instruction::local_tee(local) => visitor.within(local),
-        Instruction::catch(tag) | Instruction::throw(tag) => visitor.index(Space::Tag, tag),
-        Instruction::call(func) | Instruction::return_call(func) => visitor.index(
-            Space::Func,
-            func,
-        ),
         Instruction::call_indirect(call) | Instruction::return_call_indirect(call) => {
             call.get().visit(visitor)
         }
-        Instruction::call_ref(ty)
-        | Instruction::return_call_ref(ty)
-        | Instruction::struct_new(ty)
-        | Instruction::struct_new_default(ty)
-        | Instruction::array_new(ty)
-        | Instruction::array_new_default(ty)
-        | Instruction::array_get(ty)
-        | Instruction::array_get_s(ty)
-        | Instruction::array_get_u(ty)
-        | Instruction::array_set(ty) => visitor.index(Space::Ty, ty),
-        Instruction::struct_get(access)
-        | Instruction::struct_get_s(access)
-        | Instruction::struct_get_u(access)
-        | Instruction::struct_set(access) => access.visit(visitor),
         Instruction::array_new_fixed(arg) => visitor.index(Space::Ty, &arg.array),
-        Instruction::array_new_data(arg) => {
-            visit_pair(visitor, Space::Ty, &arg.array, Space::Data, &arg.data_idx)
-        }
-        Instruction::array_new_elem(arg) => {
-            visit_pair(visitor, Space::Ty, &arg.array, Space::Elem, &arg.elem_idx)
-        }
-        Instruction::array_fill(arg) => visitor.index(Space::Ty, &arg.array),
-        Instruction::array_copy(arg) => {
-            visit_pair(
-                visitor,
-                Space::Ty,
-                &arg.dest_array,
-                Space::Ty,
-                &arg.src_array,
-            )
-        }
-        Instruction::array_init_data(arg) => {
-            visit_pair(visitor, Space::Ty, &arg.array, Space::Data, &arg.segment)
-        }
-        Instruction::array_init_elem(arg) => {
-            visit_pair(visitor, Space::Ty, &arg.array, Space::Elem, &arg.segment)
-        }
         Instruction::ref_test(arg) => arg.rt.visit(visitor),
         Instruction::ref_cast(arg) => arg.rt.visit(visitor),
         Instruction::ref_cast_desc_eq(arg) => visit_uncovered(&arg.rt, Form::Descriptor, visitor),
@@ -645,9 +595,98 @@ fn visit_instr<V: Visitor>(instr: &Instruction<'_>, visitor: &mut V)
         Instruction::ArrayAtomic(access) => {
             visit_uncovered_index(Space::Ty, &access.inner, Form::Atomic, visitor)
         }
-        Instruction::struct_new_desc(ty)
-        | Instruction::struct_new_default_desc(ty)
-        | Instruction::ref_get_desc(ty) => {
+        Instruction::resume(arg) => arg.visit(visitor),
+        Instruction::resume_throw(arg) => arg.get().visit(visitor),
+        Instruction::resume_throw_ref(arg) => arg.visit(visitor),
+        Instruction::Beyond(_) => visitor.covered(Form::Beyond, false),
+        Instruction::select(types) => types.visit(visitor),
+        Instruction::i32_const(_)
+        | Instruction::i64_const(_)
+        | Instruction::f32_const(_)
+        | Instruction::f64_const(_) => {}
+        Instruction::ref_null(heap) => heap.visit(visitor),
+        // Written by tools/ops from here.
+        Instruction::catch(tag) => visitor.index(Space::Tag, tag),
+        Instruction::throw(tag) => visitor.index(Space::Tag, tag),
+        Instruction::rethrow(label) => visitor.within(label),
+        Instruction::br(label) => visitor.within(label),
+        Instruction::br_if(label) => visitor.within(label),
+        Instruction::call(func) => visitor.index(Space::Func, func),
+        Instruction::return_call(func) => visitor.index(Space::Func, func),
+        Instruction::call_ref(ty) => visitor.index(Space::Ty, ty),
+        Instruction::return_call_ref(ty) => visitor.index(Space::Ty, ty),
+        Instruction::delegate(label) => visitor.within(label),
+        Instruction::local_get(local) => visitor.within(local),
+        Instruction::local_set(local) => visitor.within(local),
+        Instruction::local_tee(local) => visitor.within(local),
+        Instruction::global_get(global) => visitor.index(Space::Global, global),
+        Instruction::global_set(global) => visitor.index(Space::Global, global),
+        Instruction::table_get(arg) => visitor.index(Space::Table, &arg.dst),
+        Instruction::table_set(arg) => visitor.index(Space::Table, &arg.dst),
+        Instruction::memory_size(arg) => visitor.index(Space::Memory, &arg.mem),
+        Instruction::memory_grow(arg) => visitor.index(Space::Memory, &arg.mem),
+        Instruction::ref_func(func) => visitor.index(Space::Func, func),
+        Instruction::br_on_null(label) => visitor.within(label),
+        Instruction::br_on_non_null(label) => visitor.within(label),
+        Instruction::struct_new(ty) => visitor.index(Space::Ty, ty),
+        Instruction::struct_new_default(ty) => visitor.index(Space::Ty, ty),
+        Instruction::struct_get(access) => access.visit(visitor),
+        Instruction::struct_get_s(access) => access.visit(visitor),
+        Instruction::struct_get_u(access) => access.visit(visitor),
+        Instruction::struct_set(access) => access.visit(visitor),
+        Instruction::array_new(ty) => visitor.index(Space::Ty, ty),
+        Instruction::array_new_default(ty) => visitor.index(Space::Ty, ty),
+        Instruction::array_new_data(arg) => {
+            visit_pair(visitor, Space::Ty, &arg.array, Space::Data, &arg.data_idx)
+        }
+        Instruction::array_new_elem(arg) => {
+            visit_pair(visitor, Space::Ty, &arg.array, Space::Elem, &arg.elem_idx)
+        }
+        Instruction::array_get(ty) => visitor.index(Space::Ty, ty),
+        Instruction::array_get_s(ty) => visitor.index(Space::Ty, ty),
+        Instruction::array_get_u(ty) => visitor.index(Space::Ty, ty),
+        Instruction::array_set(ty) => visitor.index(Space::Ty, ty),
+        Instruction::array_fill(arg) => visitor.index(Space::Ty, &arg.array),
+        Instruction::array_copy(arg) => {
+            visit_pair(
+                visitor,
+                Space::Ty,
+                &arg.dest_array,
+                Space::Ty,
+                &arg.src_array,
+            )
+        }
+        Instruction::array_init_data(arg) => {
+            visit_pair(visitor, Space::Ty, &arg.array, Space::Data, &arg.segment)
+        }
+        Instruction::array_init_elem(arg) => {
+            visit_pair(visitor, Space::Ty, &arg.array, Space::Elem, &arg.segment)
+        }
+        Instruction::memory_init(arg) => {
+            visit_pair(visitor, Space::Data, &arg.segment, Space::Memory, &arg.mem)
+        }
+        Instruction::data_drop(data) => visitor.index(Space::Data, data),
+        Instruction::memory_copy(arg) => {
+            visit_pair(visitor, Space::Memory, &arg.src, Space::Memory, &arg.dst)
+        }
+        Instruction::memory_fill(arg) => visitor.index(Space::Memory, &arg.mem),
+        Instruction::table_init(arg) => {
+            visit_pair(visitor, Space::Elem, &arg.elem, Space::Table, &arg.table)
+        }
+        Instruction::elem_drop(elem) => visitor.index(Space::Elem, elem),
+        Instruction::table_copy(arg) => {
+            visit_pair(visitor, Space::Table, &arg.dst, Space::Table, &arg.src)
+        }
+        Instruction::table_grow(arg) => visitor.index(Space::Table, &arg.dst),
+        Instruction::table_size(arg) => visitor.index(Space::Table, &arg.dst),
+        Instruction::table_fill(arg) => visitor.index(Space::Table, &arg.dst),
+        Instruction::struct_new_desc(ty) => {
+            visit_uncovered_index(Space::Ty, ty, Form::Descriptor, visitor)
+        }
+        Instruction::struct_new_default_desc(ty) => {
+            visit_uncovered_index(Space::Ty, ty, Form::Descriptor, visitor)
+        }
+        Instruction::ref_get_desc(ty) => {
             visit_uncovered_index(Space::Ty, ty, Form::Descriptor, visitor)
         }
         Instruction::cont_new(ty) => {
@@ -657,46 +696,11 @@ fn visit_instr<V: Visitor>(instr: &Instruction<'_>, visitor: &mut V)
         Instruction::suspend(tag) => {
             visit_uncovered_index(Space::Tag, tag, Form::StackSwitching, visitor)
         }
-        Instruction::resume(arg) => arg.visit(visitor),
-        Instruction::resume_throw(arg) => arg.get().visit(visitor),
-        Instruction::resume_throw_ref(arg) => arg.visit(visitor),
         Instruction::switch(arg) => arg.visit(visitor),
         Instruction::memory_discard(arg) => {
             visit_uncovered_index(Space::Memory, &arg.mem, Form::Beyond, visitor)
         }
-        Instruction::Beyond(_) => visitor.covered(Form::Beyond, false),
-        Instruction::select(types) => types.visit(visitor),
-        Instruction::global_get(global) | Instruction::global_set(global) => {
-            visitor.index(Space::Global, global)
-        }
-        Instruction::table_get(arg)
-        | Instruction::table_set(arg)
-        | Instruction::table_grow(arg)
-        | Instruction::table_size(arg)
-        | Instruction::table_fill(arg) => visitor.index(Space::Table, &arg.dst),
-        Instruction::table_init(arg) => {
-            visit_pair(visitor, Space::Elem, &arg.elem, Space::Table, &arg.table)
-        }
-        Instruction::elem_drop(elem) => visitor.index(Space::Elem, elem),
-        Instruction::table_copy(arg) => {
-            visit_pair(visitor, Space::Table, &arg.dst, Space::Table, &arg.src)
-        }
-        Instruction::memory_size(arg)
-        | Instruction::memory_grow(arg)
-        | Instruction::memory_fill(arg) => visitor.index(Space::Memory, &arg.mem),
-        Instruction::memory_init(arg) => {
-            visit_pair(visitor, Space::Data, &arg.segment, Space::Memory, &arg.mem)
-        }
-        Instruction::data_drop(data) => visitor.index(Space::Data, data),
-        Instruction::memory_copy(arg) => {
-            visit_pair(visitor, Space::Memory, &arg.src, Space::Memory, &arg.dst)
-        }
-        Instruction::i32_const(_)
-        | Instruction::i64_const(_)
-        | Instruction::f32_const(_)
-        | Instruction::f64_const(_) => {}
-        Instruction::ref_null(heap) => heap.visit(visitor),
-        Instruction::ref_func(func) => visitor.index(Space::Func, func),
+        // To here.
     }
 }
 

@@ -65,61 +65,8 @@ returns-in-br_table-clause-walks c l numbers =
     rw c.in-br_table.is (walks_in ⊤ (HasMany (open_counts (in_br_table blocks table))) instr.br_table (site_demands (scope_of names) (in_br_table blocks table)) (mapped_br_table (numbering (scope_of names)) blocks table) c.walk_br_table.new.table
     c.walk_br_table.result (c.walk_br_table.ensures names))
 
-pub returns-in-br-clause-walks : goal.returns-in-br-clause-walks
-returns-in-br-clause-walks c l numbers =
-    let names = c.args.names.now in
-    let blocks = c.args.labels.now in
-    let label = c.in-br.label in
-    rw c.in-br.is (walks_in ⊤ (HasMany []) instr.br (site_demands (scope_of names) (at_label blocks label)) ((numbering (scope_of names)).label blocks label) c.walk_branch.new.label c.walk_branch.result (c.walk_branch.ensures names))
-
-pub returns-in-br_if-clause-walks : goal.returns-in-br_if-clause-walks
-returns-in-br_if-clause-walks c l numbers =
-    let names = c.args.names.now in
-    let blocks = c.args.labels.now in
-    let label = c.in-br_if.label in
-    rw c.in-br_if.is (walks_in ⊤ (HasMany []) instr.br_if (site_demands (scope_of names) (at_label blocks label)) ((numbering (scope_of names)).label blocks label) c.walk_branch-in-br_if.new.label c.walk_branch-in-br_if.result (c.walk_branch-in-br_if.ensures names))
-
-pub returns-in-br_on_null-clause-walks : goal.returns-in-br_on_null-clause-walks
-returns-in-br_on_null-clause-walks c l numbers =
-    let names = c.args.names.now in
-    let blocks = c.args.labels.now in
-    let label = c.in-br_on_null.label in
-    rw c.in-br_on_null.is (walks_in ⊤ (HasMany []) instr.br_on_null (site_demands (scope_of names) (at_label blocks label)) ((numbering (scope_of names)).label blocks label) c.walk_branch-in-br_on_null.new.label c.walk_branch-in-br_on_null.result (c.walk_branch-in-br_on_null.ensures names))
-
-pub returns-in-br_on_non_null-clause-walks : goal.returns-in-br_on_non_null-clause-walks
-returns-in-br_on_non_null-clause-walks c l numbers =
-    let names = c.args.names.now in
-    let blocks = c.args.labels.now in
-    let label = c.in-br_on_non_null.label in
-    rw c.in-br_on_non_null.is (walks_in ⊤ (HasMany []) instr.br_on_non_null (site_demands (scope_of names) (at_label blocks label)) ((numbering (scope_of names)).label blocks label) c.walk_branch-in-br_on_non_null.new.label c.walk_branch-in-br_on_non_null.result (c.walk_branch-in-br_on_non_null.ensures names))
-
-pub returns-in-rethrow-clause-walks : goal.returns-in-rethrow-clause-walks
-returns-in-rethrow-clause-walks c l numbers =
-    let names = c.args.names.now in
-    let blocks = c.args.labels.now in
-    let label = c.in-rethrow.label in
-    rw c.in-rethrow.is (walks_in ⊤ (HasMany []) instr.rethrow (site_demands (scope_of names) (at_label blocks label)) ((numbering (scope_of names)).label blocks label) c.walk_branch-in-rethrow.new.label c.walk_branch-in-rethrow.result (c.walk_branch-in-rethrow.ensures names))
-
 pub returns-in-select-clause-blocks : goal.returns-in-select-clause-blocks
 returns-in-select-clause-blocks c l = rw c.in-select.is (asking_moves c.args.labels.now l (in_select c.in-select.types) c.walk_part-in-select.result)
-
-pub returns-in-local_get-clause-walks : goal.returns-in-local_get-clause-walks
-returns-in-local_get-clause-walks c l numbers =
-    let names = c.args.names.now in
-    let i = c.in-local_get.local in
-    rw c.in-local_get.is (walks_in ⊤ (HasMany []) instr.local_get (site_demands (scope_of names) (LocalAt l i ∷ [])) ((numbering (scope_of names)).local l i) c.walk_local.new.index c.walk_local.result (c.walk_local.ensures names l numbers))
-
-pub returns-in-local_set-clause-walks : goal.returns-in-local_set-clause-walks
-returns-in-local_set-clause-walks c l numbers =
-    let names = c.args.names.now in
-    let i = c.in-local_set.local in
-    rw c.in-local_set.is (walks_in ⊤ (HasMany []) instr.local_set (site_demands (scope_of names) (LocalAt l i ∷ [])) ((numbering (scope_of names)).local l i) c.walk_local-in-local_set.new.index c.walk_local-in-local_set.result (c.walk_local-in-local_set.ensures names l numbers))
-
-pub returns-in-local_tee-clause-walks : goal.returns-in-local_tee-clause-walks
-returns-in-local_tee-clause-walks c l numbers =
-    let names = c.args.names.now in
-    let i = c.in-local_tee.local in
-    rw c.in-local_tee.is (walks_in ⊤ (HasMany []) instr.local_tee (site_demands (scope_of names) (LocalAt l i ∷ [])) ((numbering (scope_of names)).local l i) c.walk_local-in-local_tee.new.index c.walk_local-in-local_tee.result (c.walk_local-in-local_tee.ensures names l numbers))
 
 pub returns-in-br_on_cast-clause-walks : goal.returns-in-br_on_cast-clause-walks
 returns-in-br_on_cast-clause-walks c l numbers =
@@ -196,3 +143,60 @@ returns-in-ref_test-clause-blocks c l = rw c.in-ref_test.is (asking_moves c.args
 
 pub returns-in-ref_cast-clause-blocks : goal.returns-in-ref_cast-clause-blocks
 returns-in-ref_cast-clause-blocks c l = rw c.in-ref_cast.is (asking_moves c.args.labels.now l (in_ref c.in-ref_cast.arg.rt) c.walk_part-in-ref_cast.result)
+
+-- Written by tools/ops from here.
+
+pub returns-in-rethrow-clause-walks : goal.returns-in-rethrow-clause-walks
+returns-in-rethrow-clause-walks c l numbers =
+    let names = c.args.names.now in
+    let blocks = c.args.labels.now in
+    let label = c.in-rethrow.label in
+    rw c.in-rethrow.is (walks_in ⊤ (HasMany []) instr.rethrow (site_demands (scope_of names) (at_label blocks label)) ((numbering (scope_of names)).label blocks label) c.walk_branch.new.label c.walk_branch.result (c.walk_branch.ensures names))
+
+pub returns-in-br-clause-walks : goal.returns-in-br-clause-walks
+returns-in-br-clause-walks c l numbers =
+    let names = c.args.names.now in
+    let blocks = c.args.labels.now in
+    let label = c.in-br.label in
+    rw c.in-br.is (walks_in ⊤ (HasMany []) instr.br (site_demands (scope_of names) (at_label blocks label)) ((numbering (scope_of names)).label blocks label) c.walk_branch-in-br.new.label c.walk_branch-in-br.result (c.walk_branch-in-br.ensures names))
+
+pub returns-in-br_if-clause-walks : goal.returns-in-br_if-clause-walks
+returns-in-br_if-clause-walks c l numbers =
+    let names = c.args.names.now in
+    let blocks = c.args.labels.now in
+    let label = c.in-br_if.label in
+    rw c.in-br_if.is (walks_in ⊤ (HasMany []) instr.br_if (site_demands (scope_of names) (at_label blocks label)) ((numbering (scope_of names)).label blocks label) c.walk_branch-in-br_if.new.label c.walk_branch-in-br_if.result (c.walk_branch-in-br_if.ensures names))
+
+pub returns-in-local_get-clause-walks : goal.returns-in-local_get-clause-walks
+returns-in-local_get-clause-walks c l numbers =
+    let names = c.args.names.now in
+    let i = c.in-local_get.local in
+    rw c.in-local_get.is (walks_in ⊤ (HasMany []) instr.local_get (site_demands (scope_of names) (LocalAt l i ∷ [])) ((numbering (scope_of names)).local l i) c.walk_local.new.index c.walk_local.result (c.walk_local.ensures names l numbers))
+
+pub returns-in-local_set-clause-walks : goal.returns-in-local_set-clause-walks
+returns-in-local_set-clause-walks c l numbers =
+    let names = c.args.names.now in
+    let i = c.in-local_set.local in
+    rw c.in-local_set.is (walks_in ⊤ (HasMany []) instr.local_set (site_demands (scope_of names) (LocalAt l i ∷ [])) ((numbering (scope_of names)).local l i) c.walk_local-in-local_set.new.index c.walk_local-in-local_set.result (c.walk_local-in-local_set.ensures names l numbers))
+
+pub returns-in-local_tee-clause-walks : goal.returns-in-local_tee-clause-walks
+returns-in-local_tee-clause-walks c l numbers =
+    let names = c.args.names.now in
+    let i = c.in-local_tee.local in
+    rw c.in-local_tee.is (walks_in ⊤ (HasMany []) instr.local_tee (site_demands (scope_of names) (LocalAt l i ∷ [])) ((numbering (scope_of names)).local l i) c.walk_local-in-local_tee.new.index c.walk_local-in-local_tee.result (c.walk_local-in-local_tee.ensures names l numbers))
+
+pub returns-in-br_on_null-clause-walks : goal.returns-in-br_on_null-clause-walks
+returns-in-br_on_null-clause-walks c l numbers =
+    let names = c.args.names.now in
+    let blocks = c.args.labels.now in
+    let label = c.in-br_on_null.label in
+    rw c.in-br_on_null.is (walks_in ⊤ (HasMany []) instr.br_on_null (site_demands (scope_of names) (at_label blocks label)) ((numbering (scope_of names)).label blocks label) c.walk_branch-in-br_on_null.new.label c.walk_branch-in-br_on_null.result (c.walk_branch-in-br_on_null.ensures names))
+
+pub returns-in-br_on_non_null-clause-walks : goal.returns-in-br_on_non_null-clause-walks
+returns-in-br_on_non_null-clause-walks c l numbers =
+    let names = c.args.names.now in
+    let blocks = c.args.labels.now in
+    let label = c.in-br_on_non_null.label in
+    rw c.in-br_on_non_null.is (walks_in ⊤ (HasMany []) instr.br_on_non_null (site_demands (scope_of names) (at_label blocks label)) ((numbering (scope_of names)).label blocks label) c.walk_branch-in-br_on_non_null.new.label c.walk_branch-in-br_on_non_null.result (c.walk_branch-in-br_on_non_null.ensures names))
+
+-- To here.
