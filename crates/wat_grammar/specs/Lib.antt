@@ -1,0 +1,6 @@
+pub mod Characters
+pub mod Integers
+pub mod Parts
+pub mod Strings
+pub mod WorkedIntegers
+pub mod WorkedStrings

@@ -1,0 +1,33 @@
+//! Texts, and what the definitions compute of them.
+
+ghost use Rattle.wat_grammar.specs.WorkedIntegers.{Digits, Numbers, Naturals, Unsigned, Signed, Integers, SignBefore};
+ghost use Rattle.wat_grammar.specs.WorkedStrings.{Escapes, Strings};
+
+/// Digits, and the characters beside them.
+#[tactic(auto, using(crate::proofs::Worked::digits))]
+pub(crate) fn digits()
+    ensures { Digits }
+{}
+
+/// Numbers with underscores, decimal and hexadecimal.
+#[tactic(auto, using(crate::proofs::Worked::numbers, crate::proofs::Worked::naturals))]
+pub(crate) fn numbers()
+    ensures digits { Numbers }
+    ensures prefix { Naturals }
+{}
+
+/// Integers of 8 bits, and the first that are out of range.
+#[tactic(auto, using(crate::proofs::Worked::unsigned, crate::proofs::Worked::signed, crate::proofs::Worked::integers, crate::proofs::Worked::sign_before))]
+pub(crate) fn integers()
+    ensures unsigned { Unsigned }
+    ensures signed { Signed }
+    ensures bits { Integers }
+    ensures sign { SignBefore }
+{}
+
+/// Strings, with escapes and with what is none.
+#[tactic(auto, using(crate::proofs::Worked::escapes, crate::proofs::Worked::strings))]
+pub(crate) fn strings()
+    ensures escapes { Escapes }
+    ensures whole { Strings }
+{}

@@ -1,0 +1,5 @@
+//! What the numbers and strings of the WebAssembly text format are: the rules of the specification's chapter on the text format,
+//! as definitions that compute. It has no code: `wat_tokens` cites the definitions in its contracts.
+#![tactic(auto)]
+
+mod examples;
