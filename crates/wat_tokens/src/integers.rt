@@ -1,6 +1,9 @@
 //! Integers of a text.
 
-ghost use Rattle.std.specs.Prelude.{◌<◌, ◌≤◌, IfSome};
+ghost use Rattle.std.specs.Prelude.{◌≡◌, ◌<◌, ◌≤◌, ◌+◌, ◌*◌, ◌^◌, ℕ, IfSome, IfOk, option_map};
+ghost use Rattle.wat_grammar.specs.Characters.{hexdigit};
+ghost use Rattle.wat_grammar.specs.Integers.{natural, uN, sign, signed, integer, signed_of};
+ghost use Rattle.wat_tokens.specs.Numbers.{answer, digit_in, radix_of, number_in, fits, sized, bits_in, wrapped};
 
 use crate::faults::TextFault;
 use crate::strings::hex_digit;
@@ -15,18 +18,32 @@ pub(crate) struct Signed<'a> {
 }
 
 /// Cuts the sign off.
-pub(crate) fn cut_sign(text: &str) -> Signed<'_> {
-    let (is_negative, rest) = match (text.strip_prefix('-'), text.strip_prefix('+')) {
-        (Some(rest), _) => (true, rest),
-        (None, Some(rest)) => (false, rest),
-        (None, None) => (false, text),
-    };
-    Signed { is_negative, rest }
+pub(crate) fn cut_sign(text: &str) -> Signed<'_>
+    ensures negative { result.is_negative ≡ (sign text.now).0 }
+    ensures rest { result.rest.now ≡ (sign text.now).1 }
+{
+    match text.strip_prefix("-") {
+        Some(rest) => Signed {
+            is_negative: true,
+            rest,
+        },
+        None => match text.strip_prefix("+") {
+            Some(rest) => Signed {
+                is_negative: false,
+                rest,
+            },
+            None => Signed {
+                is_negative: false,
+                rest: text,
+            },
+        },
+    }
 }
 
 /// The value of a digit, where it is one.
 pub(crate) fn digit(byte: u8, is_hex: bool) -> Option<u64>
-    ensures { IfSome result (λ d. d < 16) }
+    ensures value { result ≡ digit_in is_hex byte }
+    ensures below { IfSome result (λ d. d < 16) }
 {
     let digit = hex_digit(byte)?;
     if digit < 10 || is_hex {
@@ -36,13 +53,17 @@ pub(crate) fn digit(byte: u8, is_hex: bool) -> Option<u64>
 }
 
 /// The number that digits make, where it has 64 bits.
-fn with_digit(value: Option<u64>, is_hex: bool, digit: u64) -> Option<u64> {
+fn with_digit(value: Option<u64>, is_hex: bool, digit: u64) -> Option<u64>
+    ensures { (n : ℕ) → value ≡ fits n → result ≡ fits (radix_of is_hex * n + digit) }
+{
     let radix = if is_hex { 16 } else { 10 };
     value?.checked_mul(radix)?.checked_add(digit)
 }
 
 /// The value of digits, with underscores between them.
-fn magnitude(digits: &[u8], is_hex: bool) -> Result<u64, TextFault> {
+fn magnitude(digits: &[u8], is_hex: bool) -> Result<u64, TextFault>
+    ensures { result ≡ sized (number_in is_hex digits.now) }
+{
     let mut value = Some(0);
     let mut after_digit = false;
     for byte in digits {
@@ -61,66 +82,114 @@ fn magnitude(digits: &[u8], is_hex: bool) -> Result<u64, TextFault> {
 }
 
 /// The value of an integer without a sign (text format, integers).
-pub(crate) fn natural(text: &str) -> Result<u64, TextFault> {
+pub(crate) fn natural(text: &str) -> Result<u64, TextFault>
+    ensures { result ≡ answer (natural text.now) (uN 64 text.now) }
+{
     match text.strip_prefix("0x") {
         Some(digits) => magnitude(digits.as_bytes(), true),
         None => magnitude(text.as_bytes(), false),
     }
 }
 
-/// An integer with or without a sign, in two's complement; `mask` has the bits that there are.
-fn wrapped(text: &str, mask: u64) -> Result<u64, TextFault> {
+/// The bits of a number with its sign, of which there are twice `half`.
+fn bits(value: u64, is_negative: bool, half: u64) -> Option<u64>
+    requires some { 0 < half }
+    requires most { half ≤ 2 ^ 63 }
+    ensures { result ≡ bits_in half is_negative value }
+{
+    if !is_negative {
+        if value / 2 < half {
+            return Some(value);
+        }
+        return None;
+    }
+    if value == 0 {
+        return Some(0);
+    }
+    if value <= half {
+        return Some(half - value + half);
+    }
+    None
+}
+
+/// An integer with or without a sign, in two's complement; there are twice `half` of them.
+fn wrapped(text: &str, half: u64) -> Result<u64, TextFault>
+    requires some { 0 < half }
+    requires most { half ≤ 2 ^ 63 }
+    ensures value { result ≡ wrapped half (sign text.now).0 (natural (sign text.now).1) }
+    ensures below { IfOk result (λ b. b < 2 * half) }
+{
     let Signed { is_negative, rest } = cut_sign(text);
-    let value = natural(rest)?;
-    match is_negative {
-        false if value <= mask => Ok(value),
-        true if value <= mask / 2 + 1 => Ok(value.wrapping_neg() & mask),
-        _ => Err(TextFault::Range),
+    match natural(rest) {
+        Ok(value) => bits(value, is_negative, half).ok_or(TextFault::Range),
+        Err(fault) => Err(fault),
     }
 }
 
 /// An integer of 8 bits (text format, integers). It takes no memory. The error is
 /// [`TextFault::Number`] for what is no such number, and [`TextFault::Range`] for one that has more bits.
-pub fn integer8(text: &str) -> Result<i8, TextFault> {
-    let bits = wrapped(text, 0xff)?;
-    Ok(((bits & 0xff) as u8).cast_signed())
+pub fn integer8(text: &str) -> Result<i8, TextFault>
+    ensures { result ≡ answer (signed text.now) (option_map (signed_of 8) (integer 8 text.now)) }
+{
+    match wrapped(text, 0x80) {
+        Ok(bits) => Ok((bits as u8).cast_signed()),
+        Err(fault) => Err(fault),
+    }
 }
 
 /// An integer of 16 bits (text format, integers). It takes no memory. The error is
 /// [`TextFault::Number`] for what is no such number, and [`TextFault::Range`] for one that has more bits.
-pub fn integer16(text: &str) -> Result<i16, TextFault> {
-    let bits = wrapped(text, 0xffff)?;
-    Ok(((bits & 0xffff) as u16).cast_signed())
+pub fn integer16(text: &str) -> Result<i16, TextFault>
+    ensures { result ≡ answer (signed text.now) (option_map (signed_of 16) (integer 16 text.now)) }
+{
+    match wrapped(text, 0x8000) {
+        Ok(bits) => Ok((bits as u16).cast_signed()),
+        Err(fault) => Err(fault),
+    }
 }
 
 /// An integer of 32 bits (text format, integers). It takes no memory. The error is
 /// [`TextFault::Number`] for what is no such number, and [`TextFault::Range`] for one that has more bits.
-pub fn integer32(text: &str) -> Result<i32, TextFault> {
-    let bits = wrapped(text, 0xffff_ffff)?;
-    Ok(((bits & 0xffff_ffff) as u32).cast_signed())
+pub fn integer32(text: &str) -> Result<i32, TextFault>
+    ensures { result ≡ answer (signed text.now) (option_map (signed_of 32) (integer 32 text.now)) }
+{
+    match wrapped(text, 0x8000_0000) {
+        Ok(bits) => Ok((bits as u32).cast_signed()),
+        Err(fault) => Err(fault),
+    }
 }
 
 /// An integer of 64 bits (text format, integers). It takes no memory. The error is
 /// [`TextFault::Number`] for what is no such number, and [`TextFault::Range`] for one that has more bits.
-pub fn integer64(text: &str) -> Result<i64, TextFault> {
-    let bits = wrapped(text, u64::MAX)?;
-    Ok(bits.cast_signed())
+pub fn integer64(text: &str) -> Result<i64, TextFault>
+    ensures { result ≡ answer (signed text.now) (option_map (signed_of 64) (integer 64 text.now)) }
+{
+    match wrapped(text, 0x8000_0000_0000_0000) {
+        Ok(bits) => Ok(bits.cast_signed()),
+        Err(fault) => Err(fault),
+    }
 }
 
 /// An integer of 64 bits that has no sign (text format, integers). It takes no memory. The error is
 /// [`TextFault::Number`] for what is no such number, and [`TextFault::Range`] for one that has more bits.
-pub fn unsigned64(text: &str) -> Result<u64, TextFault> {
+pub fn unsigned64(text: &str) -> Result<u64, TextFault>
+    ensures { result ≡ answer (natural text.now) (uN 64 text.now) }
+{
     natural(text)
 }
 
 /// An integer of 32 bits that has no sign (text format, integers). It takes no memory. The error is
 /// [`TextFault::Number`] for what is no such number, and [`TextFault::Range`] for one that has more bits.
-pub fn unsigned32(text: &str) -> Result<u32, TextFault> {
+pub fn unsigned32(text: &str) -> Result<u32, TextFault>
+    ensures { result ≡ answer (natural text.now) (uN 32 text.now) }
+{
     u32::try_from(natural(text)?).map_err(|_| TextFault::Range)
 }
 
 /// An integer of 8 bits that has no sign (text format, integers). It takes no memory. The error is
 /// [`TextFault::Number`] for what is no such number, and [`TextFault::Range`] for one that has more bits.
-pub fn unsigned8(text: &str) -> Result<u8, TextFault> {
+pub fn unsigned8(text: &str) -> Result<u8, TextFault>
+    ensures { result ≡ answer (natural text.now) (uN 8 text.now) }
+{
     u8::try_from(natural(text)?).map_err(|_| TextFault::Range)
 }

@@ -1,6 +1,7 @@
 //! Strings of a text, without their escapes.
 
-ghost use Rattle.std.specs.Prelude.{◌<◌, IfSome};
+ghost use Rattle.std.specs.Prelude.{◌≡◌, ◌<◌, IfSome};
+ghost use Rattle.wat_grammar.specs.Characters.{hexdigit};
 
 use crate::faults::TextFault;
 use bumpalo::Bump;
@@ -84,7 +85,8 @@ enum Escape {
 
 /// The value of a hexadecimal digit.
 pub(crate) fn hex_digit(byte: u8) -> Option<u8>
-    ensures { IfSome result (λ d. d < 16) }
+    ensures value { result ≡ hexdigit byte }
+    ensures below { IfSome result (λ d. d < 16) }
 {
     match byte {
         b'0'..=b'9' => Some(byte - b'0'),
