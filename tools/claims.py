@@ -1,7 +1,7 @@
 """Checks what the docs claim of the repository in figures and in relations, for `tools/check-docs`.
 
 A claim is a pattern in the text of a page, and what it must say. For example, "which has 571 rows" must give the number of rows of
-the opcode table, "`wast_labels` (on `wast_base` alone)" must agree with crates.txt, and "E1 to E13" with the enum `Fault`. A page is
+the opcode table, "`wast_resolve_labels` (on `wast_base` alone)" must agree with crates.txt, and "E1 to E13" with the enum `Fault`. A page is
 read as one text, so that a claim may go over the end of a line; shell blocks and other code are part of it.
 """
 

@@ -1,8 +1,8 @@
 r"""Texts at the edges of the text format, and their answers, for `tools/texts`.
 
-A line of EDGES is a text, a tab, and the answer that crates/each_text has to print. A `^` in the
+A line of EDGES is a text, a tab, and the answer that crates/wat_golden has to print. A `^` in the
 text is the offset that the answer names with `^`, and is not a part of the text. A line that begins
-with a backslash is a text with escapes, as crates/each_text reads them: `\n`, `\r`, `\t`, `\\`, and
+with a backslash is a text with escapes, as crates/wat_golden reads them: `\n`, `\r`, `\t`, `\\`, and
 two hexadecimal digits for a byte. Empty lines and lines that begin with `#` are no texts.
 
 The bytes are those of the Rust crate `wast` 239 with its `wasm-encoder`, except where the comment of
@@ -435,7 +435,7 @@ def size(stored):
 
 
 def lines():
-    """All texts, as crates/each_text stores them, with their answers."""
+    """All texts, as crates/wat_golden stores them, with their answers."""
     for line in EDGES.split("\n"):
         if line and not line.startswith("#"):
             text, answer = line.split("\t")

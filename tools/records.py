@@ -1,7 +1,7 @@
 """Reads the records of docs/decisions, and writes what is generated there, for `tools/check-docs`.
 
 Two texts are generated: docs/decisions/README.md, which lists the records by subject, and the table of lemmas between two comments in
-one record. For example, a record 017 with the title "Only `wast_nodes` drops trees" is listed under "The tree", which has 010 to 019.
+one record. For example, a record 017 with the title "Only `wast_tree_nodes` drops trees" is listed under "The tree", which has 010 to 019.
 """
 
 import re

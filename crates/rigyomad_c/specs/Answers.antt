@@ -24,7 +24,7 @@ code_of status.Memory = 4
 code_of status.Unknown = 5
 
 -- the number of a status that answers so
-pub record Answers (is_answered : Status → Type 0) (number : ℕ) : Type 0 where
+pub record Returns (is_answered : Status → Type 0) (number : ℕ) : Type 0 where
   pub status : Status
   pub numbered : number ≡ code_of status
   pub answered : is_answered status
@@ -61,9 +61,9 @@ abbrev pub IsNoText : List ℕ → Type 0
 IsNoText text = IsUtf8 text → ⊥
 
 -- Encoding into a slice.
-abbrev pub Encodes : List ℕ → ℕ → List ℕ → List ℕ → Status → Type 0
-Encodes text size old new status.Utf8 = IsNoText text × (size ≡ 0) × (new ≡ old)
-Encodes text size old new s = EncodesRead text size old new s
+abbrev pub EncodeReturns : List ℕ → ℕ → List ℕ → List ℕ → Status → Type 0
+EncodeReturns text size old new status.Utf8 = IsNoText text × (size ≡ 0) × (new ≡ old)
+EncodeReturns text size old new s = EncodesRead text size old new s
 
 -- What looking a name up answers: the number that it denotes; else the number stays.
 abbrev pub TellsNumber : Result (Option ℕ) Refused → ℕ → ℕ → Status → Type 0
@@ -89,10 +89,10 @@ abbrev pub IsNoSpace : ℕ → Type 0
 IsNoSpace rank = 8 ≤ rank
 
 -- Looking a name up.
-abbrev pub Denotes : List ℕ → ℕ → List ℕ → ℕ → ℕ → Status → Type 0
-Denotes text rank name old new status.Utf8 = (IsNoText text ⊎ IsNoText name) × (new ≡ old)
-Denotes text rank name old new status.Unknown = (IsNoSpace rank × (new ≡ old)) ⊎ DenotesAt text rank name old new status.Unknown
-Denotes text rank name old new s = DenotesAt text rank name old new s
+abbrev pub ResolveReturns : List ℕ → ℕ → List ℕ → ℕ → ℕ → Status → Type 0
+ResolveReturns text rank name old new status.Utf8 = (IsNoText text ⊎ IsNoText name) × (new ≡ old)
+ResolveReturns text rank name old new status.Unknown = (IsNoSpace rank × (new ≡ old)) ⊎ DenotesAt text rank name old new status.Unknown
+ResolveReturns text rank name old new s = DenotesAt text rank name old new s
 
 -- a place of a text, with its line and column; where there is none, all are 0
 abbrev pub IsPlaced : List ℕ → Option Span → Diagnosis → Type 0

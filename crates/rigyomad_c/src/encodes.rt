@@ -1,7 +1,7 @@
 //! Texts become bytes.
 
 ghost use Rattle.std.specs.Prelude.{◌≡◌, ◌<◌, ◌≤◌, ◌++◌, length, drop, IsTrue, IsFalse};
-ghost use Rattle.rigyomad_c.specs.Answers.{Encodes, EncodesRead, Diagnoses, DiagnosesRead, nothing_wrong};
+ghost use Rattle.rigyomad_c.specs.Answers.{EncodeReturns, EncodesRead, Diagnoses, DiagnosesRead, nothing_wrong};
 
 use crate::diagnosis::Diagnosis;
 use crate::statuses::Status;
@@ -51,7 +51,7 @@ fn encode_text_into(alloc: Global, text: &str, out: &mut [u8], size: &mut usize)
 
 /// Puts the bytes of the module of a text into a slice, where they fit, and tells how many they are. Else the slice stays.
 pub(crate) fn encode_into(alloc: Global, text: &[u8], out: &mut [u8], size: &mut usize) -> Status
-    ensures { Encodes text.now size.new out.old out.new result }
+    ensures { EncodeReturns text.now size.new out.old out.new result }
 {
     *size = 0;
     match str::from_utf8(text) {

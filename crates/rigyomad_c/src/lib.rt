@@ -6,7 +6,7 @@
 #![tactic(auto)]
 
 ghost use Rattle.std.specs.Prelude.{◌≡◌};
-ghost use Rattle.rigyomad_c.specs.Answers.{Answers, Encodes, Diagnoses, Denotes};
+ghost use Rattle.rigyomad_c.specs.Answers.{Returns, EncodeReturns, Diagnoses, ResolveReturns};
 ghost use Rattle.rigyomad_c.specs.Lists.{Lists};
 
 mod diagnosis;
@@ -43,7 +43,7 @@ pub extern "C" fn rigyomad_c_encode(
     out: &mut [u8],
     size: &mut usize,
 ) -> u32
-    ensures { Answers (Encodes text.now size.new out.old out.new) result }
+    ensures { Returns (EncodeReturns text.now size.new out.old out.new) result }
 {
     encode_into(alloc, text, out, size).code()
 }
@@ -56,7 +56,7 @@ pub extern "C" fn rigyomad_c_fault(
     message: &mut [u8],
     diagnosis: &mut Diagnosis,
 ) -> u32
-    ensures { Answers (Diagnoses text.now diagnosis.new) result }
+    ensures { Returns (Diagnoses text.now diagnosis.new) result }
 {
     diagnose(alloc, text, message, diagnosis).code()
 }
@@ -70,7 +70,7 @@ pub extern "C" fn rigyomad_c_resolve(
     name: &[u8],
     number: &mut u32,
 ) -> u32
-    ensures { Answers (Denotes text.now space name.now number.old number.new) result }
+    ensures { Returns (ResolveReturns text.now space name.now number.old number.new) result }
 {
     look_up(alloc, text, space, name, number).code()
 }
@@ -85,7 +85,7 @@ pub extern "C" fn rigyomad_c_names(
     bytes: &mut [u8],
     room: &mut Room,
 ) -> u32
-    ensures { Answers (Lists text.now room.new names.old names.new bytes.old bytes.new) result }
+    ensures { Returns (Lists text.now room.new names.old names.new bytes.old bytes.new) result }
 {
     list_names(alloc, text, names, bytes, room).code()
 }

@@ -2,7 +2,7 @@
 
 ghost use Rattle.std.specs.Prelude.{◌≡◌, IfSome, IsTrue, is_none};
 ghost use Rattle.wast_base.specs.Spaces.{rank_of};
-ghost use Rattle.rigyomad_c.specs.Answers.{Denotes, DenotesRead, IsNoSpace};
+ghost use Rattle.rigyomad_c.specs.Answers.{ResolveReturns, DenotesRead, IsNoSpace};
 
 use crate::statuses::Status;
 use std::alloc::Global;
@@ -52,7 +52,7 @@ pub(crate) fn look_up(
     name: &[u8],
     number: &mut u32,
 ) -> Status
-    ensures { Denotes text.now space name.now number.old number.new result }
+    ensures { ResolveReturns text.now space name.now number.old number.new result }
 {
     let Some(space) = space_at(space) else {
         return Status::Unknown;

@@ -3,12 +3,12 @@ use Rattle.std.proofs.Common.{◌≡◌, ◌≤◌, ◌+◌, ℕ, zero, suc, eqb
 use Rattle.std.specs.Prelude.{nat_le}
 use Rattle.std.proofs.lemmas.Bool.{eqb-true, leb-true, cases_lt}
 use Rattle.std.proofs.lemmas.List.{map-append, take_at}
-use Rattle.wast_base.specs.Blocks.{Turn, Opens, Closes, Stays, openers, closers, never_closed, stays_open, is_balanced}
+use Rattle.wast_base.specs.Blocks.{BlockEffect, Opens, Closes, Stays, openers, closers, never_closed, stays_open, is_balanced}
 use Rattle.wasm_ops.specs.Table.{Instr}
 use Rattle.wasm_ops.specs.Turns.{turn_of, are_balanced}
 use Rattle.wasm_ops.proofs.Everywhere.{both_true}
 
-never_at : (ts : List Turn) (n m : ℕ) → never_closed ts n ≡ true → m ≤ n → closers (take m ts) ≤ openers (take m ts)
+never_at : (ts : List BlockEffect) (n m : ℕ) → never_closed ts n ≡ true → m ≤ n → closers (take m ts) ≤ openers (take m ts)
 never_at ts n zero h le = omega arith
 never_at ts zero (suc m) h le = absurd (omega (arith, le))
 never_at ts (suc n) (suc m) h le =
@@ -21,24 +21,24 @@ never_at ts (suc n) (suc m) h le =
     ]
 
 -- a front has at most as many closers as openers
-front_open : (a b : List Turn) → stays_open (a ++ b) ≡ true → closers a ≤ openers a
+front_open : (a b : List BlockEffect) → stays_open (a ++ b) ≡ true → closers a ≤ openers a
 unfolding stays_open
 front_open a b h =
     subst (λ l. closers l ≤ openers l) (take_at a b (length a) refl) (never_at (a ++ b) (length (a ++ b)) (length a) h (omega (arith, length-append a b)))
 
-closers_behind : (ts us : List Turn) → closers (ts ++ us) ≡ closers ts + closers us
+closers_behind : (ts us : List BlockEffect) → closers (ts ++ us) ≡ closers ts + closers us
 closers_behind [] us = omega arith
 closers_behind (Opens l ∷ ts) us = closers_behind ts us
 closers_behind (Closes ∷ ts) us = omega (arith, closers_behind ts us)
 closers_behind (Stays ∷ ts) us = closers_behind ts us
 
-openers_behind : (ts us : List Turn) → openers (ts ++ us) ≡ openers ts + openers us
+openers_behind : (ts us : List BlockEffect) → openers (ts ++ us) ≡ openers ts + openers us
 openers_behind [] us = omega arith
 openers_behind (Opens l ∷ ts) us = omega (arith, openers_behind ts us)
 openers_behind (Closes ∷ ts) us = openers_behind ts us
 openers_behind (Stays ∷ ts) us = openers_behind ts us
 
-closed_once_more : (a b : List Turn) → is_balanced a ≡ true → is_balanced (a ++ (Closes ∷ b)) ≡ true → ⊥
+closed_once_more : (a b : List BlockEffect) → is_balanced a ≡ true → is_balanced (a ++ (Closes ∷ b)) ≡ true → ⊥
 closed_once_more a b p q =
     let one = both_true (stays_open a) (eqb (closers a) (openers a)) p in
     let two = both_true (stays_open (a ++ (Closes ∷ b))) (eqb (closers (a ++ (Closes ∷ b))) (openers (a ++ (Closes ∷ b)))) q in

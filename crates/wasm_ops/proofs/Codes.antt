@@ -8,7 +8,7 @@ use Rattle.std.specs.List.{flat_map, list_all}
 use Rattle.wasm_ops.specs.Codes.{IsCode, IsWhole}
 use Rattle.wasm_ops.specs.Covered.{Spellable}
 use Rattle.wasm_ops.specs.Leb128.{unsigned, signed}
-use Rattle.wasm_ops.specs.Spelling.{Any, InRangeU32, vec, InRangeVec, sized, InRangeSized, name, InRangeName}
+use Rattle.wasm_ops.specs.Spelling.{Any, InRangeU32, vec, InRangeVec, length_prefixed, InRangeSized, name, InRangeName}
 use Rattle.wasm_ops.proofs.Everywhere.{all_both, all_tested}
 use Rattle.wasm_ops.proofs.Numbers.{unsigned_begins}
 use Rattle.wasm_ops.proofs.SignedNumbers.{signed_begins}
@@ -128,7 +128,7 @@ same_front (x ∷ a) (y ∷ b) r s l e =
     (cc, one.1)
 
 -- behind its length
-pub sized_code : {A : Type 0} {F : A → Type 0} {f : A → List ℕ} → IsWhole A F f → IsCode A (InRangeSized F f) (sized f)
+pub sized_code : {A : Type 0} {F : A → Type 0} {f : A → List ℕ} → IsWhole A F f → IsCode A (InRangeSized F f) (length_prefixed f)
 sized_code {f = f} c = record {
   begins = λ x y r s p q e.
       let one = unsigned_begins (length (f x)) (length (f y)) (f x ++ r) (f y ++ s) (sym (append_assoc (unsigned (length (f x))) (f x) r) ∙ e ∙ append_assoc (unsigned (length (f y))) (f y) s) in

@@ -1,6 +1,6 @@
 -- The bytes of numbers that have two.
 use Rattle.std.proofs.Common.{◌≡◌, ◌<◌, ◌≤◌, ◌+◌, ◌/◌, ◌%◌, ℕ, Bool, [], ◌∷◌, ap, ◌∙◌, arith}
-use Rattle.wasm_ops.specs.Leb128.{unsigned, turned, digits}
+use Rattle.wasm_ops.specs.Leb128.{unsigned, complement_if, digits}
 use Rattle.wasm_ops.proofs.Numbers.{unsigned-small, unsigned-large}
 use Rattle.wasm_ops.proofs.SignedNumbers.{digits-small, digits-large}
 
@@ -11,7 +11,7 @@ unsigned-two n large small =
     unsigned-large n large ∙ ap (λ bs. (128 + n % 128) ∷ bs) (unsigned-small (n / 128) last)
 
 -- -300 is 0xd4 0x7d
-pub digits-two : (negative : Bool) (n : ℕ) → 64 ≤ n → n < 8192 → digits negative n ≡ (128 + turned negative (n % 128)) ∷ turned negative (n / 128) ∷ []
+pub digits-two : (negative : Bool) (n : ℕ) → 64 ≤ n → n < 8192 → digits negative n ≡ (128 + complement_if negative (n % 128)) ∷ complement_if negative (n / 128) ∷ []
 digits-two negative n large small =
     let last : n / 128 < 64 = omega (arith, small) in
-    digits-large negative n large ∙ ap (λ bs. (128 + turned negative (n % 128)) ∷ bs) (digits-small negative (n / 128) last)
+    digits-large negative n large ∙ ap (λ bs. (128 + complement_if negative (n % 128)) ∷ bs) (digits-small negative (n / 128) last)

@@ -5,29 +5,29 @@ use Rattle.std.proofs.Math.Nat.{pow-suc}
 use Rattle.std.proofs.lemmas.Bool.{cases_lt, lt-ltb, le-ltb, ltb-true}
 use Rattle.std.specs.Int.{is_negative}
 use Rattle.std.specs.Prelude.{unsigned_abs}
-use Rattle.wasm_ops.specs.Leb128.{value, IsChain, HasSigned, SpellsSigned, turned, signed_in, signed, digits}
+use Rattle.wasm_ops.specs.Leb128.{value, IsChain, HasSigned, SpellsSigned, complement_if, signed_in, signed, digits}
 use Rattle.wasm_ops.proofs.Chains.{chain_begins, same_chain}
 
 abbrev int_of : Bool → ℕ → ℤ
 int_of false n = pos n
 int_of true n = negsuc n
 
-signed_in-small : (b : Bool) (k n : ℕ) → n < 64 → signed_in b k n ≡ turned b n ∷ []
+signed_in-small : (b : Bool) (k n : ℕ) → n < 64 → signed_in b k n ≡ complement_if b n ∷ []
 unfolding signed_in
 signed_in-small b zero n lt = refl
 signed_in-small b (suc k) n lt = rw (lt-ltb n 64 lt, signed_in) refl
 
-signed_in-large : (b : Bool) (k n : ℕ) → 64 ≤ n → signed_in b (suc k) n ≡ (128 + turned b (n % 128)) ∷ signed_in b k (n / 128)
+signed_in-large : (b : Bool) (k n : ℕ) → 64 ≤ n → signed_in b (suc k) n ≡ (128 + complement_if b (n % 128)) ∷ signed_in b k (n / 128)
 unfolding signed_in
 signed_in-large b k n le = rw (le-ltb n 64 le, signed_in) refl
 
 -- one more byte in front
-signed-cons : (b : Bool) (n : ℕ) (bs : List ℕ) → IsChain bs → HasSigned bs (int_of b (n / 128)) → IsChain ((128 + turned b (n % 128)) ∷ bs) × HasSigned ((128 + turned b (n % 128)) ∷ bs) (int_of b n)
+signed-cons : (b : Bool) (n : ℕ) (bs : List ℕ) → IsChain bs → HasSigned bs (int_of b (n / 128)) → IsChain ((128 + complement_if b (n % 128)) ∷ bs) × HasSigned ((128 + complement_if b (n % 128)) ∷ bs) (int_of b n)
 signed-cons b n [] h s = absurd h
 signed-cons false n (c ∷ cs) h s = ((omega arith, omega arith, h), (s.0, omega (arith, s.1)))
 signed-cons true n (c ∷ cs) h s = ((omega arith, omega arith, h), (s.0, rw (pow-suc 128 (length (c ∷ cs))) (omega (arith, s.1))))
 
-signed-one : (b : Bool) (n : ℕ) → n < 64 → IsChain (turned b n ∷ []) × HasSigned (turned b n ∷ []) (int_of b n)
+signed-one : (b : Bool) (n : ℕ) → n < 64 → IsChain (complement_if b n ∷ []) × HasSigned (complement_if b n ∷ []) (int_of b n)
 signed-one false n lt = (omega arith, (lt, omega arith))
 signed-one true n lt = (omega arith, (omega arith, omega arith))
 
@@ -95,17 +95,17 @@ signed_in-fuel b (suc k) zero n le lf = signed_in-small b (suc k) n (omega arith
 signed_in-fuel b (suc k) (suc j) n le lf =
     elim (cases_lt n 64) [
       | inl lt ↦ signed_in-small b (suc k) n lt ∙ sym (signed_in-small b (suc j) n lt)
-      | inr ge ↦ signed_in-large b k n ge ∙ ap (λ bs. (128 + turned b (n % 128)) ∷ bs) (signed_in-fuel b k j (n / 128) (omega arith) (omega arith)) ∙ sym (signed_in-large b j n ge)
+      | inr ge ↦ signed_in-large b k n ge ∙ ap (λ bs. (128 + complement_if b (n % 128)) ∷ bs) (signed_in-fuel b k j (n / 128) (omega arith) (omega arith)) ∙ sym (signed_in-large b j n ge)
     ]
 
-pub digits-small : (b : Bool) (n : ℕ) → n < 64 → digits b n ≡ turned b n ∷ []
+pub digits-small : (b : Bool) (n : ℕ) → n < 64 → digits b n ≡ complement_if b n ∷ []
 unfolding digits
 digits-small b n lt = signed_in-small b n n lt
 
-pub digits-large : (b : Bool) (n : ℕ) → 64 ≤ n → digits b n ≡ (128 + turned b (n % 128)) ∷ digits b (n / 128)
+pub digits-large : (b : Bool) (n : ℕ) → 64 ≤ n → digits b n ≡ (128 + complement_if b (n % 128)) ∷ digits b (n / 128)
 unfolding digits
 digits-large b zero ge = absurd (omega arith)
-digits-large b (suc k) ge = signed_in-large b k (suc k) ge ∙ ap (λ bs. (128 + turned b (suc k % 128)) ∷ bs) (signed_in-fuel b k (suc k / 128) (suc k / 128) (omega arith) (omega arith))
+digits-large b (suc k) ge = signed_in-large b k (suc k) ge ∙ ap (λ bs. (128 + complement_if b (suc k % 128)) ∷ bs) (signed_in-fuel b k (suc k / 128) (suc k / 128) (omega arith) (omega arith))
 
 pub digits_fit : (b : Bool) (k n : ℕ) → n < 64 * 128 ^ k → length (digits b n) ≤ suc k
 digits_fit b zero n lt = rw (digits-small b n (omega arith)) (omega arith)

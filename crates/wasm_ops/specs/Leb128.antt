@@ -44,14 +44,14 @@ unfoldable pub unsigned : ℕ → List ℕ
 unsigned n = unsigned_in n n
 
 -- seven bits of a number, or of its complement
-abbrev pub turned : Bool → ℕ → ℕ
-turned false d = d
-turned true d = 127 - d
+abbrev pub complement_if : Bool → ℕ → ℕ
+complement_if false d = d
+complement_if true d = 127 - d
 
 -- the signed spelling of n, or of its complement, in at most k + 1 bytes
 unfoldable pub signed_in : Bool → ℕ → ℕ → List ℕ
-signed_in negative zero n = turned negative n ∷ []
-signed_in negative (suc k) n = elim (nat_lt n 64) [ true ↦ turned negative n ∷ [] | false ↦ (128 + turned negative (n % 128)) ∷ signed_in negative k (n / 128) ]
+signed_in negative zero n = complement_if negative n ∷ []
+signed_in negative (suc k) n = elim (nat_lt n 64) [ true ↦ complement_if negative n ∷ [] | false ↦ (128 + complement_if negative (n % 128)) ∷ signed_in negative k (n / 128) ]
 
 unfoldable pub digits : Bool → ℕ → List ℕ
 digits negative n = signed_in negative n n

@@ -44,8 +44,8 @@ abbrev pub InRangeVec : {A : Type 0} → (A → Type 0) → List A → Type 0
 InRangeVec InRange xs = InRangeU32 (length xs) × All InRange xs
 
 -- a length, and so many bytes
-abbrev pub sized : {A : Type 0} → (A → List ℕ) → A → List ℕ
-sized spell x = unsigned (length (spell x)) ++ spell x
+abbrev pub length_prefixed : {A : Type 0} → (A → List ℕ) → A → List ℕ
+length_prefixed spell x = unsigned (length (spell x)) ++ spell x
 
 -- the length is in range, and what it is of
 abbrev pub InRangeSized : {A : Type 0} → (A → Type 0) → (A → List ℕ) → A → Type 0

@@ -6,7 +6,7 @@ ghost use Rattle.std.specs.Option.{option_to_list};
 ghost use Rattle.wasm_ops.specs.Leb128.{unsigned};
 ghost use Rattle.wasm_ops.specs.Sinks.{Writes, Puts};
 ghost use Rattle.wasm_ops.specs.declared.sink.Refusal.TheVariants as refusal;
-ghost use Rattle.wasm_ops.specs.Spelling.{Any, InRangeU32, InRangeU64, vec, InRangeVec, sized, InRangeSized, name, InRangeName};
+ghost use Rattle.wasm_ops.specs.Spelling.{Any, InRangeU32, InRangeU64, vec, InRangeVec, length_prefixed, InRangeSized, name, InRangeName};
 
 use crate::sink::{Length, Refusal, Sink};
 use wast_base::Error;
@@ -102,8 +102,8 @@ impl<'a, T: Encode> Encode for &'a T {
     }
 }
 
-/// A way to spell values of a type, as items of a list: by their own spelling ([`Itself`]), or by another.
-pub trait Spell<T> {
+/// A way to spell values of a type, as items of a list: by their own spelling ([`AsItself`]), or by another.
+pub trait EncodeWith<T> {
     /// The bytes of an item.
     ghost spelling: { Self → T → List ℕ };
 
@@ -123,9 +123,9 @@ pub trait Spell<T> {
 
 /// The way to spell each item by its own spelling.
 #[derive(Clone, Copy, Debug)]
-pub struct Itself;
+pub struct AsItself;
 
-impl<T: Encode> Spell<T> for Itself {
+impl<T: Encode> EncodeWith<T> for AsItself {
     ghost spelling = { λ _ x. T.spelling x };
 
     ghost in_range = { λ _ x. T.in_range x };
@@ -137,11 +137,11 @@ impl<T: Encode> Spell<T> for Itself {
     }
 }
 
-/// `By(item, way)`: one item, spelled in that way.
+/// `EncodedBy(item, way)`: one item, spelled in that way.
 #[derive(Clone, Copy)]
-pub struct By<'a, T, W>(pub &'a T, pub W);
+pub struct EncodedBy<'a, T, W>(pub &'a T, pub W);
 
-impl<'a, T, W: Spell<T>> Encode for By<'a, T, W> {
+impl<'a, T, W: EncodeWith<T>> Encode for EncodedBy<'a, T, W> {
     ghost spelling = { λ s. W.spelling s.1 s.0.now };
 
     ghost in_range = { λ s. W.in_range s.1 s.0.now };
@@ -174,7 +174,7 @@ impl<T: Encode> Encode for Option<T> {
 #[derive(Clone, Copy)]
 pub struct Each<'a, T, W>(pub &'a [T], pub W);
 
-impl<'a, T, W: Spell<T>> Encode for Each<'a, T, W> {
+impl<'a, T, W: EncodeWith<T>> Encode for Each<'a, T, W> {
     ghost spelling = { λ s. flat_map (W.spelling s.1) s.0.now };
 
     ghost in_range = { λ s. All (W.in_range s.1) s.0.now };
@@ -199,7 +199,7 @@ impl<'a, T, W: Spell<T>> Encode for Each<'a, T, W> {
 #[derive(Clone, Copy)]
 pub struct Counted<'a, T, W>(pub &'a [T], pub W);
 
-impl<'a, T, W: Spell<T> + Copy> Encode for Counted<'a, T, W> {
+impl<'a, T, W: EncodeWith<T> + Copy> Encode for Counted<'a, T, W> {
     ghost spelling = { λ s. vec (W.spelling s.1) s.0.now };
 
     ghost in_range = { λ s. InRangeVec (W.in_range s.1) s.0.now };
@@ -257,7 +257,7 @@ fn put_sized<T: Encode, S: Sink>(out: &mut S, size: u64, value: &T) -> Result<()
     requires ready { IsTrue (T.is_ready value.now) }
     requires range { T.in_range value.now }
     requires size { size ≡ length (T.spelling value.now) }
-    ensures { Writes S.rules (Unit {0}) out.old out.new (sized T.spelling value.now) result }
+    ensures { Writes S.rules (Unit {0}) out.old out.new (length_prefixed T.spelling value.now) result }
 {
     let start = out.size();
     out.push_number(size)?;
@@ -276,14 +276,14 @@ fn put_sized<T: Encode, S: Sink>(out: &mut S, size: u64, value: &T) -> Result<()
 /// times.
 fn put_counted<T: Encode, S: Sink>(out: &mut S, value: &T) -> Result<(), Refusal>
     requires { IsTrue (T.is_ready value.now) }
-    ensures { Writes S.rules (InRangeSized T.in_range T.spelling value.now) out.old out.new (sized T.spelling value.now) result }
+    ensures { Writes S.rules (InRangeSized T.in_range T.spelling value.now) out.old out.new (length_prefixed T.spelling value.now) result }
 {
     let size = length_of(value)?;
     put_sized(out, u64::from(size), value)
 }
 
 impl<T: Encode> Encode for WithLength<T> {
-    ghost spelling = { λ s. sized T.spelling s.0 };
+    ghost spelling = { λ s. length_prefixed T.spelling s.0 };
 
     ghost in_range = { λ s. InRangeSized T.in_range T.spelling s.0 };
 

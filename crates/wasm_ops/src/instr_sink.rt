@@ -20,7 +20,7 @@ ghost use Rattle.wasm_ops.specs.VectorInstrs.{lanes_instr, lane_instr, mem_lane_
 use crate::blocks::{BlockType, Catch};
 use crate::casts::{BrCastInstr, BrCastOp, CastInstr, CastOp, Fence};
 use crate::control::{BlockInstr, BlockOp, BrTable, Delimiter, TryTable};
-use crate::encode::{Counted, Encode, Itself};
+use crate::encode::{AsItself, Counted, Encode};
 use crate::instrs::{
     F32Const, F64Const, I32Const, I64Const, IndexInstr, IndexPair, MemInstr, RefNull, Select,
 };
@@ -45,7 +45,7 @@ impl<'a> Encode for TypedSelect<'a> {
     fn encode<S: Sink>(&self, out: &mut S) -> Result<(), Refusal> {
         match self.0 {
             None => Select::<u8>(None).encode(out),
-            Some(list) => Select(Some(Counted(list, Itself))).encode(out),
+            Some(list) => Select(Some(Counted(list, AsItself))).encode(out),
         }
     }
 }
@@ -63,7 +63,7 @@ impl<'a> Encode for LabelTable<'a> {
 
     fn encode<S: Sink>(&self, out: &mut S) -> Result<(), Refusal> {
         BrTable {
-            labels: Counted(self.0, Itself),
+            labels: Counted(self.0, AsItself),
             default: self.1,
         }
         .encode(out)
@@ -84,7 +84,7 @@ impl<'a> Encode for CatchTable<'a> {
     fn encode<S: Sink>(&self, out: &mut S) -> Result<(), Refusal> {
         TryTable {
             ty: self.0,
-            catches: Counted(self.1, Itself),
+            catches: Counted(self.1, AsItself),
         }
         .encode(out)
     }

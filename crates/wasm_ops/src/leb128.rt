@@ -1,7 +1,7 @@
 //! Numbers as bytes: LEB128, unsigned and signed.
 
 ghost use Rattle.std.specs.Prelude.{◌≡◌, true, ◌≤◌, ◌<◌, ◌+◌, ◌^◌, ◌≤ℤ◌, pos, negsuc, take, length, vec_len, vec_capacity};
-ghost use Rattle.wasm_ops.specs.Leb128.{unsigned, signed, digits, turned};
+ghost use Rattle.wasm_ops.specs.Leb128.{unsigned, signed, digits, complement_if};
 ghost use Rattle.wasm_ops.specs.SinkLaws.{with_number};
 ghost use Rattle.wasm_ops.specs.Sinks.{Writes, Puts};
 ghost use Rattle.wasm_ops.specs.Spelling.{InRangeS64};
@@ -100,7 +100,7 @@ pub fn write_u32<'e, S: Sink>(out: &mut S, n: u32) -> Result<(), Error<'e>>
 #[inline(always)]
 pub(crate) fn turn(negative: bool, digit: u8) -> u8
     requires { digit < 128 }
-    ensures { result ≡ turned negative digit }
+    ensures { result ≡ complement_if negative digit }
 {
     if negative { 127 - digit } else { digit }
 }

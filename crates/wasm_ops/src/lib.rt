@@ -25,7 +25,8 @@ pub use casts::{BrCastInstr, BrCastOp, CastInstr, CastOp, Fence};
 pub use const_exprs::ConstExpr;
 pub use control::{BlockInstr, BlockOp, BrTable, Delimiter, TryTable};
 pub use encode::{
-    By, Counted, Each, Encode, Itself, Name, Raw, Spell, WithLength, length_of, write_name,
+    AsItself, Counted, Each, Encode, EncodeWith, EncodedBy, Name, Raw, WithLength, length_of,
+    write_name,
 };
 pub use entities::{EntityType, GlobalType, MemoryType, TableType, TagType};
 pub use instr_sink::InstructionSink;

@@ -5,7 +5,7 @@ ghost use Rattle.std.specs.List.{list_all};
 ghost use Rattle.wasm_ops.specs.Covered.{is_covered_val_type, is_covered_storage_type, is_covered_field_type, is_covered_func_type, is_covered_struct_type, is_covered_array_type, is_covered_composite_inner_type, is_covered_composite_type, is_covered_sub_type};
 ghost use Rattle.wasm_ops.specs.Spelling.{Any, val_type, InRangeValType, storage_type, InRangeStorageType, field_type, InRangeFieldType, export_kind, func_type, InRangeFuncType, struct_type, InRangeStructType, array_type, InRangeArrayType, composite_inner_type, InRangeCompositeInnerType, composite_type, InRangeCompositeType, sub_type, InRangeSubType};
 
-use crate::encode::{Counted, Encode, Itself};
+use crate::encode::{AsItself, Counted, Encode};
 use crate::ref_types::RefType;
 use crate::sink::{Refusal, Sink};
 use wast_base::Seq;
@@ -221,8 +221,8 @@ impl Encode for FuncType {
     ghost is_ready = { is_covered_func_type };
 
     fn encode<S: Sink>(&self, out: &mut S) -> Result<(), Refusal> {
-        let params = Counted(self.params.as_slice(), Itself);
-        let results = Counted(self.results.as_slice(), Itself);
+        let params = Counted(self.params.as_slice(), AsItself);
+        let results = Counted(self.results.as_slice(), AsItself);
         (0x60u8, (params, results)).encode(out)
     }
 }
@@ -254,7 +254,7 @@ impl Encode for StructType {
     ghost is_ready = { is_covered_struct_type };
 
     fn encode<S: Sink>(&self, out: &mut S) -> Result<(), Refusal> {
-        (0x5fu8, Counted(self.fields.as_slice(), Itself)).encode(out)
+        (0x5fu8, Counted(self.fields.as_slice(), AsItself)).encode(out)
     }
 }
 
@@ -407,7 +407,7 @@ impl Encode for SubType {
     ghost is_ready = { is_covered_sub_type };
 
     fn encode<S: Sink>(&self, out: &mut S) -> Result<(), Refusal> {
-        let parents = Counted(self.supertype_idxs.as_slice(), Itself);
+        let parents = Counted(self.supertype_idxs.as_slice(), AsItself);
         if !self.is_final {
             return (0x50u8, (parents, &self.composite_type)).encode(out);
         }

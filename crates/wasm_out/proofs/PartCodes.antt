@@ -9,7 +9,7 @@ use Rattle.wasm_ops.specs.ConstExprs.{expression, is_covered_expression, IsExpre
 use Rattle.wasm_ops.specs.Covered.{is_covered_val_type, is_covered_sub_type, IsSpellableValType, IsSpellableSubType}
 use Rattle.wasm_ops.specs.Entities.{table_type, is_covered_table_type, IsSpellableTableType, is_covered_global_type}
 use Rattle.wasm_ops.specs.declared.entities.TableType.{TableType}
-use Rattle.wasm_ops.specs.Spelling.{InRangeU32, InRangeValType, vec, InRangeVec, sized, InRangeSized, sub_type, InRangeSubType}
+use Rattle.wasm_ops.specs.Spelling.{InRangeU32, InRangeValType, vec, InRangeVec, length_prefixed, InRangeSized, sub_type, InRangeSubType}
 use Rattle.wasm_ops.specs.Table.{Instr, is_covered_instr}
 use Rattle.wasm_ops.proofs.Codes.{index_code, code_within, code_whole, after_byte, whole_within, pair_code, pair_whole, code_by, whole_by, vec_code, sized_code, filled_whole, name_code, bytes_whole, spellable_vec}
 use Rattle.wasm_ops.proofs.EntityCodes.{table_type_code, table_front, memory_type_code, global_type_code, tag_type_code, entity_type_code}
@@ -17,7 +17,7 @@ use Rattle.wasm_ops.proofs.Everywhere.{all_both, both_true}
 use Rattle.wasm_ops.proofs.RefTypeCodes.{front}
 use Rattle.wasm_ops.proofs.TypeCodes.{val_type_code, export_kind_code, sub_type_code, sub_front}
 use Rattle.wasm_ops.proofs.ExpressionCodes.{expression_code, content_code, are_instrs, is_expression}
-use Rattle.wasm_out.specs.Bodies.{Body, LocalRun, local_run, local_runs, locals, content, IsSpellableContent}
+use Rattle.wasm_out.specs.Bodies.{Body, LocalRun, local_run, local_runs, locals, body_content, IsSpellableContent}
 use Rattle.wasm_out.specs.Parts.{SectionKind, Types, Imports, Functions, Tables, Memories, Tags, Globals, Exports, Code, TypeEntry, Single, Group, ImportEntry, TableEntry, GlobalEntry, ExportEntry, Entry, type_entry, import_entry, table_bytes, table_entry, global_entry, export_entry, entry, InRangeExport, InRangeEntry, PartKind, Custom, Start, Listed, CustomPart, PartItems, custom, payload, InRangePartItems, section_id, part_id, Part, part, InRangePart, Elements, Data, DataCount}
 use Rattle.wasm_out.specs.Readable.{is_covered_init, IsReadable, AreReadable, IsReadablePart, IsSpellable, AreSpellable, IsSpellablePart}
 use Rattle.wasm_out.specs.Reads.{header, Reads}
@@ -32,7 +32,7 @@ run_code = pair_code index_code val_type_code
 locals_code : IsCode (List ValType) (InRangeVec IsSpellableValType) locals
 locals_code = code_within (runs_in_range IsSpellableValType) (code_by local_runs expanded expanded-local_runs (vec_code run_code))
 
-content_whole : IsWhole Body IsSpellableContent content
+content_whole : IsWhole Body IsSpellableContent body_content
 content_whole = whole_within (λ b p. (p.locals, p.instrs)) (whole_by (λ (b : Body). (b.locals, b.instrs)) (λ p. record { locals = p.0; instrs = p.1 }) (λ b. refl) (pair_whole locals_code content_code))
 
 -- ---- entries
@@ -102,7 +102,7 @@ global_entry_code =
     (code_by (λ (g : GlobalEntry). (g.ty, g.init)) (λ p. record { ty = p.0; init = p.1 }) (λ g. refl) (pair_code global_type_code expression_code))
 
 -- a body whose locals and instructions are covered, and whose instructions are rows of the table
-spellable_body : (b : Body) → IsSpellable Code b → InRangeSized IsSpellableContent content b
+spellable_body : (b : Body) → IsSpellable Code b → InRangeSized IsSpellableContent body_content b
 spellable_body b p =
     let both = both_true (list_all is_covered_val_type b.locals) (list_all is_covered_instr b.instrs) p.covered in
     (p.in_range.0, record { locals = spellable_vec is_covered_val_type InRangeValType b.locals both.0 p.in_range.1.locals; instrs = are_instrs b.instrs both.1 p.in_range.1.instrs p.rows })
@@ -170,9 +170,9 @@ abbrev IsSpellablePayload : (kind : PartKind) → PartItems kind → Type 0
 IsSpellablePayload kind items = InRangeSized (AreSpellable kind) (payload kind) items
 
 -- items of two kinds that are one
-payloads_begin : (k l : PartKind) (x : PartItems k) (y : PartItems l) (r s : List ℕ) → k ≡ l → IsSpellablePayload k x → IsSpellablePayload l y → sized (payload k) x ++ r ≡ sized (payload l) y ++ s → (part_of k x ≡ part_of l y) × (r ≡ s)
+payloads_begin : (k l : PartKind) (x : PartItems k) (y : PartItems l) (r s : List ℕ) → k ≡ l → IsSpellablePayload k x → IsSpellablePayload l y → length_prefixed (payload k) x ++ r ≡ length_prefixed (payload l) y ++ s → (part_of k x ≡ part_of l y) × (r ≡ s)
 payloads_begin k l x y r s e p q h =
-    let Motive : PartKind → Type 0 = λ m. (z : PartItems m) → IsSpellablePayload m z → sized (payload k) x ++ r ≡ sized (payload m) z ++ s → (part_of k x ≡ part_of m z) × (r ≡ s) in
+    let Motive : PartKind → Type 0 = λ m. (z : PartItems m) → IsSpellablePayload m z → length_prefixed (payload k) x ++ r ≡ length_prefixed (payload m) z ++ s → (part_of k x ≡ part_of m z) × (r ≡ s) in
     let here : Motive k = λ z t f. let one = (sized_code (payload_whole k)).begins x z r s p t f in (ap (part_of k) one.0, one.1) in
     subst Motive e here y q h
 
@@ -180,7 +180,7 @@ pub part_code : IsCode Part IsSpellablePart part
 part_code = record {
   begins = λ x y r s p q e.
       let h : part_id x.kind ≡ part_id y.kind = cc in
-      let t : sized (payload x.kind) x.items ++ r ≡ sized (payload y.kind) y.items ++ s = cc in
+      let t : length_prefixed (payload x.kind) x.items ++ r ≡ length_prefixed (payload y.kind) y.items ++ s = cc in
       payloads_begin x.kind y.kind x.items y.items r s (id_shows x.kind y.kind h) p q t;
 }
 

@@ -19,7 +19,7 @@ use Rattle.wasm_ops.proofs.Everywhere.{all_both, all_tested, both_true}
 use Rattle.wasm_ops.proofs.ExpressionCodes.{expression_code, is_expression}
 use Rattle.wasm_ops.proofs.RefTypeCodes.{front, abstract_is, ref_type_code}
 use Rattle.wasm_out.specs.DataSegments.{DataMode, Kept, Placed, DataEntry, data_bytes, data_entry, InRangeDataMode, InRangeDataEntry, is_covered_data_mode, is_covered_data_entry, HasRowsDataMode, HasRowsDataEntry, is_balanced_data_mode, is_balanced_data_entry}
-use Rattle.wasm_out.specs.ElementSegments.{ElementItems, Indices, Expressions, ElementMode, Passive, Declared, Active, ElementEntry, kind_of, listed, element_bytes, element_entry, InRangeTable, InRangeElementMode, InRangeElementKind, InRangeListed, HasRowsElementMode, HasRowsListed, is_func, is_funcref, has_form, is_covered_listed, is_covered_element_kind, is_covered_element_mode, is_covered_element_entry, InRangeElementEntry, HasRowsElementEntry, is_balanced_element_mode, is_balanced_listed, is_balanced_element_entry}
+use Rattle.wasm_out.specs.ElementSegments.{ElementItems, Indices, Expressions, ElementMode, Passive, Declared, Active, ElementEntry, kind_of, element_list, element_bytes, element_entry, InRangeTable, InRangeElementMode, InRangeElementKind, InRangeListed, HasRowsElementMode, HasRowsListed, is_func, is_funcref, has_form, is_covered_listed, is_covered_element_kind, is_covered_element_mode, is_covered_element_entry, InRangeElementEntry, HasRowsElementEntry, is_balanced_element_mode, is_balanced_listed, is_balanced_element_entry}
 
 -- ---- what is asked of a segment of elements
 
@@ -101,7 +101,7 @@ abbrev kind_flag : ElementItems → ℕ
 kind_flag (Indices functions) = 0
 kind_flag (Expressions ty expressions) = 1
 
-element_front : (m : ElementMode) (x : ElementItems) (r : List ℕ) → front (element_bytes m (kind_of x) (listed x) ++ r) ≡ mode_flag m + 4 * kind_flag x
+element_front : (m : ElementMode) (x : ElementItems) (r : List ℕ) → front (element_bytes m (kind_of x) (element_list x) ++ r) ≡ mode_flag m + 4 * kind_flag x
 element_front (Active None offset) (Indices fs) r = refl
 element_front Passive (Indices fs) r = refl
 element_front (Active (Some table) offset) (Indices fs) r = refl
@@ -111,7 +111,7 @@ element_front Passive (Expressions t es) r = refl
 element_front (Active (Some table) offset) (Expressions t es) r = refl
 element_front Declared (Expressions t es) r = refl
 
-element_begins : (m n : ElementMode) (x y : ElementItems) (r s : List ℕ) → IsSegment m x → IsSegment n y → element_bytes m (kind_of x) (listed x) ++ r ≡ element_bytes n (kind_of y) (listed y) ++ s → (segment m x ≡ segment n y) × (r ≡ s)
+element_begins : (m n : ElementMode) (x y : ElementItems) (r s : List ℕ) → IsSegment m x → IsSegment n y → element_bytes m (kind_of x) (element_list x) ++ r ≡ element_bytes n (kind_of y) (element_list y) ++ s → (segment m x ≡ segment n y) × (r ≡ s)
 element_begins (Active None a) (Active None b) (Indices fs) (Indices gs) r s p q e =
     let one = (after_byte 0x00 (pair_code expression_code functions_code)).begins (a, fs) (b, gs) r s (p.offset.1, p.listed) (q.offset.1, q.listed) e in
     let f : List Instr × List ℕ → ElementEntry = λ t. segment (Active None t.0) (Indices t.1) in

@@ -74,8 +74,8 @@ abbrev pub locals : List ValType → List ℕ
 locals types = vec local_run (local_runs types)
 
 -- what stands behind the length of a body
-abbrev pub content : Body → List ℕ
-content b = locals b.locals ++ (instrs b.instrs ++ 0x0b ∷ [])
+abbrev pub body_content : Body → List ℕ
+body_content b = locals b.locals ++ (instrs b.instrs ++ 0x0b ∷ [])
 
 -- there are less than 2^32 locals, and the numbers of their types and of the instructions are in range
 pub record InRangeContent (b : Body) : Type 0 where
@@ -91,4 +91,4 @@ pub record IsSpellableContent (b : Body) : Type 0 where
 pub record SpellsBody (bytes : List ℕ) : Type 0 where
   pub body : Body
   pub in_range : IsSpellableContent body
-  pub spelled : bytes ≡ content body
+  pub spelled : bytes ≡ body_content body

@@ -23,8 +23,8 @@ abbrev pub behind_count : Built → List ℕ
 behind_count b = unsigned b.count ++ b.bytes
 
 -- the builder to which these items were added, one after another
-abbrev pub built : {A : Type 0} → (A → List ℕ) → List A → Built
-built spell items = record { count = length items; bytes = flat_map spell items }
+abbrev pub builder_of : {A : Type 0} → (A → List ℕ) → List A → Built
+builder_of spell items = record { count = length items; bytes = flat_map spell items }
 
 -- why nothing was done: memory was refused, or a number, count or length is out of range
 abbrev pub IsRefused : Type 0 → Error → Type 0

@@ -40,9 +40,9 @@ abbrev pub ended : List ℕ → List ℕ
 ended bytes = bytes ++ 0x0b ∷ []
 
 -- the kind of the elements that a builder is given
-abbrev pub kind_in : Elements → ElementKind
-kind_in (elements.Functions functions) = kind.Functions
-kind_in (elements.Expressions ty expressions) = kind.Expressions ty
+abbrev pub element_kind : Elements → ElementKind
+element_kind (elements.Functions functions) = kind.Functions
+element_kind (elements.Expressions ty expressions) = kind.Expressions ty
 
 -- the list of elements, behind its count
 abbrev pub listed_in : Elements → List ℕ

@@ -36,9 +36,9 @@ kind_of (Indices functions) = kind.Functions
 kind_of (Expressions ty expressions) = kind.Expressions ty
 
 -- the list of elements, behind its count
-abbrev pub listed : ElementItems → List ℕ
-listed (Indices functions) = vec unsigned functions
-listed (Expressions ty expressions) = vec expression expressions
+abbrev pub element_list : ElementItems → List ℕ
+element_list (Indices functions) = vec unsigned functions
+element_list (Expressions ty expressions) = vec expression expressions
 
 -- a passive segment, by the kind of elements and the bytes of their list
 abbrev pub passive_bytes : ElementKind → List ℕ → List ℕ
@@ -65,7 +65,7 @@ element_bytes (Active table offset) kind list = active_bytes table (expression o
 
 -- the spelling of a segment
 abbrev pub element_entry : ElementEntry → List ℕ
-element_entry e = element_bytes e.mode (kind_of e.items) (listed e.items)
+element_entry e = element_bytes e.mode (kind_of e.items) (element_list e.items)
 
 -- Numbers and counts are in range: that of a table, where one is written.
 abbrev pub InRangeTable : Option ℕ → Type 0

@@ -11,8 +11,8 @@ use Rattle.wasm_ops.specs.declared.entities.TagType.{TagType}
 use Rattle.wasm_ops.specs.declared.entities.EntityType.{EntityType}
 use Rattle.wasm_ops.specs.declared.types.ExportKind.{ExportKind}
 use Rattle.wasm_ops.specs.declared.types.SubType.{SubType}
-use Rattle.wasm_ops.specs.Spelling.{InRangeU32, vec, InRangeVec, sized, InRangeSized, name, InRangeName, export_kind, sub_type, InRangeSubType}
-use Rattle.wasm_out.specs.Bodies.{Body, content, InRangeContent}
+use Rattle.wasm_ops.specs.Spelling.{InRangeU32, vec, InRangeVec, length_prefixed, InRangeSized, name, InRangeName, export_kind, sub_type, InRangeSubType}
+use Rattle.wasm_out.specs.Bodies.{Body, body_content, InRangeContent}
 use Rattle.wasm_out.specs.DataSegments.{DataEntry, data_entry, InRangeDataEntry}
 use Rattle.wasm_out.specs.ElementSegments.{ElementEntry, element_entry, InRangeElementEntry}
 
@@ -99,7 +99,7 @@ export_entry e = name e.name ++ (export_kind e.kind ++ unsigned e.index)
 
 -- behind its length
 abbrev pub body : Body → List ℕ
-body b = sized content b
+body b = length_prefixed body_content b
 
 -- the one spelling of an item
 abbrev pub entry : (kind : SectionKind) → Entry kind → List ℕ
@@ -143,7 +143,7 @@ InRangeExport e = InRangeName e.name × InRangeU32 e.index
 
 -- those of a body
 abbrev pub InRangeBody : Body → Type 0
-InRangeBody b = InRangeSized InRangeContent content b
+InRangeBody b = InRangeSized InRangeContent body_content b
 
 -- an item's numbers, counts and lengths are in range
 abbrev pub InRangeEntry : (kind : SectionKind) → Entry kind → Type 0

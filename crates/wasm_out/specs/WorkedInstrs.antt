@@ -23,7 +23,7 @@ use Rattle.wasm_ops.specs.PlainInstrs.{plain_instr}
 use Rattle.wasm_ops.specs.SelectInstrs.{select_instr}
 use Rattle.wasm_ops.specs.Table.{Instr, instrs}
 use Rattle.wasm_ops.specs.Turns.{are_balanced}
-use Rattle.wasm_out.specs.Bodies.{Body, content}
+use Rattle.wasm_out.specs.Bodies.{Body, body_content}
 
 abbrev accessed : ℕ → ℕ → ℕ → MemArg
 accessed align memory offset = record { align = align; target = Memory memory; offset = offset; ordering = None }
@@ -88,7 +88,7 @@ nested_body = record {
 
 -- A body has an end for each of its blocks, and its own.
 abbrev pub BodySpelled : Type 0
-BodySpelled = content nested_body ≡ 0x00 ∷ 0x02 ∷ 0x40 ∷ 0x03 ∷ 0x7f ∷ 0x20 ∷ 0x00 ∷ 0x0b ∷ 0x1a ∷ 0x0b ∷ 0x0b ∷ []
+BodySpelled = body_content nested_body ≡ 0x00 ∷ 0x02 ∷ 0x40 ∷ 0x03 ∷ 0x7f ∷ 0x20 ∷ 0x00 ∷ 0x0b ∷ 0x1a ∷ 0x0b ∷ 0x0b ∷ []
 
 -- block, end, (i32.const 0)
 abbrev pub worked_expression : List Instr

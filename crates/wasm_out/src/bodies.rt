@@ -11,7 +11,7 @@ ghost use Rattle.wasm_out.specs.Bodies.{locals};
 use crate::locals::Locals;
 use std::alloc::Global;
 use std::marker::Model;
-use wasm_ops::{Encode, Itself, Sink, ValType};
+use wasm_ops::{AsItself, Encode, Sink, ValType};
 use wast_base::Error;
 
 /// The body of a function, without its length (binary format, code section). Contracts see it as its bytes.
@@ -40,7 +40,7 @@ impl Function {
         ensures { Makes (InRangeVec InRangeValType types.now) (locals types.now) result }
     {
         let mut bytes = Vec::new(alloc);
-        Locals(types, Itself).encode(&mut bytes)?;
+        Locals(types, AsItself).encode(&mut bytes)?;
         Ok(Function { bytes })
     }
 

@@ -15,7 +15,7 @@ use crate::built_items::BuiltItems;
 use crate::sections::{Build, CODE_ID, EXPORT_ID, FUNCTION_ID, Section, TYPE_ID};
 use std::alloc::Global;
 use std::marker::{Model, PhantomData};
-use wasm_ops::{Counted, Encode, ExportKind, Itself, Name, Raw, SubType, WithLength};
+use wasm_ops::{AsItself, Counted, Encode, ExportKind, Name, Raw, SubType, WithLength};
 use wast_base::Error;
 
 /// A kind of sections whose content is a list.
@@ -113,7 +113,7 @@ impl TypeSection {
         ensures { Adds (InRangeU32 (self.old.count + 1) × InRangeTypeEntry (Group types.now)) self.old self.new
             (type_entry (Group types.now)) result }
     {
-        self.items.push(&(0x4eu8, Counted(types, Itself)))
+        self.items.push(&(0x4eu8, Counted(types, AsItself)))
     }
 }
 

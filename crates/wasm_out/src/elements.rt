@@ -5,14 +5,14 @@ ghost use Rattle.wasm_ops.specs.Covered.{is_covered_ref_type};
 ghost use Rattle.wasm_ops.specs.Sinks.{Writes};
 ghost use Rattle.wasm_ops.specs.Spelling.{InRangeU32, InRangeRefType};
 ghost use Rattle.wasm_out.specs.Built.{Adds};
-ghost use Rattle.wasm_out.specs.BuiltElements.{segment_bytes, InRangeMode, is_ready_mode, is_form, ended, kind_in, listed_in, InRangeElements, AreElements};
+ghost use Rattle.wasm_out.specs.BuiltElements.{segment_bytes, InRangeMode, is_ready_mode, is_form, ended, element_kind, listed_in, InRangeElements, AreElements};
 ghost use Rattle.wasm_out.specs.ElementSegments.{InRangeTable, InRangeElementKind, is_covered_element_kind, passive_bytes, declared_bytes, active_bytes, has_active_form};
 ghost use Rattle.wasm_out.specs.Parts as parts;
 ghost use Rattle.wasm_out.specs.declared.elements.ElementKind.TheVariants as kinds;
 
 use crate::builders::{ListKind, ListSection};
 use crate::sections::ELEMENT_ID;
-use wasm_ops::{ConstExpr, Counted, Encode, Itself, RefType, Refusal, Sink};
+use wasm_ops::{AsItself, ConstExpr, Counted, Encode, RefType, Refusal, Sink};
 use wast_base::Error;
 
 /// What elements are (binary format, element section).
@@ -134,7 +134,7 @@ impl ElementSection {
     pub fn passive<'e>(&mut self, elements: &Elements) -> Result<(), Error<'e>>
         requires { AreElements elements.now }
         ensures { Adds (InRangeU32 (self.old.count + 1) × InRangeElements elements.now) self.old self.new
-            (passive_bytes (kind_in elements.now) (listed_in elements.now)) result }
+            (passive_bytes (element_kind elements.now) (listed_in elements.now)) result }
     {
         self.add(SegmentMode::Passive, elements)
     }
@@ -146,7 +146,7 @@ impl ElementSection {
     pub fn declared<'e>(&mut self, elements: &Elements) -> Result<(), Error<'e>>
         requires { AreElements elements.now }
         ensures { Adds (InRangeU32 (self.old.count + 1) × InRangeElements elements.now) self.old self.new
-            (declared_bytes (kind_in elements.now) (listed_in elements.now)) result }
+            (declared_bytes (element_kind elements.now) (listed_in elements.now)) result }
     {
         self.add(SegmentMode::Declared, elements)
     }
@@ -163,9 +163,9 @@ impl ElementSection {
         elements: &Elements,
     ) -> Result<(), Error<'e>>
         requires elements { AreElements elements.now }
-        requires form { IsTrue (has_active_form table (kind_in elements.now)) }
+        requires form { IsTrue (has_active_form table (element_kind elements.now)) }
         ensures { Adds (InRangeU32 (self.old.count + 1) × (InRangeTable table × InRangeElements elements.now))
-            self.old self.new (active_bytes table (ended offset.now) (kind_in elements.now) (listed_in elements.now))
+            self.old self.new (active_bytes table (ended offset.now) (element_kind elements.now) (listed_in elements.now))
             result }
     {
         self.add(SegmentMode::Active(table, offset), elements)
@@ -178,23 +178,23 @@ impl ElementSection {
         elements: &Elements,
     ) -> Result<(), Error<'e>>
         requires elements { AreElements elements.now }
-        requires form { IsTrue (is_form mode (kind_in elements.now)) }
+        requires form { IsTrue (is_form mode (element_kind elements.now)) }
         ensures { Adds
             (InRangeU32 (self.old.count + 1) × (InRangeMode (λ _. Unit {0}) mode.entry × InRangeElements elements.now))
             self.old self.new
-            (segment_bytes (λ offset. ended offset.now) mode.entry (kind_in elements.now) (listed_in elements.now))
+            (segment_bytes (λ offset. ended offset.now) mode.entry (element_kind elements.now) (listed_in elements.now))
             result }
     {
         match elements {
             Elements::Functions(functions) => self.items.push(&ElementSegment {
                 mode,
                 kind: ElementKind::Functions,
-                list: Counted(functions, Itself),
+                list: Counted(functions, AsItself),
             }),
             Elements::Expressions(ty, expressions) => self.items.push(&ElementSegment {
                 mode,
                 kind: ElementKind::Expressions(*ty),
-                list: Counted(expressions, Itself),
+                list: Counted(expressions, AsItself),
             }),
         }
     }

@@ -10,7 +10,7 @@ use crate::built_items::BuiltItems;
 use crate::sections::{CUSTOM_ID, Section};
 use std::alloc::Global;
 use std::marker::Model;
-use wasm_ops::{Counted, Encode, Itself, Name, Refusal, Sink};
+use wasm_ops::{AsItself, Counted, Encode, Name, Refusal, Sink};
 use wast_base::Error;
 
 /// A branch hint of a function (branch hinting).
@@ -81,7 +81,7 @@ impl BranchHints {
         ensures { Adds (InRangeU32 (self.old.count + 1) × InRangeFunctionHints (function_index, hints.now)) self.old self.new
             (function_hints (function_index, hints.now)) result }
     {
-        self.items.push(&(function_index, Counted(hints, Itself)))
+        self.items.push(&(function_index, Counted(hints, AsItself)))
     }
 }
 

@@ -2,7 +2,7 @@
 
 ghost use Rattle.std.specs.Prelude.{◌≡◌, ◌∷◌, ◌++◌, [], ℕ, List};
 ghost use Rattle.wasm_ops.specs.Codes.{IsCode, IsWhole};
-ghost use Rattle.wasm_out.specs.Built.{built_with, built, behind_count};
+ghost use Rattle.wasm_out.specs.Built.{built_with, builder_of, behind_count};
 ghost use Rattle.wasm_out.specs.Parts.{SectionKind, Entry, entry, PartKind, Listed, PartItems, payload, Part, part};
 ghost use Rattle.wasm_out.specs.Readable.{IsSpellable, AreSpellable, IsSpellablePart};
 ghost use Rattle.wasm_out.specs.Reads.{Reads};
@@ -11,9 +11,9 @@ ghost use Rattle.wasm_out.specs.Reads.{Reads};
 /// part with these items (binary format, modules: sections).
 pub fn building_law()
     ensures more { (kind : SectionKind) (items : List (Entry kind)) (item : Entry kind) →
-        built_with (built (entry kind) items) (entry kind item) ≡ built (entry kind) (items ++ item ∷ []) }
+        built_with (builder_of (entry kind) items) (entry kind item) ≡ builder_of (entry kind) (items ++ item ∷ []) }
     ensures payloads { (kind : SectionKind) (items : List (Entry kind)) →
-        behind_count (built (entry kind) items) ≡ payload (Listed kind) items }
+        behind_count (builder_of (entry kind) items) ≡ payload (Listed kind) items }
 {}
 
 /// The law of parts: an item of a section shows its value and where it ends, a payload shows its items, and no part

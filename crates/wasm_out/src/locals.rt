@@ -8,7 +8,7 @@ ghost use Rattle.wasm_ops.specs.Spelling.{InRangeVec, InRangeValType};
 ghost use Rattle.wasm_ops.specs.declared.types.ValType.{ValType};
 ghost use Rattle.wasm_out.specs.Bodies.{InRangeRun, is_same_type, local_run, local_runs, locals};
 
-use wasm_ops::{Encode, Itself, Refusal, Sink, ValType};
+use wasm_ops::{AsItself, Encode, Refusal, Sink, ValType};
 
 /// A way to see an item of a list as a local of a type.
 pub trait LocalType<T> {
@@ -25,7 +25,7 @@ pub trait LocalType<T> {
 }
 
 /// Each item is its own type.
-impl LocalType<ValType> for Itself {
+impl LocalType<ValType> for AsItself {
     ghost ty = { λ _ t. t };
 
     ghost is_ready = { λ _ _. true };

@@ -16,6 +16,6 @@ numbered_by None id = index.Id id
 numbered_by (Some n) id = index.Num n (place_of id)
 
 -- a number stays
-abbrev pub numbered : (Name → Option ℕ) → Index → Index
-numbered number (index.Num n span) = index.Num n span
-numbered number (index.Id id) = numbered_by (number (name_of id)) id
+abbrev pub resolved_index : (Name → Option ℕ) → Index → Index
+resolved_index number (index.Num n span) = index.Num n span
+resolved_index number (index.Id id) = numbered_by (number (name_of id)) id

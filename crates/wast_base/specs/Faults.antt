@@ -73,34 +73,34 @@ is_placed fault.Component = false
 is_placed f = true
 
 -- a fault of the text at its place
-abbrev pub placed : Span → Fault → Error
-placed span fault = record { span = Some span; fault = fault }
+abbrev pub error_at : Span → Fault → Error
+error_at span fault = record { span = Some span; fault = fault }
 
 -- a refusal, which has no place
-abbrev pub refused : Fault → Error
-refused fault = record { span = None; fault = fault }
+abbrev pub error_without_place : Fault → Error
+error_without_place fault = record { span = None; fault = fault }
 
 -- E10
 abbrev pub too_large : Error
-too_large = refused fault.TooLarge
+too_large = error_without_place fault.TooLarge
 
 -- E12
 abbrev pub out_of_memory : Error
-out_of_memory = refused fault.Memory
+out_of_memory = error_without_place fault.Memory
 
 -- what an error tells: a fault at a place, or one that has none
-pub data Told : Type 0 where
-  At : Cause → Span → Told
-  Nowhere : Cause → Told
+pub data Diagnostic : Type 0 where
+  At : Cause → Span → Diagnostic
+  Nowhere : Cause → Diagnostic
 
 -- a fault, at a place where there is one
-abbrev pub told_at : Cause → Option Span → Told
+abbrev pub told_at : Cause → Option Span → Diagnostic
 told_at fault (Some span) = At fault span
 told_at fault None = Nowhere fault
 
 -- what an error tells
-abbrev pub told : Error → Told
-told e = told_at (cause_of e.fault) e.span
+abbrev pub diagnostic_of : Error → Diagnostic
+diagnostic_of e = told_at (cause_of e.fault) e.span
 
 -- what the text of E11 calls a form
 abbrev pub form_text : Form → List ℕ

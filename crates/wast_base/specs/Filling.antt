@@ -14,14 +14,14 @@ given_if true give n x = give n x
 given_if false give n x = x
 
 -- each item that wants an id is given the next one
-abbrev pub filled : {A : Type 0} → (A → Bool) → (ℕ → A → A) → ℕ → List A → List A
-filled wants give n [] = []
-filled wants give n (x ∷ xs) = given_if (wants x) give n x ∷ filled wants give (n + one_if (wants x)) xs
+abbrev pub with_ids_from : {A : Type 0} → (A → Bool) → (ℕ → A → A) → ℕ → List A → List A
+with_ids_from wants give n [] = []
+with_ids_from wants give n (x ∷ xs) = given_if (wants x) give n x ∷ with_ids_from wants give (n + one_if (wants x)) xs
 
 -- how many items want one
-abbrev pub wanted : {A : Type 0} → (A → Bool) → List A → ℕ
-wanted wants [] = 0
-wanted wants (x ∷ xs) = one_if (wants x) + wanted wants xs
+abbrev pub missing_id_count : {A : Type 0} → (A → Bool) → List A → ℕ
+missing_id_count wants [] = 0
+missing_id_count wants (x ∷ xs) = one_if (wants x) + missing_id_count wants xs
 
 -- Memory is refused, or the counter would pass 64 bits.
 abbrev pub RunsOut : ℕ → Error → Type 0

@@ -4,7 +4,7 @@ use Rattle.wast_base.specs.declared.ids.Span.{Span}
 use Rattle.wast_base.specs.declared.ids.Index.{Index}
 use Rattle.wast_base.specs.declared.ids.Index.TheVariants as index
 use Rattle.wast_base.specs.Ids.{Name, text_of, Mark, mark_of, name_of}
-use Rattle.wast_base.specs.Faults.{Cause, Unknown, TooLarge, Memory, Told, At, Nowhere}
+use Rattle.wast_base.specs.Faults.{Cause, Unknown, TooLarge, Memory, Diagnostic, At, Nowhere}
 
 -- a fault at a place, and whether what is demanded there holds
 pub record Demand : Type 0 where
@@ -22,17 +22,17 @@ first_unmet [] = None
 first_unmet (d ∷ ds) = if d.met then first_unmet ds else Some (d.fault, d.place)
 
 -- An id where an index is wanted denotes something.
-abbrev pub unknown : List ℕ → Mark → Bool → List Demand
-unknown word m met = one_demand (Unknown word (text_of m.0)) m.1 met
+abbrev pub unknown_demand : List ℕ → Mark → Bool → List Demand
+unknown_demand word m met = one_demand (Unknown word (text_of m.0)) m.1 met
 
 -- an index that is an id denotes something; of a number nothing is demanded
 abbrev pub known_index : (Name → Option ℕ) → List ℕ → Index → List Demand
 known_index number word (index.Num n span) = []
-known_index number word (index.Id id) = unknown word (mark_of id) (is_some (number (name_of id)))
+known_index number word (index.Id id) = unknown_demand word (mark_of id) (is_some (number (name_of id)))
 
 -- What an error of resolving tells: the first unmet demand, or where memory may be refused that it was, or where there
 -- may be too many of something that there were.
-abbrev pub Answers : (memory many : Type 0) → Told → Option (Cause × Span) → Type 0
+abbrev pub Answers : (memory many : Type 0) → Diagnostic → Option (Cause × Span) → Type 0
 Answers memory many (At fault place) unmet = unmet ≡ Some (fault, place)
 Answers memory many (Nowhere Memory) unmet = memory
 Answers memory many (Nowhere TooLarge) unmet = many

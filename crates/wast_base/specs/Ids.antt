@@ -11,8 +11,8 @@ use Rattle.wast_base.specs.declared.ids.Index.{Index}
 use Rattle.wast_base.specs.declared.ids.Index.TheVariants as index
 
 -- the start of the text
-abbrev pub start : Span
-start = record { offset = 0 }
+abbrev pub text_start : Span
+text_start = record { offset = 0 }
 
 -- the bytes of a written name, or the generation of a generated one; a counter gives generations from 1 on
 pub data Name : Type 0 where
@@ -67,16 +67,16 @@ abbrev pub mark_of : Id → Mark
 mark_of id = (name_of id, place_of id)
 
 -- the same of an id that may be missing
-abbrev pub marked : Option Id → Option Mark
-marked id = option_map mark_of id
+abbrev pub mark_of_option : Option Id → Option Mark
+mark_of_option id = option_map mark_of id
 
 -- a written id
-abbrev pub written : Bor (List ℕ) → Span → Id
-written text span = record { name = name.Written text; span = span }
+abbrev pub source_id : Bor (List ℕ) → Span → Id
+source_id text span = record { name = name.Written text; span = span }
 
 -- a generated id
-abbrev pub generated : ℕ → Span → Id
-generated n span = record { name = name.Generated n; span = span }
+abbrev pub gensym_id : ℕ → Span → Id
+gensym_id n span = record { name = name.Generated n; span = span }
 
 -- the same name and generation, whatever the places
 abbrev pub same_id : Id → Id → Bool
@@ -100,8 +100,8 @@ is_number (index.Num n span) = true
 is_number (index.Id id) = false
 
 -- an index that is a number, at the start of the text
-abbrev pub numbered : ℕ → Index
-numbered n = index.Num n start
+abbrev pub index_of_number : ℕ → Index
+index_of_number n = index.Num n text_start
 
 -- an index that is an id
 abbrev pub by_id : Id → Index

@@ -1,7 +1,7 @@
 //! Why a module is refused.
 
 ghost use Rattle.std.specs.Prelude.{◌≡◌, Some};
-ghost use Rattle.wast_base.specs.Faults.{fault_of, span_of, fault_number, is_placed, fault_text, form_text, unknown_text, unnamed_text, placed, refused, out_of_memory};
+ghost use Rattle.wast_base.specs.Faults.{fault_of, span_of, fault_number, is_placed, fault_text, form_text, unknown_text, unnamed_text, error_at, error_without_place, out_of_memory};
 ghost use Rattle.std.specs.Prelude.{IsTrue, not};
 
 use crate::ids::Span;
@@ -79,7 +79,7 @@ impl<'a> Error<'a> {
     /// A fault of the text, at its place. It needs one of E1 to E9.
     pub fn new(span: Span, fault: Fault<'a>) -> Self
         requires { IsTrue (is_placed fault) }
-        ensures { result ≡ placed span fault.entry }
+        ensures { result ≡ error_at span fault.entry }
     {
         Error {
             span: Some(span),
@@ -90,7 +90,7 @@ impl<'a> Error<'a> {
     /// A refusal, which has no place. It needs one of E10 to E13.
     pub fn refusal(fault: Fault<'a>) -> Self
         requires { IsTrue (not (is_placed fault)) }
-        ensures { result ≡ refused fault.entry }
+        ensures { result ≡ error_without_place fault.entry }
     {
         Error { span: None, fault }
     }

@@ -1,7 +1,7 @@
 //! Places, ids and indices.
 
 ghost use Rattle.std.specs.Prelude.{◌≡◌, Some};
-ghost use Rattle.wast_base.specs.Ids.{written, text_of, name_of, place_of, generation_of, is_generated, span_of_index, is_number, same_id, same_index, start, numbered, by_id, id_text, index_text};
+ghost use Rattle.wast_base.specs.Ids.{source_id, text_of, name_of, place_of, generation_of, is_generated, span_of_index, is_number, same_id, same_index, text_start, index_of_number, by_id, id_text, index_text};
 
 use std::fmt;
 
@@ -69,7 +69,7 @@ pub struct NameAnnotation<'a> {
 impl<'a> Id<'a> {
     /// An id that is written at a place of the text, as `name` without its `$`.
     pub fn new(name: &'a str, span: Span) -> Self
-        ensures { result ≡ written name.entry span }
+        ensures { result ≡ source_id name.entry span }
     {
         Id {
             name: Name::Written(name),
@@ -146,7 +146,7 @@ impl<'a> Index<'a> {
 }
 
 impl Default for Span {
-    ghost is_default = { λ place. place ≡ start };
+    ghost is_default = { λ place. place ≡ text_start };
 
     fn default() -> Self {
         Span { offset: 0 }
@@ -155,7 +155,7 @@ impl Default for Span {
 
 /// A number, at the start of the text, for an index that no text has.
 impl From<u32> for Index<'_> {
-    ghost from_gives = { λ number index. index ≡ numbered number };
+    ghost from_gives = { λ number index. index ≡ index_of_number number };
 
     fn from(number: u32) -> Self {
         Index::Num(number, Span::default())

@@ -2,7 +2,7 @@
 
 ghost use Rattle.std.specs.Prelude.{◌≡◌, ℕ, Some, Option as Maybe, IfOk};
 ghost use Rattle.wast_base.specs.Ids.{Name, name_of};
-ghost use Rattle.wast_base.specs.Denoted.{denoted, numbered};
+ghost use Rattle.wast_base.specs.Denoted.{denoted, resolved_index};
 ghost use Rattle.wast_base.specs.FirstUnmet.{first_unmet, known_index};
 ghost use Rattle.wast_base.specs.Outcomes.{Outcome};
 
@@ -34,7 +34,7 @@ pub fn denoted_number<'a, N: Numbering<'a>>(numbering: &N, idx: &Index<'a>) -> O
 /// It is `None` for an unknown id, and then the index stays. It takes no memory.
 pub fn try_number<'a, N: Numbering<'a>>(numbering: &N, idx: &mut Index<'a>) -> Option<u32>
     ensures number { result ≡ denoted (N.numbers numbering.now) idx.old }
-    ensures index { idx.new ≡ numbered (N.numbers numbering.now) idx.old }
+    ensures index { idx.new ≡ resolved_index (N.numbers numbering.now) idx.old }
 {
     let id = match *idx {
         Index::Num(number, _) => return Some(number),
@@ -55,7 +55,7 @@ pub fn number_index<'a, N: Numbering<'a>>(
 ) -> Result<u32, Error<'a>>
     ensures answer { Outcome ⊥ ⊥ (first_unmet (known_index (N.numbers numbering.now) word.now idx.old)) result }
     ensures number { IfOk result (λ n. denoted (N.numbers numbering.now) idx.old ≡ Some n) }
-    ensures index { idx.new ≡ numbered (N.numbers numbering.now) idx.old }
+    ensures index { idx.new ≡ resolved_index (N.numbers numbering.now) idx.old }
 {
     let id = match *idx {
         Index::Num(number, _) => return Ok(number),

@@ -5,7 +5,7 @@ use Rattle.wast_core.specs.Bounded.{IsBounded}
 use Rattle.wast_core.specs.Meaning.{meaning}
 use Rattle.wast_core.specs.WorkedAgain.{numbered27, ResolvedAgain, EncodedAgain, Row9, Row48}
 use Rattle.wast_core.proofs.Worked as worked
-use Rattle.wast_nodes.specs.WorkedModules.{Address}
+use Rattle.wast_tree_nodes.specs.WorkedModules.{Address}
 
 pub resolved_again : ResolvedAgain
 resolved_again a b c d e f names known = record { kind = (refl, refl, known); counter = refl }

@@ -7,21 +7,21 @@ use Rattle.std.specs.Global.{Vec}
 use Rattle.wast_base.specs.declared.faults.Error.{Error}
 use Rattle.wast_base.specs.declared.faults.Fault.{Fault}
 use Rattle.wast_base.specs.declared.faults.Fault.TheVariants as fault
-use Rattle.wast_base.specs.Faults.{cause_of, told_at, told}
+use Rattle.wast_base.specs.Faults.{cause_of, told_at, diagnostic_of}
 use Rattle.wast_base.specs.declared.ids.Span.{Span}
 use Rattle.wast_base.specs.Ids.{name_of, place_of}
 use Rattle.wast_base.specs.Spaces.{is_settled_index}
-use Rattle.wast_nodes.specs.Generations.{greatest_generation}
-use Rattle.wast_nodes.specs.Items.{items}
-use Rattle.wast_nodes.specs.Known.{Known, known}
-use Rattle.wast_demands.specs.Demands.{Answers, IsTooLarge, IsUnresolved}
-use Rattle.wast_demands.specs.Explicit.{explicit_from, ids_filled}
-use Rattle.wast_demands.specs.Finished.{finished}
-use Rattle.wast_demands.specs.Resolved.{numbered_by, numbered_at}
-use Rattle.wast_demands.specs.Scopes.{denoted}
-use Rattle.wast_passes.specs.Resolvers.{KnownNames, known_to}
-use Rattle.wast_alike.specs.Laws.{ItemsStay}
-use Rattle.wast_alike.specs.Rests.{starts, numbers, started, final_names, RestsMet, RestsStill, RestsByPosition, FillsNoMore, StartsStayBelow, StartsAreMet, StartsComeBefore}
+use Rattle.wast_tree_nodes.specs.Generations.{greatest_generation}
+use Rattle.wast_tree_nodes.specs.Items.{items}
+use Rattle.wast_tree_nodes.specs.Known.{IdContext, id_context}
+use Rattle.wast_resolve_rules.specs.Demands.{Answers, IsTooLarge, IsUnresolved}
+use Rattle.wast_resolve_rules.specs.Explicit.{explicit_fields_from, generated_id_count}
+use Rattle.wast_resolve_rules.specs.Finished.{resolved_fields_from}
+use Rattle.wast_resolve_rules.specs.Resolved.{numbered_by, numbered_at}
+use Rattle.wast_resolve_rules.specs.Scopes.{denoted}
+use Rattle.wast_resolve_passes.specs.Resolvers.{KnownNames, known_to}
+use Rattle.wast_resolve_laws.specs.Laws.{ItemsStay}
+use Rattle.wast_resolve_laws.specs.Rests.{start_fields_of, numbers, with_start_fields, final_names, RestsMet, RestsStill, RestsByPosition, FillsNoMore, StartsStayBelow, StartsAreMet, StartsComeBefore}
 use Rattle.wasm_out.specs.Parts.{Part}
 use Rattle.wasm_out.specs.Reads.{Reads}
 use Rattle.wast_core.specs.Tree.{Id, Index, ModuleField}
@@ -34,7 +34,7 @@ use Rattle.wast_core.specs.Bounded.{IsBounded}
 use Rattle.wast_core.specs.Headline.{IsMet, ResolvesKind, Counts, IsUnwritten, IsUnencoded, EncodesKind}
 use Rattle.wast_core.specs.Laws.{MeansWhatIsWritten, TooLargeIsUnbounded}
 use Rattle.wast_core.specs.Meaning.{parts, meaning}
-use Rattle.wast_core.specs.Uncovered.{first, uncovered_forms, IsCovered}
+use Rattle.wast_core.specs.Uncovered.{head_of, uncovered_forms, IsCovered}
 use Rattle.wast_core.proofs.Swapped.{parts_swapped}
 
 -- An index that denotes something becomes a number.
@@ -42,7 +42,7 @@ record AreNumbers (is : List Index) : Type 0 where
   ks : List (ℕ × Span)
   are : is ≡ numbers ks
 
-module _ (k : Known) where
+module _ (k : IdContext) where
   abbrev denotes : Index → Bool
   denotes i = is_some (denoted (k.number space.Func) i)
 
@@ -60,21 +60,21 @@ module _ (k : Known) where
 
 pub starts_last : StartsAreMet → StartsComeBefore → RestsByPosition → MeansWhatIsWritten → StartsLast
 starts_last are_met before by_position means n name fields is above met denote =
-    let met_too : IsMet (fields ++ starts is) = are_met n fields is above met denote in
+    let met_too : IsMet (fields ++ start_fields_of is) = are_met n fields is above met denote in
     let split = before n fields is in
     let own = split.0 in
     let types = split.1 in
     let js : List Index = map (numbered_at (final_names n fields) space.Func) is in
     let a = are_numbers (final_names n fields) is denote in
-    let rests : meaning name (finished n fields ++ starts js) ≡ parts name (finished n fields ++ starts js) =
-    subst (λ ls. meaning name (finished n fields ++ starts ls) ≡ parts name (finished n fields ++ starts ls)) (sym a.are) (ap (parts name) (by_position n fields a.ks)) in (
+    let rests : meaning name (resolved_fields_from n fields ++ start_fields_of js) ≡ parts name (resolved_fields_from n fields ++ start_fields_of js) =
+    subst (λ ls. meaning name (resolved_fields_from n fields ++ start_fields_of ls) ≡ parts name (resolved_fields_from n fields ++ start_fields_of ls)) (sym a.are) (ap (parts name) (by_position n fields a.ks)) in (
       met_too,
-      rests ∙ (ap (λ (xs : List ModuleField). parts name (xs ++ starts js)) split.2
-          ∙ (sym (parts_swapped name js own types) ∙ (ap (parts name) (sym split.3) ∙ means n name (fields ++ starts is) above met_too))),
+      rests ∙ (ap (λ (xs : List ModuleField). parts name (xs ++ start_fields_of js)) split.2
+          ∙ (sym (parts_swapped name js own types) ∙ (ap (parts name) (sym split.3) ∙ means n name (fields ++ start_fields_of is) above met_too))),
     )
 
 -- Numbers are settled, denote themselves and stay.
-numbers_settled : (xs : List ModuleField) (ks : List (ℕ × Span)) → list_all (is_settled_index ((known (items xs)).number space.Func)) (numbers ks) ≡ true
+numbers_settled : (xs : List ModuleField) (ks : List (ℕ × Span)) → list_all (is_settled_index ((id_context (items xs)).number space.Func)) (numbers ks) ≡ true
 numbers_settled xs [] = refl
 numbers_settled xs (k ∷ ks) = numbers_settled xs ks
 
@@ -90,7 +90,7 @@ pub numbers_last : StartsStayBelow → StartsLast → NumbersLast
 numbers_last below last n name fields ks above met =
     let same = below fields (numbers ks) (numbers_settled fields ks) in
     let h = last n name fields (numbers ks) (omega (arith, same, above)) met (numbers_denote n fields ks) in
-    (h.0, ap (λ is. meaning name (finished n fields ++ starts is)) (sym (numbers_stay n fields ks)) ∙ h.1)
+    (h.0, ap (λ is. meaning name (resolved_fields_from n fields ++ start_fields_of is)) (sym (numbers_stay n fields ks)) ∙ h.1)
 
 -- An error of a list whose demands are met has no place.
 withheld_by : (many : Type 0) (f : Fault) (s : Option Span) → Answers ⊤ many (told_at (cause_of f) s) None → IsWithheld many (record { span = s; fault = f })
@@ -99,33 +99,33 @@ withheld_by many fault.TooLarge None h = inr (refl, h)
 withheld_by many f None h = absurd h
 withheld_by many f (Some p) h = absurd (cc h)
 
-withheld : (many : Type 0) (e : Error) → Answers ⊤ many (told e) None → IsWithheld many e
+withheld : (many : Type 0) (e : Error) → Answers ⊤ many (diagnostic_of e) None → IsWithheld many e
 withheld many e h = withheld_by many e.fault e.span h
 
 pub rests_withheld : RestsMet → RestsWithheld
 rests_withheld resting m n fields ks e above met h =
-    let list : List ModuleField = started n fields ks in
-    withheld (IsTooLarge m list) e (subst (λ o. Answers ⊤ (IsTooLarge m list) (told e) o) (resting n fields ks above met) h)
+    let list : List ModuleField = with_start_fields n fields ks in
+    withheld (IsTooLarge m list) e (subst (λ o. Answers ⊤ (IsTooLarge m list) (diagnostic_of e) o) (resting n fields ks above met) h)
 
 -- A resolved list, resolved again.
 module _ (resting : RestsMet) (still : RestsStill) (n m : ℕ) (fields : List ModuleField) (above : greatest_generation fields < n) (met : IsMet fields) where
   abbrev list : List ModuleField
-  list = finished n fields
+  list = resolved_fields_from n fields
 
-  bare : started n fields [] ≡ list
+  bare : with_start_fields n fields [] ≡ list
   bare = append-nil list
 
-  list_stays : finished m list ≡ list
-  list_stays = subst (λ xs. finished m xs ≡ xs) bare (still m n fields [])
+  list_stays : resolved_fields_from m list ≡ list
+  list_stays = subst (λ xs. resolved_fields_from m xs ≡ xs) bare (still m n fields [])
 
   unresolved : (e : Error) → IsUnresolved m list e → IsWithheld (IsTooLarge m list) e
   unresolved e h = subst (λ xs. IsUnresolved m xs e → IsWithheld (IsTooLarge m xs) e) bare (rests_withheld resting m n fields [] e above met) h
 
-  names_stay : ItemsStay → known (items (explicit_from m list)) ≡ known (items (explicit_from n fields))
-  names_stay its = ap known (sym (its m list) ∙ (ap items list_stays ∙ its n fields))
+  names_stay : ItemsStay → id_context (items (explicit_fields_from m list)) ≡ id_context (items (explicit_fields_from n fields))
+  names_stay its = ap id_context (sym (its m list) ∙ (ap items list_stays ∙ its n fields))
 
   -- so resolving gives the same names and fields,
-  resolves_list : ItemsStay → (names : KnownNames) → known_to names ≡ known (items (explicit_from n fields)) → (result : Result KnownNames Error) (second : ModuleKind)
+  resolves_list : ItemsStay → (names : KnownNames) → known_to names ≡ id_context (items (explicit_fields_from n fields)) → (result : Result KnownNames Error) (second : ModuleKind)
       → ResolvesKind m (kind.Text list) result second → (last : ℕ) → (second ≡ kind.Text list → last ≡ m) → ResolvesAgain names (kind.Text list) m result second last
   resolves_list its names know (Ok again) second h last counts =
       let is : second ≡ kind.Text list = h.1 ∙ ap kind.Text list_stays in
@@ -136,8 +136,8 @@ module _ (resting : RestsMet) (still : RestsStill) (n m : ℕ) (fields : List Mo
   means_the_same : MeansWhatIsWritten → RestsByPosition → (name : Option (List ℕ)) → meaning name list ≡ meaning name fields
   means_the_same means by_position name = subst (λ xs. meaning name xs ≡ parts name list) bare (ap (parts name) (by_position n fields [] ∙ bare)) ∙ means n name fields above met
 
-  unwritten : (name : Option (List ℕ)) → IsCovered list → (e : Error) → IsUnwritten (first (uncovered_forms (finished m list))) (IsBounded m name list) e → IsWithheld (IsBounded m name list → ⊥) e
-  unwritten name covered e h = subst (λ o. IsUnwritten o (IsBounded m name list) e) (ap (λ xs. first (uncovered_forms xs)) list_stays ∙ covered) h
+  unwritten : (name : Option (List ℕ)) → IsCovered list → (e : Error) → IsUnwritten (head_of (uncovered_forms (resolved_fields_from m list))) (IsBounded m name list) e → IsWithheld (IsBounded m name list → ⊥) e
+  unwritten name covered e h = subst (λ o. IsUnwritten o (IsBounded m name list) e) (ap (λ xs. head_of (uncovered_forms xs)) list_stays ∙ covered) h
 
   unencoded : TooLargeIsUnbounded → (name : Option (List ℕ)) → IsCovered list → (e : Error) (second : ModuleKind) → IsUnencoded m name list e second → IsWithheld (IsBounded m name list → ⊥) e
   unencoded bounded name covered e second (inl h) = more (unresolved e h.0)
@@ -155,11 +155,11 @@ module _ (resting : RestsMet) (still : RestsStill) (n m : ℕ) (fields : List Mo
 
 pub second_resolve : RestsMet → RestsStill → FillsNoMore → ItemsStay → SecondResolve
 second_resolve resting still fills its (kind.Text fields) first second n m after last names result above a b =
-    let list : List ModuleField = finished n fields in
+    let list : List ModuleField = resolved_fields_from n fields in
     let resolves : ResolvesKind m (kind.Text list) result second = subst (λ k. ResolvesKind m k result second) a.kind.1 b.kind in
     let counts : Counts (kind.Text list) second m last = subst (λ k. Counts k second m last) a.kind.1 b.counter in
-    let none : ids_filled list ≡ 0 = ap ids_filled (sym (append-nil list)) ∙ fills n fields [] in
-    let stays : second ≡ kind.Text list → last ≡ m = λ e. let d : last ≡ m + ids_filled list = subst (λ k. Counts (kind.Text list) k m last) e counts in omega (arith, d, none) in
+    let none : generated_id_count list ≡ 0 = ap generated_id_count (sym (append-nil list)) ∙ fills n fields [] in
+    let stays : second ≡ kind.Text list → last ≡ m = λ e. let d : last ≡ m + generated_id_count list = subst (λ k. Counts (kind.Text list) k m last) e counts in omega (arith, d, none) in
     subst (λ k. ResolvesAgain names k m result second last) (sym a.kind.1)
     (resolves_list resting still n m fields above a.kind.0 its names a.kind.2 result second resolves last stays)
 second_resolve resting still fills its (kind.Binary pieces) first second n m after last names (Ok again) above a b =
@@ -172,7 +172,7 @@ second_resolve resting still fills its (kind.Refused e) first second n m after l
 
 pub second_encoding : RestsMet → RestsStill → RestsByPosition → TooLargeIsUnbounded → MeansWhatIsWritten → ((b c : List ℕ) (p : List Part) → Reads b p → Reads c p → b ≡ c) → SecondEncoding
 second_encoding resting still by_position bounded means one (kind.Text fields) first second n m name bytes result above a b =
-    let list : List ModuleField = finished n fields in
+    let list : List ModuleField = resolved_fields_from n fields in
     let is : first ≡ kind.Text list = a.3 in
     subst (λ k. EncodesAgain bytes.items name k m result second) (sym is)
     (encodes_list resting still n m fields above a.0 bounded means by_position one name bytes.items a.2 a.1 result second (subst (λ k. EncodesKind m name k result second) is b))

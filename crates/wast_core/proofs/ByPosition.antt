@@ -8,24 +8,24 @@ use Rattle.wasm_ops.proofs.Everywhere.{all_both}
 use Rattle.wasm_out.specs.NameSectionBytes.{InRangeNameSubsection}
 use Rattle.wasm_out.specs.Parts.{Part, part, InRangePart}
 use Rattle.wasm_out.specs.Reads.{header}
-use Rattle.wast_nodes.specs.Generations.{greatest_generation}
-use Rattle.wast_map.specs.Mapped.{mapped}
-use Rattle.wast_map.specs.Laws.{all_mapped}
-use Rattle.wast_demands.specs.Explicit.{by_positions}
-use Rattle.wast_demands.specs.Resolved.{resolved}
-use Rattle.wast_demands.specs.Finished.{finished}
-use Rattle.wast_demands.specs.Stripped.{stripping}
-use Rattle.wast_alike.specs.Laws.{SamePositions}
+use Rattle.wast_tree_nodes.specs.Generations.{greatest_generation}
+use Rattle.wast_tree_map.specs.Mapped.{mapped_field}
+use Rattle.wast_tree_map.specs.Laws.{all_mapped}
+use Rattle.wast_resolve_rules.specs.Explicit.{by_positions}
+use Rattle.wast_resolve_rules.specs.Resolved.{resolved_fields}
+use Rattle.wast_resolve_rules.specs.Finished.{resolved_fields_from}
+use Rattle.wast_resolve_rules.specs.Stripped.{stripping}
+use Rattle.wast_resolve_laws.specs.Laws.{SamePositions}
 use Rattle.wast_core.specs.Tree.{ModuleField}
 use Rattle.wast_core.specs.declared.slots.Slot.{Slot}
 use Rattle.wast_core.specs.declared.slots.Slot.TheVariants as slot
 use Rattle.wast_core.specs.Slots.{order}
-use Rattle.wast_nodes.specs.Customs.{customs_at, is_custom_called}
+use Rattle.wast_tree_nodes.specs.Customs.{customs_at, is_custom_called}
 use Rattle.wast_core.specs.Tree.{CustomPlace}
-use Rattle.wast_conv.specs.Customs.{InRangeCustomBytes}
+use Rattle.wast_core_conv.specs.Customs.{InRangeCustomBytes}
 use Rattle.wast_core.specs.Tree.field
-use Rattle.wast_names.specs.NamesPart.{names_part}
-use Rattle.wast_core.specs.Hints.{hinted, InRangeHints}
+use Rattle.wast_core_name_section.specs.NamesPart.{names_part}
+use Rattle.wast_core.specs.Hints.{hinted_functions, InRangeHints}
 use Rattle.wast_core.specs.Meaning.{has_own_names, subsections_of, in_slot, parts}
 use Rattle.wast_core.specs.Bounded.{InRangeHeld, InRangeSlot, InRangeModule, IsWritable}
 use Rattle.wast_core.specs.Headline.{IsMet}
@@ -33,19 +33,19 @@ use Rattle.wast_core.specs.Laws.{MeansWhatIsWritten}
 use Rattle.wast_core.proofs.Fronts.{same_customs, same_hinted, same_slot}
 use Rattle.wast_core.proofs.Stripping.{stripping_tells}
 use Rattle.wast_core.proofs.StrippedNames.{keeps_names}
-use Rattle.wast_names.proofs.SameNameSection.{same_subsections}
+use Rattle.wast_core_name_section.proofs.SameNameSection.{same_subsections}
 
 same_own : (xs : List ModuleField) → has_own_names (all_mapped stripping xs) ≡ has_own_names xs
 same_own [] = refl
 same_own (x ∷ xs) = λ i. each x i || same_own xs i
   where
-    each : (x : ModuleField) → is_custom_called (codes "name") (mapped stripping x) ≡ is_custom_called (codes "name") x
+    each : (x : ModuleField) → is_custom_called (codes "name") (mapped_field stripping x) ≡ is_custom_called (codes "name") x
     each (field.Ty t) = refl
     each x = refl
 
 module _ (name : Option (List ℕ)) where
   same_given : (xs : List ModuleField) → subsections_of name (all_mapped stripping xs) ≡ subsections_of name xs
-  same_given xs = λ i. if same_own xs i then [] else same_subsections (mapped stripping) keeps_names name xs i
+  same_given xs = λ i. if same_own xs i then [] else same_subsections (mapped_field stripping) keeps_names name xs i
 
   slot_same : (xs : List ModuleField) (s : Slot) → in_slot name (all_mapped stripping xs) s ≡ in_slot name xs s
   slot_same xs slot.Names = ap names_part (same_given xs)
@@ -66,8 +66,8 @@ module _ (name : Option (List ℕ)) where
     customs_same : (place : CustomPlace) → customs_at place xs ≡ customs_at place ys
     customs_same place = sym (same_customs stripping stripping_tells place xs) ∙ (ap (customs_at place) alike ∙ same_customs stripping stripping_tells place ys)
 
-    hinted_same : hinted xs ≡ hinted ys
-    hinted_same = sym (same_hinted stripping stripping_tells xs) ∙ (ap hinted alike ∙ same_hinted stripping stripping_tells ys)
+    hinted_same : hinted_functions xs ≡ hinted_functions ys
+    hinted_same = sym (same_hinted stripping stripping_tells xs) ∙ (ap hinted_functions alike ∙ same_hinted stripping stripping_tells ys)
 
     pub parts_same : parts name xs ≡ parts name ys
     parts_same = ap (λ (f : Slot → List Part). flat_map f order) slots_same
@@ -87,7 +87,7 @@ module _ (name : Option (List ℕ)) where
 
 -- Where each demand is met, the ids that a counter gives tell nothing.
 pub means_what_is_written : SamePositions → MeansWhatIsWritten
-means_what_is_written positions n name fields above met = parts_same name (finished n fields) (resolved (by_positions fields)) (positions n fields above met)
+means_what_is_written positions n name fields above met = parts_same name (resolved_fields_from n fields) (resolved_fields (by_positions fields)) (positions n fields above met)
 
-pub written_where_meant : SamePositions → (n : ℕ) (name : Option (List ℕ)) (fields : List ModuleField) → greatest_generation fields < n → IsMet fields → IsWritable name (resolved (by_positions fields)) → IsWritable name (finished n fields)
-written_where_meant positions n name fields above met w = writable_same name (resolved (by_positions fields)) (finished n fields) (sym (positions n fields above met)) w
+pub written_where_meant : SamePositions → (n : ℕ) (name : Option (List ℕ)) (fields : List ModuleField) → greatest_generation fields < n → IsMet fields → IsWritable name (resolved_fields (by_positions fields)) → IsWritable name (resolved_fields_from n fields)
+written_where_meant positions n name fields above met w = writable_same name (resolved_fields (by_positions fields)) (resolved_fields_from n fields) (sym (positions n fields above met)) w

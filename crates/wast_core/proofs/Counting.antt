@@ -12,18 +12,18 @@ use Rattle.wasm_ops.specs.declared.sink.Refusal.{Refusal}
 use Rattle.wasm_ops.specs.Sinks.{SinkRules, AppendLaws, Writes}
 use Rattle.wasm_ops.proofs.Sinking.{puts_as, one_written}
 use Rattle.wasm_out.specs.Parts.{Data, DataCount, Part, section, part, InRangePart}
-use Rattle.wast_nodes.specs.Sites.{Here, behind, param_marks, local_marks, body_here}
-use Rattle.wast_map.specs.Mapped.{Change, mapped_instr, mapped_instrs, mapped_func_kind, mapped}
-use Rattle.wast_map.specs.Laws.{all_mapped}
-use Rattle.wast_nodes.specs.Kinds.{is_of}
-use Rattle.wast_nodes.specs.declared.kinds.FieldKind.TheVariants as kind
-use Rattle.wast_reach.specs.declared.stretches.Reach.{Reach}
-use Rattle.wast_reach.specs.Reaches.{is_reach, there}
-use Rattle.wast_reach.proofs.Reaching.{all_there}
+use Rattle.wast_tree_nodes.specs.Sites.{BodyContext, context_after, param_marks, local_marks, body_here}
+use Rattle.wast_tree_map.specs.Mapped.{Change, mapped_instr, mapped_instrs, mapped_func_kind, mapped_field}
+use Rattle.wast_tree_map.specs.Laws.{all_mapped}
+use Rattle.wast_tree_nodes.specs.Kinds.{is_of}
+use Rattle.wast_tree_nodes.specs.declared.kinds.FieldKind.TheVariants as kind
+use Rattle.wast_core_ranges.specs.declared.stretches.FieldRange.{FieldRange}
+use Rattle.wast_core_ranges.specs.FieldRanges.{is_reach, fields_in}
+use Rattle.wast_core_ranges.proofs.Reaching.{all_there}
 use Rattle.wast_core.specs.Tree.{FunctionType, TypeUse, Instruction, FuncKind, ModuleField}
 use Rattle.wast_core.specs.Tree.func
 use Rattle.wast_core.specs.Tree.field
-use Rattle.wast_nodes.specs.Instrs.{needs_data_count}
+use Rattle.wast_tree_nodes.specs.Instrs.{needs_data_count}
 use Rattle.wast_core.specs.DataCounts.{instrs_of, body_instrs, body_needs_count, needs_count, may_be_counted, count_parts}
 use Rattle.wast_core.specs.Meaning.{entries, data_counts}
 
@@ -33,19 +33,19 @@ any_in_flat t g [] = refl
 any_in_flat t g (x ∷ xs) = ap (λ b. list_any t (g x) || b) (any_in_flat t g xs) ∙ sym (list_any-append t (g x) (flat_map g xs))
 
 -- An instruction needs it whatever the indices in it become,
-need_stays : (f : Change) (h : Here) (i : Instruction) → needs_data_count (mapped_instr f h i) ≡ needs_data_count i
+need_stays : (f : Change) (h : BodyContext) (i : Instruction) → needs_data_count (mapped_instr f h i) ≡ needs_data_count i
 need_stays f h i = grind (arith, common_steps)
 
-needs_stay : (f : Change) (h : Here) (is : List Instruction) → list_any needs_data_count (mapped_instrs f h is) ≡ list_any needs_data_count is
+needs_stay : (f : Change) (h : BodyContext) (is : List Instruction) → list_any needs_data_count (mapped_instrs f h is) ≡ list_any needs_data_count is
 needs_stay f h [] = refl
-needs_stay f h (i ∷ is) = λ t. need_stays f h i t || needs_stay f (behind h i) is t
+needs_stay f h (i ∷ is) = λ t. need_stays f h i t || needs_stay f (context_after h i) is t
 
 -- and so does a body,
 body_need : (f : Change) (u : TypeUse FunctionType) (k : FuncKind) → list_any needs_data_count (instrs_of (mapped_func_kind f u k)) ≡ list_any needs_data_count (instrs_of k)
 body_need f u (func.Import import exact) = refl
 body_need f u (func.Inline locals e) = needs_stay f (body_here u (param_marks u.inline ++ local_marks locals)) e.instrs
 
-field_need : (f : Change) (x : ModuleField) → body_needs_count (mapped f x) ≡ body_needs_count x
+field_need : (f : Change) (x : ModuleField) → body_needs_count (mapped_field f x) ≡ body_needs_count x
 field_need f (field.Func x) = body_need f x.ty x.kind
 field_need f x = refl
 
@@ -59,9 +59,9 @@ no_body_elsewhere : (x : ModuleField) → is_of kind.Func x ≡ false → body_i
 no_body_elsewhere (field.Func f) h = cc
 no_body_elsewhere x h = refl
 
-pub functions_need : (fields : List ModuleField) (r : Reach) → is_reach (is_of kind.Func) fields r ≡ true → needs_count (there r fields) ≡ needs_count fields
+pub functions_need : (fields : List ModuleField) (r : FieldRange) → is_reach (is_of kind.Func) fields r ≡ true → needs_count (fields_in r fields) ≡ needs_count fields
 functions_need fields r h =
-    any_in_flat needs_data_count body_instrs (there r fields) ∙ (ap (list_any needs_data_count) (all_there body_instrs (is_of kind.Func) fields r no_body_elsewhere h) ∙ sym (any_in_flat needs_data_count body_instrs fields))
+    any_in_flat needs_data_count body_instrs (fields_in r fields) ∙ (ap (list_any needs_data_count) (all_there body_instrs (is_of kind.Func) fields r no_body_elsewhere h) ∙ sym (any_in_flat needs_data_count body_instrs fields))
 
 -- where no index of a data segment is asked for, none needs it
 pub none_needs : (fields : List ModuleField) (asked : Bool) → asked ≡ false → may_be_counted fields asked ≡ true → needs_count fields ≡ false

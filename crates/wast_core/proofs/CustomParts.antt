@@ -7,10 +7,10 @@ use Rattle.wasm_ops.specs.declared.sink.Refusal.{Refusal}
 use Rattle.wasm_ops.proofs.Everywhere.{all_map, all_unmap, all_both}
 use Rattle.wasm_ops.proofs.Sinking.{written_as}
 use Rattle.wasm_out.specs.Parts.{part, InRangePart}
-use Rattle.wast_conv.specs.Customs.{custom_part, InRangeCustomBytes, InRangeCustom}
+use Rattle.wast_core_conv.specs.Customs.{custom_part, InRangeCustomBytes, InRangeCustom}
 use Rattle.wast_core.specs.Meaning.{custom_section}
 use Rattle.wast_core.specs.Tree.{Custom}
-use Rattle.wast_names.proofs.Each.{each_like}
+use Rattle.wast_core_name_section.proofs.Each.{each_like}
 
 -- A section is in range where its part is, and what stands in it.
 in_range_apart : (cs : List Custom) → All InRangeCustom cs → All InRangePart (map custom_part cs) × All InRangeCustomBytes cs

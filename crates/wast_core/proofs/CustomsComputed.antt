@@ -2,7 +2,7 @@
 use Rattle.std.proofs.Common.{◌≡◌, [], ◌∷◌, refl}
 use Rattle.std.specs.List.{filter}
 use Rattle.wasm_ops.specs.Leb128.{unsigned, unsigned_in}
-use Rattle.wast_nodes.specs.Customs.{custom_place}
+use Rattle.wast_tree_nodes.specs.Customs.{custom_place}
 use Rattle.wast_core.specs.Tree.{CustomPlace, CustomPlaceAnchor}
 use Rattle.wast_core.specs.Tree.anchor
 use Rattle.wast_core.specs.Tree.custom_place as at

@@ -4,44 +4,44 @@ use Rattle.std.specs.Borrow.{Bor}
 use Rattle.std.specs.Global.{Vec}
 use Rattle.wast_base.specs.declared.faults.Error.{Error}
 use Rattle.wast_base.specs.declared.faults.Form.{Form}
-use Rattle.wast_nodes.specs.Generations.{greatest_generation}
-use Rattle.wast_nodes.specs.Items.{items}
-use Rattle.wast_nodes.specs.Known.{known}
-use Rattle.wast_nodes.specs.WellFormed.{is_well_formed}
-use Rattle.wast_demands.specs.Finished.{finished}
-use Rattle.wast_passes.specs.Resolvers.{KnownNames}
-use Rattle.wast_alike.specs.Laws.{FinishedStaysWellFormed, FinishedIsResolved, FinishedIsWrittenOut, SamePositions}
+use Rattle.wast_tree_nodes.specs.Generations.{greatest_generation}
+use Rattle.wast_tree_nodes.specs.Items.{items}
+use Rattle.wast_tree_nodes.specs.Known.{id_context}
+use Rattle.wast_tree_nodes.specs.WellFormed.{is_well_formed}
+use Rattle.wast_resolve_rules.specs.Finished.{resolved_fields_from}
+use Rattle.wast_resolve_passes.specs.Resolvers.{KnownNames}
+use Rattle.wast_resolve_laws.specs.Laws.{FinishedStaysWellFormed, FinishedIsResolved, FinishedIsWrittenOut, SamePositions}
 use Rattle.wasm_out.specs.Reads.{Reads}
-use Rattle.wast_conv.specs.Encodable.{is_at_rest}
-use Rattle.wast_conv.proofs.Ready.{fields_at_rest}
+use Rattle.wast_core_conv.specs.Encodable.{is_at_rest}
+use Rattle.wast_core_conv.proofs.Ready.{fields_at_rest}
 use Rattle.wast_core.specs.Tree.{ModuleField}
 use Rattle.wast_core.specs.declared.module.ModuleKind.{ModuleKind}
 use Rattle.wast_core.specs.declared.module.ModuleKind.TheVariants as kind
 use Rattle.wast_core.specs.Bounded.{IsWritable, IsBounded}
 use Rattle.wast_core.specs.Headline.{IsMet, ResolvesKind, EncodesKind, IsUnwritten}
 use Rattle.wast_core.specs.Modules.{bound_of_kind}
-use Rattle.wast_core.specs.Uncovered.{first, uncovered_forms}
+use Rattle.wast_core.specs.Uncovered.{head_of, uncovered_forms}
 use Rattle.wast_core.specs.Writing.{EncodesResolved}
 use Rattle.wast_core.proofs.ByPosition.{means_what_is_written, written_where_meant}
 
 -- well formed fields whose demands are met are at rest once they are resolved
 pub at_rest : FinishedStaysWellFormed → FinishedIsResolved → FinishedIsWrittenOut → (n : ℕ) (fields : List ModuleField)
-    → greatest_generation fields < n → is_well_formed fields ≡ true → IsMet fields → is_at_rest (finished n fields) ≡ true
+    → greatest_generation fields < n → is_well_formed fields ≡ true → IsMet fields → is_at_rest (resolved_fields_from n fields) ≡ true
 at_rest stays resolved written n fields above h met =
-    let new = finished n fields in
-    fields_at_rest (known (items new)) new (stays n fields above h met) (resolved n fields above met) (written n fields)
+    let new = resolved_fields_from n fields in
+    fields_at_rest (id_context (items new)) new (stays n fields above h met) (resolved n fields above met) (written n fields)
 
 -- encoding a resolved module answers as encoding the module that it was
-unwritten : SamePositions → (form : Option Form) (n : ℕ) (name : Option (List ℕ)) (fields : List ModuleField) (e : Error) → greatest_generation fields < n → IsMet fields → IsUnwritten form (IsWritable name (finished n fields)) e → IsUnwritten form (IsBounded n name fields) e
+unwritten : SamePositions → (form : Option Form) (n : ℕ) (name : Option (List ℕ)) (fields : List ModuleField) (e : Error) → greatest_generation fields < n → IsMet fields → IsUnwritten form (IsWritable name (resolved_fields_from n fields)) e → IsUnwritten form (IsBounded n name fields) e
 unwritten positions (Some form) n name fields e above met h = h
 unwritten positions None n name fields e above met h = elim h [ inl memory ↦ inl memory | inr large ↦ inr (large.0, λ b. large.1 (written_where_meant positions n name fields above met b.writable)) ]
 
 pub encodes : SamePositions → (n : ℕ) (name : Option (List ℕ)) (old new : ModuleKind) (names : KnownNames) (result : Result (Vec ℕ) Error) → bound_of_kind old < n → ResolvesKind n old (Ok names) new → EncodesResolved name new result → EncodesKind n name old result new
 encodes positions n name (kind.Text fs) new names result above r h = text fs new result above r (subst (λ k. EncodesResolved name k result) r.1 h)
   where
-    text : (fs : List ModuleField) (new : ModuleKind) (result : Result (Vec ℕ) Error) → greatest_generation fs < n → ResolvesKind n (kind.Text fs) (Ok names) new → EncodesResolved name (kind.Text (finished n fs)) result → EncodesKind n name (kind.Text fs) result new
+    text : (fs : List ModuleField) (new : ModuleKind) (result : Result (Vec ℕ) Error) → greatest_generation fs < n → ResolvesKind n (kind.Text fs) (Ok names) new → EncodesResolved name (kind.Text (resolved_fields_from n fs)) result → EncodesKind n name (kind.Text fs) result new
     text fs new (Ok bytes) above r h = (r.0, h.0, subst (Reads bytes.items) (means_what_is_written positions n name fs above r.0) h.1, r.1)
-    text fs new (Err e) above r h = inr (r.0, unwritten positions (first (uncovered_forms (finished n fs))) n name fs e above r.0 h, r.1)
+    text fs new (Err e) above r h = inr (r.0, unwritten positions (head_of (uncovered_forms (resolved_fields_from n fs))) n name fs e above r.0 h, r.1)
 encodes positions n name (kind.Binary pieces) new names result above r h = binary pieces new result r.1 (subst (λ k. EncodesResolved name k result) r.1 h)
   where
     binary : (pieces : List (Bor (List ℕ))) (new : ModuleKind) (result : Result (Vec ℕ) Error) → new ≡ kind.Binary pieces → EncodesResolved name (kind.Binary pieces) result → EncodesKind n name (kind.Binary pieces) result new

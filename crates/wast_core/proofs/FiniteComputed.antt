@@ -1,7 +1,7 @@
 -- The worked module whose generated name is sent to a written one, computed.
 use Rattle.std.proofs.Common.{refl}
 use Rattle.wasm_ops.specs.Leb128.{unsigned, unsigned_in}
-use Rattle.wast_alike.proofs.Extending.{extended_is_injective}
+use Rattle.wast_resolve_laws.proofs.Extending.{extended_is_injective}
 use Rattle.wast_core.specs.WorkedFinite.{one_sent, GeneratedIsWritten}
 use Rattle.wast_core.proofs.FiniteNames.{renames_finitely}
 

@@ -4,13 +4,13 @@ use Rattle.std.specs.List.{list_any}
 use Rattle.std.specs.Cmp.{first_so, second_so}
 use Rattle.wast_base.specs.Ids.{Name, Written, Generated, same_name, named_by, name_of, place_of}
 use Rattle.wast_base.proofs.Names.{same_name_equal, same_name_itself}
-use Rattle.wast_alike.specs.Extended.{Names, given, IsInjective, extended, ExtendedIsInjective}
+use Rattle.wast_resolve_laws.specs.Extended.{FiniteNaming, renamed_name, IsInjective, extended, ExtendedIsInjective}
 use Rattle.wast_core.specs.FiniteNames.{is_injective, held_at, RenamesFinitely}
 
 -- A name that the map gives is among those that its entries give.
-given_there : (m : Names) (a c : Name) → given m a ≡ Some c → list_any (λ d. same_name c d.1) m ≡ true
+given_there : (m : FiniteNaming) (a c : Name) → renamed_name m a ≡ Some c → list_any (λ d. same_name c d.1) m ≡ true
 given_there [] a c h = absurd (cc h)
-given_there (e ∷ m) a c h = by (same_name a e.0) (given m a) (given_there m a c) h
+given_there (e ∷ m) a c h = by (same_name a e.0) (renamed_name m a) (given_there m a c) h
   where
     rest : (b : Bool) (o : Option Name) → (o ≡ Some c → list_any (λ d. same_name c d.1) m ≡ true) → o ≡ Some c → (b || list_any (λ d. same_name c d.1) m) ≡ true
     rest true o k g = refl
@@ -23,7 +23,7 @@ given_there (e ∷ m) a c h = by (same_name a e.0) (given m a) (given_there m a 
     by false o k g = rest (same_name c e.1) o k g
 
 -- So two entries of an injective map give two names.
-pub injective_so : (m : Names) → is_injective m ≡ true → IsInjective m
+pub injective_so : (m : FiniteNaming) → is_injective m ≡ true → IsInjective m
 injective_so [] h a b c k l = absurd (cc k)
 injective_so (e ∷ m) h a b c k l =
     let alone = first_so (not (list_any (λ d. same_name e.1 d.1) m)) (is_injective m) h in
@@ -34,7 +34,7 @@ injective_so (e ∷ m) h a b c k l =
     clash h g = absurd (cc (sym (ap not g) ∙ h))
 
     by : not (list_any (λ d. same_name e.1 d.1) m) ≡ true → IsInjective m → (p q : Bool) → same_name a e.0 ≡ p → same_name b e.0 ≡ q
-        → cond p (Some e.1) (given m a) ≡ Some c → cond q (Some e.1) (given m b) ≡ Some c → a ≡ b
+        → cond p (Some e.1) (renamed_name m a) ≡ Some c → cond q (Some e.1) (renamed_name m b) ≡ Some c → a ≡ b
     by alone others true true f g k l = same_name_equal a e.0 f ∙ sym (same_name_equal b e.0 g)
     by alone others true false f g k l = absurd (clash alone (given_there m b e.1 (l ∙ sym k)))
     by alone others false true f g k l = absurd (clash alone (given_there m a e.1 (k ∙ sym l)))

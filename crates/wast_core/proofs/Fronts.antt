@@ -6,11 +6,11 @@ use Rattle.std.specs.List.{flat_map, filter}
 use Rattle.wasm_out.specs.Parts.{SectionKind, Data}
 use Rattle.wasm_out.specs.Bodies.{Body}
 use Rattle.wast_base.specs.Spaces.{same_space}
-use Rattle.wast_nodes.specs.Imports.{item_sigs}
-use Rattle.wast_nodes.specs.Items.{space_of_kind}
-use Rattle.wast_nodes.specs.Customs.{customs_in, customs_at}
-use Rattle.wast_map.specs.Mapped.{Change, mapped_func_kind, mapped_import_items, mapped_item_kind, mapped_sig, mapped}
-use Rattle.wast_map.specs.Laws.{all_mapped}
+use Rattle.wast_tree_nodes.specs.Imports.{item_sigs}
+use Rattle.wast_tree_nodes.specs.Items.{space_of_kind}
+use Rattle.wast_tree_nodes.specs.Customs.{customs_in, customs_at}
+use Rattle.wast_tree_map.specs.Mapped.{Change, mapped_func_kind, mapped_import_items, mapped_item_kind, mapped_sig, mapped_field}
+use Rattle.wast_tree_map.specs.Laws.{all_mapped}
 use Rattle.wast_core.specs.Tree.{CustomPlace, FunctionType, TypeUse, FuncKind, ItemKind, ItemSig, ImportItems, ModuleField}
 use Rattle.wast_core.specs.Tree.space
 use Rattle.wast_core.specs.Tree.func
@@ -20,13 +20,13 @@ use Rattle.wast_core.specs.Tree.field
 use Rattle.wast_core.specs.declared.slots.Slot.{Slot}
 use Rattle.wast_core.specs.declared.slots.Slot.TheVariants as slot
 use Rattle.wast_core.specs.Slots.{section_kind, order}
-use Rattle.wast_conv.specs.Customs.{custom_part}
-use Rattle.wast_names.specs.GivenNames.{named_from}
-use Rattle.wast_names.proofs.Each.{each_like}
+use Rattle.wast_core_conv.specs.Customs.{custom_part}
+use Rattle.wast_core_name_section.specs.GivenNames.{named_from}
+use Rattle.wast_core_name_section.proofs.Each.{each_like}
 use Rattle.wast_core.specs.DataCounts.{count_parts}
-use Rattle.wast_core.specs.Front.{Tells, is_front, FrontStays}
-use Rattle.wast_core.specs.Hints.{if_hinted, imported_func, functions_in, hinted, hints_part}
-use Rattle.wast_core.specs.Meaning.{Contribution, start_part, starts_in, of_kind, entries_in, entries, listed, in_slot}
+use Rattle.wast_core.specs.Front.{KeepsNumbers, is_front, FrontStays}
+use Rattle.wast_core.specs.Hints.{if_hinted, imported_func, functions_in, hinted_functions, hints_part}
+use Rattle.wast_core.specs.Meaning.{Contribution, start_part, starts_in, of_kind, entries_in, entries, section_part, in_slot}
 use Rattle.wast_core.proofs.Counting.{same_need}
 use Rattle.wast_core.proofs.Told.{contributed_told, body_told}
 
@@ -53,16 +53,16 @@ module _ (f : Change) where
       copies [] = refl
       copies (name ∷ names) = ap (λ sigs. mapped_sig f sig ∷ sigs) (copies names)
 
-module _ (f : Change) (tells : Tells f) where
+module _ (f : Change) (tells : KeepsNumbers f) where
   -- What is read of all fields.
   same_entries : (kind : SectionKind) (xs : List ModuleField) → entries kind (all_mapped f xs) ≡ entries kind xs
-  same_entries kind xs = each_like (mapped f) (entries_in kind) (entries_in kind) (λ x. ap (of_kind kind) (contributed_told f tells x)) xs
+  same_entries kind xs = each_like (mapped_field f) (entries_in kind) (entries_in kind) (λ x. ap (of_kind kind) (contributed_told f tells x)) xs
 
   -- A custom section stays as it is.
   pub same_customs : (place : CustomPlace) (xs : List ModuleField) → customs_at place (all_mapped f xs) ≡ customs_at place xs
-  same_customs place xs = each_like (mapped f) (customs_in place) (customs_in place) each xs
+  same_customs place xs = each_like (mapped_field f) (customs_in place) (customs_in place) each xs
     where
-      each : (x : ModuleField) → customs_in place (mapped f x) ≡ customs_in place x
+      each : (x : ModuleField) → customs_in place (mapped_field f x) ≡ customs_in place x
       each (field.Ty t) = refl
       each x = refl
 
@@ -76,19 +76,19 @@ module _ (f : Change) (tells : Tells f) where
       ap (flat_map imported_func) (sigs_changed f i)
       ∙ each_like (mapped_sig f) imported_func imported_func (λ s. ap (λ k. if same_space space.Func k then None ∷ [] else []) (same_space_of f s.kind)) (item_sigs i)
 
-  same_functions : (x : ModuleField) → functions_in (mapped f x) ≡ functions_in x
+  same_functions : (x : ModuleField) → functions_in (mapped_field f x) ≡ functions_in x
   same_functions (field.Func x) = ap (λ o. o ∷ []) (same_hints x.ty x.kind)
   same_functions (field.Import i) = same_imported i.items
   same_functions x = refl
 
-  pub same_hinted : (xs : List ModuleField) → hinted (all_mapped f xs) ≡ hinted xs
-  same_hinted xs = ap (named_from 0) (each_like (mapped f) functions_in functions_in same_functions xs)
+  pub same_hinted : (xs : List ModuleField) → hinted_functions (all_mapped f xs) ≡ hinted_functions xs
+  same_hinted xs = ap (named_from 0) (each_like (mapped_field f) functions_in functions_in same_functions xs)
 
   -- each place but that of the names
   pub same_slot : (name : Option (List ℕ)) (xs : List ModuleField) (s : Slot) → is_front s ≡ true → in_slot name (all_mapped f xs) s ≡ in_slot name xs s
   same_slot name xs (slot.Custom place) h = ap (map custom_part) (same_customs place xs)
-  same_slot name xs (slot.Section kind) h = ap (listed (section_kind kind)) (same_entries (section_kind kind) xs)
-  same_slot name xs slot.Start h = each_like (mapped f) starts_in starts_in (λ x. ap (λ (c : Contribution). map start_part c.starts) (contributed_told f tells x)) xs
+  same_slot name xs (slot.Section kind) h = ap (section_part (section_kind kind)) (same_entries (section_kind kind) xs)
+  same_slot name xs slot.Start h = each_like (mapped_field f) starts_in starts_in (λ x. ap (λ (c : Contribution). map start_part c.starts) (contributed_told f tells x)) xs
   same_slot name xs slot.DataCount h = λ i. count_parts (same_need f xs i) (length (same_entries Data xs i))
   same_slot name xs slot.Hints h = ap hints_part (same_hinted xs)
   same_slot name xs slot.Names h = absurd (cc h)

@@ -8,15 +8,15 @@ use Rattle.wasm_ops.specs.Sinks.{SinkRules, AppendLaws, Writes}
 use Rattle.wasm_ops.specs.declared.sink.Refusal.{Refusal}
 use Rattle.wasm_out.specs.NameSectionBytes.{InRangeNameSubsection}
 use Rattle.wasm_out.specs.Parts.{part, InRangePart}
-use Rattle.wast_nodes.specs.Customs.{custom_place, place_rank}
-use Rattle.wast_nodes.specs.Kinds.{is_of}
-use Rattle.wast_reach.specs.Reaches.{none_pass}
-use Rattle.wast_nodes.specs.declared.kinds.FieldKind.TheVariants as kind
+use Rattle.wast_tree_nodes.specs.Customs.{custom_place, place_rank}
+use Rattle.wast_tree_nodes.specs.Kinds.{is_of}
+use Rattle.wast_core_ranges.specs.FieldRanges.{none_pass}
+use Rattle.wast_tree_nodes.specs.declared.kinds.FieldKind.TheVariants as kind
 use Rattle.wast_core.specs.Tree.{CustomPlace, ModuleField}
 use Rattle.wast_core.specs.Tree.field
 use Rattle.wast_core.specs.Meaning.{has_own_names, subsections_of}
-use Rattle.wast_names.specs.ModuleNames.{name_subsections}
-use Rattle.wast_names.specs.NamesPart.{names_part}
+use Rattle.wast_core_name_section.specs.ModuleNames.{name_subsections}
+use Rattle.wast_core_name_section.specs.NamesPart.{names_part}
 
 given_unless : (name : Option (List ℕ)) (fields : List ModuleField) → has_own_names fields ≡ false → subsections_of name fields ≡ name_subsections name fields
 given_unless name fields e = ap (λ b. if b then [] else name_subsections name fields) e

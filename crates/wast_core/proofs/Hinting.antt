@@ -14,18 +14,18 @@ use Rattle.wasm_ops.proofs.Everywhere.{all_one, flat_one}
 use Rattle.wasm_ops.proofs.Sinking.{written_as}
 use Rattle.wasm_out.specs.Hints.{function_hints, hints, hints_name, hints_payload}
 use Rattle.wasm_out.specs.Parts.{Custom, Part, section, part, InRangePart}
-use Rattle.wast_conv.specs.Hints.{HintedBody, as_hinted}
-use Rattle.wast_nodes.specs.Imports.{item_sigs}
-use Rattle.wast_names.specs.GivenNames.{named_from}
-use Rattle.wast_names.proofs.Each.{each_more, each_around}
-use Rattle.wast_names.proofs.NameEntries.{named_append, as_many}
-use Rattle.wast_nodes.specs.Kinds.{is_of}
-use Rattle.wast_nodes.specs.declared.kinds.FieldKind.TheVariants as kind
-use Rattle.wast_nodes.specs.Items.{space_of_kind}
+use Rattle.wast_core_conv.specs.Hints.{HintedBody, as_hinted}
+use Rattle.wast_tree_nodes.specs.Imports.{item_sigs}
+use Rattle.wast_core_name_section.specs.GivenNames.{named_from}
+use Rattle.wast_core_name_section.proofs.Each.{each_more, each_around}
+use Rattle.wast_core_name_section.proofs.NameEntries.{named_append, as_many}
+use Rattle.wast_tree_nodes.specs.Kinds.{is_of}
+use Rattle.wast_tree_nodes.specs.declared.kinds.FieldKind.TheVariants as kind
+use Rattle.wast_tree_nodes.specs.Items.{space_of_kind}
 use Rattle.wast_core.specs.Tree.{Func, FuncKind, ImportItems, ItemSig, ModuleField}
 use Rattle.wast_core.specs.Tree.space
 use Rattle.wast_core.specs.Tree.field
-use Rattle.wast_core.specs.Hints.{has_hints, if_hinted, imported_func, functions_in, hinted, as_function_hints, hinted_function, hints_part, InRangeHinted, InRangeHints}
+use Rattle.wast_core.specs.Hints.{has_hints, if_hinted, imported_func, functions_in, hinted_functions, as_function_hints, hinted_function, hints_part, InRangeHinted, InRangeHints}
 
 -- No other field than a function and an import makes functions.
 abbrev pub is_function_or_import : ModuleField → Bool
@@ -62,11 +62,11 @@ pub unhinted_if : (k : FuncKind) → has_hints k ≡ false → if_hinted k ≡ N
 unhinted_if k h = ap (λ b. if b then Some (as_hinted k) else None) h
 
 -- The fields that are gone through have the functions of all fields.
-pub alike : (fields first : List ModuleField) → flat_map functions_in first ≡ flat_map functions_in fields → hinted first ≡ hinted fields
+pub alike : (fields first : List ModuleField) → flat_map functions_in first ≡ flat_map functions_in fields → hinted_functions first ≡ hinted_functions fields
 alike fields first same = ap (named_from 0) same
 
 -- So many functions with hints are among some fields, and with one field more.
-pub hinted_more : (xs : List ModuleField) (k : ℕ) (x : ModuleField) → k < length xs → x ≡ get_or xs k x → length (hinted (take (k + 1) xs)) ≡ length (hinted (take k xs)) + length (named_from 0 (functions_in x))
+pub hinted_more : (xs : List ModuleField) (k : ℕ) (x : ModuleField) → k < length xs → x ≡ get_or xs k x → length (hinted_functions (take (k + 1) xs)) ≡ length (hinted_functions (take k xs)) + length (named_from 0 (functions_in x))
 hinted_more xs k x lt item =
     let first = flat_map functions_in (take k xs) in
     omega (
@@ -77,7 +77,7 @@ hinted_more xs k x lt item =
       as_many (0 + length first) 0 (functions_in x),
     )
 
-pub hinted_at_most : (xs : List ModuleField) (k : ℕ) (x : ModuleField) → k < length xs → x ≡ get_or xs k x → length (hinted (take k xs)) + length (named_from 0 (functions_in x)) ≤ length (hinted xs)
+pub hinted_at_most : (xs : List ModuleField) (k : ℕ) (x : ModuleField) → k < length xs → x ≡ get_or xs k x → length (hinted_functions (take k xs)) + length (named_from 0 (functions_in x)) ≤ length (hinted_functions xs)
 hinted_at_most xs k x lt item =
     let first = flat_map functions_in (take k xs) in
     let here = functions_in x in

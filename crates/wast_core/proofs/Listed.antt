@@ -11,13 +11,13 @@ use Rattle.wasm_ops.proofs.Everywhere.{flat_in_flat, all_in_flat, all_of_flat}
 use Rattle.wasm_ops.proofs.Sinking.{written_as, one_written}
 use Rattle.wasm_out.specs.Parts.{SectionKind, Entry, entry, InRangeEntry, Listed, section_id, Part, section, part, InRangePart}
 use Rattle.wast_core.specs.Tree.{ModuleField}
-use Rattle.wast_core.specs.Meaning.{entries_in, entries, listed}
+use Rattle.wast_core.specs.Meaning.{entries_in, entries, section_part}
 
 -- behind its id and its length, what spells the list
 part_written : {S A : Type 0} (rules : SinkRules S) (k : SectionKind) (es : List (Entry k)) (R : Type 0) (a b : S) (id : ℕ) (body : List ℕ) (r : Result A Refusal)
     → id ≡ section_id k → (length es ≡ 0 → ⊥) → body ≡ vec (entry k) es → (R → InRangeVec (InRangeEntry k) es) → (InRangeVec (InRangeEntry k) es → R)
     → Writes rules (Unit {0} × (InRangeU32 (length body) × R)) a b (section id body) r
-    → Writes rules (All InRangePart (listed k es)) a b (flat_map part (listed k es)) r
+    → Writes rules (All InRangePart (section_part k es)) a b (flat_map part (section_part k es)) r
 part_written rules k [] R a b id body r e some is f g p = absurd (some refl)
 part_written rules k (x ∷ xs) R a b id body r e some is f g p =
     let here : Part = record { kind = Listed k; items = x ∷ xs } in
@@ -42,21 +42,21 @@ held_is k fields n count =
 pub listed_written : {S A : Type 0} (rules : SinkRules S) (k : SectionKind) (fields first : List ModuleField) (a b : S) (id n : ℕ) (r : Result A Refusal)
     → id ≡ section_id k → entries k first ≡ entries k fields → n ≡ length (entries k fields) → (n ≡ 0 → ⊥)
     → Writes rules (Unit {0} × (InRangeU32 (length (held k n first)) × InRangeHeld k n first)) a b (section id (held k n first)) r
-    → Writes rules (All InRangePart (listed k (entries k fields))) a b (flat_map part (listed k (entries k fields))) r
+    → Writes rules (All InRangePart (section_part k (entries k fields))) a b (flat_map part (section_part k (entries k fields))) r
 listed_written rules k fields first a b id n r e same counted some p =
     let count = counted ∙ ap (λ es. length es) (sym same) in
-    subst (λ es. Writes rules (All InRangePart (listed k es)) a b (flat_map part (listed k es)) r) same
+    subst (λ es. Writes rules (All InRangePart (section_part k es)) a b (flat_map part (section_part k es)) r) same
     (part_written rules k (entries k first) (InRangeHeld k n first) a b id (held k n first) r e (λ z. some (count ∙ z)) (held_is k first n count)
     (λ h. (subst InRangeU32 count h.0, all_in_flat (InRangeEntry k) (entries_in k) first h.1)) (λ h. (subst InRangeU32 (sym count) h.0, all_of_flat (InRangeEntry k) (entries_in k) first h.1))
     p)
 
 -- and left out where there are none
 pub listed_absent : {S : Type 0} (rules : SinkRules S) (k : SectionKind) (es : List (Entry k)) (a : S) (n : ℕ) → AppendLaws rules → n ≡ length es → n ≡ 0
-    → Writes {A = Unit {0}} rules (All InRangePart (listed k es)) a a (flat_map part (listed k es)) (Ok tt)
+    → Writes {A = Unit {0}} rules (All InRangePart (section_part k es)) a a (flat_map part (section_part k es)) (Ok tt)
 listed_absent rules k [] a n laws count none = (laws.none a, All-nil InRangePart)
 listed_absent rules k (e ∷ es) a n laws count none = absurd (omega arith)
 
 -- a part that is in range has less than 2^32 items
-pub counted_in_range : (k : SectionKind) (es : List (Entry k)) → All InRangePart (listed k es) → InRangeU32 (length es)
+pub counted_in_range : (k : SectionKind) (es : List (Entry k)) → All InRangePart (section_part k es) → InRangeU32 (length es)
 counted_in_range k [] h = omega arith
 counted_in_range k (x ∷ xs) h = (All-head InRangePart (record { kind = Listed k; items = x ∷ xs }) [] h).1.0

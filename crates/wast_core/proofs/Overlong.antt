@@ -7,30 +7,30 @@ use Rattle.std.proofs.Math.Bool.{or-true}
 use Rattle.std.proofs.lemmas.Bool.{lt-ltb}
 use Rattle.std.proofs.lemmas.List.Elements.{All-nil, All-head}
 use Rattle.std.proofs.lemmas.List.Folds.{list_any-append}
-use Rattle.wast_nodes.specs.DataBytes.{all_bytes}
-use Rattle.wast_nodes.specs.Items.{Item, items_in}
+use Rattle.wast_tree_nodes.specs.DataBytes.{all_bytes}
+use Rattle.wast_tree_nodes.specs.Items.{Item, items_in}
 use Rattle.wasm_ops.proofs.Everywhere.{all_left, all_right}
 use Rattle.wasm_out.specs.DataSegments.{DataEntry, InRangeDataEntry}
 use Rattle.wasm_out.specs.Parts.{Data, InRangePart}
-use Rattle.wast_map.specs.Mapped.{Change, mapped}
-use Rattle.wast_deinline.specs.Segments.{are_too_many, overflows_kind, overflows}
-use Rattle.wast_deinline.specs.WriteOut.{exports_of, data_in, memory_alone, write_out}
-use Rattle.wast_deinline.specs.Referring.{by_position}
-use Rattle.wast_deinline.specs.Written.{written_after, written_out}
-use Rattle.wast_types.specs.ImpliedTypes.{implied}
-use Rattle.wast_types.specs.Expanded.{unnamed_type, binding}
-use Rattle.wast_types.specs.Completed.{completed}
-use Rattle.wast_types.specs.Positioned.{position_for}
-use Rattle.wast_demands.specs.Explicit.{by_positions}
-use Rattle.wast_demands.specs.Resolved.{numbering, resolved}
-use Rattle.wast_demands.specs.Scopes.{scope}
+use Rattle.wast_tree_map.specs.Mapped.{Change, mapped_field}
+use Rattle.wast_expand_inline.specs.Segments.{are_too_many, overflows_kind, has_oversized_data}
+use Rattle.wast_expand_inline.specs.WriteOut.{exports_of, data_in, memory_alone, desugar_field}
+use Rattle.wast_expand_inline.specs.Referring.{by_position}
+use Rattle.wast_expand_inline.specs.Written.{written_after, desugared_by_position}
+use Rattle.wast_expand_types.specs.ImpliedTypes.{implied_signatures}
+use Rattle.wast_expand_types.specs.Expanded.{unnamed_type, binding_change}
+use Rattle.wast_expand_types.specs.Completed.{fields_with_implied_types}
+use Rattle.wast_expand_types.specs.Positioned.{position_for}
+use Rattle.wast_resolve_rules.specs.Explicit.{by_positions}
+use Rattle.wast_resolve_rules.specs.Resolved.{numbering_change, resolved_fields}
+use Rattle.wast_resolve_rules.specs.Scopes.{module_scope}
 use Rattle.wast_core.specs.Tree.{Index, Memory, MemoryKind, ModuleField}
 use Rattle.wast_core.specs.Tree.space
 use Rattle.wast_core.specs.Tree.export
 use Rattle.wast_core.specs.Tree.memory
 use Rattle.wast_core.specs.Tree.field
 use Rattle.wast_core.specs.declared.slots.Slot.TheVariants as slot
-use Rattle.wast_core.specs.Meaning.{entries_in, entries, listed}
+use Rattle.wast_core.specs.Meaning.{entries_in, entries, section_part}
 use Rattle.wast_core.specs.Bounded.{InRangeModule}
 use Rattle.wast_core.specs.Laws.{TooLargeIsUnbounded}
 
@@ -54,7 +54,7 @@ memory_long m (memory.Import source ty) i h = absurd (cc h)
 memory_long m (memory.Normal ty) i h = absurd (cc h)
 memory_long m (memory.Inline is64 pieces exponent) i h = first_true (are_too_many pieces) false h
 
-field_long : (before : List Item) (x : ModuleField) → overflows x ≡ true → any_long (write_out (by_position before) x) ≡ true
+field_long : (before : List Item) (x : ModuleField) → has_oversized_data x ≡ true → any_long (desugar_field (by_position before) x) ≡ true
 field_long before (field.Memory m) h =
     let i = by_position before space.Memory m.span m.id in
     let exports = exports_of m.span export.Memory i m.exports in
@@ -65,31 +65,31 @@ either_true : (p q a b : Bool) → (p ≡ true → a ≡ true) → (q ≡ true �
 either_true true q a b first second h = first_true a b (first refl)
 either_true false q a b first second h = second_true a b (second h)
 
-after_long : (before : List Item) (xs : List ModuleField) → list_any overflows xs ≡ true → any_long (written_after before xs) ≡ true
+after_long : (before : List Item) (xs : List ModuleField) → list_any has_oversized_data xs ≡ true → any_long (written_after before xs) ≡ true
 after_long before [] h = absurd (cc h)
 after_long before (x ∷ xs) h =
-    let here = write_out (by_position before) x in
+    let here = desugar_field (by_position before) x in
     let rest = written_after (before ++ items_in x) xs in
-    list_any-append is_long here rest ∙ either_true (overflows x) (list_any overflows xs) (any_long here) (any_long rest) (field_long before x) (after_long (before ++ items_in x) xs) h
+    list_any-append is_long here rest ∙ either_true (has_oversized_data x) (list_any has_oversized_data xs) (any_long here) (any_long rest) (field_long before x) (after_long (before ++ items_in x) xs) h
 
 -- and stays where type uses are bound and indices are numbered.
 each_long : (f : ModuleField → ModuleField) → ((x : ModuleField) → is_long (f x) ≡ is_long x) → (xs : List ModuleField) → any_long (map f xs) ≡ any_long xs
 each_long f same [] = refl
 each_long f same (x ∷ xs) = ap (λ b. b || any_long (map f xs)) (same x) ∙ ap (λ b. is_long x || b) (each_long f same xs)
 
-mapped_long : (f : Change) (x : ModuleField) → is_long (mapped f x) ≡ is_long x
+mapped_long : (f : Change) (x : ModuleField) → is_long (mapped_field f x) ≡ is_long x
 mapped_long f (field.Data d) = refl
 mapped_long f x = refl
 
-stays_long : (fields : List ModuleField) → list_any overflows fields ≡ true → any_long (resolved (by_positions fields)) ≡ true
+stays_long : (fields : List ModuleField) → list_any has_oversized_data fields ≡ true → any_long (resolved_fields (by_positions fields)) ≡ true
 stays_long fields h =
-    let xs = written_out fields in
-    let types = map unnamed_type (implied xs) in
+    let xs = desugared_by_position fields in
+    let types = map unnamed_type (implied_signatures xs) in
     let all = by_positions fields in
-    let numbers = numbering (scope all) in
-    let bind = binding (position_for xs) in
-    each_long (mapped numbers) (mapped_long numbers) all
-    ∙ (each_long (mapped bind) (mapped_long bind) (completed xs)
+    let numbers = numbering_change (module_scope all) in
+    let bind = binding_change (position_for xs) in
+    each_long (mapped_field numbers) (mapped_long numbers) all
+    ∙ (each_long (mapped_field bind) (mapped_long bind) (fields_with_implied_types xs)
     ∙ (list_any-append is_long xs types ∙ first_true (any_long xs) (any_long types) (after_long [] fields h)))
 
 -- But where all is in range, there is none.
@@ -102,7 +102,7 @@ none_long [] h = refl
 none_long (x ∷ xs) h =
     ap (λ b. b || any_long xs) (not_long x (all_left InRangeDataEntry (entries_in Data x) (entries Data xs) h)) ∙ none_long xs (all_right InRangeDataEntry (entries_in Data x) (entries Data xs) h)
 
-all_in_range : (ds : List DataEntry) → All InRangePart (listed Data ds) → All InRangeDataEntry ds
+all_in_range : (ds : List DataEntry) → All InRangePart (section_part Data ds) → All InRangeDataEntry ds
 all_in_range [] h = All-nil InRangeDataEntry
 all_in_range (d ∷ ds) h = (All-head InRangePart _ [] h).1.1
 
@@ -116,6 +116,6 @@ too_large_is_unbounded n name fields h b =
       | inl crowded ↦ b.spaces crowded
       | inr more ↦ elim more [
         | inl counter ↦ let small = b.counter in absurd (omega (arith, counter, small))
-        | inr long ↦ absurd (cc (sym (stays_long fields long) ∙ none_long (resolved (by_positions fields)) (data_in_range name (resolved (by_positions fields)) b.writable.in_range)))
+        | inr long ↦ absurd (cc (sym (stays_long fields long) ∙ none_long (resolved_fields (by_positions fields)) (data_in_range name (resolved_fields (by_positions fields)) b.writable.in_range)))
       ]
     ]

@@ -3,13 +3,13 @@ use Rattle.std.proofs.Common.{◌≡◌, ◌==◌, ◌<◌, ◌+◌, ◌||◌, �
 use Rattle.wast_base.specs.Filling.{one_if}
 use Rattle.std.specs.Prelude.{if◌then◌else◌}
 use Rattle.std.proofs.lemmas.Bool.{eqb-true, eqb-false, ne_eqb}
-use Rattle.wast_nodes.specs.Customs.{custom_place, place_rank, stands_at, customs_in}
+use Rattle.wast_tree_nodes.specs.Customs.{custom_place, place_rank, stands_at, customs_in}
 use Rattle.wast_core.specs.Tree.{Custom, CustomPlace}
 use Rattle.wasm_out.specs.Parts.{SectionKind, Types, Imports, Functions, Tables, Memories, Tags, Globals, Exports, Elements, Code, Data}
-use Rattle.wast_nodes.specs.Kinds.{is_of}
-use Rattle.wast_nodes.specs.declared.kinds.FieldKind.TheVariants as kind
+use Rattle.wast_tree_nodes.specs.Kinds.{is_of}
+use Rattle.wast_tree_nodes.specs.declared.kinds.FieldKind.TheVariants as kind
 use Rattle.wast_core.specs.Meaning.{entries_in, starts_in}
-use Rattle.wast_core.specs.Putting.{puts}
+use Rattle.wast_core.specs.Putting.{can_contribute}
 use Rattle.wast_core.specs.Tree.{ModuleField}
 use Rattle.wast_core.specs.Tree.field
 
@@ -18,7 +18,7 @@ apart : (n : ℕ) (c : Custom) → n < 12 → (n == 12 + place_rank (custom_plac
 apart n c small = ne_eqb n (12 + place_rank (custom_place c)) (λ same. omega (arith, small, same))
 
 -- a field has one entry in a section into which it puts something
-pub entries_told : (k : SectionKind) (f : ModuleField) → length (entries_in k f) ≡ one_if (puts k f)
+pub entries_told : (k : SectionKind) (f : ModuleField) → length (entries_in k f) ≡ one_if (can_contribute k f)
 entries_told Types (field.Ty t) = refl
 entries_told Types (field.Rec r) = refl
 entries_told Types (field.Custom c) = sym (ap one_if (ap (λ b. b || (1 == 12 + place_rank (custom_place c))) (apart 0 c (omega arith)) ∙ apart 1 c (omega arith)))
@@ -59,7 +59,7 @@ no_entry [] none = refl
 no_entry (e ∷ es) none = absurd (omega arith)
 
 -- and none in the others
-pub nothing_elsewhere : (k : SectionKind) (f : ModuleField) → puts k f ≡ false → entries_in k f ≡ []
+pub nothing_elsewhere : (k : SectionKind) (f : ModuleField) → can_contribute k f ≡ false → entries_in k f ≡ []
 nothing_elsewhere k f h = no_entry (entries_in k f) (entries_told k f ∙ ap one_if h)
 
 pub no_custom_elsewhere : (place : CustomPlace) (f : ModuleField) → is_of (kind.Custom place) f ≡ false → customs_in place f ≡ []

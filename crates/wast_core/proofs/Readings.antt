@@ -7,7 +7,7 @@ use Rattle.std.proofs.lemmas.List.Elements.{All-nil, All-map}
 use Rattle.std.proofs.lemmas.Str.{is_utf8-from_IsUtf8}
 use lib.Utf8.{encode}
 use Rattle.wasm_ops.proofs.Everywhere.{all_each, all_one, all_both, all_tested, all_in_flat}
-use Rattle.wast_nodes.specs.Sites.{Site, asking, uncovered, in_id, in_rec, in_sig, in_shared_id, in_import, in_table_type, in_global_type}
+use Rattle.wast_tree_nodes.specs.Sites.{Site, check_sites, uncovered_check, in_id, in_rec, in_sig, in_shared_id, in_import, in_table_type, in_global_type}
 use Rattle.wasm_out.specs.NameSectionBytes.{NameSubsection}
 use Rattle.wasm_out.specs.Parts.{SectionKind, Types, Imports, Functions, Tables, Memories, Tags, Globals, Exports, Elements, Code, Data, Single, Entry, Listed, DataCount, InRangePart}
 use Rattle.wasm_out.specs.Readable.{is_covered_init, HasRowsInit, is_balanced_init, is_covered_entry, HasRows, is_balanced_entry, HasUtf8Name, IsReadable, IsReadablePart}
@@ -24,28 +24,28 @@ use Rattle.wast_core.specs.Tree.field
 use Rattle.wast_core.specs.declared.slots.Slot.{Slot}
 use Rattle.wast_core.specs.declared.slots.Slot.TheVariants as slot
 use Rattle.wast_core.specs.Bounded.{bytes_of, InRangeSlot, InRangeModule}
-use Rattle.wast_conv.specs.Encodable.{are_encodable, is_entered_site, are_entered, is_encodable_type, is_encodable_kind, is_encodable_import, is_encodable_init, is_encodable_table_kind, is_encodable_table, is_encodable_global_kind, is_encodable_global, is_encodable_elem, is_encodable_data, is_encodable_field, is_encodable}
-use Rattle.wast_conv.specs.FieldEntries.{imported, table_of, value_of}
+use Rattle.wast_core_conv.specs.Encodable.{are_encodable, is_entered_site, are_entered, is_encodable_type, is_encodable_kind, is_encodable_import, is_encodable_init, is_encodable_table_kind, is_encodable_table, is_encodable_global_kind, is_encodable_global, is_encodable_elem, is_encodable_data, is_encodable_field, is_encodable}
+use Rattle.wast_core_conv.specs.FieldEntries.{as_imports, table_of, value_of}
 use Rattle.wast_core.specs.DataCounts.{needs_count, count_parts}
 use Rattle.wast_core.specs.Meaning as meaning
 use Rattle.wasm_out.specs.Hints.{hints_name}
-use Rattle.wast_conv.specs.Hints.{HintedBody}
-use Rattle.wast_core.specs.Hints.{hinted, hints_part}
-use Rattle.wast_core.specs.Meaning.{Contribution, nothing, subsections_of, of_type, of_rec, of_import, of_func, of_table, of_memory, of_global, of_export, of_start, of_elem, of_data, of_tag, of_kind, contributed, entries_in, entries, listed, start_part, starts_in, in_slot, parts}
+use Rattle.wast_core_conv.specs.Hints.{HintedBody}
+use Rattle.wast_core.specs.Hints.{hinted_functions, hints_part}
+use Rattle.wast_core.specs.Meaning.{Contribution, no_contribution, subsections_of, of_type, of_rec, of_import, of_func, of_table, of_memory, of_global, of_export, of_start, of_elem, of_data, of_tag, of_kind, contribution_of, entries_in, entries, section_part, start_part, starts_in, in_slot, parts}
 use Rattle.wast_core.specs.Utf8Names.{HasUtf8Items, HasUtf8Names}
-use Rattle.wast_nodes.specs.Customs.{stands_at, customs_in, customs_at}
+use Rattle.wast_tree_nodes.specs.Customs.{stands_at, customs_in, customs_at}
 use Rattle.wast_core.specs.Tree.{CustomPlace}
-use Rattle.wast_conv.specs.Customs.{custom_part}
-use Rattle.wast_names.specs.NamesPart.{names_part}
+use Rattle.wast_core_conv.specs.Customs.{custom_part}
+use Rattle.wast_core_name_section.specs.NamesPart.{names_part}
 use Rattle.wast_core.specs.Slots.{section_kind, order}
-use Rattle.wast_conv.proofs.EachPasses.{both_pass, both_true, both_lists}
-use Rattle.wast_conv.proofs.EntitiesReady.{table_covered, global_covered, kind_covered}
-use Rattle.wast_conv.proofs.Expressions.{instrs_covered, expression_covered, expression_balanced}
-use Rattle.wast_conv.proofs.Ready.{type_ready, group_ready, import_ready, func_ready, table_ready, global_ready, elem_ready, data_ready}
-use Rattle.wast_conv.proofs.Rows.{instrs_rows, expression_rows}
-use Rattle.wast_conv.proofs.SegmentsReady.{elem_covered, elem_rows, elem_balanced, place_covered, place_rows, place_balanced}
-use Rattle.wast_conv.proofs.Standing.{body_parts}
-use Rattle.wast_conv.proofs.TypesReady.{def_covered, locals_covered, types_covered}
+use Rattle.wast_core_conv.proofs.EachPasses.{both_pass, both_true, both_lists}
+use Rattle.wast_core_conv.proofs.EntitiesReady.{table_covered, global_covered, kind_covered}
+use Rattle.wast_core_conv.proofs.Expressions.{instrs_covered, expression_covered, expression_balanced}
+use Rattle.wast_core_conv.proofs.Ready.{type_ready, group_ready, import_ready, func_ready, table_ready, global_ready, elem_ready, data_ready}
+use Rattle.wast_core_conv.proofs.Rows.{instrs_rows, expression_rows}
+use Rattle.wast_core_conv.proofs.SegmentsReady.{elem_covered, elem_rows, elem_balanced, place_covered, place_rows, place_balanced}
+use Rattle.wast_core_conv.proofs.Standing.{body_parts}
+use Rattle.wast_core_conv.proofs.TypesReady.{def_covered, locals_covered, types_covered}
 
 -- ---- what an entry is read as
 
@@ -56,16 +56,16 @@ nothing_more : (k : SectionKind) → All (IsReadable k) []
 nothing_more k = All-nil (IsReadable k)
 
 -- a group is not covered
-group_fails : (ss : List Site) → are_entered (ss ++ asking (uncovered form.CompactImports)) ≡ true → ⊥
-group_fails ss e = let no = (both_lists is_entered_site ss (asking (uncovered form.CompactImports)) e).1 in cc
+group_fails : (ss : List Site) → are_entered (ss ++ check_sites (uncovered_check form.CompactImports)) ≡ true → ⊥
+group_fails ss e = let no = (both_lists is_entered_site ss (check_sites (uncovered_check form.CompactImports)) e).1 in cc
 
-shared_fails : {N : Type 0} (ss : List Site) (names : List N) (id : Option Id) → are_entered (ss ++ asking (in_shared_id names id ++ uncovered form.CompactImports)) ≡ true → ⊥
+shared_fails : {N : Type 0} (ss : List Site) (names : List N) (id : Option Id) → are_entered (ss ++ check_sites (in_shared_id names id ++ uncovered_check form.CompactImports)) ≡ true → ⊥
 shared_fails ss [] None e = group_fails ss e
-shared_fails ss [] (Some id) e = let no = (both_lists is_entered_site ss (asking (in_id id ++ uncovered form.CompactImports)) e).1 in cc
+shared_fails ss [] (Some id) e = let no = (both_lists is_entered_site ss (check_sites (in_id id ++ uncovered_check form.CompactImports)) e).1 in cc
 shared_fails ss (name ∷ names) id e = group_fails ss e
 
-import_read : (i : ImportItems) → are_entered (in_import i) ≡ true → HasUtf8Items i → All (IsReadable Imports) (imported i ∷ [])
-import_read (import_items.Single source name sig) e h = plain Imports (imported (import_items.Single source name sig)) (kind_covered sig.kind e) tt refl h
+import_read : (i : ImportItems) → are_entered (in_import i) ≡ true → HasUtf8Items i → All (IsReadable Imports) (as_imports i ∷ [])
+import_read (import_items.Single source name sig) e h = plain Imports (as_imports (import_items.Single source name sig)) (kind_covered sig.kind e) tt refl h
 import_read (import_items.Group1 source items) e h = absurd (group_fails (flat_map (λ p. in_sig p.1) items) e)
 import_read (import_items.Group2 source sig names) e h = absurd (shared_fails (in_sig sig) names sig.id e)
 
@@ -162,11 +162,11 @@ tag_readable : (t : Tag) → AreReadable (of_tag t)
 tag_readable t Tags = plain Tags (meaning.as_tag t) refl tt refl tt
 tag_readable t k = nothing_more k
 
-nothing_readable : AreReadable nothing
+nothing_readable : AreReadable no_contribution
 nothing_readable Types = nothing_more Types
 nothing_readable k = nothing_more k
 
-field_readable : (f : ModuleField) → IsTrue (is_encodable_field f) → HasUtf8Names f → AreReadable (contributed f)
+field_readable : (f : ModuleField) → IsTrue (is_encodable_field f) → HasUtf8Names f → AreReadable (contribution_of f)
 field_readable (field.Ty t) e h = type_readable t (type_ready t e)
 field_readable (field.Rec r) e h = rec_readable r (group_ready r e)
 field_readable (field.Import i) e h = import_readable i (import_ready i e) h
@@ -185,12 +185,12 @@ entries_readable : (k : SectionKind) (fields : List ModuleField) → IsTrue (is_
 entries_readable k fields e h = all_in_flat (IsReadable k) (entries_in k) fields
     (all_both (λ f. IsTrue (is_encodable_field f)) HasUtf8Names (λ f. All (IsReadable k) (entries_in k f)) (λ f p q. field_readable f p q k) fields (all_tested is_encodable_field fields e) h)
 
-listed_readable : (k : SectionKind) (es : List (Entry k)) → All (IsReadable k) es → All IsReadablePart (listed k es)
+listed_readable : (k : SectionKind) (es : List (Entry k)) → All (IsReadable k) es → All IsReadablePart (section_part k es)
 listed_readable k [] h = All-nil IsReadablePart
 listed_readable k (x ∷ xs) h = all_one IsReadablePart (record { kind = Listed k; items = x ∷ xs }) h
 
 starts_readable : (fields : List ModuleField) → All IsReadablePart (flat_map starts_in fields)
-starts_readable fields = all_in_flat IsReadablePart starts_in fields (all_each (λ f. All IsReadablePart (starts_in f)) (λ f. All-map IsReadablePart start_part (contributed f).starts (all_each (λ n. IsReadablePart (start_part n)) (λ n. tt) (contributed f).starts)) fields)
+starts_readable fields = all_in_flat IsReadablePart starts_in fields (all_each (λ f. All IsReadablePart (starts_in f)) (λ f. All-map IsReadablePart start_part (contribution_of f).starts (all_each (λ n. IsReadablePart (start_part n)) (λ n. tt) (contribution_of f).starts)) fields)
 
 counts_readable : (needed : Bool) (n : ℕ) → All IsReadablePart (count_parts needed n)
 counts_readable true n = all_one IsReadablePart (record { kind = DataCount; items = n }) tt
@@ -230,7 +230,7 @@ slot_readable name fields e h (slot.Custom place) = customs_readable place field
 slot_readable name fields e h (slot.Section k) = listed_readable (section_kind k) (entries (section_kind k) fields) (entries_readable (section_kind k) fields e h)
 slot_readable name fields e h slot.Start = starts_readable fields
 slot_readable name fields e h slot.DataCount = counts_readable (needs_count fields) (length (entries Data fields))
-slot_readable name fields e h slot.Hints = hints_readable (hinted fields)
+slot_readable name fields e h slot.Hints = hints_readable (hinted_functions fields)
 slot_readable name fields e h slot.Names = names_readable (subsections_of name fields)
 
 pub reads_module : (name : Option (List ℕ)) (fields : List ModuleField) (bytes : List ℕ) → IsTrue (is_encodable fields) → All HasUtf8Names fields → InRangeModule name fields → bytes ≡ bytes_of name fields → All (λ x. x < 256) bytes → Reads bytes (parts name fields)

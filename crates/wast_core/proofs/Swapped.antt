@@ -5,16 +5,16 @@ use Rattle.std.specs.List.{flat_map, list_any}
 use Rattle.std.proofs.lemmas.Grind.{flat_map-append}
 use Rattle.std.proofs.lemmas.List.Folds.{list_any-append}
 use mathlib.Core.Path.{fun_ext}
-use Rattle.wast_nodes.specs.Customs.{customs_in, is_custom_called}
+use Rattle.wast_tree_nodes.specs.Customs.{customs_in, is_custom_called}
 use Rattle.wasm_out.specs.Parts.{SectionKind, Types, Imports, Functions, Tables, Memories, Tags, Globals, Exports, Elements, Code, Data, Part}
-use Rattle.wast_alike.specs.Rests.{starts}
-use Rattle.wast_alike.proofs.StartsBehind.{among, behind_all}
-use Rattle.wast_conv.specs.Customs.{custom_part}
-use Rattle.wast_names.specs.GivenNames.{named_from}
-use Rattle.wast_names.specs.WithinItems.{types_within, types_of, lists_within}
-use Rattle.wast_names.specs.ModuleNames.{names_given, name_subsections}
-use Rattle.wast_names.proofs.SameNameSection.{subsections_alike}
-use Rattle.wast_names.specs.NamesPart.{names_part}
+use Rattle.wast_resolve_laws.specs.Rests.{start_fields_of}
+use Rattle.wast_resolve_laws.proofs.StartsBehind.{among, behind_all}
+use Rattle.wast_core_conv.specs.Customs.{custom_part}
+use Rattle.wast_core_name_section.specs.GivenNames.{named_from}
+use Rattle.wast_core_name_section.specs.WithinItems.{types_within, types_of, lists_within}
+use Rattle.wast_core_name_section.specs.ModuleNames.{names_given, name_subsections}
+use Rattle.wast_core_name_section.proofs.SameNameSection.{subsections_alike}
+use Rattle.wast_core_name_section.specs.NamesPart.{names_part}
 use Rattle.wast_core.specs.Tree.{Index, ModuleField}
 use Rattle.wast_core.specs.Tree.ty
 use Rattle.wast_core.specs.Tree.field
@@ -22,7 +22,7 @@ use Rattle.wast_core.specs.declared.slots.Slot.{Slot}
 use Rattle.wast_core.specs.declared.slots.Slot.TheVariants as slot
 use Rattle.wast_core.specs.DataCounts.{body_needs_count, count_parts}
 use Rattle.wast_core.specs.Hints.{functions_in, hints_part}
-use Rattle.wast_core.specs.Meaning.{of_start, of_kind, entries_in, listed, starts_in, in_slot, parts}
+use Rattle.wast_core.specs.Meaning.{of_start, of_kind, entries_in, section_part, starts_in, in_slot, parts}
 use Rattle.wast_core.specs.Slots.{section_kind, order}
 
 -- A start field has no entry in a list.
@@ -41,7 +41,7 @@ no_entries Data i = refl
 
 -- a test that no start field passes
 module _ (t : ModuleField → Bool) (none : (i : Index) → t (field.Start i) ≡ false) where
-  starts_fail : (is : List Index) → list_any t (starts is) ≡ false
+  starts_fail : (is : List Index) → list_any t (start_fields_of is) ≡ false
   starts_fail [] = refl
   starts_fail (i ∷ is) = λ j. none i j || starts_fail is j
 
@@ -49,12 +49,12 @@ module _ (t : ModuleField → Bool) (none : (i : Index) → t (field.Start i) �
   or_false true = refl
   or_false false = refl
 
-  any_swapped : (is : List Index) (xs ys : List ModuleField) → list_any t (xs ++ (starts is ++ ys)) ≡ list_any t ((xs ++ ys) ++ starts is)
+  any_swapped : (is : List Index) (xs ys : List ModuleField) → list_any t (xs ++ (start_fields_of is ++ ys)) ≡ list_any t ((xs ++ ys) ++ start_fields_of is)
   any_swapped is xs ys =
-      list_any-append t xs (starts is ++ ys)
-      ∙ (ap (λ b. list_any t xs || b) (list_any-append t (starts is) ys ∙ ap (λ b. b || list_any t ys) (starts_fail is))
+      list_any-append t xs (start_fields_of is ++ ys)
+      ∙ (ap (λ b. list_any t xs || b) (list_any-append t (start_fields_of is) ys ∙ ap (λ b. b || list_any t ys) (starts_fail is))
       ∙ (sym (list_any-append t xs ys)
-      ∙ (sym (or_false (list_any t (xs ++ ys))) ∙ (ap (λ b. list_any t (xs ++ ys) || b) (sym (starts_fail is)) ∙ sym (list_any-append t (xs ++ ys) (starts is))))))
+      ∙ (sym (or_false (list_any t (xs ++ ys))) ∙ (ap (λ b. list_any t (xs ++ ys) || b) (sym (starts_fail is)) ∙ sym (list_any-append t (xs ++ ys) (start_fields_of is))))))
 
 -- Types have no start.
 no_starts : (ts : List ty.«Type») → flat_map starts_in (map field.Ty ts) ≡ []
@@ -66,20 +66,20 @@ module _ (name : Option (List ℕ)) (is : List Index) (xs : List ModuleField) (t
   ys = map field.Ty ts
 
   abbrev before : List ModuleField
-  before = xs ++ (starts is ++ ys)
+  before = xs ++ (start_fields_of is ++ ys)
 
   abbrev after : List ModuleField
-  after = (xs ++ ys) ++ starts is
+  after = (xs ++ ys) ++ start_fields_of is
 
   swapped : {A : Type 0} (g : ModuleField → List A) → ((i : Index) → g (field.Start i) ≡ []) → flat_map g before ≡ flat_map g after
   swapped g none = among g none is xs ys ∙ sym (behind_all g none is (xs ++ ys))
 
   starts_swapped : flat_map starts_in before ≡ flat_map starts_in after
   starts_swapped =
-      flat_map-append starts_in xs (starts is ++ ys)
-      ∙ (ap (λ ps. flat_map starts_in xs ++ ps) (flat_map-append starts_in (starts is) ys ∙ (ap (λ ps. flat_map starts_in (starts is) ++ ps) (no_starts ts) ∙ append-nil (flat_map starts_in (starts is))))
-      ∙ (ap (λ ps. ps ++ flat_map starts_in (starts is)) (sym (append-nil (flat_map starts_in xs)) ∙ (ap (λ ps. flat_map starts_in xs ++ ps) (sym (no_starts ts)) ∙ sym (flat_map-append starts_in xs ys)))
-      ∙ sym (flat_map-append starts_in (xs ++ ys) (starts is))))
+      flat_map-append starts_in xs (start_fields_of is ++ ys)
+      ∙ (ap (λ ps. flat_map starts_in xs ++ ps) (flat_map-append starts_in (start_fields_of is) ys ∙ (ap (λ ps. flat_map starts_in (start_fields_of is) ++ ps) (no_starts ts) ∙ append-nil (flat_map starts_in (start_fields_of is))))
+      ∙ (ap (λ ps. ps ++ flat_map starts_in (start_fields_of is)) (sym (append-nil (flat_map starts_in xs)) ∙ (ap (λ ps. flat_map starts_in xs ++ ps) (sym (no_starts ts)) ∙ sym (flat_map-append starts_in xs ys)))
+      ∙ sym (flat_map-append starts_in (xs ++ ys) (start_fields_of is))))
 
   names_swapped : name_subsections name before ≡ name_subsections name after
   names_swapped =
@@ -88,7 +88,7 @@ module _ (name : Option (List ℕ)) (is : List Index) (xs : List ModuleField) (t
 
   slot_swapped : (s : Slot) → in_slot name before s ≡ in_slot name after s
   slot_swapped (slot.Custom place) = ap (map custom_part) (swapped (customs_in place) (λ i. refl))
-  slot_swapped (slot.Section kind) = ap (listed (section_kind kind)) (swapped (entries_in (section_kind kind)) (no_entries (section_kind kind)))
+  slot_swapped (slot.Section kind) = ap (section_part (section_kind kind)) (swapped (entries_in (section_kind kind)) (no_entries (section_kind kind)))
   slot_swapped slot.Start = starts_swapped
   slot_swapped slot.DataCount = λ j. count_parts (any_swapped body_needs_count (λ i. refl) is xs ys j) (length (swapped (entries_in Data) (no_entries Data) j))
   slot_swapped slot.Hints = ap (λ fs. hints_part (named_from 0 fs)) (swapped functions_in (λ i. refl))

@@ -2,32 +2,32 @@
 use Rattle.std.proofs.Common.{◌≡◌, List, [], ◌∷◌, ◌++◌, map, Option, option_map, refl, ap, arith}
 use Rattle.std.proofs.lemmas.Grind.{common_steps}
 use Rattle.wast_base.specs.Blocks.{Blocks}
-use Rattle.wast_nodes.specs.Sites.{Where, Locals, Here, start, behind, param_marks, local_marks, body_here}
-use Rattle.wast_map.specs.Mapped.{Change, mapped_val, named_def, mapped_mem_arg, mapped_heap, mapped_ref, mapped_type, mapped_table_type, mapped_global_type, mapped_tag_type, mapped_block, mapped_catch, mapped_instr, mapped_instrs, mapped_constant, mapped_local, mapped_func_kind, mapped_item_kind, mapped_import_items, mapped_payload, mapped_table_kind, mapped_global_kind, mapped_elem_kind, mapped_data_kind, mapped}
+use Rattle.wast_tree_nodes.specs.Sites.{Where, Locals, BodyContext, constant_context, context_after, param_marks, local_marks, body_here}
+use Rattle.wast_tree_map.specs.Mapped.{Change, mapped_val, named_def, mapped_mem_arg, mapped_heap, mapped_ref, mapped_type, mapped_table_type, mapped_global_type, mapped_tag_type, mapped_block, mapped_catch, mapped_instr, mapped_instrs, mapped_constant, mapped_local, mapped_func_kind, mapped_item_kind, mapped_import_items, mapped_payload, mapped_table_kind, mapped_global_kind, mapped_elem_kind, mapped_data_kind, mapped_field}
 use Rattle.wast_core.specs.Tree.{Space, ValType, TypeDef, MemArg, Index, TypeUse, FunctionType, HeapType, RefType, TableType, GlobalType, TagType, ItemKind, ImportItems, BlockType, TryTableCatch, Instruction, Expression, Local, FuncKind, TableKind, GlobalKind, ElemKind, ElemPayload, DataKind, ModuleField}
 use Rattle.wast_core.specs.Tree.ty
 use Rattle.wast_core.specs.Tree.space
 use Rattle.wast_core.specs.Tree.instr
 use Rattle.wast_core.specs.Tree.func
 use Rattle.wasm_ops.specs.SelectInstrs.{select_instr}
-use Rattle.wast_conv.specs.FieldEntries.{imported, table_of, value_of}
-use Rattle.wast_conv.specs.Values.{as_block_type, as_catch, as_heap_type, as_ref_type, as_table_type, as_global_type, as_mem_arg}
-use Rattle.wast_core.specs.Meaning.{contributed, number, as_val_type, as_sub_type, type_index, as_tag_type, as_entity_type, as_instr, as_expression, as_body, as_element_mode, as_element_items, as_data_mode}
-use Rattle.wast_core.specs.Front.{Tells}
+use Rattle.wast_core_conv.specs.FieldEntries.{as_imports, table_of, value_of}
+use Rattle.wast_core_conv.specs.Values.{as_block_type, as_catch, as_heap_type, as_ref_type, as_table_type, as_global_type, as_mem_arg}
+use Rattle.wast_core.specs.Meaning.{contribution_of, index_value, as_val_type, as_sub_type, type_index, as_tag_type, as_entity_type, as_instr, as_expression, as_body, as_element_mode, as_element_items, as_data_mode}
+use Rattle.wast_core.specs.Front.{KeepsNumbers}
 use Rattle.wast_core.proofs.ToldTypes as types
 use Rattle.wast_core.proofs.ToldTypes.{each_alike, option_alike}
 
-module _ (f : Change) (t : Tells f) where
-  index_told : (s : Space) (i : Index) → number (f.index s i) ≡ number i
+module _ (f : Change) (t : KeepsNumbers f) where
+  index_told : (s : Space) (i : Index) → index_value (f.index s i) ≡ index_value i
   index_told s i = t.index s i
 
-  local_told : (l : Locals) (i : Index) → number (f.local l i) ≡ number i
+  local_told : (l : Locals) (i : Index) → index_value (f.local l i) ≡ index_value i
   local_told l i = t.local l i
 
-  member_told : (o i : Index) → number (f.field o i) ≡ number i
+  member_told : (o i : Index) → index_value (f.field o i) ≡ index_value i
   member_told o i = t.member o i
 
-  label_told : (b : Blocks) (i : Index) → number (f.label b i) ≡ number i
+  label_told : (b : Blocks) (i : Index) → index_value (f.label b i) ≡ index_value i
   label_told b i = t.label b i
 
   use_told : (w : Where) (u : TypeUse FunctionType) → type_index (f.used w u) ≡ type_index u
@@ -58,7 +58,7 @@ module _ (f : Change) (t : Tells f) where
   entity_told : (k : ItemKind) → as_entity_type (mapped_item_kind f k) ≡ as_entity_type k
   entity_told k = grind (arith, common_steps, use_told, table_type_told, global_type_told, tag_told)
 
-  import_told : (i : ImportItems) → imported (mapped_import_items f i) ≡ imported i
+  import_told : (i : ImportItems) → as_imports (mapped_import_items f i) ≡ as_imports i
   import_told i = grind (arith, common_steps, entity_told)
 
   block_told : (b : BlockType) → as_block_type (mapped_block f b) ≡ as_block_type b
@@ -71,11 +71,11 @@ module _ (f : Change) (t : Tells f) where
   catches_told : (blocks : Blocks) (cs : List TryTableCatch) → map as_catch (map (mapped_catch f blocks) cs) ≡ map as_catch cs
   catches_told blocks cs = each_alike (mapped_catch f blocks) as_catch (catch_told blocks) cs
 
-  labels_told : (blocks : Blocks) (is : List Index) → map number (map (f.label blocks) is) ≡ map number is
-  labels_told blocks is = each_alike (f.label blocks) number (label_told blocks) is
+  labels_told : (blocks : Blocks) (is : List Index) → map index_value (map (f.label blocks) is) ≡ map index_value is
+  labels_told blocks is = each_alike (f.label blocks) index_value (label_told blocks) is
 
-  funcs_told : (is : List Index) → map number (map (f.index space.Func) is) ≡ map number is
-  funcs_told is = each_alike (f.index space.Func) number (index_told space.Func) is
+  funcs_told : (is : List Index) → map index_value (map (f.index space.Func) is) ≡ map index_value is
+  funcs_told is = each_alike (f.index space.Func) index_value (index_told space.Func) is
 
   mem_arg_told : (m : MemArg) → as_mem_arg (mapped_mem_arg f.index m) ≡ as_mem_arg m
   mem_arg_told m = grind (arith, common_steps, index_told)
@@ -84,16 +84,16 @@ module _ (f : Change) (t : Tells f) where
   select_told o = option_alike (map (mapped_val f.index)) (map as_val_type) (types.vals_told f.index index_told) o
 
   -- Bodies.
-  instr_told : (h : Here) (i : Instruction) → as_instr (mapped_instr f h i) ≡ as_instr i
+  instr_told : (h : BodyContext) (i : Instruction) → as_instr (mapped_instr f h i) ≡ as_instr i
   instr_told h (instr.select t) = ap select_instr (select_told t.tys)
   instr_told h i = grind (arith, common_steps, heap_told, ref_told, block_told, mem_arg_told, use_told, catches_told, labels_told, index_told, local_told, member_told, label_told)
 
-  instrs_told : (h : Here) (is : List Instruction) → map as_instr (mapped_instrs f h is) ≡ map as_instr is
+  instrs_told : (h : BodyContext) (is : List Instruction) → map as_instr (mapped_instrs f h is) ≡ map as_instr is
   instrs_told h [] = refl
-  instrs_told h (i ∷ is) = λ t. instr_told h i t ∷ instrs_told (behind h i) is t
+  instrs_told h (i ∷ is) = λ t. instr_told h i t ∷ instrs_told (context_after h i) is t
 
   constant_told : (e : Expression) → as_expression (mapped_constant f e) ≡ as_expression e
-  constant_told e = instrs_told start e.instrs
+  constant_told e = instrs_told constant_context e.instrs
 
   constants_told : (es : List Expression) → map as_expression (map (mapped_constant f) es) ≡ map as_expression es
   constants_told es = each_alike (mapped_constant f) as_expression constant_told es
@@ -121,5 +121,5 @@ module _ (f : Change) (t : Tells f) where
   place_told : (k : DataKind) → as_data_mode (mapped_data_kind f k) ≡ as_data_mode k
   place_told k = grind (arith, common_steps, constant_told, index_told)
 
-  pub contributed_told : (x : ModuleField) → contributed (mapped f x) ≡ contributed x
+  pub contributed_told : (x : ModuleField) → contribution_of (mapped_field f x) ≡ contribution_of x
   contributed_told x = grind (arith, common_steps, def_told, group_told, import_told, use_told, body_told, table_told, global_type_told, value_told, mode_told, items_told, place_told, tag_told, index_told)

@@ -1,12 +1,12 @@
 -- What is read of a type stays where each index in it reads the same number.
 use Rattle.std.proofs.Common.{◌≡◌, List, [], ◌∷◌, map, Option, Some, None, option_map, refl, ap, arith}
 use Rattle.std.proofs.lemmas.Grind.{common_steps}
-use Rattle.wast_map.specs.Mapped.{Ids, Indices, mapped_heap, mapped_ref, mapped_val, mapped_storage, named_param, named_struct_field, named_inner, named_def, mapped_table_type, mapped_global_type}
+use Rattle.wast_tree_map.specs.Mapped.{Ids, Indices, mapped_heap, mapped_ref, mapped_val, mapped_storage, named_param, named_struct_field, named_inner, named_def, mapped_table_type, mapped_global_type}
 use Rattle.wasm_ops.specs.declared.types.CompositeInnerType.TheVariants as composite
 use Rattle.wast_core.specs.Tree.{Id, Index, Space, NameAnnotation, HeapType, RefType, ValType, StorageType, StructField, InnerTypeKind, TypeDef, TableType, GlobalType}
 use Rattle.wast_core.specs.Tree.inner
 use Rattle.wast_core.specs.Tree.space
-use Rattle.wast_conv.specs.Values.{number, as_heap_type, as_ref_type, as_val_type, as_storage_type, as_field_type, as_inner_type, as_sub_type, as_table_type, as_global_type}
+use Rattle.wast_core_conv.specs.Values.{index_value, as_heap_type, as_ref_type, as_val_type, as_storage_type, as_field_type, as_inner_type, as_sub_type, as_table_type, as_global_type}
 
 -- what is read of each of a list
 pub each_alike : {A B : Type 0} (f : A → A) (g : A → B) → ((x : A) → g (f x) ≡ g x) → (xs : List A) → map g (map f xs) ≡ map g xs
@@ -17,8 +17,8 @@ pub option_alike : {A B : Type 0} (f : A → A) (g : A → B) → ((x : A) → g
 option_alike f g same None = refl
 option_alike f g same (Some x) = ap Some (same x)
 
-module _ (f : Indices) (reads : (s : Space) (i : Index) → number (f s i) ≡ number i) where
-  index_told : (s : Space) (i : Index) → number (f s i) ≡ number i
+module _ (f : Indices) (reads : (s : Space) (i : Index) → index_value (f s i) ≡ index_value i) where
+  index_told : (s : Space) (i : Index) → index_value (f s i) ≡ index_value i
   index_told s i = reads s i
 
   pub heap_told : (x : HeapType) → as_heap_type (mapped_heap f x) ≡ as_heap_type x
@@ -42,11 +42,11 @@ module _ (f : Indices) (reads : (s : Space) (i : Index) → number (f s i) ≡ n
   storage_told : (x : StorageType) → as_storage_type (mapped_storage f x) ≡ as_storage_type x
   storage_told x = grind (arith, common_steps, val_told)
 
-  types_told : (is : List Index) → map number (map (f space.Ty) is) ≡ map number is
-  types_told is = each_alike (f space.Ty) number (index_told space.Ty) is
+  types_told : (is : List Index) → map index_value (map (f space.Ty) is) ≡ map index_value is
+  types_told is = each_alike (f space.Ty) index_value (index_told space.Ty) is
 
-  type_if_told : (o : Option Index) → option_map number (option_map (f space.Ty) o) ≡ option_map number o
-  type_if_told o = option_alike (f space.Ty) number (index_told space.Ty) o
+  type_if_told : (o : Option Index) → option_map index_value (option_map (f space.Ty) o) ≡ option_map index_value o
+  type_if_told o = option_alike (f space.Ty) index_value (index_told space.Ty) o
 
   -- what has ids, whatever these become
   module _ (own : Ids) where

@@ -15,22 +15,22 @@ use Rattle.wasm_out.specs.NameSectionBytes.{InRangeNameEntry, InRangeNameSubsect
 use Rattle.wasm_out.specs.Parts.{Types, Functions, Exports, Code, InRangeEntry, InRangePart}
 use Rattle.wasm_out.specs.Reads.{Reads}
 use Rattle.wasm_out.specs.WorkedBytes as out
-use Rattle.wast_nodes.specs.Items.{items}
-use Rattle.wast_nodes.specs.WorkedModules as worked
-use Rattle.wast_nodes.specs.WorkedModules.{Address}
-use Rattle.wast_demands.specs.Explicit.{explicit, by_positions}
-use Rattle.wast_demands.specs.Demands.{item_counts, body_counts, HasMany, IsCrowded}
-use Rattle.wast_demands.specs.Resolved.{resolved}
+use Rattle.wast_tree_nodes.specs.Items.{items}
+use Rattle.wast_tree_nodes.specs.WorkedModules as worked
+use Rattle.wast_tree_nodes.specs.WorkedModules.{Address}
+use Rattle.wast_resolve_rules.specs.Explicit.{explicit_fields, by_positions}
+use Rattle.wast_resolve_rules.specs.Demands.{item_counts, body_counts, HasMany, IsCrowded}
+use Rattle.wast_resolve_rules.specs.Resolved.{resolved_fields}
 use Rattle.wast_core.specs.Tree.{ModuleField}
 use Rattle.wast_core.specs.declared.slots.Slot.{Slot}
 use Rattle.wast_core.specs.declared.slots.Slot.TheVariants as slot
 use Rattle.wast_core.specs.Bounded.{InRangeHeld, InRangeSlot, InRangeModule, IsBounded}
-use Rattle.wast_core.specs.Hints.{hinted, InRangeHinted, InRangeHints}
+use Rattle.wast_core.specs.Hints.{hinted_functions, InRangeHinted, InRangeHints}
 use Rattle.wast_core.specs.Meaning.{in_slot, subsections_of, parts, meaning}
 use Rattle.wast_core.specs.Utf8Names.{HasUtf8Names}
-use Rattle.wast_nodes.specs.Customs.{customs_at}
+use Rattle.wast_tree_nodes.specs.Customs.{customs_at}
 use Rattle.wast_core.specs.Tree.{CustomPlace}
-use Rattle.wast_conv.specs.Customs.{InRangeCustomBytes}
+use Rattle.wast_core_conv.specs.Customs.{InRangeCustomBytes}
 use Rattle.wast_core.specs.Slots.{order}
 use Rattle.wast_core.specs.WorkedMeanings.{Row1, Row2, Row8, Row24, Row27, AnnotatedFunction, SecondNamed, LongSection}
 use Rattle.wast_core.proofs.Readings.{reads_module}
@@ -53,7 +53,7 @@ one : {A : Type 0} (P : A → Type 0) (x : A) → P x → InRangeVec P (x ∷ []
 one P x h = (omega arith, all_one P x h)
 
 -- what is in range in the parts and in the names is so in each place
-each_place : (name : Option (List ℕ)) (fields : List ModuleField) → All InRangePart (parts name fields) → ((place : CustomPlace) → All InRangeCustomBytes (customs_at place fields)) → InRangeHints (hinted fields) → All InRangeNameSubsection (subsections_of name fields) → InRangeModule name fields
+each_place : (name : Option (List ℕ)) (fields : List ModuleField) → All InRangePart (parts name fields) → ((place : CustomPlace) → All InRangeCustomBytes (customs_at place fields)) → InRangeHints (hinted_functions fields) → All InRangeNameSubsection (subsections_of name fields) → InRangeModule name fields
 each_place name fields h customs hints names = all_both (λ s. All InRangePart (in_slot name fields s)) (InRangeHeld name fields) (InRangeSlot name fields) (λ s p q. (p, q)) order (all_of_flat InRangePart (in_slot name fields) order h) (all_each (InRangeHeld name fields) held order)
   where
     held : (s : Slot) → InRangeHeld name fields s
@@ -83,9 +83,9 @@ parts27 = All-from_recursion InRangePart out.worked_parts (
   ),
 )
 
-names27 : (a b c d e f : Address) → All InRangeNameSubsection (subsections_of None (resolved (by_positions (worked.row27 a b c d e f))))
+names27 : (a b c d e f : Address) → All InRangeNameSubsection (subsections_of None (resolved_fields (by_positions (worked.row27 a b c d e f))))
 unfolding unsigned unsigned_in
-names27 a b c d e f = All-from_recursion InRangeNameSubsection (subsections_of None (resolved (by_positions (worked.row27 a b c d e f)))) (
+names27 a b c d e f = All-from_recursion InRangeNameSubsection (subsections_of None (resolved_fields (by_positions (worked.row27 a b c d e f)))) (
   (omega arith, one InRangeNameEntry _ (omega arith, omega arith)),
   ((omega arith, one InRangeNameEntry _ (omega arith, omega arith)), tt),
 )
@@ -94,20 +94,20 @@ a_is_text : is_utf8 (codes "a") ≡ true
 unfolding encode
 a_is_text = is_utf8-from_IsUtf8 (codes "a") (codes "a", (refl, refl))
 
-texts27 : (a b c d e f : Address) → All HasUtf8Names (resolved (by_positions (worked.row27 a b c d e f)))
-texts27 a b c d e f = All-from_recursion HasUtf8Names (resolved (by_positions (worked.row27 a b c d e f))) (tt, (tt, (a_is_text, tt)))
+texts27 : (a b c d e f : Address) → All HasUtf8Names (resolved_fields (by_positions (worked.row27 a b c d e f)))
+texts27 a b c d e f = All-from_recursion HasUtf8Names (resolved_fields (by_positions (worked.row27 a b c d e f))) (tt, (tt, (a_is_text, tt)))
 
 bounded27 : (a b c d e f : Address) → IsBounded 1 None (worked.row27 a b c d e f)
 unfolding unsigned unsigned_in
 bounded27 a b c d e f =
     let fields = worked.row27 a b c d e f in
-    record { spaces = not_crowded (explicit fields) refl refl; counter = omega arith; writable = record { in_range = each_place None (resolved (by_positions fields)) parts27 (λ place. All-nil InRangeCustomBytes) (none InRangeHinted) (names27 a b c d e f); length = omega arith } }
+    record { spaces = not_crowded (explicit_fields fields) refl refl; counter = omega arith; writable = record { in_range = each_place None (resolved_fields (by_positions fields)) parts27 (λ place. All-nil InRangeCustomBytes) (none InRangeHinted) (names27 a b c d e f); length = omega arith } }
 
 reads27 : (a b c d e f : Address) → Reads out.worked_bytes (meaning None (worked.row27 a b c d e f))
 unfolding unsigned unsigned_in
 reads27 a b c d e f =
     let bounded = bounded27 a b c d e f in
-    reads_module None (resolved (by_positions (worked.row27 a b c d e f))) out.worked_bytes refl (texts27 a b c d e f) bounded.writable.in_range refl (below 256 out.worked_bytes refl)
+    reads_module None (resolved_fields (by_positions (worked.row27 a b c d e f))) out.worked_bytes refl (texts27 a b c d e f) bounded.writable.in_range refl (below 256 out.worked_bytes refl)
 
 pub row27 : Row27
 unfolding unsigned unsigned_in

@@ -6,13 +6,13 @@ use Rattle.std.specs.Global.{Vec}
 use Rattle.wast_base.specs.declared.faults.Error.{Error}
 use Rattle.wast_base.specs.declared.ids.Span.{Span}
 use Rattle.wast_base.specs.Faults.{out_of_memory, too_large}
-use Rattle.wast_nodes.specs.Generations.{greatest_generation}
-use Rattle.wast_demands.specs.Demands.{IsTooLarge, IsUnresolved}
-use Rattle.wast_demands.specs.Finished.{finished}
-use Rattle.wast_demands.specs.Resolved.{numbered_at}
-use Rattle.wast_demands.specs.Scopes.{denoted}
-use Rattle.wast_passes.specs.Resolvers.{KnownNames, known_to}
-use Rattle.wast_alike.specs.Rests.{starts, numbers, started, final_names}
+use Rattle.wast_tree_nodes.specs.Generations.{greatest_generation}
+use Rattle.wast_resolve_rules.specs.Demands.{IsTooLarge, IsUnresolved}
+use Rattle.wast_resolve_rules.specs.Finished.{resolved_fields_from}
+use Rattle.wast_resolve_rules.specs.Resolved.{numbered_at}
+use Rattle.wast_resolve_rules.specs.Scopes.{denoted}
+use Rattle.wast_resolve_passes.specs.Resolvers.{KnownNames, known_to}
+use Rattle.wast_resolve_laws.specs.Rests.{start_fields_of, numbers, with_start_fields, final_names}
 use Rattle.wast_core.specs.Tree.{Index, ModuleField}
 use Rattle.wast_core.specs.Tree.space
 use Rattle.wast_core.specs.declared.module.ModuleKind.{ModuleKind}
@@ -25,14 +25,14 @@ use Rattle.wast_core.specs.Modules.{bound_of_kind}
 -- Start fields, each of a function that the resolved names know, demand nothing more; and the resolved list means the same with
 -- them behind it, each with the number that it denotes, as the fields with them put last.
 abbrev pub StartsLast : Type 0
-StartsLast = (n : ℕ) (name : Option (List ℕ)) (fields : List ModuleField) (is : List Index) → greatest_generation (fields ++ starts is) < n → IsMet fields
+StartsLast = (n : ℕ) (name : Option (List ℕ)) (fields : List ModuleField) (is : List Index) → greatest_generation (fields ++ start_fields_of is) < n → IsMet fields
     → IsTrue (list_all (λ i. is_some (denoted ((final_names n fields).number space.Func) i)) is)
-    → IsMet (fields ++ starts is) × (meaning name (finished n fields ++ starts (map (numbered_at (final_names n fields) space.Func) is)) ≡ meaning name (fields ++ starts is))
+    → IsMet (fields ++ start_fields_of is) × (meaning name (resolved_fields_from n fields ++ start_fields_of (map (numbered_at (final_names n fields) space.Func) is)) ≡ meaning name (fields ++ start_fields_of is))
 
 -- So do start fields of numbers, whatever they denote.
 abbrev pub NumbersLast : Type 0
 NumbersLast = (n : ℕ) (name : Option (List ℕ)) (fields : List ModuleField) (ks : List (ℕ × Span)) → greatest_generation fields < n → IsMet fields
-    → IsMet (fields ++ starts (numbers ks)) × (meaning name (started n fields ks) ≡ meaning name (fields ++ starts (numbers ks)))
+    → IsMet (fields ++ start_fields_of (numbers ks)) × (meaning name (with_start_fields n fields ks) ≡ meaning name (fields ++ start_fields_of (numbers ks)))
 
 -- Memory is refused, or there is too much of something; the text has no fault.
 abbrev pub IsWithheld : Type 0 → Error → Type 0
@@ -41,7 +41,7 @@ IsWithheld many e = (e ≡ out_of_memory) ⊎ ((e ≡ too_large) × many)
 -- Resolved again, a list at rest is refused for no fault of the text.
 abbrev pub RestsWithheld : Type 0
 RestsWithheld = (m n : ℕ) (fields : List ModuleField) (ks : List (ℕ × Span)) (e : Error) → greatest_generation fields < n → IsMet fields
-    → IsUnresolved m (started n fields ks) e → IsWithheld (IsTooLarge m (started n fields ks)) e
+    → IsUnresolved m (with_start_fields n fields ks) e → IsWithheld (IsTooLarge m (with_start_fields n fields ks)) e
 
 -- the fields are too large to be resolved, from this counter
 abbrev pub IsTooLargeKind : ℕ → ModuleKind → Type 0
@@ -81,4 +81,4 @@ SecondEncoding = (old first second : ModuleKind) (n m : ℕ) (name : Option (Lis
 -- the first call left.
 abbrev pub RestsBounded : Type 0
 RestsBounded = (m n : ℕ) (name : Option (List ℕ)) (fields : List ModuleField) → greatest_generation fields < n → IsMet fields
-    → m < 2 ^ 64 → IsBounded n name fields → IsBounded m name (finished n fields)
+    → m < 2 ^ 64 → IsBounded n name fields → IsBounded m name (resolved_fields_from n fields)

@@ -3,18 +3,18 @@ use Rattle.std.specs.Prelude.{ℕ, ◌+◌, ◌<◌, ◌^◌, ◌++◌, List, le
 use Rattle.std.specs.List.{flat_map}
 use Rattle.wasm_out.specs.Parts.{part, InRangePart}
 use Rattle.wasm_out.specs.Reads.{header}
-use Rattle.wast_demands.specs.Explicit.{explicit, by_positions, ids_filled}
-use Rattle.wast_demands.specs.Demands.{IsCrowded}
-use Rattle.wast_demands.specs.Resolved.{resolved}
+use Rattle.wast_resolve_rules.specs.Explicit.{explicit_fields, by_positions, generated_id_count}
+use Rattle.wast_resolve_rules.specs.Demands.{IsCrowded}
+use Rattle.wast_resolve_rules.specs.Resolved.{resolved_fields}
 use Rattle.wast_core.specs.Tree.{ModuleField}
-use Rattle.wast_core.specs.Hints.{hinted, InRangeHints}
+use Rattle.wast_core.specs.Hints.{hinted_functions, InRangeHints}
 use Rattle.wast_core.specs.Meaning.{in_slot, parts, subsections_of}
 use Rattle.wast_core.specs.Slots.{order}
 use Rattle.wast_core.specs.declared.slots.Slot.{Slot}
 use Rattle.wast_core.specs.declared.slots.Slot.TheVariants as slot
 use Rattle.wasm_out.specs.NameSectionBytes.{InRangeNameSubsection}
-use Rattle.wast_conv.specs.Customs.{InRangeCustomBytes}
-use Rattle.wast_nodes.specs.Customs.{customs_at}
+use Rattle.wast_core_conv.specs.Customs.{InRangeCustomBytes}
+use Rattle.wast_tree_nodes.specs.Customs.{customs_at}
 
 -- the bytes of a resolved list, of a module with this name
 abbrev pub bytes_of : Option (List ℕ) → List ModuleField → List ℕ
@@ -26,7 +26,7 @@ InRangeHeld name fields (slot.Custom place) = All InRangeCustomBytes (customs_at
 InRangeHeld name fields (slot.Section kind) = Unit {0}
 InRangeHeld name fields slot.Start = Unit {0}
 InRangeHeld name fields slot.DataCount = Unit {0}
-InRangeHeld name fields slot.Hints = InRangeHints (hinted fields)
+InRangeHeld name fields slot.Hints = InRangeHints (hinted_functions fields)
 InRangeHeld name fields slot.Names = All InRangeNameSubsection (subsections_of name fields)
 
 -- the numbers, counts and lengths in the parts of a place are in range, and those held there
@@ -44,6 +44,6 @@ pub record IsWritable (name : Option (List ℕ)) (fields : List ModuleField) : T
 
 -- what the module means is writable, and the counter that gives ids does not run out
 pub record IsBounded (n : ℕ) (name : Option (List ℕ)) (fields : List ModuleField) : Type 0 where
-  pub spaces : IsCrowded (explicit fields) → ⊥
-  pub counter : n + ids_filled fields < 2 ^ 64
-  pub writable : IsWritable name (resolved (by_positions fields))
+  pub spaces : IsCrowded (explicit_fields fields) → ⊥
+  pub counter : n + generated_id_count fields < 2 ^ 64
+  pub writable : IsWritable name (resolved_fields (by_positions fields))

@@ -5,7 +5,7 @@ use Rattle.wasm_out.specs.Parts.{DataCount, Part}
 use Rattle.wast_core.specs.Tree.{Instruction, FuncKind, ModuleField}
 use Rattle.wast_core.specs.Tree.func
 use Rattle.wast_core.specs.Tree.field
-use Rattle.wast_nodes.specs.Instrs.{needs_data_count}
+use Rattle.wast_tree_nodes.specs.Instrs.{needs_data_count}
 
 -- the instructions of the body of a function
 abbrev pub instrs_of : FuncKind → List Instruction

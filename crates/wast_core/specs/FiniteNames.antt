@@ -5,13 +5,13 @@ use Rattle.std.specs.List.{list_any}
 use Rattle.wast_base.specs.declared.ids.Name as code
 use Rattle.wast_base.specs.declared.ids.Name.TheVariants as name
 use Rattle.wast_base.specs.Ids.{Name, Written, Generated, same_name, name_of}
-use Rattle.wast_alike.specs.Extended.{Names, extended}
-use Rattle.wast_alike.specs.Renaming.{Renaming, IsRenaming}
+use Rattle.wast_resolve_laws.specs.Extended.{FiniteNaming, extended}
+use Rattle.wast_resolve_laws.specs.Renaming.{Renaming, IsRenaming}
 use Rattle.wast_core.specs.Tree.{Id}
 
 -- Whether no two entries of a map give one name. For example, the map from `f` to `g` and from `h`
 -- to `g` is not injective.
-abbrev pub is_injective : Names → Bool
+abbrev pub is_injective : FiniteNaming → Bool
 is_injective [] = true
 is_injective (e ∷ m) = not (list_any (λ d. same_name e.1 d.1) m) && is_injective m
 
@@ -28,10 +28,10 @@ held_at a (Generated n) = name.Generated n
 
 -- The renaming by a finite map: each id keeps its position and gets the name that `extended` gives
 -- for its own. For example, by the map from `f` to `g` the id `$f` at 31 becomes `$g` at 31.
-abbrev pub renaming_by : Addresses → Names → Renaming
+abbrev pub renaming_by : Addresses → FiniteNaming → Renaming
 renaming_by at m = record { name = extended m; id = λ id. record id { name = held_at (at id) (extended m (name_of id)) } }
 
 -- It is a renaming, so that all the laws of other names hold of it, because `extended` gives no two
 -- names one.
 abbrev pub RenamesFinitely : Type 0
-RenamesFinitely = (at : Addresses) (m : Names) → is_injective m ≡ true → IsRenaming (renaming_by at m)
+RenamesFinitely = (at : Addresses) (m : FiniteNaming) → is_injective m ≡ true → IsRenaming (renaming_by at m)

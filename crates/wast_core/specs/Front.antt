@@ -5,19 +5,19 @@ use Rattle.std.specs.List.{flat_map, filter}
 use Rattle.wasm_out.specs.Parts.{Part, part}
 use Rattle.wasm_out.specs.Reads.{header, Reads}
 use Rattle.wast_base.specs.Blocks.{Blocks}
-use Rattle.wast_nodes.specs.Generations.{greatest_generation}
-use Rattle.wast_nodes.specs.Sites.{Where, OfBlock, Locals}
-use Rattle.wast_map.specs.Mapped.{Change}
-use Rattle.wast_map.specs.Laws.{all_mapped}
-use Rattle.wast_deinline.specs.Written.{written_out_from}
-use Rattle.wast_demands.specs.Explicit.{by_positions}
-use Rattle.wast_demands.specs.Resolved.{resolved}
-use Rattle.wast_alike.specs.Renaming.{Renaming, IsRenaming, renamed_fields}
+use Rattle.wast_tree_nodes.specs.Generations.{greatest_generation}
+use Rattle.wast_tree_nodes.specs.Sites.{Where, OfBlock, Locals}
+use Rattle.wast_tree_map.specs.Mapped.{Change}
+use Rattle.wast_tree_map.specs.Laws.{all_mapped}
+use Rattle.wast_expand_inline.specs.Written.{desugared_from}
+use Rattle.wast_resolve_rules.specs.Explicit.{by_positions}
+use Rattle.wast_resolve_rules.specs.Resolved.{resolved_fields}
+use Rattle.wast_resolve_laws.specs.Renaming.{Renaming, IsRenaming, renamed_fields}
 use Rattle.wast_core.specs.Tree.{Index, Space, TypeUse, FunctionType, ModuleField}
 use Rattle.wast_core.specs.declared.slots.Slot.{Slot}
 use Rattle.wast_core.specs.declared.slots.Slot.TheVariants as slot
 use Rattle.wast_core.specs.Slots.{order}
-use Rattle.wast_conv.specs.Values.{number, type_index, use_as_block}
+use Rattle.wast_core_conv.specs.Values.{index_value, type_index, use_as_block}
 use Rattle.wast_core.specs.Headline.{IsMet}
 use Rattle.wast_core.specs.Meaning.{in_slot, meaning}
 
@@ -27,25 +27,25 @@ is_front slot.Names = false
 is_front s = true
 
 -- the parts in those places; none of them tells the name of the module
-abbrev pub front : List ModuleField → List Part
-front fields = flat_map (in_slot None fields) (filter is_front order)
+abbrev pub parts_before_names : List ModuleField → List Part
+parts_before_names fields = flat_map (in_slot None fields) (filter is_front order)
 
 -- those of what a text module means
 abbrev pub meant_front : List ModuleField → List Part
-meant_front fields = front (resolved (by_positions fields))
+meant_front fields = parts_before_names (resolved_fields (by_positions fields))
 
 -- Each index reads the same number, and each type use the same type.
-pub record Tells (f : Change) : Type 0 where
-  pub index : (s : Space) (i : Index) → number (f.index s i) ≡ number i
-  pub local : (l : Locals) (i : Index) → number (f.local l i) ≡ number i
-  pub member : (owner i : Index) → number (f.field owner i) ≡ number i
-  pub label : (blocks : Blocks) (i : Index) → number (f.label blocks i) ≡ number i
+pub record KeepsNumbers (f : Change) : Type 0 where
+  pub index : (s : Space) (i : Index) → index_value (f.index s i) ≡ index_value i
+  pub local : (l : Locals) (i : Index) → index_value (f.local l i) ≡ index_value i
+  pub member : (owner i : Index) → index_value (f.field owner i) ≡ index_value i
+  pub label : (blocks : Blocks) (i : Index) → index_value (f.label blocks i) ≡ index_value i
   pub used : (w : Where) (u : TypeUse FunctionType) → type_index (f.used w u) ≡ type_index u
   pub block : (u : TypeUse FunctionType) → use_as_block (f.used OfBlock u).index (f.used OfBlock u).inline ≡ use_as_block u.index u.inline
 
 -- Then the parts before the names stay.
 abbrev pub FrontStays : Type 0
-FrontStays = (f : Change) → Tells f → (fields : List ModuleField) → front (all_mapped f fields) ≡ front fields
+FrontStays = (f : Change) → KeepsNumbers f → (fields : List ModuleField) → parts_before_names (all_mapped f fields) ≡ parts_before_names fields
 
 -- With other names the parts before the names are the same;
 abbrev pub RenamedParts : Type 0
@@ -55,14 +55,14 @@ RenamedParts = (r : Renaming) → IsRenaming r → (fields : List ModuleField) �
 -- written.
 abbrev pub WrittenMeans : Type 0
 WrittenMeans = (r : Renaming) → IsRenaming r → (n : ℕ) (fields : List ModuleField) → greatest_generation fields < n → IsMet fields
-    → (meant_front (written_out_from n fields) ≡ meant_front fields) × (meant_front (renamed_fields r (written_out_from n fields)) ≡ meant_front fields)
+    → (meant_front (desugared_from n fields) ≡ meant_front fields) × (meant_front (renamed_fields r (desugared_from n fields)) ≡ meant_front fields)
 
 -- the bytes before the names, and those of the names, of a module with this name
 abbrev pub front_bytes : List ModuleField → List ℕ
 front_bytes fields = header ++ flat_map part (meant_front fields)
 
 abbrev pub names_bytes : Option (List ℕ) → List ModuleField → List ℕ
-names_bytes name fields = flat_map part (in_slot name (resolved (by_positions fields)) slot.Names)
+names_bytes name fields = flat_map part (in_slot name (resolved_fields (by_positions fields)) slot.Names)
 
 -- Bytes that are read as what the fields mean, and bytes that are read as what the others mean, begin with the same bytes;
 -- behind these each has the bytes of its names, or nothing.
@@ -77,4 +77,4 @@ SameFront = (r : Renaming) → IsRenaming r → (fields : List ModuleField) → 
 -- and for what is written out from a counter, with other names or as it is.
 abbrev pub WrittenFront : Type 0
 WrittenFront = (r : Renaming) → IsRenaming r → (n : ℕ) (fields : List ModuleField) → greatest_generation fields < n → IsMet fields
-    → BeginAlike fields (written_out_from n fields) × BeginAlike fields (renamed_fields r (written_out_from n fields))
+    → BeginAlike fields (desugared_from n fields) × BeginAlike fields (renamed_fields r (desugared_from n fields))

@@ -6,39 +6,39 @@ use Rattle.std.specs.Global.{Vec}
 use Rattle.wast_base.specs.declared.faults.Error.{Error}
 use Rattle.wast_base.specs.declared.faults.Fault.TheVariants as fault
 use Rattle.wast_base.specs.declared.faults.Form.{Form}
-use Rattle.wast_base.specs.Faults.{refused, too_large, out_of_memory}
-use Rattle.wast_nodes.specs.Known.{known}
-use Rattle.wast_nodes.specs.Items.{items}
+use Rattle.wast_base.specs.Faults.{error_without_place, too_large, out_of_memory}
+use Rattle.wast_tree_nodes.specs.Known.{id_context}
+use Rattle.wast_tree_nodes.specs.Items.{items}
 use Rattle.wasm_out.specs.Reads.{Reads}
-use Rattle.wast_demands.specs.Explicit.{explicit, explicit_from, ids_filled}
-use Rattle.wast_demands.specs.Demands.{demands, first_unmet, IsUnresolved}
-use Rattle.wast_demands.specs.Finished.{finished}
-use Rattle.wast_passes.specs.Resolvers.{KnownNames, known_to}
+use Rattle.wast_resolve_rules.specs.Explicit.{explicit_fields, explicit_fields_from, generated_id_count}
+use Rattle.wast_resolve_rules.specs.Demands.{demands, first_unmet, IsUnresolved}
+use Rattle.wast_resolve_rules.specs.Finished.{resolved_fields_from}
+use Rattle.wast_resolve_passes.specs.Resolvers.{KnownNames, known_to}
 use Rattle.wast_core.specs.Tree.{ModuleField}
 use Rattle.wast_core.specs.declared.module.Module.{Module}
 use Rattle.wast_core.specs.declared.module.ModuleKind.{ModuleKind}
 use Rattle.wast_core.specs.declared.module.ModuleKind.TheVariants as kind
-use Rattle.wast_names.specs.GivenNames.{given_name}
+use Rattle.wast_core_name_section.specs.GivenNames.{given_name}
 use Rattle.wast_core.specs.Meaning.{meaning}
 use Rattle.wast_core.specs.Bounded.{IsBounded}
-use Rattle.wast_core.specs.Uncovered.{first, uncovered_forms, IsCovered}
+use Rattle.wast_core.specs.Uncovered.{head_of, uncovered_forms, IsCovered}
 
 -- each demand is met of the fields with all that stands in place, and of the types that they imply
 abbrev pub IsMet : List ModuleField → Type 0
-IsMet fields = first_unmet (demands (explicit fields)) ≡ None
+IsMet fields = first_unmet (demands (explicit_fields fields)) ≡ None
 
 -- A text module is resolved exactly where each demand is met, with the ids that a counter gives; a refusal is kept, and answered from then on.
 abbrev pub ResolvesKind : ℕ → ModuleKind → Result KnownNames Error → ModuleKind → Type 0
-ResolvesKind n (kind.Text fields) (Ok names) new = IsMet fields × (new ≡ kind.Text (finished n fields)) × (known_to names ≡ known (items (explicit_from n fields)))
+ResolvesKind n (kind.Text fields) (Ok names) new = IsMet fields × (new ≡ kind.Text (resolved_fields_from n fields)) × (known_to names ≡ id_context (items (explicit_fields_from n fields)))
 ResolvesKind n (kind.Text fields) (Err e) new = IsUnresolved n fields e × (new ≡ kind.Refused e)
-ResolvesKind n (kind.Binary pieces) (Ok names) new = (known_to names ≡ known []) × (new ≡ kind.Binary pieces)
+ResolvesKind n (kind.Binary pieces) (Ok names) new = (known_to names ≡ id_context []) × (new ≡ kind.Binary pieces)
 ResolvesKind n (kind.Binary pieces) (Err e) new = ⊥
 ResolvesKind n (kind.Refused e) (Ok names) new = ⊥
 ResolvesKind n (kind.Refused e) (Err d) new = (d ≡ e) × (new ≡ kind.Refused e)
 
 -- How far the counter rises: where fields are resolved by as many ids as are filled in; else it stays, where they are refused too.
 abbrev pub Counts : ModuleKind → ModuleKind → ℕ → ℕ → Type 0
-Counts (kind.Text fields) (kind.Text resolved) before after = after ≡ before + ids_filled fields
+Counts (kind.Text fields) (kind.Text resolved) before after = after ≡ before + generated_id_count fields
 Counts (kind.Text fields) (kind.Binary pieces) before after = ⊥
 Counts (kind.Text fields) (kind.Refused e) before after = after ≡ before
 Counts (kind.Binary pieces) new before after = after ≡ before
@@ -54,25 +54,25 @@ abbrev pub name_of_module : Module → Option (List ℕ)
 name_of_module m = given_name m.name m.id
 
 -- the bytes of the pieces, one after another
-abbrev pub joined : List (Bor (List ℕ)) → List ℕ
-joined pieces = flat_map (λ p. p.now) pieces
+abbrev pub joined_pieces : List (Bor (List ℕ)) → List ℕ
+joined_pieces pieces = flat_map (λ p. p.now) pieces
 
 -- why resolved fields give no bytes: a form is not covered; else memory was refused, or they are too large
 abbrev pub IsUnwritten : Option Form → Type 0 → Error → Type 0
-IsUnwritten (Some form) is_bounded e = e ≡ refused (fault.Uncovered form)
+IsUnwritten (Some form) is_bounded e = e ≡ error_without_place (fault.Uncovered form)
 IsUnwritten None is_bounded e = (e ≡ out_of_memory) ⊎ ((e ≡ too_large) × (is_bounded → ⊥))
 
 -- Why a text module gives no bytes: it is not resolved, and keeps why; or it is resolved, and gives none.
 abbrev pub IsUnencoded : ℕ → Option (List ℕ) → List ModuleField → Error → ModuleKind → Type 0
 IsUnencoded n name fields e new =
     (IsUnresolved n fields e × (new ≡ kind.Refused e))
-    ⊎ (IsMet fields × IsUnwritten (first (uncovered_forms (finished n fields))) (IsBounded n name fields) e × (new ≡ kind.Text (finished n fields)))
+    ⊎ (IsMet fields × IsUnwritten (head_of (uncovered_forms (resolved_fields_from n fields))) (IsBounded n name fields) e × (new ≡ kind.Text (resolved_fields_from n fields)))
 
 -- A text module gives bytes only where each demand is met and each form covered, and then bytes that are read as what it means.
 abbrev pub EncodesKind : ℕ → Option (List ℕ) → ModuleKind → Result (Vec ℕ) Error → ModuleKind → Type 0
-EncodesKind n name (kind.Text fields) (Ok bytes) new = IsMet fields × IsCovered (finished n fields) × Reads bytes.items (meaning name fields) × (new ≡ kind.Text (finished n fields))
+EncodesKind n name (kind.Text fields) (Ok bytes) new = IsMet fields × IsCovered (resolved_fields_from n fields) × Reads bytes.items (meaning name fields) × (new ≡ kind.Text (resolved_fields_from n fields))
 EncodesKind n name (kind.Text fields) (Err e) new = IsUnencoded n name fields e new
-EncodesKind n name (kind.Binary pieces) (Ok bytes) new = (bytes.items ≡ joined pieces) × (new ≡ kind.Binary pieces)
+EncodesKind n name (kind.Binary pieces) (Ok bytes) new = (bytes.items ≡ joined_pieces pieces) × (new ≡ kind.Binary pieces)
 EncodesKind n name (kind.Binary pieces) (Err e) new = (e ≡ out_of_memory) × (new ≡ kind.Binary pieces)
 EncodesKind n name (kind.Refused e) (Ok bytes) new = ⊥
 EncodesKind n name (kind.Refused e) (Err d) new = (d ≡ e) × (new ≡ kind.Refused e)

@@ -4,13 +4,13 @@ use Rattle.std.specs.List.{flat_map}
 use Rattle.wasm_ops.specs.Leb128.{unsigned}
 use Rattle.wasm_ops.specs.Spelling.{vec}
 use Rattle.wasm_ops.specs.Table.{Instr, instr}
-use Rattle.wasm_out.specs.Bodies.{Body, content}
+use Rattle.wasm_out.specs.Bodies.{Body, body_content}
 use Rattle.wasm_out.specs.Parts.{Code, section_id, body, part}
 use Rattle.wasm_out.specs.Reads.{header, Reads}
-use Rattle.wast_conv.specs.Hints.{hints_of, as_hinted, as_branch_hint}
+use Rattle.wast_core_conv.specs.Hints.{hints_of, as_hinted, as_branch_hint}
 use Rattle.wast_core.specs.Tree.{BranchHint, Func, ModuleField}
 use Rattle.wast_core.specs.Tree.field
-use Rattle.wast_core.specs.Hints.{functions_in, hinted}
+use Rattle.wast_core.specs.Hints.{functions_in, hinted_functions}
 use Rattle.wast_core.specs.Meaning.{as_body, entries, in_slot, parts}
 use Rattle.wast_core.specs.Slots.{order}
 use Rattle.wast_core.specs.declared.slots.SectionKind.TheVariants as kind
@@ -33,7 +33,7 @@ until_code (s ∷ ss) = s ∷ until_code ss
 -- a code section of all these bodies, up to behind the size of one: its id, its length, the number of bodies, those before that
 -- one, and the size
 abbrev pub up_to_size : List Body → List Body → Body → List ℕ
-up_to_size all before b = section_id Code ∷ (unsigned (length (vec body all)) ++ (unsigned (length all) ++ (flat_map body before ++ unsigned (length (content b)))))
+up_to_size all before b = section_id Code ∷ (unsigned (length (vec body all)) ++ (unsigned (length all) ++ (flat_map body before ++ unsigned (length (body_content b)))))
 
 -- the bytes of a module up to behind the size of the body of a function, which stands behind these fields
 abbrev pub up_to_body : Option (List ℕ) → List ModuleField → List ModuleField → Func → List ℕ
@@ -47,5 +47,5 @@ abbrev pub HintsPointAtInstructions : Type 0
 HintsPointAtInstructions = (bytes : List ℕ) (name : Option (List ℕ)) (before behind : List ModuleField) (f : Func) (h : BranchHint) (i : Instr)
     → let fields = before ++ field.Func f ∷ behind in
     Reads bytes (parts name fields) → Contains (hints_of f.kind) h → slice_get (as_body f.kind).instrs h.instr_index ≡ Some i
-    → Contains (hinted fields) (length (flat_map functions_in before), as_hinted f.kind)
+    → Contains (hinted_functions fields) (length (flat_map functions_in before), as_hinted f.kind)
     × IsSpelledAt bytes (up_to_body name fields before f) (as_branch_hint (as_body f.kind) h).branch_func_offset i

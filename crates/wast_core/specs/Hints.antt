@@ -6,10 +6,10 @@ use Rattle.wasm_ops.specs.Spelling.{InRangeU32, InRangeVec}
 use Rattle.wasm_out.specs.Hints.{function_hints, hints, hints_name}
 use Rattle.wasm_out.specs.Parts.{Custom, Part}
 use Rattle.wasm_out.specs.declared.hints.BranchHint.{BranchHint}
-use Rattle.wast_conv.specs.Hints.{HintedBody, hints_of, as_hinted, as_hints, InRangeBodyHints}
-use Rattle.wast_names.specs.GivenNames.{named_from}
-use Rattle.wast_nodes.specs.Imports.{item_sigs}
-use Rattle.wast_nodes.specs.Items.{space_of_kind}
+use Rattle.wast_core_conv.specs.Hints.{HintedBody, hints_of, as_hinted, as_hints, InRangeBodyHints}
+use Rattle.wast_core_name_section.specs.GivenNames.{named_from}
+use Rattle.wast_tree_nodes.specs.Imports.{item_sigs}
+use Rattle.wast_tree_nodes.specs.Items.{space_of_kind}
 use Rattle.wast_core.specs.Tree.{FuncKind, ItemSig, ModuleField}
 use Rattle.wast_core.specs.Tree.space
 use Rattle.wast_core.specs.Tree.field
@@ -33,8 +33,8 @@ functions_in (field.Func f) = if_hinted f.kind ∷ []
 functions_in x = []
 
 -- the functions of a module that have hints, each with its index: the number of functions before it
-abbrev pub hinted : List ModuleField → List (ℕ × HintedBody)
-hinted fields = named_from 0 (flat_map functions_in fields)
+abbrev pub hinted_functions : List ModuleField → List (ℕ × HintedBody)
+hinted_functions fields = named_from 0 (flat_map functions_in fields)
 
 -- one of them, with its hints by where their instructions begin
 abbrev pub as_function_hints : ℕ × HintedBody → ℕ × List BranchHint

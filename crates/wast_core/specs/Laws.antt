@@ -2,20 +2,20 @@
 -- sections stand.
 use Rattle.std.specs.Prelude.{◌≡◌, ℕ, ◌<◌, List, [], ◌∷◌, Option}
 use Rattle.std.specs.List.{filter}
-use Rattle.wast_nodes.specs.Customs.{custom_place}
-use Rattle.wast_nodes.specs.Generations.{greatest_generation}
-use Rattle.wast_demands.specs.Finished.{finished}
+use Rattle.wast_tree_nodes.specs.Customs.{custom_place}
+use Rattle.wast_tree_nodes.specs.Generations.{greatest_generation}
+use Rattle.wast_resolve_rules.specs.Finished.{resolved_fields_from}
 use Rattle.wast_core.specs.Tree.{Custom, ModuleField}
 use Rattle.wast_core.specs.Slots.{order, is_place}
 use Rattle.wast_core.specs.declared.slots.Slot.TheVariants as slot
-use Rattle.wast_demands.specs.Demands.{IsTooLarge}
+use Rattle.wast_resolve_rules.specs.Demands.{IsTooLarge}
 use Rattle.wast_core.specs.Bounded.{IsBounded}
 use Rattle.wast_core.specs.Headline.{IsMet}
 use Rattle.wast_core.specs.Meaning.{parts, meaning}
 
 -- Where each demand is met, the ids that a counter gives tell nothing: the parts are those by positions.
 abbrev pub MeansWhatIsWritten : Type 0
-MeansWhatIsWritten = (n : ℕ) (name : Option (List ℕ)) (fields : List ModuleField) → greatest_generation fields < n → IsMet fields → parts name (finished n fields) ≡ meaning name fields
+MeansWhatIsWritten = (n : ℕ) (name : Option (List ℕ)) (fields : List ModuleField) → greatest_generation fields < n → IsMet fields → parts name (resolved_fields_from n fields) ≡ meaning name fields
 
 -- Fields that are too large to be resolved are too large to be encoded.
 abbrev pub TooLargeIsUnbounded : Type 0

@@ -11,20 +11,20 @@ use Rattle.wasm_out.specs.Bodies.{Body}
 use Rattle.wasm_out.specs.DataSegments.{DataEntry}
 use Rattle.wasm_out.specs.ElementSegments.{ElementEntry}
 use Rattle.wasm_out.specs.Parts.{SectionKind, Types, Imports, Functions, Tables, Memories, Tags, Globals, Exports, Elements, Code, Data, Entry, TypeEntry, Single, ImportEntry, TableEntry, GlobalEntry, ExportEntry, Start, Listed, Part, part}
-use Rattle.wast_demands.specs.Explicit.{by_positions}
-use Rattle.wast_demands.specs.Resolved.{resolved}
-use Rattle.wast_nodes.specs.Customs.{customs_at, is_custom_called}
-use Rattle.wast_conv.specs.Customs.{custom_part}
+use Rattle.wast_resolve_rules.specs.Explicit.{by_positions}
+use Rattle.wast_resolve_rules.specs.Resolved.{resolved_fields}
+use Rattle.wast_tree_nodes.specs.Customs.{customs_at, is_custom_called}
+use Rattle.wast_core_conv.specs.Customs.{custom_part}
 use Rattle.wasm_out.specs.NameSectionBytes.{NameSubsection}
-use Rattle.wast_names.specs.ModuleNames.{name_subsections}
-use Rattle.wast_names.specs.NamesPart.{names_part}
+use Rattle.wast_core_name_section.specs.ModuleNames.{name_subsections}
+use Rattle.wast_core_name_section.specs.NamesPart.{names_part}
 use Rattle.wast_core.specs.declared.slots.Slot.{Slot}
 use Rattle.wast_core.specs.declared.slots.Slot.TheVariants as slot
 use Rattle.wast_core.specs.DataCounts.{needs_count, count_parts}
-use Rattle.wast_core.specs.Hints.{hinted, hints_part}
+use Rattle.wast_core.specs.Hints.{hinted_functions, hints_part}
 use Rattle.wast_core.specs.Slots.{section_kind, order}
-pub use Rattle.wast_conv.specs.Values.{number, as_abstract_type, as_heap_type, as_ref_type, as_val_type, as_storage_type, as_field_type, as_struct_type, as_array_type, as_func_type, as_inner_type, as_sub_type, type_index, as_table_type, as_memory_type, as_global_type, as_tag_type, as_entity_type, as_instr, as_expression, body_of, as_body, as_export_kind}
-pub use Rattle.wast_conv.specs.FieldEntries.{as_group, as_import, as_table, as_memory, as_global, as_tag, as_export, as_element_items, as_element_mode, as_element, as_data_mode, as_data}
+pub use Rattle.wast_core_conv.specs.Values.{index_value, as_abstract_type, as_heap_type, as_ref_type, as_val_type, as_storage_type, as_field_type, as_struct_type, as_array_type, as_func_type, as_inner_type, as_sub_type, type_index, as_table_type, as_memory_type, as_global_type, as_tag_type, as_entity_type, as_instr, as_expression, body_of, as_body, as_export_kind}
+pub use Rattle.wast_core_conv.specs.FieldEntries.{as_group, as_import, as_table, as_memory, as_global, as_tag, as_export, as_element_items, as_element_mode, as_element, as_data_mode, as_data}
 
 -- what a field puts into the sections: the entries of those that are lists, and the functions of start sections
 pub record Contribution : Type 0 where
@@ -42,8 +42,8 @@ pub record Contribution : Type 0 where
   pub «data» : List DataEntry
 
 -- a field that puts nothing into any section
-abbrev pub nothing : Contribution
-nothing = record {
+abbrev pub no_contribution : Contribution
+no_contribution = record {
   types = [];
   imports = [];
   functions = [];
@@ -60,67 +60,67 @@ nothing = record {
 
 -- what a field of each kind contributes: a type is one entry
 abbrev pub of_type : ty.«Type» → Contribution
-of_type t = record nothing { types = Single (as_sub_type t.def) ∷ [] }
+of_type t = record no_contribution { types = Single (as_sub_type t.def) ∷ [] }
 
 -- a group is one entry, whatever its types
 abbrev pub of_rec : Rec → Contribution
-of_rec r = record nothing { types = as_group r ∷ [] }
+of_rec r = record no_contribution { types = as_group r ∷ [] }
 
 -- an import is one entry
 abbrev pub of_import : tree.Imports → Contribution
-of_import i = record nothing { imports = as_import i ∷ [] }
+of_import i = record no_contribution { imports = as_import i ∷ [] }
 
 -- a function is its type among the functions, and its body in the code
 abbrev pub of_func : Func → Contribution
-of_func f = record nothing { functions = type_index f.ty ∷ []; code = as_body f.kind ∷ [] }
+of_func f = record no_contribution { functions = type_index f.ty ∷ []; code = as_body f.kind ∷ [] }
 
 -- a table is one entry
 abbrev pub of_table : Table → Contribution
-of_table t = record nothing { tables = as_table t ∷ [] }
+of_table t = record no_contribution { tables = as_table t ∷ [] }
 
 -- a memory is one entry
 abbrev pub of_memory : Memory → Contribution
-of_memory m = record nothing { memories = as_memory m ∷ [] }
+of_memory m = record no_contribution { memories = as_memory m ∷ [] }
 
 -- a global is one entry
 abbrev pub of_global : Global → Contribution
-of_global g = record nothing { globals = as_global g ∷ [] }
+of_global g = record no_contribution { globals = as_global g ∷ [] }
 
 -- a tag is one entry
 abbrev pub of_tag : Tag → Contribution
-of_tag t = record nothing { tags = as_tag t ∷ [] }
+of_tag t = record no_contribution { tags = as_tag t ∷ [] }
 
 -- an export is one entry
 abbrev pub of_export : Export → Contribution
-of_export e = record nothing { exports = as_export e ∷ [] }
+of_export e = record no_contribution { exports = as_export e ∷ [] }
 
 -- a start field is its function
 abbrev pub of_start : Index → Contribution
-of_start i = record nothing { starts = number i ∷ [] }
+of_start i = record no_contribution { starts = index_value i ∷ [] }
 
 -- an element segment is one entry
 abbrev pub of_elem : Elem → Contribution
-of_elem e = record nothing { elements = as_element e ∷ [] }
+of_elem e = record no_contribution { elements = as_element e ∷ [] }
 
 -- a data segment is one entry
 abbrev pub of_data : tree.Data → Contribution
-of_data d = record nothing { «data» = as_data d ∷ [] }
+of_data d = record no_contribution { «data» = as_data d ∷ [] }
 
 -- what a field contributes
-abbrev pub contributed : ModuleField → Contribution
-contributed (field.Ty t) = of_type t
-contributed (field.Rec r) = of_rec r
-contributed (field.Import i) = of_import i
-contributed (field.Func f) = of_func f
-contributed (field.Table t) = of_table t
-contributed (field.Memory m) = of_memory m
-contributed (field.Global g) = of_global g
-contributed (field.Export e) = of_export e
-contributed (field.Start i) = of_start i
-contributed (field.Elem e) = of_elem e
-contributed (field.Data d) = of_data d
-contributed (field.Tag t) = of_tag t
-contributed (field.Custom c) = nothing
+abbrev pub contribution_of : ModuleField → Contribution
+contribution_of (field.Ty t) = of_type t
+contribution_of (field.Rec r) = of_rec r
+contribution_of (field.Import i) = of_import i
+contribution_of (field.Func f) = of_func f
+contribution_of (field.Table t) = of_table t
+contribution_of (field.Memory m) = of_memory m
+contribution_of (field.Global g) = of_global g
+contribution_of (field.Export e) = of_export e
+contribution_of (field.Start i) = of_start i
+contribution_of (field.Elem e) = of_elem e
+contribution_of (field.Data d) = of_data d
+contribution_of (field.Tag t) = of_tag t
+contribution_of (field.Custom c) = no_contribution
 
 -- what is put into the section of a kind
 abbrev pub of_kind : (kind : SectionKind) → Contribution → List (Entry kind)
@@ -138,16 +138,16 @@ of_kind Data c = c.«data»
 
 -- the entries of a field in the section of a kind
 abbrev pub entries_in : (kind : SectionKind) → ModuleField → List (Entry kind)
-entries_in kind f = of_kind kind (contributed f)
+entries_in kind f = of_kind kind (contribution_of f)
 
 -- the entries of a list of fields in the section of a kind
 abbrev pub entries : (kind : SectionKind) → List ModuleField → List (Entry kind)
 entries kind fields = flat_map (entries_in kind) fields
 
 -- a kind without items gives no part
-abbrev pub listed : (kind : SectionKind) → List (Entry kind) → List Part
-listed kind [] = []
-listed kind (item ∷ items) = record { kind = Listed kind; items = item ∷ items } ∷ []
+abbrev pub section_part : (kind : SectionKind) → List (Entry kind) → List Part
+section_part kind [] = []
+section_part kind (item ∷ items) = record { kind = Listed kind; items = item ∷ items } ∷ []
 
 -- each start field is a section of its own
 abbrev pub start_part : ℕ → Part
@@ -155,7 +155,7 @@ start_part n = record { kind = Start; items = n }
 
 -- the start sections of a field
 abbrev pub starts_in : ModuleField → List Part
-starts_in f = map start_part (contributed f).starts
+starts_in f = map start_part (contribution_of f).starts
 
 -- where a body needs it, one section tells how many segments of data there are
 abbrev pub data_counts : List ModuleField → List Part
@@ -176,10 +176,10 @@ subsections_of name fields = if has_own_names fields then [] else name_subsectio
 -- the parts in a place of a module with this name, of these fields
 abbrev pub in_slot : Option (List ℕ) → List ModuleField → Slot → List Part
 in_slot name fields (slot.Custom place) = map custom_part (customs_at place fields)
-in_slot name fields (slot.Section kind) = listed (section_kind kind) (entries (section_kind kind) fields)
+in_slot name fields (slot.Section kind) = section_part (section_kind kind) (entries (section_kind kind) fields)
 in_slot name fields slot.Start = flat_map starts_in fields
 in_slot name fields slot.DataCount = data_counts fields
-in_slot name fields slot.Hints = hints_part (hinted fields)
+in_slot name fields slot.Hints = hints_part (hinted_functions fields)
 in_slot name fields slot.Names = names_part (subsections_of name fields)
 
 -- the parts of a resolved list, of a module with this name
@@ -189,4 +189,4 @@ parts name fields = flat_map (in_slot name fields) order
 -- What a text module means: the parts of its fields, with what stands in place as fields of their own, and of the types that
 -- they imply; each type use that needs a type by the position of it, and each id by the position of what it denotes.
 abbrev pub meaning : Option (List ℕ) → List ModuleField → List Part
-meaning name fields = parts name (resolved (by_positions fields))
+meaning name fields = parts name (resolved_fields (by_positions fields))

@@ -1,8 +1,8 @@
 -- Which modules are well formed, the greatest generation of their ids, and when they are ready to be resolved.
 use Rattle.std.specs.Prelude.{ℕ, max, ◌<◌, Bool, true, Option, None, IsTrue}
-use Rattle.wast_base.specs.Ids.{marked}
-use Rattle.wast_nodes.specs.WellFormed as fields
-use Rattle.wast_nodes.specs.Generations.{generation_or_zero, greatest_generation}
+use Rattle.wast_base.specs.Ids.{mark_of_option}
+use Rattle.wast_tree_nodes.specs.WellFormed as fields
+use Rattle.wast_tree_nodes.specs.Generations.{generation_or_zero, greatest_generation}
 use Rattle.wast_core.specs.declared.module.Module.{Module}
 use Rattle.wast_core.specs.declared.module.ModuleKind.{ModuleKind}
 use Rattle.wast_core.specs.declared.module.ModuleKind.TheVariants as kind
@@ -35,7 +35,7 @@ bound_of_kind (kind.Refused e) = 0
 
 -- the greatest generation of an id in the module
 abbrev pub generation_bound : Module → ℕ
-generation_bound m = max (generation_or_zero (marked m.id)) (bound_of_kind m.kind)
+generation_bound m = max (generation_or_zero (mark_of_option m.id)) (bound_of_kind m.kind)
 
 -- The module is well formed, and the counter above its generated ids.
 pub record IsReady (m : Module) (counter : ℕ) : Type 0 where

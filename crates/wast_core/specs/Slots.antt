@@ -1,7 +1,7 @@
 -- The places of sections in a module, in the order of the binary format (binary format, modules).
 use Rattle.std.specs.Prelude.{◌==◌, Bool, false, List, [], ◌∷◌, ◌++◌}
 use Rattle.wasm_out.specs.Parts as parts
-use Rattle.wast_nodes.specs.Customs.{place_rank}
+use Rattle.wast_tree_nodes.specs.Customs.{place_rank}
 use Rattle.wast_core.specs.Tree.{CustomPlace, CustomPlaceAnchor}
 use Rattle.wast_core.specs.Tree.anchor
 use Rattle.wast_core.specs.Tree.custom_place as at

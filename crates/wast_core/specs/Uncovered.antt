@@ -1,8 +1,8 @@
 -- Lists of fields without a form that no encoder covers.
 use Rattle.std.specs.Prelude.{◌≡◌, List, None}
 use Rattle.wast_core.specs.Tree.{ModuleField}
-pub use Rattle.wast_nodes.specs.Uncovered.{uncovered_forms, first}
+pub use Rattle.wast_tree_nodes.specs.Uncovered.{uncovered_forms, head_of}
 
 -- each form is covered
 abbrev pub IsCovered : List ModuleField → Type 0
-IsCovered fields = first (uncovered_forms fields) ≡ None
+IsCovered fields = head_of (uncovered_forms fields) ≡ None

@@ -1,7 +1,7 @@
 -- Which names in fields are UTF-8: those that they put into the import and export sections (binary format, values: names).
 use Rattle.std.specs.Prelude.{IsTrue}
 use Rattle.std.specs.Str.{is_utf8}
-use Rattle.wast_nodes.specs.Customs.{custom_name}
+use Rattle.wast_tree_nodes.specs.Customs.{custom_name}
 use Rattle.wast_core.specs.Tree.{ImportItems, ModuleField}
 use Rattle.wast_core.specs.Tree.import_items
 use Rattle.wast_core.specs.Tree.field

@@ -1,7 +1,7 @@
 -- Small modules with exports, elements and data in place, and what they mean, computed. A text may lie anywhere in memory.
 use Rattle.std.specs.Prelude.{false, [], ◌∷◌, ◌++◌, Some, None, codes}
-use Rattle.wast_nodes.specs.WorkedModules.{Address, text, id_at, by_id, by_number, plain_func}
-use Rattle.wast_deinline.specs.WorkedFields.{no_type, memory_at, empty_memory, funcref, table_at}
+use Rattle.wast_tree_nodes.specs.WorkedModules.{Address, text, id_at, by_id, by_number, plain_func}
+use Rattle.wast_expand_inline.specs.WorkedFields.{no_type, memory_at, empty_memory, funcref, table_at}
 use Rattle.wast_core.specs.Tree.{Func}
 use Rattle.wast_core.specs.Tree.field
 use Rattle.wast_core.specs.Tree.memory

@@ -3,14 +3,14 @@
 use Rattle.std.specs.Prelude.{◌≡◌, ℕ, List, None, Ok, codes}
 use Rattle.std.specs.Global.{Vec}
 use Rattle.wasm_out.specs.WorkedBytes as out
-use Rattle.wast_nodes.specs.Items.{items}
-use Rattle.wast_nodes.specs.Known.{known}
-use Rattle.wast_nodes.specs.WorkedModules.{Address, by_id, by_number, row27_with, row27}
-use Rattle.wast_demands.specs.Explicit.{ids_filled}
-use Rattle.wast_demands.specs.Finished.{finished}
-use Rattle.wast_demands.specs.WorkedBodies.{catching}
-use Rattle.wast_demands.specs.WorkedFields.{reading}
-use Rattle.wast_passes.specs.Resolvers.{KnownNames, known_to}
+use Rattle.wast_tree_nodes.specs.Items.{items}
+use Rattle.wast_tree_nodes.specs.Known.{id_context}
+use Rattle.wast_tree_nodes.specs.WorkedModules.{Address, by_id, by_number, row27_with, row27}
+use Rattle.wast_resolve_rules.specs.Explicit.{generated_id_count}
+use Rattle.wast_resolve_rules.specs.Finished.{resolved_fields_from}
+use Rattle.wast_resolve_rules.specs.WorkedBodies.{catching}
+use Rattle.wast_resolve_rules.specs.WorkedFields.{reading}
+use Rattle.wast_resolve_passes.specs.Resolvers.{KnownNames, known_to}
 use Rattle.wast_core.specs.Bounded.{IsBounded}
 use Rattle.wast_core.specs.Headline.{IsMet, Resolves, EncodesKind}
 use Rattle.wast_core.specs.Meaning.{meaning}
@@ -25,7 +25,7 @@ numbered27 a b c = row27_with a b c (by_number 0 40) (by_number 0 49) (by_number
 -- A second call of `resolve`, with the counter at 5, leaves the fields and the counter, and the
 -- names know what they knew.
 abbrev pub ResolvedAgain : Type 0
-ResolvedAgain = (a b c d e f : Address) (names : KnownNames) → known_to names ≡ known (items (row27 a b c d e f))
+ResolvedAgain = (a b c d e f : Address) (names : KnownNames) → known_to names ≡ id_context (items (row27 a b c d e f))
     → Resolves (kind.Text (numbered27 a b c)) 5 (Ok names) (kind.Text (numbered27 a b c)) 5
 
 -- A second call of `encode_module` gives the bytes of the first, and the fields are bounded, so
@@ -38,8 +38,8 @@ EncodedAgain = (a b c : Address) (bytes : Vec ℕ) → bytes.items ≡ out.worke
 -- is and means what the fields mean.
 abbrev pub StaysAgain : List ModuleField → Type 0
 StaysAgain fields =
-    let list = finished 5 fields in
-    IsMet list × (ids_filled list ≡ 0) × (finished 9 list ≡ list) × (meaning None list ≡ meaning None fields)
+    let list = resolved_fields_from 5 fields in
+    IsMet list × (generated_id_count list ≡ 0) × (resolved_fields_from 9 list ≡ list) × (meaning None list ≡ meaning None fields)
 
 -- `(module (tag $e) (func block $h try_table (catch $e $h) end end))`: the type that the first call
 -- put last is one of its types.

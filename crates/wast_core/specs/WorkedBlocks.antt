@@ -1,7 +1,7 @@
 -- Small modules with blocks and labels, and what they mean, computed. A text may lie anywhere in memory.
 use Rattle.std.specs.Prelude.{ℕ, List, [], ◌∷◌, ◌++◌, Some, None, codes}
-use Rattle.wast_nodes.specs.WorkedModules.{Address, id_at, by_id}
-use Rattle.wast_demands.specs.WorkedBodies.{not_said, body, labelled, nested, same_label}
+use Rattle.wast_tree_nodes.specs.WorkedModules.{Address, id_at, by_id}
+use Rattle.wast_resolve_rules.specs.WorkedBodies.{not_said, body, labelled, nested, same_label}
 use Rattle.wast_core.specs.Tree.instr
 use Rattle.wast_core.specs.WorkedMeanings.{HasBytes, one_type, one_func}
 

@@ -1,7 +1,7 @@
 -- Small modules with segments of data, with and without a data count, and what they mean, computed. A text may lie anywhere
 -- in memory.
 use Rattle.std.specs.Prelude.{ℕ, List, [], ◌∷◌, ◌++◌, None, codes}
-use Rattle.wast_nodes.specs.WorkedModules.{Address, by_number, plain_func}
+use Rattle.wast_tree_nodes.specs.WorkedModules.{Address, by_number, plain_func}
 use Rattle.wast_core.specs.WorkedMeanings.{HasBytes, one_type, one_func, one_body, first_type, first_func}
 use Rattle.wast_core.specs.WorkedEntries.{data_of}
 use Rattle.wast_core.specs.Tree.{Instruction, ModuleField}

@@ -1,6 +1,6 @@
 -- Small modules with custom sections, and what they mean, computed. A text may lie anywhere in memory.
 use Rattle.std.specs.Prelude.{ℕ, List, [], ◌∷◌, ◌++◌, Some, codes}
-use Rattle.wast_nodes.specs.WorkedModules.{Address, text, place, id_at, by_number, plain_func}
+use Rattle.wast_tree_nodes.specs.WorkedModules.{Address, text, place, id_at, by_number, plain_func}
 use Rattle.wast_core.specs.Tree.{CustomPlace}
 use Rattle.wast_core.specs.Tree.anchor
 use Rattle.wast_core.specs.Tree.custom_place as at

@@ -1,6 +1,6 @@
 -- Small modules with imports, tables, memories, globals, start functions and segments, and what they mean, computed. A text may lie anywhere in memory.
 use Rattle.std.specs.Prelude.{ℕ, negsuc, true, false, List, [], ◌∷◌, Some, None, codes, pos}
-use Rattle.wast_nodes.specs.WorkedModules.{Address, text, place, id_at, by_number, plain_global_type, plain_memory}
+use Rattle.wast_tree_nodes.specs.WorkedModules.{Address, text, place, id_at, by_number, plain_global_type, plain_memory}
 use Rattle.wast_core.specs.WorkedMeanings.{HasBytes, first_type, first_func}
 use Rattle.wast_core.specs.Tree.{RefType, TableType, ItemKind, Expression, Instruction, ElemKind, ElemPayload, DataKind, ModuleField}
 use Rattle.wast_core.specs.Tree.heap

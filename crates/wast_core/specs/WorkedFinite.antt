@@ -2,10 +2,10 @@
 -- text may lie anywhere in memory.
 use Rattle.std.specs.Prelude.{◌≡◌, List, [], ◌∷◌, None, codes}
 use Rattle.wast_base.specs.Ids.{Written, Generated}
-use Rattle.wast_nodes.specs.WorkedModules.{Address, text}
-use Rattle.wast_deinline.specs.Written.{written_out_from}
-use Rattle.wast_alike.specs.Extended.{Names}
-use Rattle.wast_alike.specs.Renaming.{Renaming, IsRenaming, renamed_fields}
+use Rattle.wast_tree_nodes.specs.WorkedModules.{Address, text}
+use Rattle.wast_expand_inline.specs.Written.{desugared_from}
+use Rattle.wast_resolve_laws.specs.Extended.{FiniteNaming}
+use Rattle.wast_resolve_laws.specs.Renaming.{Renaming, IsRenaming, renamed_fields}
 use Rattle.wast_core.specs.FiniteNames.{renaming_by}
 use Rattle.wast_core.specs.Front.{front_bytes, names_bytes}
 use Rattle.wast_core.specs.Headline.{IsMet}
@@ -19,7 +19,7 @@ abbrev pub exported : Address → List ModuleField
 exported a = field.Func (record a_func { exports = record { names = text a (codes "a") ∷ [] } }) ∷ []
 
 -- the id that the counter gives at 1, sent to `$f`
-abbrev pub one_sent : Names
+abbrev pub one_sent : FiniteNaming
 one_sent = (Generated 1, Written (codes "f")) ∷ []
 
 -- by this map, with the text of each id at one address
@@ -31,7 +31,7 @@ sending b = renaming_by (λ id. b) one_sent
 -- before its names, and a name section that calls function 0 `f`, where the module has none.
 abbrev pub GeneratedIsWritten : Type 0
 GeneratedIsWritten = (a b : Address) →
-    let out = written_out_from 1 (exported a) in
+    let out = desugared_from 1 (exported a) in
     let others = renamed_fields (sending b) out in
     IsRenaming (sending b)
     × IsMet others

@@ -1,11 +1,11 @@
 -- Modules and what they are with other names, as bytes, computed. A text may lie anywhere in memory.
 use Rattle.std.specs.Prelude.{◌≡◌, ℕ, List, [], ◌∷◌, ◌++◌, None, codes}
 use Rattle.wasm_out.specs.WorkedBytes.{worked_bytes}
-use Rattle.wast_nodes.specs.WorkedModules.{Address, by_id, row27}
-use Rattle.wast_demands.specs.WorkedBodies.{catching}
-use Rattle.wast_demands.specs.WorkedFields.{reading}
-use Rattle.wast_alike.specs.Renaming.{renamed_fields}
-use Rattle.wast_alike.specs.WorkedRenaming.{prefixing}
+use Rattle.wast_tree_nodes.specs.WorkedModules.{Address, by_id, row27}
+use Rattle.wast_resolve_rules.specs.WorkedBodies.{catching}
+use Rattle.wast_resolve_rules.specs.WorkedFields.{reading}
+use Rattle.wast_resolve_laws.specs.Renaming.{renamed_fields}
+use Rattle.wast_resolve_laws.specs.WorkedRenaming.{prefixing}
 use Rattle.wast_core.specs.Front.{front_bytes, names_bytes}
 use Rattle.wast_core.specs.Tree.{ModuleField}
 

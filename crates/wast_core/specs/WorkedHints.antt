@@ -1,7 +1,7 @@
 -- Small modules with branch hints, and what they mean, computed. A text may lie anywhere in memory.
 use Rattle.std.specs.Prelude.{ℕ, pos, List, [], ◌∷◌, ◌++◌, None, codes}
-use Rattle.wast_nodes.specs.WorkedModules.{Address, text, place, by_number}
-use Rattle.wast_demands.specs.WorkedBodies.{not_said, in_place, labelled}
+use Rattle.wast_tree_nodes.specs.WorkedModules.{Address, text, place, by_number}
+use Rattle.wast_resolve_rules.specs.WorkedBodies.{not_said, in_place, labelled}
 use Rattle.wast_core.specs.Tree.{FunctionType, TypeUse, Instruction, BranchHint, Local, ModuleField}
 use Rattle.wast_core.specs.Tree.value
 use Rattle.wast_core.specs.Tree.instr

@@ -1,12 +1,12 @@
 -- Small modules and what they mean, computed. A text may lie anywhere in memory.
 use Rattle.std.specs.Prelude.{◌≡◌, ℕ, ◌+◌, List, [], ◌∷◌, ◌++◌, Some, None, true, codes, replicate}
 use Rattle.std.specs.List.{flat_map}
-use Rattle.wast_nodes.specs.WellFormed.{is_well_formed}
+use Rattle.wast_tree_nodes.specs.WellFormed.{is_well_formed}
 use Rattle.wasm_out.specs.WorkedBytes as out
 use Rattle.wasm_out.specs.Parts.{part}
 use Rattle.wasm_out.specs.Reads.{header, Reads}
-use Rattle.wast_nodes.specs.WorkedModules.{Address, text, id_at, by_number, plain_type, plain_func, plain_export, func_field, row27}
-use Rattle.wast_types.specs.WorkedExpansions.{func_at, row2, row8_with}
+use Rattle.wast_tree_nodes.specs.WorkedModules.{Address, text, id_at, by_number, plain_type, plain_func, plain_export, func_field, row27}
+use Rattle.wast_expand_types.specs.WorkedExpansions.{func_at, row2, row8_with}
 use Rattle.wast_core.specs.Bounded.{IsBounded}
 use Rattle.wast_core.specs.Meaning.{meaning}
 use Rattle.wast_core.specs.Tree.{ModuleField}

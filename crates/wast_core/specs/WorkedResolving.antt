@@ -1,14 +1,14 @@
 -- Which small modules are ready to be resolved, and what resolving them leaves, computed. A text may lie anywhere in memory.
 use Rattle.std.specs.Prelude.{◌≡◌, ℕ, false, List, [], ◌∷◌, Some, None, Ok, Err, codes}
 use Rattle.wast_base.specs.declared.ids.Index.TheVariants as index
-use Rattle.wast_base.specs.Faults.{placed}
+use Rattle.wast_base.specs.Faults.{error_at}
 use Rattle.wast_base.specs.declared.faults.Fault.TheVariants as fault
-use Rattle.wast_base.specs.Ids.{Written, Generated, generated}
-use Rattle.wast_namespace.specs.Namespaces.{NameSpace, empty_from, registered}
-use Rattle.wast_nodes.specs.Items.{items}
-use Rattle.wast_nodes.specs.Known.{known}
-use Rattle.wast_nodes.specs.WorkedModules.{Address, text, place, by_number, export_field, row27_with, row27, row32}
-use Rattle.wast_passes.specs.Resolvers.{KnownNames, no_names, known_to}
+use Rattle.wast_base.specs.Ids.{Written, Generated, gensym_id}
+use Rattle.wast_resolve_namespace.specs.Namespaces.{NameSpace, empty_from, registered}
+use Rattle.wast_tree_nodes.specs.Items.{items}
+use Rattle.wast_tree_nodes.specs.Known.{id_context}
+use Rattle.wast_tree_nodes.specs.WorkedModules.{Address, text, place, by_number, export_field, row27_with, row27, row32}
+use Rattle.wast_resolve_passes.specs.Resolvers.{KnownNames, no_names, known_to}
 use Rattle.wast_core.specs.Tree.space
 use Rattle.wast_core.specs.Modules.{is_well_formed, generation_bound, IsReady}
 use Rattle.wast_core.specs.Headline.{ResolvesKind, Resolves}
@@ -24,10 +24,10 @@ module_of k = record { span = place 1; id = None; name = None; kind = k }
 -- is one and no item has it, the module is not well formed.
 abbrev pub ReadyModules : Type 0
 ReadyModules = (a b c d e f : Address) →
-    let unknown = module_of (kind.Text (export_field a 8 (index.Id (generated 7 (place 26))) ∷ [])) in
+    let unknown = module_of (kind.Text (export_field a 8 (index.Id (gensym_id 7 (place 26))) ∷ [])) in
     IsReady (module_of (kind.Text (row27 a b c d e f))) 1
     × IsReady (module_of (kind.Binary (text a (codes "a") ∷ []))) 1
-    × IsReady (record (module_of (kind.Text [])) { id = Some (generated 7 (place 8)) }) 8
+    × IsReady (record (module_of (kind.Text [])) { id = Some (gensym_id 7 (place 8)) }) 8
     × (generation_bound unknown ≡ 7)
     × (is_well_formed unknown ≡ false)
 
@@ -53,10 +53,10 @@ KnownNames27 =
 -- `$t` is refused at its id, and the module keeps why. What holds no fields stays.
 abbrev pub ResolvedModules : Type 0
 ResolvedModules = (a b c d e f : Address) (names : KnownNames) →
-    let refusal = placed (place 31) (fault.Duplicate (text c (codes "type"))) in
+    let refusal = error_at (place 31) (fault.Duplicate (text c (codes "type"))) in
     let pieces = text a (codes "a") ∷ [] in
     Resolves (kind.Text []) 1 (Ok no_names) (kind.Text []) 1
-    × (known_to names ≡ known (items (row27 a b c d e f))
+    × (known_to names ≡ id_context (items (row27 a b c d e f))
     → Resolves (kind.Text (row27 a b c d e f)) 1 (Ok names) (kind.Text (row27_with a b c (by_number 0 40) (by_number 0 49) (by_number 0 71))) 1)
     × ResolvesKind 1 (kind.Text (row32 a b)) (Err refusal) (kind.Refused refusal)
     × Resolves (kind.Binary pieces) 3 (Ok no_names) (kind.Binary pieces) 3

@@ -1,18 +1,18 @@
 -- Worked modules with start fields put last, and what they mean, computed. A text may lie anywhere in memory.
 use Rattle.std.specs.Prelude.{◌≡◌, List, [], ◌∷◌, ◌++◌, None, codes}
-use Rattle.wast_nodes.specs.WorkedModules.{Address, by_id, by_number, row27}
-use Rattle.wast_demands.specs.Finished.{finished}
-use Rattle.wast_demands.specs.WorkedBodies.{catching}
-use Rattle.wast_demands.specs.WorkedFields.{reading}
-use Rattle.wast_alike.specs.Rests.{starts, numbers, started}
-use Rattle.wast_alike.specs.WorkedRests.{two_numbers}
+use Rattle.wast_tree_nodes.specs.WorkedModules.{Address, by_id, by_number, row27}
+use Rattle.wast_resolve_rules.specs.Finished.{resolved_fields_from}
+use Rattle.wast_resolve_rules.specs.WorkedBodies.{catching}
+use Rattle.wast_resolve_rules.specs.WorkedFields.{reading}
+use Rattle.wast_resolve_laws.specs.Rests.{start_fields_of, numbers, with_start_fields}
+use Rattle.wast_resolve_laws.specs.WorkedRests.{two_numbers}
 use Rattle.wast_core.specs.Meaning.{meaning}
 use Rattle.wast_core.specs.Tree.{ModuleField}
 use Rattle.wast_core.specs.WorkedMeanings.{HasBytes, one_type, one_func}
 
 -- With start fields of numbers behind it, the resolved list means what the fields mean with them put last.
 abbrev pub MeansWithTwo : List ModuleField → Type 0
-MeansWithTwo fields = meaning None (started 5 fields two_numbers) ≡ meaning None (fields ++ starts (numbers two_numbers))
+MeansWithTwo fields = meaning None (with_start_fields 5 fields two_numbers) ≡ meaning None (fields ++ start_fields_of (numbers two_numbers))
 
 -- `(module (type $t (func)) (func $f (type $t) call $f) (export "a" (func $f)) (start $f))`: the start section stands behind the
 -- exports.
@@ -23,8 +23,8 @@ Row27 = (a b c d e f g : Address) →
     let one_start = 0x08 ∷ 0x01 ∷ 0x00 ∷ [] in
     let one_call = 0x0a ∷ 0x06 ∷ 0x01 ∷ 0x04 ∷ 0x00 ∷ 0x10 ∷ 0x00 ∷ 0x0b ∷ [] in
     let two_names = 0x00 ∷ 0x11 ∷ 0x04 ∷ 0x6e ∷ 0x61 ∷ 0x6d ∷ 0x65 ∷ 0x01 ∷ 0x04 ∷ 0x01 ∷ 0x00 ∷ 0x01 ∷ 0x66 ∷ 0x04 ∷ 0x04 ∷ 0x01 ∷ 0x00 ∷ 0x01 ∷ 0x74 ∷ [] in
-    HasBytes (fields ++ starts (by_id g (codes "f") 80 ∷ [])) (one_type ++ (one_func ++ (one_export ++ (one_start ++ (one_call ++ two_names)))))
-    × (meaning None (finished 5 fields ++ starts (by_number 0 80 ∷ [])) ≡ meaning None (fields ++ starts (by_id g (codes "f") 80 ∷ [])))
+    HasBytes (fields ++ start_fields_of (by_id g (codes "f") 80 ∷ [])) (one_type ++ (one_func ++ (one_export ++ (one_start ++ (one_call ++ two_names)))))
+    × (meaning None (resolved_fields_from 5 fields ++ start_fields_of (by_number 0 80 ∷ [])) ≡ meaning None (fields ++ start_fields_of (by_id g (codes "f") 80 ∷ [])))
     × MeansWithTwo fields
 
 -- `(module (tag $e) (func block $h try_table (catch $e $h) end end))`: its type is implied.

@@ -6,14 +6,14 @@ ghost use Rattle.wasm_ops.specs.Sinks.{Writes};
 ghost use Rattle.wasm_out.specs.Parts.{part, InRangePart};
 ghost use Rattle.wast_core.specs.DataCounts.{body_needs_count, needs_count, may_be_counted};
 ghost use Rattle.wast_core.specs.Meaning.{data_counts};
-ghost use Rattle.wast_nodes.specs.Instrs.{needs_data_count};
-ghost use Rattle.wast_reach.specs.Reaches.{are_reaches};
+ghost use Rattle.wast_tree_nodes.specs.Instrs.{needs_data_count};
+ghost use Rattle.wast_core_ranges.specs.FieldRanges.{are_reaches};
 
 use crate::entries::count_of;
 use crate::slots::SectionKind;
 use wasm_ops::{Encode, Refusal, Sink, WithLength};
-use wast_nodes::{FuncKind, Instruction, ModuleField};
-use wast_reach::{FieldKind, Reaches};
+use wast_core_ranges::{FieldKind, FieldRanges};
+use wast_tree_nodes::{FuncKind, Instruction, ModuleField};
 
 /// Whether one of these instructions needs a data count.
 fn any_needs(instrs: &[Instruction]) -> bool
@@ -45,7 +45,7 @@ fn needs_count(fields: &[ModuleField]) -> bool
 }
 
 /// The fields from the first function to the last.
-fn functions<'b, 'a>(fields: &'b [ModuleField<'a>], reaches: &Reaches) -> &'b [ModuleField<'a>]
+fn functions<'b, 'a>(fields: &'b [ModuleField<'a>], reaches: &FieldRanges) -> &'b [ModuleField<'a>]
     requires { IsTrue (are_reaches fields.now reaches.now) }
     ensures { needs_count result.now ≡ needs_count fields.now }
 {
@@ -54,7 +54,7 @@ fn functions<'b, 'a>(fields: &'b [ModuleField<'a>], reaches: &Reaches) -> &'b [M
 
 /// Whether a body of these fields needs a data count. It needs where in these fields the functions stand, and whether an
 /// index of a data segment stands in them: where none does, it does not walk over them.
-fn is_counted(fields: &[ModuleField], reaches: &Reaches, has_data_index: bool) -> bool
+fn is_counted(fields: &[ModuleField], reaches: &FieldRanges, has_data_index: bool) -> bool
     requires reaches { IsTrue (are_reaches fields.now reaches.now) }
     requires data { IsTrue (may_be_counted fields.now has_data_index) }
     ensures { result ≡ needs_count fields.now }
@@ -69,7 +69,7 @@ fn is_counted(fields: &[ModuleField], reaches: &Reaches, has_data_index: bool) -
 /// index of a data segment stands in them.
 pub(crate) fn put_data_count<S: Sink>(
     fields: &[ModuleField],
-    reaches: &Reaches,
+    reaches: &FieldRanges,
     has_data_index: bool,
     out: &mut S,
 ) -> Result<(), Refusal>

@@ -3,23 +3,23 @@
 ghost use Rattle.std.specs.Prelude.{◌≡◌, All, IsTrue, codes};
 ghost use Rattle.std.specs.List.{flat_map};
 ghost use Rattle.wasm_ops.specs.Sinks.{Writes};
-ghost use Rattle.wast_conv.specs.Customs.{InRangeCustom};
-ghost use Rattle.wast_conv.specs.Encodable.{is_encodable_field, is_encodable};
+ghost use Rattle.wast_core_conv.specs.Customs.{InRangeCustom};
+ghost use Rattle.wast_core_conv.specs.Encodable.{is_encodable_field, is_encodable};
 ghost use Rattle.wast_core.specs.Meaning.{custom_section, has_own_names};
-ghost use Rattle.wast_reach.specs.Reaches.{are_reaches};
-ghost use Rattle.wast_nodes.specs.Customs.{customs_in, customs_at, is_custom_called};
+ghost use Rattle.wast_core_ranges.specs.FieldRanges.{are_reaches};
+ghost use Rattle.wast_tree_nodes.specs.Customs.{customs_in, customs_at, is_custom_called};
 
 use crate::items::put_items;
-use wasm_ops::{Refusal, Sink, Spell};
-use wast_conv::Resolved;
-use wast_nodes::{CustomPlace, ModuleField};
-use wast_reach::{FieldKind, Reaches};
+use wasm_ops::{EncodeWith, Refusal, Sink};
+use wast_core_conv::Resolved;
+use wast_core_ranges::{FieldKind, FieldRanges};
+use wast_tree_nodes::{CustomPlace, ModuleField};
 
 /// The fields from the first to the last that put a custom section into a place.
 fn custom_fields<'b, 'a>(
     place: CustomPlace,
     fields: &'b [ModuleField<'a>],
-    reaches: &Reaches,
+    reaches: &FieldRanges,
 ) -> &'b [ModuleField<'a>]
     requires { IsTrue (are_reaches fields.now reaches.now) }
     ensures same { customs_at place result.now ≡ customs_at place fields.now }
@@ -32,7 +32,7 @@ fn custom_fields<'b, 'a>(
 #[derive(Clone, Copy)]
 struct CustomOf(CustomPlace);
 
-impl Spell<ModuleField<'_>> for CustomOf {
+impl EncodeWith<ModuleField<'_>> for CustomOf {
     ghost spelling = { λ w f. flat_map custom_section (customs_in w.0 f) };
 
     ghost in_range = { λ w f. All InRangeCustom (customs_in w.0 f) };
@@ -57,7 +57,7 @@ impl Spell<ModuleField<'_>> for CustomOf {
 pub(crate) fn put_customs<S: Sink>(
     place: CustomPlace,
     fields: &[ModuleField],
-    reaches: &Reaches,
+    reaches: &FieldRanges,
     out: &mut S,
 ) -> Result<(), Refusal>
     requires ready { IsTrue (is_encodable fields.now) }
@@ -80,7 +80,7 @@ fn is_called_name(field: &ModuleField) -> bool
 
 /// Whether one of these fields is: then the names of the module are not written. It needs where in these fields those of each
 /// kind stand.
-pub(crate) fn has_own_names(fields: &[ModuleField], reaches: &Reaches) -> bool
+pub(crate) fn has_own_names(fields: &[ModuleField], reaches: &FieldRanges) -> bool
     requires { IsTrue (are_reaches fields.now reaches.now) }
     ensures { result ≡ has_own_names fields.now }
 {

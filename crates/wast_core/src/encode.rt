@@ -6,13 +6,13 @@ ghost use Rattle.wasm_ops.specs.declared.sink.Refusal.TheVariants as refusal;
 ghost use Rattle.wasm_out.specs.Built.{IsRefused};
 ghost use Rattle.wasm_out.specs.Reads.{Reads};
 ghost use Rattle.wast_core.specs.Bounded.{IsWritable};
-ghost use Rattle.wast_conv.specs.Encodable.{is_encodable, is_at_rest};
+ghost use Rattle.wast_core_conv.specs.Encodable.{is_encodable, is_at_rest};
 ghost use Rattle.wast_core.specs.DataCounts.{may_be_counted};
-ghost use Rattle.wast_core.specs.Headline.{Encodes, joined, name_of_module};
+ghost use Rattle.wast_core.specs.Headline.{Encodes, joined_pieces, name_of_module};
 ghost use Rattle.wast_core.specs.Meaning.{parts};
 ghost use Rattle.wast_core.specs.Modules.{IsReady};
 ghost use Rattle.wast_core.specs.Utf8Names.{HasUtf8Names};
-ghost use Rattle.wast_names.specs.FoundNames.{text_seen};
+ghost use Rattle.wast_core_name_section.specs.FoundNames.{text_seen};
 ghost use Rattle.wast_core.specs.Writing.{IsTextAtRest, IsAtRest, EncodesFields, EncodesResolved, PutsFields, PutsModule};
 
 use crate::module::{Module, ModuleKind};
@@ -21,10 +21,10 @@ use crate::utf8_names::names_law;
 use std::alloc::Global;
 use wasm_ops::{Length, Refusal, Sink};
 use wast_base::{Error, Fault, Gensym};
-use wast_names::given_name;
-use wast_nodes::{Custom, ModuleField};
+use wast_core_name_section::given_name;
 use wast_resolve::{discard_names, resolved_laws};
-use wast_visits::survey;
+use wast_tree_nodes::{Custom, ModuleField};
+use wast_tree_visit::scan_for_encoding;
 
 /// The vector as it is: a proof knows of each item of a vector that a call answers that it is a byte.
 fn as_it_is(bytes: Vec<u8>) -> Vec<u8>
@@ -112,7 +112,7 @@ fn put_fields<'e, S: Sink>(
     requires { IsTrue (is_at_rest fields.now) }
     ensures { PutsFields S.rules (text_seen name.entry) fields.now out.old out.new result }
 {
-    let seen = survey(fields);
+    let seen = scan_for_encoding(fields);
     match seen.uncovered {
         Some(form) => Err(Error::refusal(Fault::Uncovered(form))),
         None => Ok(put_sections(fields, name, seen.has_data_index, out)?),
@@ -128,7 +128,7 @@ fn encode_covered<'e>(
     requires { IsTrue (is_at_rest fields.now) }
     ensures { EncodesFields (text_seen name.entry) fields.now result }
 {
-    let seen = survey(fields);
+    let seen = scan_for_encoding(fields);
     match seen.uncovered {
         Some(form) => Err(Error::refusal(Fault::Uncovered(form))),
         None => {
@@ -140,7 +140,7 @@ fn encode_covered<'e>(
 
 /// The pieces of a binary module, one after another.
 fn join<'e>(alloc: Global, pieces: &[&[u8]]) -> Result<Vec<u8>, Error<'e>>
-    ensures bytes { IfOk result (λ v. v.items ≡ joined pieces.now) }
+    ensures bytes { IfOk result (λ v. v.items ≡ joined_pieces pieces.now) }
     ensures refusal { IfErr result (λ e. e ≡ out_of_memory) }
 {
     let mut out = Vec::new(alloc);

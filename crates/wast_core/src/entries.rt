@@ -5,23 +5,23 @@ ghost use Rattle.std.specs.List.{flat_map};
 ghost use Rattle.wasm_ops.specs.Sinks.{Writes};
 ghost use Rattle.wasm_ops.specs.Spelling.{InRangeU32};
 ghost use Rattle.wasm_out.specs.Parts.{entry, InRangeEntry, part, InRangePart};
-ghost use Rattle.wast_conv.specs.Encodable.{is_encodable_field, is_encodable};
-ghost use Rattle.wast_core.specs.Meaning.{entries_in, entries, listed, starts_in};
-ghost use Rattle.wast_core.specs.Putting.{puts};
-ghost use Rattle.wast_reach.specs.Reaches.{is_reach, are_reaches};
-ghost use Rattle.wast_nodes.specs.declared.fields.ModuleField.{ModuleField};
+ghost use Rattle.wast_core_conv.specs.Encodable.{is_encodable_field, is_encodable};
+ghost use Rattle.wast_core.specs.Meaning.{entries_in, entries, section_part, starts_in};
+ghost use Rattle.wast_core.specs.Putting.{can_contribute};
+ghost use Rattle.wast_core_ranges.specs.FieldRanges.{is_reach, are_reaches};
+ghost use Rattle.wast_tree_nodes.specs.declared.fields.ModuleField.{ModuleField};
 ghost use Rattle.wast_core.specs.Slots.{section_kind};
 
 use crate::items::{put_items, put_listed};
 use crate::slots::SectionKind;
-use wasm_ops::{By, Encode, Refusal, Sink, Spell, WithLength};
-use wast_conv::{RecOrType, Resolved};
-use wast_nodes::ModuleField;
-use wast_reach::{FieldKind, Reach, Reaches};
+use wasm_ops::{Encode, EncodeWith, EncodedBy, Refusal, Sink, WithLength};
+use wast_core_conv::{RecOrType, Resolved};
+use wast_core_ranges::{FieldKind, FieldRange, FieldRanges};
+use wast_tree_nodes::ModuleField;
 
 /// Whether a field puts an entry into the section of a kind.
 fn puts(kind: SectionKind, field: &ModuleField) -> bool
-    ensures { result ≡ puts (section_kind kind) field.now }
+    ensures { result ≡ can_contribute (section_kind kind) field.now }
 {
     match kind {
         SectionKind::Types => FieldKind::Ty.is_of(field) || FieldKind::Rec.is_of(field),
@@ -56,18 +56,28 @@ fn put_entry<S: Sink>(kind: SectionKind, field: &ModuleField, out: &mut S) -> Re
     match (kind, field) {
         (SectionKind::Types, ModuleField::Ty(ty)) => RecOrType::Ty(ty).encode(out),
         (SectionKind::Types, ModuleField::Rec(rec)) => RecOrType::Rec(rec).encode(out),
-        (SectionKind::Imports, ModuleField::Import(imports)) => By(imports, Resolved).encode(out),
-        (SectionKind::Functions, ModuleField::Func(func)) => By(&func.ty, Resolved).encode(out),
-        (SectionKind::Tables, ModuleField::Table(table)) => By(table, Resolved).encode(out),
-        (SectionKind::Memories, ModuleField::Memory(memory)) => By(memory, Resolved).encode(out),
-        (SectionKind::Tags, ModuleField::Tag(tag)) => By(tag, Resolved).encode(out),
-        (SectionKind::Globals, ModuleField::Global(global)) => By(global, Resolved).encode(out),
-        (SectionKind::Exports, ModuleField::Export(export)) => By(export, Resolved).encode(out),
-        (SectionKind::Elements, ModuleField::Elem(elem)) => By(elem, Resolved).encode(out),
+        (SectionKind::Imports, ModuleField::Import(imports)) => EncodedBy(imports, Resolved).encode(
+            out,
+        ),
+        (SectionKind::Functions, ModuleField::Func(func)) => EncodedBy(&func.ty, Resolved).encode(
+            out,
+        ),
+        (SectionKind::Tables, ModuleField::Table(table)) => EncodedBy(table, Resolved).encode(out),
+        (SectionKind::Memories, ModuleField::Memory(memory)) => EncodedBy(memory, Resolved).encode(
+            out,
+        ),
+        (SectionKind::Tags, ModuleField::Tag(tag)) => EncodedBy(tag, Resolved).encode(out),
+        (SectionKind::Globals, ModuleField::Global(global)) => EncodedBy(global, Resolved).encode(
+            out,
+        ),
+        (SectionKind::Exports, ModuleField::Export(export)) => EncodedBy(export, Resolved).encode(
+            out,
+        ),
+        (SectionKind::Elements, ModuleField::Elem(elem)) => EncodedBy(elem, Resolved).encode(out),
         (SectionKind::Code, ModuleField::Func(func)) => {
-            WithLength(By(&func.kind, Resolved)).encode(out)
+            WithLength(EncodedBy(&func.kind, Resolved)).encode(out)
         }
-        (SectionKind::Data, ModuleField::Data(data)) => By(data, Resolved).encode(out),
+        (SectionKind::Data, ModuleField::Data(data)) => EncodedBy(data, Resolved).encode(out),
         _ => Ok(()),
     }
 }
@@ -76,7 +86,7 @@ fn put_entry<S: Sink>(kind: SectionKind, field: &ModuleField, out: &mut S) -> Re
 #[derive(Clone, Copy)]
 struct EntriesOf(SectionKind);
 
-impl Spell<ModuleField<'_>> for EntriesOf {
+impl EncodeWith<ModuleField<'_>> for EntriesOf {
     ghost spelling = { λ w f. flat_map (entry (section_kind w.0)) (entries_in (section_kind w.0) f) };
 
     ghost in_range = { λ w f. All (InRangeEntry (section_kind w.0)) (entries_in (section_kind w.0) f) };
@@ -104,14 +114,14 @@ fn count(kind: SectionKind, fields: &[ModuleField]) -> Option<u32>
 }
 
 /// Where the fields stand that put something into the section of a kind.
-fn reach_of(kind: SectionKind, reaches: &Reaches) -> Reach
+fn reach_of(kind: SectionKind, reaches: &FieldRanges) -> FieldRange
     ensures { (fields : List ModuleField) → IsTrue (are_reaches fields reaches.now)
-        → IsTrue (is_reach (puts (section_kind kind)) fields result) }
+        → IsTrue (is_reach (can_contribute (section_kind kind)) fields result) }
 {
     match kind {
         SectionKind::Types => {
             let groups = reaches.of_kind(FieldKind::Rec);
-            reaches.of_kind(FieldKind::Ty).joined(groups)
+            reaches.of_kind(FieldKind::Ty).union(groups)
         }
         SectionKind::Imports => reaches.of_kind(FieldKind::Import),
         SectionKind::Functions | SectionKind::Code => reaches.of_kind(FieldKind::Func),
@@ -129,7 +139,7 @@ fn reach_of(kind: SectionKind, reaches: &Reaches) -> Reach
 fn section_fields<'b, 'a>(
     kind: SectionKind,
     fields: &'b [ModuleField<'a>],
-    reaches: &Reaches,
+    reaches: &FieldRanges,
 ) -> &'b [ModuleField<'a>]
     requires { IsTrue (are_reaches fields.now reaches.now) }
     ensures same { entries (section_kind kind) result.now ≡ entries (section_kind kind) fields.now }
@@ -141,7 +151,7 @@ fn section_fields<'b, 'a>(
 /// The fields from the first start field to the last.
 pub(crate) fn start_fields<'b, 'a>(
     fields: &'b [ModuleField<'a>],
-    reaches: &Reaches,
+    reaches: &FieldRanges,
 ) -> &'b [ModuleField<'a>]
     requires { IsTrue (are_reaches fields.now reaches.now) }
     ensures same { flat_map starts_in result.now ≡ flat_map starts_in fields.now }
@@ -152,7 +162,11 @@ pub(crate) fn start_fields<'b, 'a>(
 
 /// How many entries the section of a kind has, where these are less than 2^32. It needs where in these fields those of each
 /// kind stand.
-pub(crate) fn count_of(kind: SectionKind, fields: &[ModuleField], reaches: &Reaches) -> Option<u32>
+pub(crate) fn count_of(
+    kind: SectionKind,
+    fields: &[ModuleField],
+    reaches: &FieldRanges,
+) -> Option<u32>
     requires { IsTrue (are_reaches fields.now reaches.now) }
     ensures some { IfSome result (λ n. n ≡ length (entries (section_kind kind) fields.now)) }
     ensures none { IsNone result → InRangeU32 (length (entries (section_kind kind) fields.now)) → ⊥ }
@@ -164,13 +178,13 @@ pub(crate) fn count_of(kind: SectionKind, fields: &[ModuleField], reaches: &Reac
 pub(crate) fn put_section<S: Sink>(
     kind: SectionKind,
     fields: &[ModuleField],
-    reaches: &Reaches,
+    reaches: &FieldRanges,
     out: &mut S,
 ) -> Result<(), Refusal>
     requires ready { IsTrue (is_encodable fields.now) }
     requires reaches { IsTrue (are_reaches fields.now reaches.now) }
-    ensures { Writes S.rules (All InRangePart (listed (section_kind kind) (entries (section_kind kind) fields.now)))
-        out.old out.new (flat_map part (listed (section_kind kind) (entries (section_kind kind) fields.now))) result }
+    ensures { Writes S.rules (All InRangePart (section_part (section_kind kind) (entries (section_kind kind) fields.now)))
+        out.old out.new (flat_map part (section_part (section_kind kind) (entries (section_kind kind) fields.now))) result }
 {
     let Some(count) = count_of(kind, fields, reaches) else {
         return Err(Refusal::TooLarge);
@@ -187,7 +201,7 @@ pub(crate) fn put_section<S: Sink>(
 #[derive(Clone, Copy)]
 struct StartOf;
 
-impl Spell<ModuleField<'_>> for StartOf {
+impl EncodeWith<ModuleField<'_>> for StartOf {
     ghost spelling = { λ _ f. flat_map part (starts_in f) };
 
     ghost in_range = { λ _ f. All InRangePart (starts_in f) };
@@ -196,7 +210,7 @@ impl Spell<ModuleField<'_>> for StartOf {
 
     fn spell<S: Sink>(&self, field: &ModuleField, out: &mut S) -> Result<(), Refusal> {
         match field {
-            ModuleField::Start(func) => (8u8, WithLength(By(func, Resolved))).encode(out),
+            ModuleField::Start(func) => (8u8, WithLength(EncodedBy(func, Resolved))).encode(out),
             _ => Ok(()),
         }
     }

@@ -5,31 +5,31 @@ ghost use Rattle.std.specs.List.{flat_map, list_all};
 ghost use Rattle.wasm_ops.specs.Sinks.{Writes};
 ghost use Rattle.wasm_ops.specs.Spelling.{InRangeU32};
 ghost use Rattle.wasm_out.specs.Parts.{part, InRangePart};
-ghost use Rattle.wast_conv.specs.Encodable.{is_encodable_import, is_encodable_field, is_encodable};
-ghost use Rattle.wast_conv.specs.Hints.{HintedBody, are_encodable_hints};
-ghost use Rattle.wast_core.specs.Hints.{has_hints, if_hinted, imported_func, functions_in, hinted, hinted_function, hints_part, InRangeHinted, InRangeHints};
-ghost use Rattle.wast_names.specs.FoundNames.{counted, WritesItems};
-ghost use Rattle.wast_names.specs.GivenNames.{named_from};
-ghost use Rattle.wast_reach.specs.Reaches.{are_reaches};
-ghost use Rattle.wast_nodes.specs.Imports.{item_sigs};
+ghost use Rattle.wast_core_conv.specs.Encodable.{is_encodable_import, is_encodable_field, is_encodable};
+ghost use Rattle.wast_core_conv.specs.Hints.{HintedBody, are_encodable_hints};
+ghost use Rattle.wast_core.specs.Hints.{has_hints, if_hinted, imported_func, functions_in, hinted_functions, hinted_function, hints_part, InRangeHinted, InRangeHints};
+ghost use Rattle.wast_core_name_section.specs.FoundNames.{saturated_count, WritesItems};
+ghost use Rattle.wast_core_name_section.specs.GivenNames.{named_from};
+ghost use Rattle.wast_core_ranges.specs.FieldRanges.{are_reaches};
+ghost use Rattle.wast_tree_nodes.specs.Imports.{item_sigs};
 
 use wasm_ops::{Encode, Name, Refusal, Sink, WithLength};
 use wast_base::Space;
-use wast_conv::BodyHints;
-use wast_nodes::{FuncKind, ImportItems, Imports, ModuleField};
-use wast_reach::{FieldKind, Reaches};
+use wast_core_conv::BodyHints;
+use wast_core_ranges::{FieldKind, FieldRanges};
+use wast_tree_nodes::{FuncKind, ImportItems, Imports, ModuleField};
 
 /// The fields from the first to the last that hold a function.
 fn function_fields<'b, 'a>(
     fields: &'b [ModuleField<'a>],
-    reaches: &Reaches,
+    reaches: &FieldRanges,
 ) -> &'b [ModuleField<'a>]
     requires { IsTrue (are_reaches fields.now reaches.now) }
     ensures same { flat_map functions_in result.now ≡ flat_map functions_in fields.now }
     ensures ready { IsTrue (is_encodable fields.now) → IsTrue (is_encodable result.now) }
 {
     let imports = reaches.of_kind(FieldKind::Import);
-    reaches.of_kind(FieldKind::Func).joined(imports).of(fields)
+    reaches.of_kind(FieldKind::Func).union(imports).of(fields)
 }
 
 /// Whether a function has hints.
@@ -54,8 +54,8 @@ fn hinted_in(field: &ModuleField) -> u32
 
 /// How many functions of these fields have hints, where these are less than 2^32.
 fn count(fields: &[ModuleField]) -> Option<u32>
-    ensures some { IfSome result (λ n. n ≡ length (hinted fields.now)) }
-    ensures none { IsNone result → InRangeU32 (length (hinted fields.now)) → ⊥ }
+    ensures some { IfSome result (λ n. n ≡ length (hinted_functions fields.now)) }
+    ensures none { IsNone result → InRangeU32 (length (hinted_functions fields.now)) → ⊥ }
 {
     let mut sum = 0u32;
     for field in fields {
@@ -83,7 +83,7 @@ fn imported(imports: &Imports) -> u64
 fn put_function<S: Sink>(kind: &FuncKind, index: u64, out: &mut S) -> Result<u64, Refusal>
     requires { IsTrue (are_encodable_hints kind.now) }
     ensures written { WritesItems S.rules hinted_function InRangeHinted (if_hinted kind.now ∷ []) index out.old out.new result }
-    ensures next { IfOk result (λ n. n ≡ counted (index + 1)) }
+    ensures next { IfOk result (λ n. n ≡ saturated_count (index + 1)) }
 {
     let next = index.saturating_add(1);
     if !has_hints(kind) {
@@ -110,7 +110,7 @@ trait PutHints {
     fn put_hints<S: Sink>(&self, index: u64, out: &mut S) -> Result<u64, Refusal>
         requires { IsTrue (is_ready self.now) }
         ensures written { WritesItems S.rules hinted_function InRangeHinted (functions self.now) index out.old out.new result }
-        ensures next { IfOk result (λ n. n ≡ counted (index + length (functions self.now))) };
+        ensures next { IfOk result (λ n. n ≡ saturated_count (index + length (functions self.now))) };
 }
 
 impl PutHints for ModuleField<'_> {
@@ -175,13 +175,13 @@ fn put_counted<'b, F: PutHints, S: Sink>(
 /// The section of branch hints, where a function has some. It needs where in these fields those of each kind stand.
 pub(crate) fn put_hints<S: Sink>(
     fields: &[ModuleField],
-    reaches: &Reaches,
+    reaches: &FieldRanges,
     out: &mut S,
 ) -> Result<(), Refusal>
     requires ready { IsTrue (is_encodable fields.now) }
     requires reaches { IsTrue (are_reaches fields.now reaches.now) }
-    ensures { Writes S.rules (All InRangePart (hints_part (hinted fields.now)) × InRangeHints (hinted fields.now))
-        out.old out.new (flat_map part (hints_part (hinted fields.now))) result }
+    ensures { Writes S.rules (All InRangePart (hints_part (hinted_functions fields.now)) × InRangeHints (hinted_functions fields.now))
+        out.old out.new (flat_map part (hints_part (hinted_functions fields.now))) result }
 {
     let there = function_fields(fields, reaches);
     let Some(count) = count(there) else {

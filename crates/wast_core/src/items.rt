@@ -8,10 +8,10 @@ ghost use Rattle.wasm_ops.specs.Sinks.{Writes};
 ghost use Rattle.wasm_ops.specs.Spelling.{InRangeU32};
 ghost use Rattle.wasm_out.specs.Parts.{section};
 
-use wasm_ops::{Each, Encode, Refusal, Sink, Spell, WithLength};
+use wasm_ops::{Each, Encode, EncodeWith, Refusal, Sink, WithLength};
 
 /// Appends the items.
-pub(crate) fn put_items<'b, T, W: Spell<T> + Copy, S: Sink>(
+pub(crate) fn put_items<'b, T, W: EncodeWith<T> + Copy, S: Sink>(
     items: &'b [T],
     way: W,
     out: &'b mut S,
@@ -23,7 +23,7 @@ pub(crate) fn put_items<'b, T, W: Spell<T> + Copy, S: Sink>(
 }
 
 /// Appends the items as a section of this id, behind its length and a count.
-pub(crate) fn put_listed<'b, T, W: Spell<T> + Copy, S: Sink>(
+pub(crate) fn put_listed<'b, T, W: EncodeWith<T> + Copy, S: Sink>(
     items: &'b [T],
     way: W,
     id: u8,

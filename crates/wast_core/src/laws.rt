@@ -3,8 +3,8 @@
 ghost use Rattle.std.specs.Prelude.{◌≡◌, ℕ, List};
 ghost use Rattle.wasm_out.specs.Parts.{Part};
 ghost use Rattle.wasm_out.specs.Reads.{Reads};
-ghost use Rattle.wast_alike.specs.Extended.{ExtendedIsInjective, ExtendedAgrees};
-ghost use Rattle.wast_alike.specs.Renaming.{RenamedAnswer, RenamedCounts, RenamedFilled, RenamedTooLarge, WrittenAnswer};
+ghost use Rattle.wast_resolve_laws.specs.Extended.{ExtendedIsInjective, ExtendedAgrees};
+ghost use Rattle.wast_resolve_laws.specs.Renaming.{RenamedAnswer, RenamedCounts, RenamedFilled, RenamedTooLarge, WrittenAnswer};
 ghost use Rattle.wast_core.specs.FiniteNames.{RenamesFinitely};
 ghost use Rattle.wast_core.specs.Front.{RenamedParts, SameFront, WrittenMeans, WrittenFront};
 ghost use Rattle.wast_core.specs.HintPlaces.{HintsPointAtInstructions};

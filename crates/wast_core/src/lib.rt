@@ -23,5 +23,5 @@ pub use laws::{
 };
 pub use module::{Module, ModuleKind, discard_module};
 pub use spelled::Encode;
-pub use wast_conv::{FuncSectionTy, RecOrType, SectionItem, conv};
+pub use wast_core_conv::{FuncSectionTy, RecOrType, SectionItem, conv};
 pub use wat::Wat;

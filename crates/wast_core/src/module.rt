@@ -1,7 +1,7 @@
 //! Modules of the text format.
 
 ghost use Rattle.std.specs.Prelude.{◌≡◌, ◌<◌, ◌≤◌, Some, None, is_none, OnOk, IsTrue};
-ghost use Rattle.wast_base.specs.Ids.{start};
+ghost use Rattle.wast_base.specs.Ids.{text_start};
 ghost use Rattle.wast_core.specs.declared.module.ModuleKind.TheVariants as module_kind;
 ghost use Rattle.wast_core.specs.Modules.{is_well_formed, is_well_formed_kind, ill_formed, generation_bound, bound_of_kind, IsReady};
 ghost use Rattle.wast_core.specs.Headline.{Resolves, ResolvesKind, Counts};
@@ -11,9 +11,9 @@ use std::alloc::Global;
 use std::fmt::Debug;
 use std::{fmt, mem};
 use wast_base::{Error, Fault, Gensym, Id, NameAnnotation, Seq, Span};
-use wast_nodes::{ModuleField, discard_fields};
 use wast_resolve::{Names, resolved_laws};
-use wast_visits::{gensym_bound, ill_formed, well_formed};
+use wast_tree_nodes::{ModuleField, discard_fields};
+use wast_tree_visit::{gensym_bound, ill_formed, well_formed};
 
 /// What a module holds.
 #[derive(Drop)]
@@ -69,7 +69,7 @@ impl<'a> Module<'a> {
     ///
     /// It takes no memory, and is ready to be resolved where the fields are.
     pub fn new(fields: Seq<ModuleField<'a>>) -> Self
-        ensures { result ≡ record { span = start; id = None; name = None; kind = module_kind.Text fields.entry } }
+        ensures { result ≡ record { span = text_start; id = None; name = None; kind = module_kind.Text fields.entry } }
     {
         Module {
             span: Span::default(),
@@ -80,7 +80,7 @@ impl<'a> Module<'a> {
     }
 
     /// The module with a name annotation (text format, custom annotations). It takes no memory.
-    pub fn named(self, name: &'a str) -> Self
+    pub fn with_name(self, name: &'a str) -> Self
         ensures { result ≡ record self.entry { name = Some (record { name = name.entry }) } }
     {
         let name = Some(NameAnnotation { name });
@@ -88,7 +88,7 @@ impl<'a> Module<'a> {
     }
 
     /// The module at a place, that of its keyword. It takes no memory.
-    pub fn at(self, span: Span) -> Self
+    pub fn with_span(self, span: Span) -> Self
         ensures { result ≡ record self.entry { span = span } }
     {
         Module { span, ..self }
@@ -190,7 +190,7 @@ fn resolve_kind<'a>(
     requires above { bound_of_kind kind < gensym.old }
     ensures held { ResolvesKind gensym.old kind.entry result.1 result.0 }
     ensures counter { Counts kind.entry result.0 gensym.old gensym.new }
-    ensures rising { gensym.old ≤ gensym.new }
+    ensures counter_grows { gensym.old ≤ gensym.new }
     ensures well_formed { IsTrue (is_well_formed_kind result.0) }
     ensures above { bound_of_kind result.0 < gensym.new }
     ensures at_rest { OnOk result.1 (IsAtRest result.0) }

@@ -1,6 +1,6 @@
 //! The law of a module that is at rest, for callers to cite.
 
-ghost use Rattle.wast_alike.specs.Rests.{RestsMet, RestsStill, FillsNoMore, StartsStayWellFormed, StartsStayBelow};
+ghost use Rattle.wast_resolve_laws.specs.Rests.{RestsMet, RestsStill, FillsNoMore, StartsStayWellFormed, StartsStayBelow};
 ghost use Rattle.wast_core.specs.AtRest.{StartsLast, NumbersLast, RestsBounded, RestsWithheld, SecondResolve, SecondEncoding};
 
 use crate::laws::{bounded_law, meaning_law, one_meaning};

@@ -4,13 +4,13 @@ ghost use Rattle.std.specs.Prelude.{All, IsTrue};
 ghost use Rattle.std.specs.List.{flat_map};
 ghost use Rattle.wasm_ops.specs.Sinks.{Writes};
 ghost use Rattle.wasm_out.specs.Parts.{part};
-ghost use Rattle.wast_conv.specs.Encodable.{is_encodable};
+ghost use Rattle.wast_core_conv.specs.Encodable.{is_encodable};
 ghost use Rattle.wast_core.specs.Bounded.{bytes_of, InRangeSlot, InRangeModule};
 ghost use Rattle.wast_core.specs.DataCounts.{may_be_counted};
 ghost use Rattle.wast_core.specs.Meaning.{in_slot};
 ghost use Rattle.wast_core.specs.declared.slots.Slot.TheVariants as slot;
-ghost use Rattle.wast_names.specs.FoundNames.{text_seen};
-ghost use Rattle.wast_reach.specs.Reaches.{are_reaches};
+ghost use Rattle.wast_core_name_section.specs.FoundNames.{text_seen};
+ghost use Rattle.wast_core_ranges.specs.FieldRanges.{are_reaches};
 
 use crate::counts::put_data_count;
 use crate::customs::{has_own_names, put_customs};
@@ -19,15 +19,15 @@ use crate::hints::put_hints;
 use crate::slots::{ORDER, Slot};
 use wasm_ops::{Encode, Raw, Refusal, Sink};
 use wasm_out::HEADER;
-use wast_names::put_names;
-use wast_nodes::ModuleField;
-use wast_reach::Reaches;
+use wast_core_name_section::put_names;
+use wast_core_ranges::FieldRanges;
+use wast_tree_nodes::ModuleField;
 
 /// The name section; none where a custom section is called `name`. It needs where in these fields those of each kind stand.
 fn put_given_names<S: Sink>(
     fields: &[ModuleField],
     name: Option<&str>,
-    reaches: &Reaches,
+    reaches: &FieldRanges,
     out: &mut S,
 ) -> Result<(), Refusal>
     requires { IsTrue (are_reaches fields.now reaches.now) }
@@ -48,7 +48,7 @@ fn put_given_names<S: Sink>(
 fn put_slot<'b, S: Sink>(
     fields: &[ModuleField],
     name: Option<&str>,
-    reaches: &Reaches,
+    reaches: &FieldRanges,
     has_data_index: bool,
     slot: &'b Slot,
     out: &'b mut S,
@@ -73,7 +73,7 @@ fn put_slot<'b, S: Sink>(
 fn put_slots<'b, S: Sink>(
     fields: &[ModuleField],
     name: Option<&str>,
-    reaches: &Reaches,
+    reaches: &FieldRanges,
     has_data_index: bool,
     slots: &'b [Slot],
     out: &'b mut S,
@@ -115,7 +115,7 @@ pub(crate) fn put_sections<S: Sink>(
     let start = out.size();
     let header = HEADER;
     Raw(&header).encode(out)?;
-    let reaches = Reaches::of(fields);
+    let reaches = FieldRanges::of(fields);
     let slots = ORDER;
     let second = put_slots(fields, name, &reaches, has_data_index, &slots, out);
     if second.is_err() {

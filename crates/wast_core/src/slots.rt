@@ -4,7 +4,7 @@ ghost use Rattle.std.specs.Prelude.{◌≡◌};
 ghost use Rattle.wasm_out.specs.Parts.{section_id};
 ghost use Rattle.wast_core.specs.Slots.{section_kind};
 
-use wast_nodes::{CustomPlace, CustomPlaceAnchor};
+use wast_tree_nodes::{CustomPlace, CustomPlaceAnchor};
 
 /// A kind of sections that are lists (binary format, modules: sections).
 #[derive(Clone, Copy)]

@@ -2,11 +2,11 @@
 
 ghost use Rattle.std.specs.Prelude.{ℕ, List, Bool, IsTrue};
 ghost use Rattle.wasm_out.specs.Built.{Appends};
-ghost use Rattle.wast_conv.specs.Customs.{subsection_content, InRangeSubsectionContent, is_encodable_subsection};
+ghost use Rattle.wast_core_conv.specs.Customs.{subsection_content, InRangeSubsectionContent, is_encodable_subsection};
 
 use wast_base::Error;
-use wast_conv::SubsectionContent;
-use wast_nodes::Dylink0Subsection;
+use wast_core_conv::SubsectionContent;
+use wast_tree_nodes::Dylink0Subsection;
 
 /// A value of the tree that has a spelling of its own (binary format).
 pub trait Encode {

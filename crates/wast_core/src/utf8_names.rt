@@ -4,7 +4,7 @@ ghost use Rattle.std.specs.Prelude.{All, IsTrue};
 ghost use Rattle.std.specs.Str.{is_utf8};
 ghost use Rattle.wast_core.specs.Utf8Names.{HasUtf8Items, HasUtf8Names};
 
-use wast_nodes::{ImportItems, ModuleField};
+use wast_tree_nodes::{ImportItems, ModuleField};
 
 /// The law of texts: they are UTF-8. It does nothing.
 fn text_law(text: &str)

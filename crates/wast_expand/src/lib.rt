@@ -5,5 +5,5 @@
 //! A call takes memory only where its text says so. A call that can fail says when, and with what.
 #![tactic(auto)]
 
-pub use wast_deinline::deinline;
-pub use wast_types::{Expander, FuncKey, TypeKey, TypeReference, expanded_laws, types};
+pub use wast_expand_inline::deinline;
+pub use wast_expand_types::{Expander, FuncKey, TypeKey, TypeReference, expanded_laws, types};

@@ -4,18 +4,18 @@ use Rattle.std.specs.List.{list_any}
 use Rattle.std.proofs.Math.Bool.{and-true, and-false}
 use Rattle.wast_base.specs.Ids.{Name, Generated, name_of, is_generated}
 use Rattle.wast_base.specs.Spaces.{same_space, name_if, is_called, is_borne}
-use Rattle.wast_nodes.specs.Items.{Item, items}
-use Rattle.wast_nodes.specs.Known.{known, names_in}
-use Rattle.wast_nodes.proofs.Bearing.{borne_among}
-use Rattle.wast_deinline.specs.Written.{referable, written_out_from, references_wanted}
-use Rattle.wast_deinline.proofs.BothPass.{either_stays}
-use Rattle.wast_deinline.proofs.WrittenItems.{same_of_items, any_referable}
-use Rattle.wast_types.specs.Completed.{completed}
-use Rattle.wast_types.specs.Expanded.{expanded}
-use Rattle.wast_demands.specs.Explicit.{explicit_from}
-use Rattle.wast_alike.proofs.Changes.{Change, Kept, Given, olds, news}
-use Rattle.wast_alike.proofs.ExpandedItems.{changes, old_items, new_items}
-use Rattle.wast_alike.proofs.KeptAlike.{completed_borne}
+use Rattle.wast_tree_nodes.specs.Items.{Item, items}
+use Rattle.wast_tree_nodes.specs.Known.{id_context, names_in}
+use Rattle.wast_tree_nodes.proofs.Bearing.{borne_among}
+use Rattle.wast_expand_inline.specs.Written.{with_referred_ids, desugared_from, reference_id_count}
+use Rattle.wast_expand_inline.proofs.BothPass.{either_stays}
+use Rattle.wast_expand_inline.proofs.WrittenItems.{same_of_items, any_referable}
+use Rattle.wast_expand_types.specs.Completed.{fields_with_implied_types}
+use Rattle.wast_expand_types.specs.Expanded.{expanded_fields}
+use Rattle.wast_resolve_rules.specs.Explicit.{explicit_fields_from}
+use Rattle.wast_resolve_laws.proofs.Changes.{Change, Kept, Given, olds, news}
+use Rattle.wast_resolve_laws.proofs.ExpandedItems.{changes, old_items, new_items}
+use Rattle.wast_resolve_laws.proofs.KeptAlike.{completed_borne}
 use Rattle.wast_resolve.specs.Tree.{Space, ModuleField}
 use Rattle.wast_resolve.specs.Tree.index
 use Rattle.wast_resolve.specs.Laws.{SettledStays}
@@ -39,25 +39,25 @@ module _ (s : Space) (q : Name) where
       let bears_now = bears (record { space = t; id = Some (Generated n, p); fields = fields }) in
       either_stays bore (bear (olds cs)) bears_now (bear (news (n + 1) cs)) (λ e. absurd (true≢false (sym e ∙ and-false (same_space s t)))) (still_bear (n + 1) cs) h
 
-  expanded_bear : (n : ℕ) (fields : List ModuleField) → is_known fields ≡ true → is_known (expanded n fields) ≡ true
+  expanded_bear : (n : ℕ) (fields : List ModuleField) → is_known fields ≡ true → is_known (expanded_fields n fields) ≡ true
   expanded_bear n fields h =
-      borne_among s q (items (expanded n fields))
+      borne_among s q (items (expanded_fields n fields))
       ∙ (ap bear (new_items n fields)
-      ∙ still_bear n (changes fields) (ap bear (sym (old_items fields)) ∙ (sym (borne_among s q (items (completed fields))) ∙ (completed_borne q s fields ∙ h))))
+      ∙ still_bear n (changes fields) (ap bear (sym (old_items fields)) ∙ (sym (borne_among s q (items (fields_with_implied_types fields))) ∙ (completed_borne q s fields ∙ h))))
 
-  written_bear : (n : ℕ) (fields : List ModuleField) → is_known fields ≡ true → is_known (written_out_from n fields) ≡ true
+  written_bear : (n : ℕ) (fields : List ModuleField) → is_known fields ≡ true → is_known (desugared_from n fields) ≡ true
   written_bear n fields h =
-      borne_among s q (items (written_out_from n fields))
-      ∙ (same_of_items bear (λ t xs h. ap (λ b. b || bear xs) (and-false (same_space s t))) (λ x xs ys e. ap (λ b. bears x || b) e) (referable n fields)
+      borne_among s q (items (desugared_from n fields))
+      ∙ (same_of_items bear (λ t xs h. ap (λ b. b || bear xs) (and-false (same_space s t))) (λ x xs ys e. ap (λ b. bears x || b) e) (with_referred_ids n fields)
       ∙ any_referable bears (λ t. and-false (same_space s t)) n fields (sym (borne_among s q (items fields)) ∙ h))
 
-  pub explicit_bear : (n : ℕ) (fields : List ModuleField) → is_known fields ≡ true → is_known (explicit_from n fields) ≡ true
-  explicit_bear n fields h = expanded_bear (n + references_wanted fields) (written_out_from n fields) (written_bear n fields h)
+  pub explicit_bear : (n : ℕ) (fields : List ModuleField) → is_known fields ≡ true → is_known (explicit_fields_from n fields) ≡ true
+  explicit_bear n fields h = expanded_bear (n + reference_id_count fields) (desugared_from n fields) (written_bear n fields h)
 
 pub settled_stays : SettledStays
 settled_stays n fields s (index.Num m p) h = h
 settled_stays n fields s (index.Id id) h =
     let written = not (is_generated (name_of id)) in
-    let old = is_some ((known (items fields)).number s (name_of id)) in
-    let new = is_some ((known (items (explicit_from n fields))).number s (name_of id)) in
+    let old = is_some ((id_context (items fields)).number s (name_of id)) in
+    let new = is_some ((id_context (items (explicit_fields_from n fields))).number s (name_of id)) in
     ap (λ b. b && true) (either_stays written old written new (λ e. e) (explicit_bear s (name_of id) n fields) (sym (and-true (written || old)) ∙ h))

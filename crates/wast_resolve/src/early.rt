@@ -1,14 +1,14 @@
 //! A look at fields without resolving them.
 
 ghost use Rattle.std.specs.Prelude.{◌≡◌, ⊤, None, IfErr, OnOk};
-ghost use Rattle.wast_base.specs.Faults.{told};
-ghost use Rattle.wast_demands.specs.Demands.{first_unmet, Answers, HasManyItems};
-ghost use Rattle.wast_demands.specs.Early.{early_demands};
+ghost use Rattle.wast_base.specs.Faults.{diagnostic_of};
+ghost use Rattle.wast_resolve_rules.specs.Demands.{first_unmet, Answers, HasManyItems};
+ghost use Rattle.wast_resolve_rules.specs.Early.{early_demands};
 
 use std::alloc::Global;
 use wast_base::Error;
-use wast_nodes::ModuleField;
-use wast_passes::{check_order, name_spaces};
+use wast_resolve_passes::{check_order, name_spaces};
+use wast_tree_nodes::ModuleField;
 
 /// The first fault of fields as far as it can be told without changing them, so that a tool can show them beside it (text
 /// format, modules and identifiers).
@@ -23,7 +23,7 @@ use wast_passes::{check_order, name_spaces};
 pub fn early_fault<'a>(alloc: Global, fields: &[ModuleField<'a>]) -> Result<(), Error<'a>>
     ensures met { OnOk result (first_unmet (early_demands fields.now) ≡ None) }
     ensures refusal { IfErr result (λ e.
-        Answers ⊤ (HasManyItems fields.now) (told e) (first_unmet (early_demands fields.now))) }
+        Answers ⊤ (HasManyItems fields.now) (diagnostic_of e) (first_unmet (early_demands fields.now))) }
 {
     check_order(fields)?;
     name_spaces(alloc, fields)?;

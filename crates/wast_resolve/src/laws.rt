@@ -2,8 +2,8 @@
 
 ghost use Rattle.wast_resolve.specs.Laws.{SettledStays};
 
-pub use wast_alike::{early_law, label_law, naming_laws, resolved_laws, resting_laws};
-pub use wast_passes::core_type_laws;
+pub use wast_resolve_laws::{early_law, label_law, naming_laws, resolved_laws, resting_laws};
+pub use wast_resolve_passes::core_type_laws;
 
 /// What is settled by the items of the fields is settled by the names that [`resolve`](crate::resolve) gives, from any
 /// counter: an index that is a generated id is known, where an item of the fields bears that id (text format, indices).

@@ -1,26 +1,26 @@
 //! What the ids of a resolved module denote.
 
 ghost use Rattle.std.specs.Prelude.{◌≡◌, ◌<◌, ◌≤◌, ◌+◌, [], None, IfOk, IfErr, OnOk};
-ghost use Rattle.wast_nodes.specs.Items.{items};
-ghost use Rattle.wast_nodes.specs.Known.{known};
-ghost use Rattle.wast_nodes.specs.Generations.{greatest_generation};
+ghost use Rattle.wast_tree_nodes.specs.Items.{items};
+ghost use Rattle.wast_tree_nodes.specs.Known.{id_context};
+ghost use Rattle.wast_tree_nodes.specs.Generations.{greatest_generation};
 ghost use Rattle.wast_resolve.specs.Tree.space;
-ghost use Rattle.wast_demands.specs.Demands.{first_unmet, demands, IsUnresolved};
-ghost use Rattle.wast_demands.specs.Resolved.{numbered_at};
-ghost use Rattle.wast_demands.specs.Explicit.{explicit, explicit_from, ids_filled};
-ghost use Rattle.wast_demands.specs.Finished.{finished};
+ghost use Rattle.wast_resolve_rules.specs.Demands.{first_unmet, demands, IsUnresolved};
+ghost use Rattle.wast_resolve_rules.specs.Resolved.{numbered_at};
+ghost use Rattle.wast_resolve_rules.specs.Explicit.{explicit_fields, explicit_fields_from, generated_id_count};
+ghost use Rattle.wast_resolve_rules.specs.Finished.{resolved_fields_from};
 ghost use Rattle.std.specs.FinMap as finmap;
-ghost use Rattle.wast_namespace.specs.Places.{entries_of};
-ghost use Rattle.wast_passes.specs.Resolvers.{no_names, known_to, space_in};
-ghost use Rattle.wast_passes.specs.LookUps.{IsSettledFor, IsMetBy, AnswersFor};
+ghost use Rattle.wast_resolve_namespace.specs.Places.{entries_of};
+ghost use Rattle.wast_resolve_passes.specs.Resolvers.{no_names, known_to, space_in};
+ghost use Rattle.wast_resolve_passes.specs.LookUps.{IsSettledFor, IsMetBy, AnswersFor};
 
 use std::alloc::Global;
 use std::marker::Model;
 use wast_base::{Error, Gensym, Id, Index, Seq, Space};
-use wast_deinline::deinline;
-use wast_nodes::ModuleField;
-use wast_passes::{Resolver, in_order, names};
-use wast_types::types;
+use wast_expand_inline::deinline;
+use wast_expand_types::types;
+use wast_resolve_passes::{Resolver, in_order, names};
+use wast_tree_nodes::ModuleField;
 
 /// What the ids of a module denote, for a caller that has indices of its own (text format, indices).
 #[derive(Drop)]
@@ -29,7 +29,7 @@ pub struct Names<'a> {
 }
 
 impl<'a> Model for Names<'a> {
-    ghost use Rattle.wast_passes.specs.Resolvers.{KnownNames, coded_names};
+    ghost use Rattle.wast_resolve_passes.specs.Resolvers.{KnownNames, coded_names};
 
     ghost Value = { KnownNames };
 
@@ -40,9 +40,9 @@ impl<'a> Model for Names<'a> {
 
 impl<'a> Names<'a> {
     /// Binds nothing. It takes no memory.
-    #[tactic(auto, using(wast_passes::proofs::Trying::nothing_known))]
+    #[tactic(auto, using(wast_resolve_passes::proofs::Trying::nothing_known))]
     pub fn empty(alloc: Global) -> Self
-        ensures names { known_to result ≡ known [] }
+        ensures names { known_to result ≡ id_context [] }
         ensures value { result ≡ no_names }
     {
         Names {
@@ -196,12 +196,12 @@ pub fn resolve<'a>(
     gensym: &mut Gensym,
 ) -> Result<(Seq<ModuleField<'a>>, Names<'a>), Error<'a>>
     requires { greatest_generation fields < gensym.old }
-    ensures met { OnOk result (first_unmet (demands (explicit fields.entry)) ≡ None) }
-    ensures list { IfOk result (λ r. r.0 ≡ finished gensym.old fields.entry) }
-    ensures names { IfOk result (λ r. known_to r.1 ≡ known (items (explicit_from gensym.old fields.entry))) }
+    ensures met { OnOk result (first_unmet (demands (explicit_fields fields.entry)) ≡ None) }
+    ensures list { IfOk result (λ r. r.0 ≡ resolved_fields_from gensym.old fields.entry) }
+    ensures names { IfOk result (λ r. known_to r.1 ≡ id_context (items (explicit_fields_from gensym.old fields.entry))) }
     ensures refusal { IfErr result (IsUnresolved gensym.old fields.entry) }
-    ensures counter { OnOk result (gensym.new ≡ gensym.old + ids_filled fields.entry) }
-    ensures rising { gensym.old ≤ gensym.new }
+    ensures counter { OnOk result (gensym.new ≡ gensym.old + generated_id_count fields.entry) }
+    ensures counter_grows { gensym.old ≤ gensym.new }
     ensures stays { IfErr result (λ e. gensym.new ≡ gensym.old) }
 {
     let first = gensym.peek();
@@ -221,12 +221,12 @@ fn resolve_from<'a>(
     gensym: &mut Gensym,
 ) -> Result<(Seq<ModuleField<'a>>, Names<'a>), Error<'a>>
     requires { greatest_generation fields < gensym.old }
-    ensures met { OnOk result (first_unmet (demands (explicit fields.entry)) ≡ None) }
-    ensures list { IfOk result (λ r. r.0 ≡ finished gensym.old fields.entry) }
-    ensures names { IfOk result (λ r. known_to r.1 ≡ known (items (explicit_from gensym.old fields.entry))) }
+    ensures met { OnOk result (first_unmet (demands (explicit_fields fields.entry)) ≡ None) }
+    ensures list { IfOk result (λ r. r.0 ≡ resolved_fields_from gensym.old fields.entry) }
+    ensures names { IfOk result (λ r. known_to r.1 ≡ id_context (items (explicit_fields_from gensym.old fields.entry))) }
     ensures refusal { IfErr result (IsUnresolved gensym.old fields.entry) }
-    ensures counter { OnOk result (gensym.new ≡ gensym.old + ids_filled fields.entry) }
-    ensures rising { gensym.old ≤ gensym.new }
+    ensures counter { OnOk result (gensym.new ≡ gensym.old + generated_id_count fields.entry) }
+    ensures counter_grows { gensym.old ≤ gensym.new }
 {
     let fields = deinline::run(alloc, fields, gensym)?;
     let fields = in_order(fields)?;

@@ -7,7 +7,7 @@ use Rattle.std.specs.Str.Parse.{ParsesUnsigned, AllDigits, digits_value}
 use Rattle.std.proofs.lemmas.Fmt.{decimal_is_IsNumeral, decimal_digit, first_decimal, decimal-digits_value, parse-decimal, IsAscii-decimal}
 use Rattle.std.proofs.lemmas.Str.{IsUtf8-from_ascii}
 use Rattle.std.proofs.lemmas.Str.Parse.{digit_at, numerals_by_value, tells_digits, parse_plain, IsNumeralModel}
-use Rattle.wast_rows.specs.Numerals.{IsNumber, IsNoNumber}
+use Rattle.wast_rows.specs.Numerals.{IsDecimalOf, IsNoNumber}
 
 own : IsNumeralModel (AllDigits 10) (digits_value 10)
 own = numerals_by_value _ tells_digits
@@ -29,7 +29,7 @@ no_text line none n small e = none (subst IsUtf8 (sym e) (IsUtf8-from_ascii (dec
 
 -- what `parse` gives for a line with a plain start
 pub parsed : {E : Type 0} (line : List ℕ) (r : Result ℕ E) → slice_index line 0 ≢ 43 → (slice_index line 0 ≡ 48 → length line < 2) → ParsesUnsigned 32 10 line r
-    → MatchResult r (IsNumber line) (λ _. IsNoNumber line)
+    → MatchResult r (IsDecimalOf line) (λ _. IsNoNumber line)
 parsed {E = E} line (Ok n) plain alone h =
     let p = parse_plain own {E = E} 32 line (Ok n) h plain in
     let e = decimal-digits_value own line p.0.0 p.0.1 (λ z. omega (arith, alone z, p.0.1)) (omega (arith, p.0.2)) in
@@ -38,6 +38,6 @@ parsed line (Err x) plain alone h = λ n small e. absurd (cc (parse-decimal 32 n
 
 -- and where the error is left out
 pub parsed_ok : {E : Type 0} (line text : List ℕ) (r : Result ℕ E) (o : Option ℕ) → slice_index line 0 ≢ 43 → (slice_index line 0 ≡ 48 → length line < 2) → text ≡ line
-    → ParsesUnsigned 32 10 text r → o ≡ result_ok r → MatchOption o (IsNoNumber line) (IsNumber line)
+    → ParsesUnsigned 32 10 text r → o ≡ result_ok r → MatchOption o (IsNoNumber line) (IsDecimalOf line)
 parsed_ok {E = E} line text (Ok n) o plain alone same h e = rw e (parsed {E = E} line (Ok n) plain alone (rw same at h))
 parsed_ok {E = E} line text (Err x) o plain alone same h e = rw e (parsed {E = E} line (Err x) plain alone (rw same at h))

@@ -9,23 +9,23 @@ use Rattle.wast_base.specs.declared.ids.Span.{Span}
 use Rattle.wast_base.specs.declared.spaces.Space.TheVariants as space
 use Rattle.wast_base.specs.Denoted.{denoted, numbered_by}
 use Rattle.wast_base.specs.Faults.{Cause, out_of_memory}
-use Rattle.wast_base.specs.Ids.{name_of, place_of, marked}
-use Rattle.wast_nodes.specs.Generations.{generation_or_zero, greatest_generation}
-use Rattle.wast_nodes.specs.Items.{items}
-use Rattle.wast_nodes.specs.Known.{Known, known}
-use Rattle.wast_nodes.specs.WellFormed.{is_well_formed}
-use Rattle.wast_nodes.specs.declared.fields.ModuleField.{ModuleField}
-use Rattle.wast_nodes.specs.declared.fields.ModuleField.TheVariants as field
+use Rattle.wast_base.specs.Ids.{name_of, place_of, mark_of_option}
+use Rattle.wast_tree_nodes.specs.Generations.{generation_or_zero, greatest_generation}
+use Rattle.wast_tree_nodes.specs.Items.{items}
+use Rattle.wast_tree_nodes.specs.Known.{IdContext, id_context}
+use Rattle.wast_tree_nodes.specs.WellFormed.{is_well_formed}
+use Rattle.wast_tree_nodes.specs.declared.fields.ModuleField.{ModuleField}
+use Rattle.wast_tree_nodes.specs.declared.fields.ModuleField.TheVariants as field
 use Rattle.wasm_out.specs.Parts.{Part}
 use Rattle.wasm_out.specs.Reads.{Reads}
-use Rattle.wast_demands.specs.Demands.{IsTooLarge, IsUnresolved, first_unmet}
-use Rattle.wast_demands.specs.Explicit.{ids_filled}
-use Rattle.wast_demands.specs.Finished.{finished}
-use Rattle.wast_demands.specs.Resolved.{numbered_at}
-use Rattle.wast_passes.specs.LookUps.{IsSettledFor, IsMetBy, AnswersFor}
-use Rattle.wast_passes.specs.Resolvers.{KnownNames, known_to}
+use Rattle.wast_resolve_rules.specs.Demands.{IsTooLarge, IsUnresolved, first_unmet}
+use Rattle.wast_resolve_rules.specs.Explicit.{generated_id_count}
+use Rattle.wast_resolve_rules.specs.Finished.{resolved_fields_from}
+use Rattle.wast_resolve_rules.specs.Resolved.{numbered_at}
+use Rattle.wast_resolve_passes.specs.LookUps.{IsSettledFor, IsMetBy, AnswersFor}
+use Rattle.wast_resolve_passes.specs.Resolvers.{KnownNames, known_to}
 use Rattle.wast_resolve.specs.Laws.{SettledStays}
-use Rattle.wast_alike.specs.Rests.{started, final_names, RestsStill, FillsNoMore, StartsStayWellFormed, StartsStayBelow}
+use Rattle.wast_resolve_laws.specs.Rests.{with_start_fields, final_names, RestsStill, FillsNoMore, StartsStayWellFormed, StartsStayBelow}
 use Rattle.wast_core.specs.declared.module.Module.{Module}
 use Rattle.wast_core.specs.declared.module.ModuleKind.{ModuleKind}
 use Rattle.wast_core.specs.declared.module.ModuleKind.TheVariants as kind
@@ -34,18 +34,18 @@ use Rattle.wast_core.specs.Bounded.{IsBounded}
 use Rattle.wast_core.specs.Headline.{IsMet, ResolvesKind, Counts, IsUnwritten, EncodesKind}
 use Rattle.wast_core.specs.Modules.{is_well_formed_kind, bound_of_kind, IsReady}
 use Rattle.wast_core.specs.Meaning.{meaning}
-use Rattle.wast_core.specs.Uncovered.{first, uncovered_forms}
+use Rattle.wast_core.specs.Uncovered.{head_of, uncovered_forms}
 use Rattle.wast_rows.specs.Starting.{IsNoBinary, IsSettledStart, with_start, finished_start, AddsStart, CountsStart}
 use Rattle.wast_rows.specs.StartSteps.{FindsStart, IsText, PutsStart}
 
 -- An index that is known denotes a function, and becomes its number.
-record IsNumber (k : Known) (i : Index) : Type 0 where
+record IsNumber (k : IdContext) (i : Index) : Type 0 where
   denotes : (is_some (denoted (k.number space.Func) i) && true) ≡ true
   number : ℕ
   place : Span
   is : numbered_at k space.Func i ≡ index.Num number place
 
-is_number : (k : Known) (i : Index) → IsMetBy k space.Func i → IsNumber k i
+is_number : (k : IdContext) (i : Index) → IsMetBy k space.Func i → IsNumber k i
 is_number k (index.Num n p) h = record { denotes = refl; number = n; place = p; is = refl }
 is_number k (index.Id id) h = known_as (k.number space.Func (name_of id)) refl h
   where
@@ -73,19 +73,19 @@ module _ (n : ℕ) (fields : List ModuleField) (i : Index) (above : greatest_gen
   number : IsNumber (final_names n fields) i
   number = is_number (final_names n fields) i found
 
-  list_is : started n fields ((number.number, number.place) ∷ []) ≡ list
-  list_is = ap (λ (j : Index). with_start (finished n fields) j) (sym number.is)
+  list_is : with_start_fields n fields ((number.number, number.place) ∷ []) ≡ list
+  list_is = ap (λ (j : Index). with_start (resolved_fields_from n fields) j) (sym number.is)
 
   -- The list is ready.
   pub still_well_formed : StartsStayWellFormed → is_well_formed fields ≡ true → is_well_formed list ≡ true
   still_well_formed keeps h = subst (λ xs. is_well_formed xs ≡ true) list_is (keeps n fields ((number.number, number.place) ∷ []) above h met)
 
-  pub still_below : StartsStayBelow → greatest_generation list ≡ greatest_generation (finished n fields)
-  still_below below = subst (λ xs. greatest_generation xs ≡ greatest_generation (finished n fields)) list_is (below (finished n fields) (index.Num number.number number.place ∷ []) refl)
+  pub still_below : StartsStayBelow → greatest_generation list ≡ greatest_generation (resolved_fields_from n fields)
+  still_below below = subst (λ xs. greatest_generation xs ≡ greatest_generation (resolved_fields_from n fields)) list_is (below (resolved_fields_from n fields) (index.Num number.number number.place ∷ []) refl)
 
   -- No id is filled in, so the counter stays.
-  fills_none : FillsNoMore → ids_filled list ≡ 0
-  fills_none fills = subst (λ xs. ids_filled xs ≡ 0) list_is (fills n fields ((number.number, number.place) ∷ []))
+  fills_none : FillsNoMore → generated_id_count list ≡ 0
+  fills_none fills = subst (λ xs. generated_id_count xs ≡ 0) list_is (fills n fields ((number.number, number.place) ∷ []))
 
   pub counter_stays : FillsNoMore → (m k : ℕ) (last : ModuleKind) → Counts (kind.Text list) last m k → k ≡ m
   counter_stays fills m k (kind.Text xs) h = let none = fills_none fills in omega (arith, none, h)
@@ -94,12 +94,12 @@ module _ (n : ℕ) (fields : List ModuleField) (i : Index) (above : greatest_gen
 
   -- and encoding it gives the bytes of the module with the field.
   module _ (refused : RestsWithheld) (still : RestsStill) (below : StartsStayBelow) (last : StartsLast) (one : (bytes : List ℕ) (p q : List Part) → Reads bytes p → Reads bytes q → p ≡ q)
-      (settled : IsSettledFor (known (items fields)) space.Func i) (name : Option (List ℕ)) where
+      (settled : IsSettledFor (id_context (items fields)) space.Func i) (name : Option (List ℕ)) where
     abbrev m : ℕ
-    m = n + ids_filled fields
+    m = n + generated_id_count fields
 
-    list_stays : finished m list ≡ list
-    list_stays = subst (λ xs. finished m xs ≡ xs) list_is (still m n fields ((number.number, number.place) ∷ []))
+    list_stays : resolved_fields_from m list ≡ list
+    list_stays = subst (λ xs. resolved_fields_from m xs ≡ xs) list_is (still m n fields ((number.number, number.place) ∷ []))
 
     under : greatest_generation (with_start fields i) < n
     under = subst (λ g. g < n) (sym (below fields (i ∷ []) settled)) above
@@ -116,7 +116,7 @@ module _ (n : ℕ) (fields : List ModuleField) (i : Index) (above : greatest_gen
         (met_too, (reads, λ others also. one bytes.items others (meaning name (with_start fields i)) also reads), h.3 ∙ ap kind.Text list_stays)
     adds_start (Err e) new (inl h) = inr (inr (inl (met_too, subst (λ xs. IsUnresolved m xs e → IsWithheld (IsTooLarge m xs) e) list_is (refused m n fields ((number.number, number.place) ∷ []) e above met) h.0, h.1)))
     adds_start (Err e) new (inr h) =
-        inr (inr (inr (met_too, subst (λ xs. IsUnwritten (first (uncovered_forms xs)) (IsBounded m name list) e) list_stays h.1, h.2 ∙ ap kind.Text list_stays)))
+        inr (inr (inr (met_too, subst (λ xs. IsUnwritten (head_of (uncovered_forms xs)) (IsBounded m name list) e) list_stays h.1, h.2 ∙ ap kind.Text list_stays)))
 
 -- The steps, of what a module holds.
 pub settled_names : SettledStays → (n : ℕ) (old new : ModuleKind) (names : KnownNames) (i : Index) → IsNoBinary old → IsSettledStart old i → ResolvesKind n old (Ok names) new → IsSettledFor (known_to names) space.Func i
@@ -159,8 +159,8 @@ unput (kind.Refused d) new i e put = absurd put
 -- the field behind the resolved list
 put_behind : (n : ℕ) (fields : List ModuleField) (found new : ModuleKind) (i j : Index) (x : Unit {0}) → FindsStart n (kind.Text fields) i (Ok j) found → PutsStart found j (Ok x) new → new ≡ kind.Text (finished_start n fields i)
 put_behind n fields found new i j x h put =
-    let is : new ≡ kind.Text (with_start (finished n fields) j) = subst (λ k. PutsStart k j (Ok x) new) h.3 put in
-    is ∙ ap (λ (l : Index). kind.Text (with_start (finished n fields) l)) h.2
+    let is : new ≡ kind.Text (with_start (resolved_fields_from n fields) j) = subst (λ k. PutsStart k j (Ok x) new) h.3 put in
+    is ∙ ap (λ (l : Index). kind.Text (with_start (resolved_fields_from n fields) l)) h.2
 
 -- What the module holds then is ready,
 pub held_ready : StartsStayWellFormed → StartsStayBelow → (n : ℕ) (old found new : ModuleKind) (i j : Index) (x : Unit {0}) → is_well_formed_kind old ≡ true → bound_of_kind old < n
@@ -178,15 +178,15 @@ pub adds_found : RestsWithheld → RestsStill → StartsStayBelow → StartsLast
     → bound_of_kind old < n → IsSettledStart old i → FindsStart n old i (Ok j) found → Counts old found n m → PutsStart found j (Ok x) new → (result : Result (Vec ℕ) Error) → EncodesKind m name new result last → AddsStart n name old i result last
 adds_found refused still below ends one n m name (kind.Text fields) found new last i j x above settled h counts put result encodes =
     let is = put_behind n fields found new i j x h put in
-    let counted : m ≡ n + ids_filled fields = subst (λ k. Counts (kind.Text fields) k n m) h.3 counts in
-    adds_start n fields i above h.0 h.1 refused still below ends one settled name result last (subst (λ k. EncodesKind (n + ids_filled fields) name k result last) is (subst (λ c. EncodesKind c name new result last) counted encodes))
+    let counted : m ≡ n + generated_id_count fields = subst (λ k. Counts (kind.Text fields) k n m) h.3 counts in
+    adds_start n fields i above h.0 h.1 refused still below ends one settled name result last (subst (λ k. EncodesKind (n + generated_id_count fields) name k result last) is (subst (λ c. EncodesKind c name new result last) counted encodes))
 adds_found refused still below ends one n m name (kind.Binary pieces) found new last i j x above settled h counts put result encodes = absurd h
 adds_found refused still below ends one n m name (kind.Refused e) found new last i j x above settled h counts put result encodes = absurd h
 
 -- or there is no room for the field,
 pub adds_no_room : (n : ℕ) (name : Option (List ℕ)) (old found new : ModuleKind) (i j : Index) (e : Error) → FindsStart n old i (Ok j) found → PutsStart found j (Err e) new → AddsStart n name old i (Err e) new
 adds_no_room n name (kind.Text fields) found new i j e h put =
-    let stays : (e ≡ out_of_memory) × (new ≡ kind.Text (finished n fields)) = subst (λ k. PutsStart k j (Err e) new) h.3 put in
+    let stays : (e ≡ out_of_memory) × (new ≡ kind.Text (resolved_fields_from n fields)) = subst (λ k. PutsStart k j (Err e) new) h.3 put in
     inr (inl (h.0, inr (h.1, stays.0), stays.1))
 adds_no_room n name (kind.Binary pieces) found new i j e h put = absurd h
 adds_no_room n name (kind.Refused d) found new i j e h put = absurd h
@@ -203,9 +203,9 @@ pub counts_found : FillsNoMore → (n m k : ℕ) (old found new last : ModuleKin
     → (result : Result (Vec ℕ) Error) → Counts new last m k → CountsStart n old result last k
 counts_found fills n m k (kind.Text fields) found new last i j x above h counts put result more = by result
   where
-    after : k ≡ n + ids_filled fields
+    after : k ≡ n + generated_id_count fields
     after =
-        let first : m ≡ n + ids_filled fields = subst (λ q. Counts (kind.Text fields) q n m) h.3 counts in
+        let first : m ≡ n + generated_id_count fields = subst (λ q. Counts (kind.Text fields) q n m) h.3 counts in
         let is : new ≡ kind.Text (finished_start n fields i) = put_behind n fields found new i j x h put in
         counter_stays n fields i above h.0 h.1 fills m k last (subst (λ q. Counts q last m k) is more) ∙ first
 
@@ -240,5 +240,5 @@ stays_ready old new m stays same ready =
     let id : new.id ≡ old.id = ap (λ (x : Module). x.id) stays in
     record {
       well_formed = same.0;
-      above = subst (λ o. max (generation_or_zero (marked o)) (bound_of_kind new.kind) < m) (sym id) (subst (λ b. max (generation_or_zero (marked old.id)) b < m) (sym same.1) ready.above);
+      above = subst (λ o. max (generation_or_zero (mark_of_option o)) (bound_of_kind new.kind) < m) (sym id) (subst (λ b. max (generation_or_zero (mark_of_option old.id)) b < m) (sym same.1) ready.above);
     }

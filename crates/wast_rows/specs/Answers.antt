@@ -10,7 +10,7 @@ use Rattle.wast_base.specs.Faults.{fault_of, span_of, fault_text}
 use Rattle.wast_core.specs.declared.module.Module.{Module}
 use Rattle.wast_core.specs.Headline.{Encodes}
 use Rattle.wast_core.specs.Modules.{ill_formed, generation_bound}
-use Rattle.wast_rows.specs.Numerals.{IsNumber, IsNoNumber}
+use Rattle.wast_rows.specs.Numerals.{IsDecimalOf, IsNoNumber}
 
 -- the line of a number that is no row
 abbrev pub no_row_text : List ℕ
@@ -64,5 +64,5 @@ TellsRow (Some (Ok m)) line = TellsFormed (ill_formed m) m line
 
 -- the line answers what was asked, where gives relates the number of a row to its module
 pub data TellsLine (gives : ℕ → Option (Result Module Error) → Type 0) (asked line : List ℕ) : Type 0 where
-  row : (n : ℕ) (sample : Option (Result Module Error)) → IsNumber asked n → gives n sample → TellsRow sample line → TellsLine gives asked line
+  row : (n : ℕ) (sample : Option (Result Module Error)) → IsDecimalOf asked n → gives n sample → TellsRow sample line → TellsLine gives asked line
   no_number : IsNoNumber asked → line ≡ no_row_text → TellsLine gives asked line

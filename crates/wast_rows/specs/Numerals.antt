@@ -3,7 +3,7 @@ use Rattle.std.specs.Prelude.{◌≡◌, ◌≢◌, ℕ, ◌<◌, ◌^◌, List}
 use Rattle.std.specs.Fmt.{decimal}
 
 -- the line is the number n
-pub record IsNumber (line : List ℕ) (n : ℕ) : Type 0 where
+pub record IsDecimalOf (line : List ℕ) (n : ℕ) : Type 0 where
   pub in_range : n < 2 ^ 32
   pub spelled : line ≡ decimal n
 

@@ -4,10 +4,10 @@ use Rattle.wast_base.specs.declared.faults.Error.{Error}
 use Rattle.wast_base.specs.declared.ids.Index.{Index}
 use Rattle.wast_base.specs.declared.spaces.Space.TheVariants as space
 use Rattle.wast_base.specs.Faults.{out_of_memory}
-use Rattle.wast_demands.specs.Finished.{finished}
-use Rattle.wast_demands.specs.Resolved.{numbered_at}
-use Rattle.wast_passes.specs.LookUps.{IsMetBy, AnswersFor}
-use Rattle.wast_alike.specs.Rests.{final_names}
+use Rattle.wast_resolve_rules.specs.Finished.{resolved_fields_from}
+use Rattle.wast_resolve_rules.specs.Resolved.{numbered_at}
+use Rattle.wast_resolve_passes.specs.LookUps.{IsMetBy, AnswersFor}
+use Rattle.wast_resolve_laws.specs.Rests.{final_names}
 use Rattle.wast_core.specs.declared.module.ModuleKind.{ModuleKind}
 use Rattle.wast_core.specs.declared.module.ModuleKind.TheVariants as kind
 use Rattle.wast_core.specs.Headline.{IsMet}
@@ -15,8 +15,8 @@ use Rattle.wast_rows.specs.Starting.{with_start, IsRefusedFirst}
 
 -- resolving, and then looking up an index of a function
 abbrev pub FindsStart : ℕ → ModuleKind → Index → Result Index Error → ModuleKind → Type 0
-FindsStart n (kind.Text fields) i (Ok j) new = IsMet fields × IsMetBy (final_names n fields) space.Func i × (j ≡ numbered_at (final_names n fields) space.Func i) × (new ≡ kind.Text (finished n fields))
-FindsStart n (kind.Text fields) i (Err e) new = IsRefusedFirst n fields e new ⊎ (IsMet fields × AnswersFor (final_names n fields) space.Func i e × (new ≡ kind.Text (finished n fields)))
+FindsStart n (kind.Text fields) i (Ok j) new = IsMet fields × IsMetBy (final_names n fields) space.Func i × (j ≡ numbered_at (final_names n fields) space.Func i) × (new ≡ kind.Text (resolved_fields_from n fields))
+FindsStart n (kind.Text fields) i (Err e) new = IsRefusedFirst n fields e new ⊎ (IsMet fields × AnswersFor (final_names n fields) space.Func i e × (new ≡ kind.Text (resolved_fields_from n fields)))
 FindsStart n (kind.Binary pieces) i result new = ⊥
 FindsStart n (kind.Refused e) i (Ok j) new = ⊥
 FindsStart n (kind.Refused e) i (Err d) new = (d ≡ e) × (new ≡ kind.Refused e)

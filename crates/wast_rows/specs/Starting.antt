@@ -5,25 +5,25 @@ use Rattle.wast_base.specs.declared.faults.Error.{Error}
 use Rattle.wast_base.specs.declared.ids.Index.{Index}
 use Rattle.wast_base.specs.declared.spaces.Space.TheVariants as space
 use Rattle.wast_base.specs.Faults.{out_of_memory}
-use Rattle.wast_nodes.specs.Items.{items}
-use Rattle.wast_nodes.specs.Known.{known}
-use Rattle.wast_nodes.specs.declared.fields.ModuleField.{ModuleField}
-use Rattle.wast_nodes.specs.declared.fields.ModuleField.TheVariants as field
+use Rattle.wast_tree_nodes.specs.Items.{items}
+use Rattle.wast_tree_nodes.specs.Known.{id_context}
+use Rattle.wast_tree_nodes.specs.declared.fields.ModuleField.{ModuleField}
+use Rattle.wast_tree_nodes.specs.declared.fields.ModuleField.TheVariants as field
 use Rattle.wasm_out.specs.Parts.{Part}
 use Rattle.wasm_out.specs.Reads.{Reads}
-use Rattle.wast_demands.specs.Demands.{IsTooLarge, IsUnresolved}
-use Rattle.wast_demands.specs.Explicit.{ids_filled}
-use Rattle.wast_demands.specs.Finished.{finished}
-use Rattle.wast_demands.specs.Resolved.{numbered_at}
-use Rattle.wast_passes.specs.LookUps.{IsSettledFor, IsMetBy, AnswersFor}
-use Rattle.wast_alike.specs.Rests.{final_names}
+use Rattle.wast_resolve_rules.specs.Demands.{IsTooLarge, IsUnresolved}
+use Rattle.wast_resolve_rules.specs.Explicit.{generated_id_count}
+use Rattle.wast_resolve_rules.specs.Finished.{resolved_fields_from}
+use Rattle.wast_resolve_rules.specs.Resolved.{numbered_at}
+use Rattle.wast_resolve_passes.specs.LookUps.{IsSettledFor, IsMetBy, AnswersFor}
+use Rattle.wast_resolve_laws.specs.Rests.{final_names}
 use Rattle.wast_core.specs.declared.module.ModuleKind.{ModuleKind}
 use Rattle.wast_core.specs.declared.module.ModuleKind.TheVariants as kind
 use Rattle.wast_core.specs.AtRest.{IsWithheld}
 use Rattle.wast_core.specs.Bounded.{IsBounded}
 use Rattle.wast_core.specs.Headline.{IsMet, IsUnwritten}
 use Rattle.wast_core.specs.Meaning.{meaning}
-use Rattle.wast_core.specs.Uncovered.{first, uncovered_forms}
+use Rattle.wast_core.specs.Uncovered.{head_of, uncovered_forms}
 
 -- a text module, or one that was refused
 abbrev pub IsNoBinary : ModuleKind → Type 0
@@ -33,7 +33,7 @@ IsNoBinary (kind.Refused e) = ⊤
 
 -- An index that is a generated id is that of a function of the fields.
 abbrev pub IsSettledStart : ModuleKind → Index → Type 0
-IsSettledStart (kind.Text fields) i = IsSettledFor (known (items fields)) space.Func i
+IsSettledStart (kind.Text fields) i = IsSettledFor (id_context (items fields)) space.Func i
 IsSettledStart (kind.Binary pieces) i = ⊤
 IsSettledStart (kind.Refused e) i = ⊤
 
@@ -43,7 +43,7 @@ with_start fields i = fields ++ field.Start i ∷ []
 
 -- the resolved list, and behind it the start field with its number
 abbrev pub finished_start : ℕ → List ModuleField → Index → List ModuleField
-finished_start n fields i = with_start (finished n fields) (numbered_at (final_names n fields) space.Func i)
+finished_start n fields i = with_start (resolved_fields_from n fields) (numbered_at (final_names n fields) space.Func i)
 
 -- the bytes are read as these parts, and as no others
 abbrev pub IsReadAs : List ℕ → List Part → Type 0
@@ -55,17 +55,17 @@ IsRefusedFirst n fields e new = IsUnresolved n fields e × (new ≡ kind.Refused
 
 -- or no function has the name, or memory for the field is refused, and the module is resolved without it,
 abbrev pub IsUnstarted : ℕ → List ModuleField → Index → Error → ModuleKind → Type 0
-IsUnstarted n fields i e new = IsMet fields × (AnswersFor (final_names n fields) space.Func i e ⊎ (IsMetBy (final_names n fields) space.Func i × (e ≡ out_of_memory))) × (new ≡ kind.Text (finished n fields))
+IsUnstarted n fields i e new = IsMet fields × (AnswersFor (final_names n fields) space.Func i e ⊎ (IsMetBy (final_names n fields) space.Func i × (e ≡ out_of_memory))) × (new ≡ kind.Text (resolved_fields_from n fields))
 
 -- or the list with the field is not resolved, for want of memory or of room, which the module keeps,
 abbrev pub IsRefusedThen : ℕ → List ModuleField → Index → Error → ModuleKind → Type 0
-IsRefusedThen n fields i e new = IsMet (with_start fields i) × IsWithheld (IsTooLarge (n + ids_filled fields) (finished_start n fields i)) e × (new ≡ kind.Refused e)
+IsRefusedThen n fields i e new = IsMet (with_start fields i) × IsWithheld (IsTooLarge (n + generated_id_count fields) (finished_start n fields i)) e × (new ≡ kind.Refused e)
 
 -- or it is not encoded, and stays resolved.
 abbrev pub IsStartUnwritten : ℕ → Option (List ℕ) → List ModuleField → Index → Error → ModuleKind → Type 0
 IsStartUnwritten n name fields i e new =
     IsMet (with_start fields i)
-    × IsUnwritten (first (uncovered_forms (finished_start n fields i))) (IsBounded (n + ids_filled fields) name (finished_start n fields i)) e
+    × IsUnwritten (head_of (uncovered_forms (finished_start n fields i))) (IsBounded (n + generated_id_count fields) name (finished_start n fields i)) e
     × (new ≡ kind.Text (finished_start n fields i))
 
 -- Bytes are those of the module with the start field behind its fields; else the first of these tells why there are none.
@@ -81,7 +81,7 @@ AddsStart n name (kind.Refused e) i (Err d) new = (d ≡ e) × (new ≡ kind.Ref
 -- `(module (func $f))` it rises by 1, for the type of `$f`; if the index is `$g`, E4 comes after
 -- that, and the counter has risen by 1 too.
 abbrev pub CountsStart : ℕ → ModuleKind → Result (Vec ℕ) Error → ModuleKind → ℕ → Type 0
-CountsStart n (kind.Text fields) (Ok bytes) new after = after ≡ n + ids_filled fields
-CountsStart n (kind.Text fields) (Err e) new after = (IsRefusedFirst n fields e new × (after ≡ n)) ⊎ (IsMet fields × (after ≡ n + ids_filled fields))
+CountsStart n (kind.Text fields) (Ok bytes) new after = after ≡ n + generated_id_count fields
+CountsStart n (kind.Text fields) (Err e) new after = (IsRefusedFirst n fields e new × (after ≡ n)) ⊎ (IsMet fields × (after ≡ n + generated_id_count fields))
 CountsStart n (kind.Binary pieces) result new after = ⊥
 CountsStart n (kind.Refused e) result new after = after ≡ n

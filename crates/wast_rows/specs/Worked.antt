@@ -1,11 +1,11 @@
 -- The lines of worked modules that are not encoded. A text may lie anywhere in memory.
 use Rattle.std.specs.Prelude.{◌≡◌, ◌↔◌, ℕ, false, List, [], ◌∷◌, Some, None, Ok, codes}
 use Rattle.wast_base.specs.declared.ids.Index.TheVariants as index
-use Rattle.wast_base.specs.Ids.{generated}
-use Rattle.wast_nodes.specs.declared.fields.MemoryKind.TheVariants as memory
-use Rattle.wast_nodes.specs.declared.fields.ModuleField.{ModuleField}
-use Rattle.wast_nodes.specs.declared.fields.ModuleField.TheVariants as field
-use Rattle.wast_nodes.specs.WorkedModules.{Address, place, plain_type, export_field}
+use Rattle.wast_base.specs.Ids.{gensym_id}
+use Rattle.wast_tree_nodes.specs.declared.fields.MemoryKind.TheVariants as memory
+use Rattle.wast_tree_nodes.specs.declared.fields.ModuleField.{ModuleField}
+use Rattle.wast_tree_nodes.specs.declared.fields.ModuleField.TheVariants as field
+use Rattle.wast_tree_nodes.specs.WorkedModules.{Address, place, plain_type, export_field}
 use Rattle.wast_core.specs.declared.module.Module.{Module}
 use Rattle.wast_core.specs.declared.module.ModuleKind.TheVariants as kind
 use Rattle.wast_rows.specs.Answers.{TellsRow}
@@ -20,7 +20,7 @@ HasLine fields text = (line : List ℕ) → TellsRow (Some (Ok (of_fields fields
 
 -- `(export "a" (func ..))` of a generated id
 abbrev pub export_of_generated : Address → ModuleField
-export_of_generated a = export_field a 8 (index.Id (generated 1 (place 26)))
+export_of_generated a = export_field a 8 (index.Id (gensym_id 1 (place 26)))
 
 -- `(memory (data))`, where a page has 2 to the 64 bytes
 abbrev pub endless_pages : ModuleField
@@ -28,7 +28,7 @@ endless_pages = field.Memory (record { span = place 1; id = None; name = None; e
 
 -- `(type .. (func))` of a generated id
 abbrev pub generated_type : ModuleField
-generated_type = field.Ty (plain_type (Some (generated 1 (place 14))) 8)
+generated_type = field.Ty (plain_type (Some (gensym_id 1 (place 14))) 8)
 
 -- No item bears the id; the least clause is told, and not the first; and a module that is well formed may hold an id.
 abbrev pub LinesOfIllFormed : Type 0

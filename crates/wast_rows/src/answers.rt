@@ -47,7 +47,7 @@ fn refusal(alloc: Global, error: Error<'_>) -> Result<String, AllocError>
 /// What encoding answered: bytes in lower case hexadecimal, or why there are none. Want of memory is no answer.
 fn told(alloc: Global, answer: Result<Vec<u8>, Error<'_>>) -> Result<String, RunError>
     ensures told { IfOk result (λ line. TellsAnswer answer.entry (string_bytes line)) }
-    ensures want { IfErr result (λ e. e ≡ error.Memory) }
+    ensures err { IfErr result (λ e. e ≡ error.Memory) }
 {
     match answer {
         Ok(bytes) => Ok(hex::encode(alloc, bytes.as_slice())?),
@@ -63,7 +63,7 @@ fn told(alloc: Global, answer: Result<Vec<u8>, Error<'_>>) -> Result<String, Run
 /// The line of a module, which is encoded where it is well formed and holds no generated id.
 fn line_of_module(alloc: Global, module: &mut Module<'_>) -> Result<String, RunError>
     ensures told { IfOk result (λ line. TellsRow (Some (Ok «module».old)) (string_bytes line)) }
-    ensures want { IfErr result (λ e. e ≡ error.Memory) }
+    ensures err { IfErr result (λ e. e ≡ error.Memory) }
 {
     if let Some(clause) = module.ill_formed() {
         return Ok(ill_formed(alloc, clause)?);
@@ -82,7 +82,7 @@ fn line_of_row(
     row: Option<Result<Module<'_>, Error<'_>>>,
 ) -> Result<String, RunError>
     ensures told { IfOk result (λ line. TellsRow row.entry (string_bytes line)) }
-    ensures want { IfErr result (λ e. e ≡ error.Memory) }
+    ensures err { IfErr result (λ e. e ≡ error.Memory) }
 {
     match row {
         None => Ok(no_row(alloc)?),
@@ -103,7 +103,7 @@ pub(crate) fn answer<'a, F: Fn(u32) -> Option<Result<Module<'a>, Error<'a>>>>(
 ) -> Result<String, RunError>
     requires { F.IsAlwaysCallable sample.now }
     ensures told { IfOk result (λ text. TellsLine (F.post sample.now) line.now (string_bytes text)) }
-    ensures want { IfErr result (λ e. e ≡ error.Memory) }
+    ensures err { IfErr result (λ e. e ≡ error.Memory) }
 {
     match number(line) {
         None => Ok(no_row(alloc)?),

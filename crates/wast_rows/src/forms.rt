@@ -8,7 +8,7 @@ use crate::samples::text_module;
 use std::alloc::Global;
 use wast_base::{Error, Form};
 use wast_core::Module;
-use wast_samples::form_fields;
+use wast_rows_samples::form_fields;
 
 /// A small module that holds this form and no other that the encoder does not cover, or out of memory.
 ///

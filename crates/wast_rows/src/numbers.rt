@@ -1,7 +1,7 @@
 //! The number of a line.
 
 ghost use Rattle.std.specs.Prelude.{◌≡◌, ◌≢◌, ◌<◌, IsTrue, length, not, slice_index, MatchOption};
-ghost use Rattle.wast_rows.specs.Numerals.{IsNumber, IsNoNumber};
+ghost use Rattle.wast_rows.specs.Numerals.{IsDecimalOf, IsNoNumber};
 
 use std::str;
 
@@ -23,7 +23,7 @@ fn has_plain_start(line: &[u8]) -> bool
 ///
 /// Every other line gives `None`, also one that is no UTF-8.
 pub(crate) fn number(line: &[u8]) -> Option<u32>
-    ensures { MatchOption result (IsNoNumber line.now) (IsNumber line.now) }
+    ensures { MatchOption result (IsNoNumber line.now) (IsDecimalOf line.now) }
 {
     if !has_plain_start(line) {
         return None;

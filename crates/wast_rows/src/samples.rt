@@ -3,12 +3,12 @@
 ghost use Rattle.std.specs.Prelude.{◌≡◌, is_some, IfSome, IfErr};
 ghost use Rattle.wast_base.specs.Faults.{out_of_memory};
 ghost use Rattle.wast_core.specs.declared.module.ModuleKind.TheVariants as kind;
-ghost use Rattle.wast_samples.specs.RowNumbers.{is_row};
+ghost use Rattle.wast_rows_samples.specs.RowNumbers.{is_row};
 
 use std::alloc::Global;
 use wast_base::{Error, Span};
 use wast_core::{Module, ModuleKind};
-use wast_samples::{sample_fields, twin_fields};
+use wast_rows_samples::{sample_fields, twin_fields};
 use wast_tree::{ModuleField, Seq};
 
 /// A module of fields, without id and name, that stands at the offset 1.

@@ -2,9 +2,9 @@
 
 ghost use Rattle.std.specs.Prelude.{◌≡◌, ◌≤◌, IfOk, IfErr, OnOk};
 ghost use Rattle.wast_base.specs.declared.spaces.Space.TheVariants as space;
-ghost use Rattle.wast_demands.specs.Resolved.{numbered_at};
-ghost use Rattle.wast_passes.specs.LookUps.{IsSettledFor, IsMetBy, AnswersFor};
-ghost use Rattle.wast_passes.specs.Resolvers.{known_to};
+ghost use Rattle.wast_resolve_rules.specs.Resolved.{numbered_at};
+ghost use Rattle.wast_resolve_passes.specs.LookUps.{IsSettledFor, IsMetBy, AnswersFor};
+ghost use Rattle.wast_resolve_passes.specs.Resolvers.{known_to};
 ghost use Rattle.wast_core.specs.Headline.{Counts, name_of_module};
 ghost use Rattle.wast_core.specs.Modules.{IsReady};
 ghost use Rattle.wast_rows.specs.Starting.{IsNoBinary, IsSettledStart, AddsStart, CountsStart};
@@ -88,7 +88,7 @@ pub fn add_start<'a>(
     ensures answer { AddsStart gensym.old (name_of_module «module».old) «module».old.kind idx.entry result «module».new.kind }
     ensures stays { «module».new ≡ record «module».old { kind = «module».new.kind } }
     ensures counter { CountsStart gensym.old «module».old.kind result «module».new.kind gensym.new }
-    ensures rising { gensym.old ≤ gensym.new }
+    ensures counter_grows { gensym.old ≤ gensym.new }
     ensures ready { IsReady «module».new gensym.new }
 {
     at_rest();

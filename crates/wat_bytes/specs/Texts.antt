@@ -5,9 +5,9 @@ use Rattle.std.specs.Global.{Vec}
 use Rattle.wast_base.specs.declared.faults.Error.{Error}
 use Rattle.wast_base.specs.declared.faults.Fault.TheVariants as fault
 use Rattle.wast_base.specs.declared.faults.Form.{Form}
-use Rattle.wast_base.specs.Faults.{refused, fault_of, fault_number, span_of}
+use Rattle.wast_base.specs.Faults.{error_without_place, fault_of, fault_number, span_of}
 use Rattle.wast_base.specs.declared.ids.Span.{Span}
-use Rattle.wast_base.specs.Ids.{start}
+use Rattle.wast_base.specs.Ids.{text_start}
 use Rattle.wat_tokens.specs.declared.faults.TextError.{TextError}
 use Rattle.wat_tokens.specs.declared.faults.TextFault.{TextFault}
 use Rattle.wat_tokens.specs.declared.faults.TextFault.TheVariants as text
@@ -15,7 +15,7 @@ use Rattle.wat_text.specs.declared.modules.TextKind.{TextKind}
 use Rattle.wat_text.specs.declared.modules.TextKind.TheVariants as held
 use Rattle.wat_text.specs.declared.modules.TextModule.{TextModule}
 use Rattle.wat_text.specs.Texts.{is_well_formed_text}
-use Rattle.wast_core.specs.Uncovered.{first, uncovered_forms}
+use Rattle.wast_core.specs.Uncovered.{head_of, uncovered_forms}
 use Rattle.wast_core.specs.declared.module.Module.{Module}
 use Rattle.wast_core.specs.declared.module.ModuleKind.{ModuleKind}
 use Rattle.wast_core.specs.declared.module.ModuleKind.TheVariants as kind
@@ -37,7 +37,7 @@ module_of t = record { span = t.span; id = t.id; name = t.name; kind = kind_of t
 -- Why a module that is not ready is refused: the least clause of "well formed" that fails, and else
 -- clause 6, on generated ids.
 abbrev pub unready : Module → TextError
-unready m = record { fault = text.IllFormed (unwrap_or (ill_formed m) 6); span = start }
+unready m = record { fault = text.IllFormed (unwrap_or (ill_formed m) 6); span = text_start }
 
 -- A module that is not ready, and why.
 pub record IsUnready (m : Module) (e : TextError) : Type 0 where
@@ -57,7 +57,7 @@ abbrev pub EncodesModule : Module → Result (Vec ℕ) Refused → Type 0
 EncodesModule m (Ok bytes) = EncodesReady m (Ok bytes)
 EncodesModule m (Err (answer.Text e)) = IsUnready m e
 EncodesModule m (Err (answer.Module e)) = EncodesReady m (Err e)
-EncodesModule m (Err (answer.Uncovered u)) = EncodesReady m (Err (refused (fault.Uncovered u.form)))
+EncodesModule m (Err (answer.Uncovered u)) = EncodesReady m (Err (error_without_place (fault.Uncovered u.form)))
 
 -- What encoding a module that was read answers.
 abbrev pub EncodesText : TextModule → Result (Vec ℕ) Refused → Type 0
@@ -107,12 +107,12 @@ place_of (answer.Uncovered u) = Some u.span
 
 -- the first form that no encoder covers in what a module holds
 abbrev pub first_form : ModuleKind → Option Form
-first_form (kind.Text fields) = first (uncovered_forms fields)
+first_form (kind.Text fields) = head_of (uncovered_forms fields)
 first_form (kind.Binary pieces) = None
 first_form (kind.Refused e) = None
 
 -- why a module has no bytes, from its error and from what it holds then
-abbrev pub Tells : ModuleKind → Error → Refused → Type 0
-Tells left e (answer.Text t) = ⊥
-Tells left e (answer.Module d) = d ≡ e
-Tells left e (answer.Uncovered u) = first_form left ≡ Some u.form
+abbrev pub RefusesWith : ModuleKind → Error → Refused → Type 0
+RefusesWith left e (answer.Text t) = ⊥
+RefusesWith left e (answer.Module d) = d ≡ e
+RefusesWith left e (answer.Uncovered u) = first_form left ≡ Some u.form

@@ -2,7 +2,7 @@
 
 ghost use Rattle.std.specs.Prelude.{IfErr, IsTrue};
 ghost use Rattle.wast_core.specs.Modules.{IsReady, is_well_formed};
-ghost use Rattle.wat_bytes.specs.Texts.{EncodesModule, EncodesText, IsPlaced, OfText, Tells, module_of};
+ghost use Rattle.wat_bytes.specs.Texts.{EncodesModule, EncodesText, IsPlaced, OfText, RefusesWith, module_of};
 
 use crate::modules::{is_ready, module_of, read_text, unready};
 use crate::refusals::{Refused, UncoveredForm};
@@ -14,7 +14,7 @@ use wat_text::{Strings, TextModule};
 
 /// Why a module has no bytes, with the position of a form that no encoder covers.
 fn refusal<'a>(module: &mut Module<'_>, error: Error<'a>) -> Refused<'a>
-    ensures { Tells «module».old.kind error.entry result }
+    ensures { RefusesWith «module».old.kind error.entry result }
 {
     let first = match error.fault() {
         Fault::Uncovered(_) => first_form(module),

@@ -3,9 +3,9 @@
 ghost use Rattle.std.specs.Prelude.{◌≡◌, map, IfOk, IfErr};
 ghost use Rattle.std.specs.List.{filter};
 ghost use Rattle.wast_base.specs.Ids.{Written};
-ghost use Rattle.wast_passes.specs.LookUps.{IsSettledFor};
-ghost use Rattle.wast_passes.specs.Resolvers.{known_to};
-ghost use Rattle.wast_demands.specs.Resolved.{numbered_at};
+ghost use Rattle.wast_resolve_passes.specs.LookUps.{IsSettledFor};
+ghost use Rattle.wast_resolve_passes.specs.Resolvers.{known_to};
+ghost use Rattle.wast_resolve_rules.specs.Resolved.{numbered_at};
 ghost use Rattle.wast_core.specs.Modules.{IsReady};
 ghost use Rattle.wat_bytes.specs.Texts.{IsPlaced, OfText};
 ghost use Rattle.wat_bytes.specs.Names.{AreListed, AreListedIn, AreOfSpace, ListsText, NumbersText, ResolvesReady, ResolvesText, denoted_at, is_written_pair};

@@ -1,6 +1,6 @@
 -- Which modules of a text are well formed.
 use Rattle.std.specs.Prelude.{Bool, true}
-use Rattle.wast_nodes.specs.WellFormed.{is_well_formed}
+use Rattle.wast_tree_nodes.specs.WellFormed.{is_well_formed}
 use Rattle.wat_text.specs.declared.modules.TextKind.{TextKind}
 use Rattle.wat_text.specs.declared.modules.TextKind.TheVariants as kind
 

@@ -1,7 +1,7 @@
 //! Modules.
 
 ghost use Rattle.std.specs.Prelude.{◌≡◌, ◌≤◌, true, is_none, length, IsTrue, IfOk, IfErr};
-ghost use Rattle.wast_nodes.specs.WellFormed.{is_well_formed};
+ghost use Rattle.wast_tree_nodes.specs.WellFormed.{is_well_formed};
 ghost use Rattle.wat_text.specs.Texts.{is_well_formed_text};
 
 use crate::quotes::{Quote, quoted_tokens};

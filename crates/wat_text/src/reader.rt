@@ -4,7 +4,7 @@
 //! no error to pass on and nothing to drop, and each loop over the tokens that are left ends.
 
 use std::alloc::{AllocError, Global};
-use wast_tree::{Id, Index, Maker, NameAnnotation, Seq, Span};
+use wast_tree::{Id, Index, NameAnnotation, Seq, Span, TreeBuilder};
 use wat_tokens::{Annotation, Key, Placed, TextError, TextFault, Token, Word, unsigned32};
 
 /// The tokens of a text, and how far they are read.
@@ -12,7 +12,7 @@ use wat_tokens::{Annotation, Key, Placed, TextError, TextFault, Token, Word, uns
 pub(crate) struct Reader<'a> {
     pub alloc: Global,
     /// What puts parts of the tree into lists.
-    pub make: Maker,
+    pub make: TreeBuilder,
     tokens: Vec<Placed<'a>>,
     /// How many tokens are read.
     at: usize,
@@ -26,7 +26,7 @@ impl<'a> Reader<'a> {
     pub(crate) fn new(alloc: Global, tokens: Vec<Placed<'a>>, end: Span) -> Reader<'a> {
         Reader {
             alloc,
-            make: Maker::new(alloc),
+            make: TreeBuilder::new(alloc),
             tokens,
             at: 0,
             end,

@@ -27,21 +27,21 @@ use Rattle.wast_tree.specs.Tree.elem
 use Rattle.wast_tree.specs.Tree.payload
 use Rattle.wast_tree.specs.Tree.bytes
 use Rattle.wast_tree.specs.Tree.field
-use Rattle.wast_base.specs.Ids.{Name, Written, Generated, Mark, mark_of, generated, same_id, same_index}
-use Rattle.wast_nodes.specs.Items.{items}
-use Rattle.wast_nodes.specs.Sites.{Wants, Unasked, Clause, Covered, Site, OfItem, OfBlock, Asked, Used, Declared, LocalAt, FieldAt, LabelAt, Repeated, Begins, Ends, in_module, asked}
-use Rattle.wast_nodes.specs.Known.{known}
-use Rattle.wast_nodes.specs.Uncovered.{uncovered_forms}
-use Rattle.wast_nodes.specs.WellFormed.{is_well_formed, ill_formed}
-use Rattle.wast_visits.specs.FirstUncovered.{first_uncovered}
-use Rattle.wast_visits.specs.IllFormed.{first_ill_formed}
-use Rattle.wast_nodes.specs.WrittenOut.{is_written_out}
-use Rattle.wast_nodes.specs.Generations.{generation_or_zero, generation_in, greatest_generation}
-use Rattle.wast_nodes.specs.WorkedModules.{Address, text, place, id_at, by_id, by_number, plain_def, plain_type, plain_func, export_field, row27_with, row27, row31, row32, plain_global_type, plain_memory_type, plain_memory, filled_memory}
+use Rattle.wast_base.specs.Ids.{Name, Written, Generated, Mark, mark_of, gensym_id, same_id, same_index}
+use Rattle.wast_tree_nodes.specs.Items.{items}
+use Rattle.wast_tree_nodes.specs.Sites.{ItemIndex, PlainId, Clause, Covered, Site, OfItem, OfBlock, Asked, Used, Declared, LocalAt, FieldAt, LabelAt, Repeated, Begins, Ends, in_module, checks_of}
+use Rattle.wast_tree_nodes.specs.Known.{id_context}
+use Rattle.wast_tree_nodes.specs.Uncovered.{uncovered_forms}
+use Rattle.wast_tree_nodes.specs.WellFormed.{is_well_formed, ill_formed}
+use Rattle.wast_tree_visit.specs.FirstUncovered.{first_uncovered}
+use Rattle.wast_tree_visit.specs.IllFormed.{first_ill_formed}
+use Rattle.wast_tree_nodes.specs.WrittenOut.{is_written_out}
+use Rattle.wast_tree_nodes.specs.Generations.{generation_or_zero, generation_in, greatest_generation}
+use Rattle.wast_tree_nodes.specs.WorkedModules.{Address, text, place, id_at, by_id, by_number, plain_def, plain_type, plain_func, export_field, row27_with, row27, row31, row32, plain_global_type, plain_memory_type, plain_memory, filled_memory}
 
 -- a generated id
 abbrev pub made : ℕ → Id
-made n = generated n (place 0)
+made n = gensym_id n (place 0)
 
 -- a generated id as an index
 abbrev pub made_index : ℕ → Index
@@ -56,9 +56,9 @@ abbrev pub SameIds : Type 0
 SameIds = (a b : Address) →
     (same_id (id_at a (codes "f") 1) (id_at b (codes "f") 2) ≡ true)
     × (same_id (id_at a (codes "f") 1) (id_at b (codes "ff") 1) ≡ false)
-    × (same_id (generated 3 (place 1)) (generated 3 (place 2)) ≡ true)
-    × (same_id (generated 3 (place 1)) (generated 4 (place 1)) ≡ false)
-    × (same_id (generated 0 (place 1)) (id_at a (codes "gensym") 1) ≡ false)
+    × (same_id (gensym_id 3 (place 1)) (gensym_id 3 (place 2)) ≡ true)
+    × (same_id (gensym_id 3 (place 1)) (gensym_id 4 (place 1)) ≡ false)
+    × (same_id (gensym_id 0 (place 1)) (id_at a (codes "gensym") 1) ≡ false)
     × (same_index (by_number 3 1) (by_number 3 2) ≡ true)
     × (same_index (by_number 3 1) (by_number 4 1) ≡ false)
     × (same_index (by_number 3 1) (made_index 3) ≡ false)
@@ -136,7 +136,7 @@ everywhere_generated a =
 
 -- an index where one is wanted
 abbrev pub wanted : Space → Index → Site
-wanted s i = Asked (Wants s i)
+wanted s i = Asked (ItemIndex s i)
 
 -- a form that is covered, or not
 abbrev pub covers : Form → Bool → Site
@@ -212,18 +212,18 @@ StandsEverywhere = (a : Address) →
     ∷ covers form.Descriptor false
     ∷ wanted space.Ty (made_index 5)
     ∷ covers form.Descriptor false
-    ∷ Asked (Unasked (made_mark 2))
+    ∷ Asked (PlainId (made_mark 2))
     ∷ wanted space.Ty (made_index 12)
     ∷ wanted space.Ty (made_index 13)
     ∷ unshared true
-    ∷ Asked (Unasked (made_mark 15))
+    ∷ Asked (PlainId (made_mark 15))
     ∷ wanted space.Ty (made_index 16)
     ∷ unshared true
     ∷ wanted space.Ty (made_index 18)
     ∷ unshared true
     ∷ Used OfItem used_everywhere
     ∷ wanted space.Ty (made_index 19)
-    ∷ Asked (Unasked (made_mark 7))
+    ∷ Asked (PlainId (made_mark 7))
     ∷ Declared [] (Some (made_mark 10))
     ∷ Declared (Some (Generated 10) ∷ []) (Some (made_mark 7))
     ∷ wanted space.Func (made_index 8)
@@ -248,7 +248,7 @@ StandsEverywhere = (a : Address) →
 
 -- the number of a name in a space, by a list of fields
 abbrev pub number_known : List ModuleField → Space → Name → Option ℕ
-number_known fields s name = (known (items fields)).number s name
+number_known fields s name = (id_context (items fields)).number s name
 
 -- In row 27 `$f` is function 0, `$t` is type 0, and nothing else is known; of two types `$t` the first counts.
 abbrev pub KnownInRows : Type 0
@@ -569,13 +569,13 @@ IllFormedClauses = (a : Address) →
 
 -- a generated id as an index, which is written at a place
 abbrev pub made_index_at : ℕ → ℕ → Index
-made_index_at n place_of_it = index.Id (generated n (place place_of_it))
+made_index_at n place_of_it = index.Id (gensym_id n (place place_of_it))
 
 -- The first clause that fails has the place of its index, of the index before it in its field, or of its field. A segment is
 -- asked before the table that it fills, and the memory that is read before the one that is written.
 abbrev pub FirstIllFormed : Type 0
 FirstIllFormed = (a : Address) →
-    (first_ill_formed (field.Func nameless_func ∷ export_field a 50 (index.Id (generated 1 (place 57))) ∷ memory_in_place a (Some 64) ∷ []) ≡ Some (record { clause = 6; span = place 57 }))
+    (first_ill_formed (field.Func nameless_func ∷ export_field a 50 (index.Id (gensym_id 1 (place 57))) ∷ memory_in_place a (Some 64) ∷ []) ≡ Some (record { clause = 6; span = place 57 }))
     × (first_ill_formed (func_alone (func_of nothing_used (instr.call (by_number 0 25) ∷ misaligned ∷ instr.call (by_number 0 35) ∷ []))) ≡ Some (record { clause = 1; span = place 30 }))
     × (first_ill_formed (field.Func nameless_func ∷ global_as (plain_block ∷ []) ∷ field.Func nameless_func ∷ []) ≡ Some (record { clause = 5; span = place 1 }))
     × (first_ill_formed (field.Func nameless_func ∷ memory_in_place a (Some 63) ∷ []) ≡ None)
@@ -607,7 +607,7 @@ abbrev pub StandsInSharedImports : Type 0
 StandsInSharedImports = (a b : Address) →
     (items (shared_import a (Some (made 5)) [] ∷ []) ≡ [])
     × (in_module (shared_import a (Some (made 5)) [] ∷ [])
-    ≡ wanted space.Ty (made_index 2) ∷ unshared true ∷ Asked (Unasked (made_mark 5)) ∷ covers form.CompactImports false ∷ [])
+    ≡ wanted space.Ty (made_index 2) ∷ unshared true ∷ Asked (PlainId (made_mark 5)) ∷ covers form.CompactImports false ∷ [])
     × (items (shared_import a (Some (made 5)) (text b (codes "n") ∷ text b (codes "n") ∷ []) ∷ [])
     ≡ record { space = space.Global; id = Some (made_mark 5); fields = [] } ∷ record { space = space.Global; id = Some (made_mark 5); fields = [] } ∷ [])
     × (in_module (shared_import a (Some (made 5)) (text b (codes "n") ∷ text b (codes "n") ∷ []) ∷ [])
@@ -626,7 +626,7 @@ GenerationsOfRows = (a b c d e f : Address) →
     × (greatest_generation (shared_import a (Some (made 5)) (text b (codes "n") ∷ []) ∷ []) ≡ 5)
     × (greatest_generation (shared_import a None [] ∷ []) ≡ 2)
     × (map (λ x. generation_or_zero x.id) (items (everywhere_generated a)) ≡ 1 ∷ 14 ∷ 17 ∷ 6 ∷ [])
-    × (map generation_in (asked (in_module (everywhere_generated a))) ≡ 3 ∷ 4 ∷ 0 ∷ 5 ∷ 0 ∷ 2 ∷ 12 ∷ 13 ∷ 0 ∷ 15 ∷ 16 ∷ 0 ∷ 18 ∷ 0 ∷ 9 ∷ 10 ∷ 19 ∷ 7 ∷ 8 ∷ 21 ∷ 22 ∷ 23 ∷ 20 ∷ 24 ∷ 25 ∷ 26 ∷ 27 ∷ 28 ∷ 29 ∷ 30 ∷ 31 ∷ 0 ∷ 11 ∷ [])
+    × (map generation_in (checks_of (in_module (everywhere_generated a))) ≡ 3 ∷ 4 ∷ 0 ∷ 5 ∷ 0 ∷ 2 ∷ 12 ∷ 13 ∷ 0 ∷ 15 ∷ 16 ∷ 0 ∷ 18 ∷ 0 ∷ 9 ∷ 10 ∷ 19 ∷ 7 ∷ 8 ∷ 21 ∷ 22 ∷ 23 ∷ 20 ∷ 24 ∷ 25 ∷ 26 ∷ 27 ∷ 28 ∷ 29 ∷ 30 ∷ 31 ∷ 0 ∷ 11 ∷ [])
 
 -- the forms in a function of these instructions that no encoder covers
 abbrev pub uncovered_by : List Instruction → List Form

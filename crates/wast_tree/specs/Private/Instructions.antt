@@ -16,29 +16,29 @@ use Rattle.wast_tree.specs.Tree.instr
 use Rattle.wast_base.specs.declared.mem_ops.MemOp.TheVariants as mem_op
 use Rattle.wast_base.specs.declared.lane_ops.LaneOp.TheVariants as lane_op
 use Rattle.wast_base.specs.declared.lane_ops.MemLaneOp.TheVariants as mem_lane_op
-use Rattle.wast_nodes.specs.declared.vectors.V128Const.{V128Const}
-use Rattle.wast_nodes.specs.declared.vectors.I8x16Shuffle.{I8x16Shuffle}
-use Rattle.wast_nodes.specs.Sites.{Ask, Wants, Within, Unasked, Clause, Covered, start, in_instr, asked}
+use Rattle.wast_tree_nodes.specs.declared.vectors.V128Const.{V128Const}
+use Rattle.wast_tree_nodes.specs.declared.vectors.I8x16Shuffle.{I8x16Shuffle}
+use Rattle.wast_tree_nodes.specs.Sites.{Check, ItemIndex, InnerIndex, PlainId, Clause, Covered, constant_context, in_instr, checks_of}
 use Rattle.wast_tree.specs.Private.Examples.{made, made_index, made_mark, ref_to, block_of}
 
 -- all that is asked in an instruction
-abbrev pub asks : Instruction → List Ask
-asks i = asked (in_instr start i)
+abbrev pub asks : Instruction → List Check
+asks i = checks_of (in_instr constant_context i)
 
 -- an index of a space is wanted, the id of this generation
-abbrev pub wants : Space → ℕ → Ask
-wants s n = Wants s (made_index n)
+abbrev pub wants : Space → ℕ → Check
+wants s n = ItemIndex s (made_index n)
 
 -- an index of a local, a label or a field, the id of this generation
-abbrev pub within : ℕ → Ask
-within n = Within (made_index n)
+abbrev pub within : ℕ → Check
+within n = InnerIndex (made_index n)
 
 -- the id of a label, of this generation
-abbrev pub named : ℕ → Ask
-named n = Unasked (made_mark n)
+abbrev pub named : ℕ → Check
+named n = PlainId (made_mark n)
 
 -- a form that no encoder covers
-abbrev pub lacks : Form → Ask
+abbrev pub lacks : Form → Check
 lacks f = Covered f false
 
 -- a type use of an index alone

@@ -1,6 +1,6 @@
-use Rattle.wast_nodes.specs.Kinds.{is_of}
-use Rattle.wast_nodes.specs.declared.kinds.FieldKind.TheVariants as kind
-use Rattle.wast_reach.proofs.Reaching.{is_inside_of}
+use Rattle.wast_tree_nodes.specs.Kinds.{is_of}
+use Rattle.wast_tree_nodes.specs.declared.kinds.FieldKind.TheVariants as kind
+use Rattle.wast_core_ranges.proofs.Reaching.{is_inside_of}
 use Rattle.wast_core.proofs.Counting.{functions_need}
 use Rattle.wast_core.proofs.counts.functions.Goals as goal
 

@@ -2,8 +2,8 @@ use Rattle.std.proofs.Common.{List, subst}
 use Rattle.std.specs.Prelude.{All}
 use Rattle.std.specs.List.{flat_map}
 use Rattle.wasm_ops.specs.Sinks.{Writes}
-use Rattle.wast_nodes.specs.Customs.{customs_in}
-use Rattle.wast_conv.specs.Customs.{InRangeCustom}
+use Rattle.wast_tree_nodes.specs.Customs.{customs_in}
+use Rattle.wast_core_conv.specs.Customs.{InRangeCustom}
 use Rattle.wast_core.specs.Meaning.{custom_section}
 use Rattle.wast_core.specs.Tree.{Custom}
 use Rattle.wast_core.proofs.Appended.{each_written}

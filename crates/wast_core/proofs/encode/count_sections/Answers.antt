@@ -1,4 +1,4 @@
-use Rattle.wast_names.specs.FoundNames.{text_seen}
+use Rattle.wast_core_name_section.specs.FoundNames.{text_seen}
 use Rattle.wast_core.proofs.CountedFirst.{refused_by_count}
 use Rattle.wast_core.proofs.encode.count_sections.Goals as goal
 

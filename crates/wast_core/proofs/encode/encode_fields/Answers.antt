@@ -4,7 +4,7 @@ use Rattle.std.proofs.lemmas.Result.{err_from_is_err_and}
 use Rattle.wasm_ops.specs.Sinks.{refused_as}
 use Rattle.wast_core.specs.Bounded.{bytes_of}
 use Rattle.wast_core.proofs.Readings.{reads_module}
-use Rattle.wast_names.specs.FoundNames.{text_seen}
+use Rattle.wast_core_name_section.specs.FoundNames.{text_seen}
 use Rattle.wast_core.proofs.encode.encode_fields.Goals as goal
 
 pub returns-clause-bytes : goal.returns-clause-bytes

@@ -1,5 +1,5 @@
 use Rattle.std.proofs.Common.{subst}
-use Rattle.wast_names.specs.FoundNames.{text_seen}
+use Rattle.wast_core_name_section.specs.FoundNames.{text_seen}
 use Rattle.wast_core.specs.Writing.{EncodesFields}
 use Rattle.wast_core.proofs.encode.encode_resolved.Goals as goal
 

@@ -1,8 +1,8 @@
 use Rattle.std.proofs.Common.{◌≡◌, true, rules, subst}
 use Rattle.wasm_ops.proofs.Sinking.{one_written}
 use Rattle.wasm_out.specs.Parts.{Types, Imports, Functions, Tables, Memories, Tags, Globals, Exports, Elements, Code, Data, Single, entry, InRangeEntry}
-use Rattle.wast_conv.specs.Encodable.{is_encodable_field}
-use Rattle.wast_conv.proofs.Ready.{type_ready, group_ready, import_ready, func_ready, table_ready, global_ready, elem_ready, data_ready, tag_ready}
+use Rattle.wast_core_conv.specs.Encodable.{is_encodable_field}
+use Rattle.wast_core_conv.proofs.Ready.{type_ready, group_ready, import_ready, func_ready, table_ready, global_ready, elem_ready, data_ready, tag_ready}
 use Rattle.wast_core.specs.Meaning as meaning
 use Rattle.wast_core.proofs.entries.put_entry.Goals as goal
 

@@ -2,7 +2,7 @@ use Rattle.std.proofs.Common.{refl}
 use Rattle.std.specs.Prelude.{All}
 use Rattle.std.specs.List.{flat_map}
 use Rattle.wasm_out.specs.Parts.{part, InRangePart}
-use Rattle.wast_core.specs.Meaning.{entries, listed}
+use Rattle.wast_core.specs.Meaning.{entries, section_part}
 use Rattle.wast_core.specs.Slots.{section_kind}
 use Rattle.wast_core.proofs.Appended.{too_large}
 use Rattle.wast_core.proofs.Listed.{counted_in_range, listed_written, listed_absent}
@@ -12,7 +12,7 @@ pub returns-in_default : goal.returns-in_default
 returns-in_default g c =
     let k = section_kind c.args.kind in
     let there = entries k c.args.fields.now in
-    too_large g.S.Sink.rules (All InRangePart (listed k there)) c.args.out.now (flat_map part (listed k there)) g.met.S.Sink.laws (λ h. c.in_default.ensures.none refl (counted_in_range k there h))
+    too_large g.S.Sink.rules (All InRangePart (section_part k there)) c.args.out.now (flat_map part (section_part k there)) g.met.S.Sink.laws (λ h. c.in_default.ensures.none refl (counted_in_range k there h))
 
 pub returns-then-count-eq0 : goal.returns-then-count-eq0
 returns-then-count-eq0 g c =

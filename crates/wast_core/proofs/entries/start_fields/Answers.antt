@@ -1,9 +1,9 @@
-use Rattle.wast_conv.specs.Encodable.{is_encodable_field}
+use Rattle.wast_core_conv.specs.Encodable.{is_encodable_field}
 use Rattle.wast_core.specs.Meaning.{starts_in}
 use Rattle.wast_core.proofs.Putting.{no_start_elsewhere}
-use Rattle.wast_nodes.specs.Kinds.{is_of}
-use Rattle.wast_nodes.specs.declared.kinds.FieldKind.TheVariants as kind
-use Rattle.wast_reach.proofs.Reaching.{all_there, all_pass_there, is_inside_of}
+use Rattle.wast_tree_nodes.specs.Kinds.{is_of}
+use Rattle.wast_tree_nodes.specs.declared.kinds.FieldKind.TheVariants as kind
+use Rattle.wast_core_ranges.proofs.Reaching.{all_there, all_pass_there, is_inside_of}
 use Rattle.wast_core.proofs.entries.start_fields.Goals as goal
 
 pub of-requires : goal.of-requires

@@ -1,5 +1,5 @@
 use Rattle.std.specs.List.{flat_map}
-use Rattle.wast_names.specs.GivenNames.{named_from}
+use Rattle.wast_core_name_section.specs.GivenNames.{named_from}
 use Rattle.wast_core.proofs.Hinting.{section_absent, section_written}
 use Rattle.wast_core.proofs.hints.put_counted.Goals as goal
 

@@ -2,8 +2,8 @@ use Rattle.std.proofs.Common.{[], refl, inr, arith, sym, ◌∙◌, Ok, Err}
 use Rattle.std.proofs.lemmas.List.Elements.{All-nil, All-head}
 use Rattle.std.proofs.lemmas.Result.{err_from_is_err_and}
 use Rattle.wasm_ops.specs.Spelling.{InRangeU32}
-use Rattle.wast_conv.specs.Hints.{as_hinted, body_hints, InRangeBodyHints}
-use Rattle.wast_names.proofs.NameEntries.{entry_written}
+use Rattle.wast_core_conv.specs.Hints.{as_hinted, body_hints, InRangeBodyHints}
+use Rattle.wast_core_name_section.proofs.NameEntries.{entry_written}
 use Rattle.wast_core.specs.Hints.{InRangeHinted}
 use Rattle.wast_core.proofs.Hinting.{hinted_if, unhinted_if}
 use Rattle.wast_core.proofs.hints.put_function.Goals as goal

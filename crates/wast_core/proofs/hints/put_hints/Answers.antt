@@ -3,7 +3,7 @@ use Rattle.std.specs.Prelude.{All}
 use Rattle.std.specs.List.{flat_map}
 use Rattle.wasm_ops.specs.Spelling.{InRangeU32}
 use Rattle.wasm_out.specs.Parts.{part, InRangePart}
-use Rattle.wast_core.specs.Hints.{hinted, hints_part, InRangeHints}
+use Rattle.wast_core.specs.Hints.{hinted_functions, hints_part, InRangeHints}
 use Rattle.wast_core.proofs.Appended.{too_large}
 use Rattle.wast_core.proofs.Hinting.{alike}
 use Rattle.wast_core.proofs.hints.put_hints.Goals as goal
@@ -12,7 +12,7 @@ use Rattle.wast_core.proofs.hints.put_hints.Goals as goal
 pub returns-in_default : goal.returns-in_default
 returns-in_default g c =
     let fields = c.args.fields.now in
-    let all = hinted fields in
+    let all = hinted_functions fields in
     too_large g.S.Sink.rules (All InRangePart (hints_part all) × InRangeHints all) c.args.out.now (flat_map part (hints_part all)) g.met.S.Sink.laws
     (λ h. c.in_default.ensures.none refl (subst (λ fs. InRangeU32 (length fs)) (sym (alike fields c.function_fields-there.result.now c.function_fields-there.ensures.same)) h.1.0))
 

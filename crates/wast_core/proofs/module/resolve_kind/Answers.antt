@@ -1,5 +1,5 @@
 use Rattle.std.proofs.Common.{IsTrue, ◌<◌, subst, sym}
-use Rattle.wast_conv.specs.Encodable.{is_at_rest}
+use Rattle.wast_core_conv.specs.Encodable.{is_at_rest}
 use Rattle.wast_core.specs.Modules.{is_well_formed_kind, bound_of_kind}
 use Rattle.wast_core.proofs.Encoded.{at_rest}
 use Rattle.wast_core.proofs.module.resolve_kind.Goals as goal

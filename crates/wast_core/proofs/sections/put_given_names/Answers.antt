@@ -1,5 +1,5 @@
 use Rattle.std.proofs.Common.{sym, ◌∙◌}
-use Rattle.wast_names.specs.FoundNames.{text_seen}
+use Rattle.wast_core_name_section.specs.FoundNames.{text_seen}
 use Rattle.wast_core.proofs.GivenNames.{own_names_alone, names_written}
 use Rattle.wast_core.proofs.sections.put_given_names.Goals as goal
 

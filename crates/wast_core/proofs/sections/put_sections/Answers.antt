@@ -8,7 +8,7 @@ use Rattle.wasm_out.specs.Reads.{header}
 use Rattle.wast_core.specs.Bounded.{InRangeModule}
 use Rattle.wast_core.specs.Meaning.{in_slot, parts}
 use Rattle.wast_core.specs.Slots.{order}
-use Rattle.wast_names.specs.FoundNames.{text_seen}
+use Rattle.wast_core_name_section.specs.FoundNames.{text_seen}
 use Rattle.wast_core.proofs.Appended.{written_behind}
 use Rattle.wast_core.proofs.sections.put_sections.Goals as goal
 

@@ -1,4 +1,4 @@
-use Rattle.wast_nodes.specs.Customs.{customs_at}
+use Rattle.wast_tree_nodes.specs.Customs.{customs_at}
 use Rattle.wast_core.proofs.CustomParts.{parts_written}
 use Rattle.wast_core.proofs.sections.put_slot.Goals as goal
 

@@ -6,7 +6,7 @@ use Rattle.wasm_ops.proofs.Sinking.{cut_back, one_item_more}
 use Rattle.wasm_out.specs.Parts.{part}
 use Rattle.wast_core.specs.Bounded.{InRangeSlot}
 use Rattle.wast_core.specs.Meaning.{in_slot}
-use Rattle.wast_names.specs.FoundNames.{text_seen}
+use Rattle.wast_core_name_section.specs.FoundNames.{text_seen}
 use Rattle.std.specs.Prelude.{All}
 use Rattle.wast_core.specs.declared.slots.Slot.{Slot}
 use Rattle.wast_core.specs.declared.slots.Slot.TheVariants as slot

@@ -3,7 +3,7 @@ use Rattle.std.specs.List.{All, flat_map}
 use Rattle.wasm_out.specs.Parts.{part}
 use Rattle.wast_core.specs.Bounded.{InRangeSlot}
 use Rattle.wast_core.specs.Meaning.{in_slot}
-use Rattle.wast_names.specs.FoundNames.{text_seen}
+use Rattle.wast_core_name_section.specs.FoundNames.{text_seen}
 use Rattle.wast_core.proofs.sections.put_slots.Given as goal
 
 abbrev pub invariant-loop-slot : goal.invariant-loop-slot

@@ -24,8 +24,8 @@ returns-in_err-start-clause-answer c =
     rw (p.1, p.2)
     (adds_none c.args.gensym.now (name_of_module c.args.module.now) c.args.module.now.kind c.find_start.new.module.kind c.args.idx c.in_err-start.field-0.0 c.in_err-start.ensures.answer)
 
-pub returns-in_err-start-clause-rising : goal.returns-in_err-start-clause-rising
-returns-in_err-start-clause-rising c = rises c.args.module.now.kind c.find_start.new.module.kind c.args.gensym.now c.find_start.new.gensym c.in_err-start.ensures.counter
+pub returns-in_err-start-clause-counter_grows : goal.returns-in_err-start-clause-counter_grows
+returns-in_err-start-clause-counter_grows c = rises c.args.module.now.kind c.find_start.new.module.kind c.args.gensym.now c.find_start.new.gensym c.in_err-start.ensures.counter
 
 pub returns-in_err-put_start-clause-answer : goal.returns-in_err-put_start-clause-answer
 returns-in_err-put_start-clause-answer c =
@@ -34,8 +34,8 @@ returns-in_err-put_start-clause-answer c =
     (adds_no_room c.args.gensym.now (name_of_module c.args.module.now) c.args.module.now.kind c.find_start.new.module.kind c.put_start.new.module.kind c.args.idx c.in_ok-start.start c.in_err-put_start.field-0.0 c.in_ok-start.ensures.answer
     c.in_err-put_start.ensures.put)
 
-pub returns-in_err-put_start-clause-rising : goal.returns-in_err-put_start-clause-rising
-returns-in_err-put_start-clause-rising c = rises c.args.module.now.kind c.find_start.new.module.kind c.args.gensym.now c.find_start.new.gensym c.in_ok-start.ensures.counter
+pub returns-in_err-put_start-clause-counter_grows : goal.returns-in_err-put_start-clause-counter_grows
+returns-in_err-put_start-clause-counter_grows c = rises c.args.module.now.kind c.find_start.new.module.kind c.args.gensym.now c.find_start.new.gensym c.in_ok-start.ensures.counter
 
 pub returns-in_err-put_start-clause-ready : goal.returns-in_err-put_start-clause-ready
 returns-in_err-put_start-clause-ready c =
@@ -57,8 +57,8 @@ returns-clause-answer c =
     c.in_ok-start.start c.in_ok-put_start.field-0 above c.requires.settled c.in_ok-start.ensures.answer c.in_ok-start.ensures.counter c.in_ok-put_start.ensures.put c.encode_module.result
     (subst (λ name. EncodesKind m name put.kind c.encode_module.result last.kind) named c.encode_module.ensures.answer.kind)
 
-pub returns-clause-rising : goal.returns-clause-rising
-returns-clause-rising c =
+pub returns-clause-counter_grows : goal.returns-clause-counter_grows
+returns-clause-counter_grows c =
     let a = rises c.args.module.now.kind c.find_start.new.module.kind c.args.gensym.now c.find_start.new.gensym c.in_ok-start.ensures.counter in
     let b = rises c.put_start.new.module.kind c.encode_module.new.module.kind c.find_start.new.gensym c.encode_module.new.gensym c.encode_module.ensures.answer.counter in
     omega (arith, a, b)

@@ -11,8 +11,8 @@ returns-then-is_err g c =
     let xs = c.args.self.now.0.now in
     let way = c.args.self.now.1 in
     let k = c.loop-item.item-index in
-    let f = g.W.Spell.spelling way in
-    let fits = g.W.Spell.in_range way in
+    let f = g.W.EncodeWith.spelling way in
+    let fits = g.W.EncodeWith.in_range way in
     let x = flat_map f (take k xs) in
     let y = f c.item-item.result in
     let is = c.item-item.is in
@@ -24,6 +24,6 @@ loop-item-preserved g c =
     let rules = g.S.Sink.rules in
     let way = c.args.self.now.1 in
     let i = c.loop-item.invariant in
-    let more = one_item_more rules (g.W.Spell.spelling way) (g.W.Spell.in_range way) c.args.out.now c.loop-item.out c.spell-result.new.out c.args.self.now.0.now c.loop-item.item-index c.item-item.result c.spell-result.result
+    let more = one_item_more rules (g.W.EncodeWith.spelling way) (g.W.EncodeWith.in_range way) c.args.out.now c.loop-item.out c.spell-result.new.out c.args.self.now.0.now c.loop-item.item-index c.item-item.result c.spell-result.result
     g.met.S.Sink.laws c.loop-item-test.true c.item-item.is i.told i.fitting c.spell-result.ensures (sym c.is_err.ensures.value ∙ c.if-is_err.false) in
     record { told = more.0; fitting = more.1; at = i.at }

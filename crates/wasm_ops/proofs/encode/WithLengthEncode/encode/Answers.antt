@@ -1,7 +1,7 @@
 use Rattle.std.proofs.Common.{◌≤◌, ◌<◌, ◌-◌, ◌∷◌, ◌++◌, [], sym, ◌∙◌, length, refl, inr, subst, rules, arith}
 use Rattle.std.proofs.lemmas.Result.{err_from_is_err_and}
 use Rattle.wasm_ops.specs.Leb128.{unsigned}
-use Rattle.wasm_ops.specs.Spelling.{sized, InRangeSized}
+use Rattle.wasm_ops.specs.Spelling.{length_prefixed, InRangeSized}
 use Rattle.wasm_ops.proofs.Sinking.{cut_back}
 use Rattle.wasm_ops.proofs.PutLengths.{no_longer, no_byte, both_put, size_behind, cut_whole, number_set, byte_kept, byte_within, unset_within, put_anew}
 use Rattle.wasm_ops.proofs.encode.WithLengthEncode.encode.Goals as goal
@@ -16,7 +16,7 @@ pub returns-then-not-set_number : goal.returns-then-not-set_number
 returns-then-not-set_number g c =
     let v = c.args.self.now.0 in
     let all = InRangeSized g.T.Encode.in_range g.T.Encode.spelling v in
-    put_anew g.S.Sink.rules all all c.args.out.now c.push_bytes.new.self c.set_number.new.self c.cut.new.self c.put_counted.new.out 0 0 [] (sized g.T.Encode.spelling v) c.size-start.result c.set_number.result c.put_counted.result
+    put_anew g.S.Sink.rules all all c.args.out.now c.push_bytes.new.self c.set_number.new.self c.cut.new.self c.put_counted.new.out 0 0 [] (length_prefixed g.T.Encode.spelling v) c.size-start.result c.set_number.result c.put_counted.result
     g.met.S.Sink.laws c.in_ok-push_bytes.ensures.0 c.size-start.ensures c.set_number.ensures c.if-not-set_number.true c.cut.ensures (λ h. h) (λ h. h) c.put_counted.ensures
 
 pub returns-then-is_err : goal.returns-then-is_err
@@ -24,7 +24,7 @@ returns-then-is_err g c =
     let v = c.args.self.now.0 in
     let y = g.T.Encode.spelling v in
     let kept = byte_kept g.S.Sink.rules c.args.out.now c.push_bytes.new.self c.set_number.new.self c.size-start.result c.set_number.result g.met.S.Sink.laws c.in_ok-push_bytes.ensures.0 c.size-start.ensures c.set_number.ensures c.if-not-set_number.false in
-    cut_back g.S.Sink.rules (InRangeSized g.T.Encode.in_range g.T.Encode.spelling v) (g.T.Encode.in_range v) c.args.out.now c.set_number.new.self c.encode-value.new.out c.cut-then-is_err.new.self (0 ∷ []) y (sized g.T.Encode.spelling v) c.size-start.result c.encode-value.result
+    cut_back g.S.Sink.rules (InRangeSized g.T.Encode.in_range g.T.Encode.spelling v) (g.T.Encode.in_range v) c.args.out.now c.set_number.new.self c.encode-value.new.out c.cut-then-is_err.new.self (0 ∷ []) y (length_prefixed g.T.Encode.spelling v) c.size-start.result c.encode-value.result
     g.met.S.Sink.laws (no_longer (length y) y) (λ i. i.1) kept c.encode-value.ensures (sym c.is_err.ensures.value ∙ c.if-is_err.true) c.size-start.ensures c.cut-then-is_err.ensures
 
 pub returns-then-is_err-2 : goal.returns-then-is_err-2
@@ -62,7 +62,7 @@ returns g c =
     let put = both_put of (g.T.Encode.in_range v) c.args.out.now c.set_number.new.self c.encode-value.new.out 0 y c.encode-value.result laws kept c.encode-value.ensures (sym c.is_err.ensures.value ∙ c.if-is_err.false) in
     let size = size_behind of c.args.out.now c.encode-value.new.out 0 y c.size-start.result c.size.result laws put.0 c.size-start.ensures c.size.ensures in
     let few : c.size.result - c.size-start.result - 1 < 4294967296 = search rules in
-    put_anew of (Unit {0}) (InRangeSized g.T.Encode.in_range g.T.Encode.spelling v) c.args.out.now c.encode-value.new.out c.set_number-2.new.self c.cut-2.new.self c.put_sized.new.out 0 (c.size.result - c.size-start.result - 1) y (sized g.T.Encode.spelling v) c.size-start.result c.set_number-2.result c.put_sized.result
+    put_anew of (Unit {0}) (InRangeSized g.T.Encode.in_range g.T.Encode.spelling v) c.args.out.now c.encode-value.new.out c.set_number-2.new.self c.cut-2.new.self c.put_sized.new.out 0 (c.size.result - c.size-start.result - 1) y (length_prefixed g.T.Encode.spelling v) c.size-start.result c.set_number-2.result c.put_sized.result
     laws put.0 c.size-start.ensures c.set_number-2.ensures c.if-set_number.false c.cut-2.ensures (λ u. (subst (λ n. n < 4294967296) size few, put.1)) (λ i. tt) c.put_sized.ensures
 
 pub cut-requires-then-is_err : goal.cut-requires-then-is_err

@@ -1,10 +1,10 @@
 use Rattle.std.proofs.Common.{◌≡◌, true, ◌+◌, length, take, drop, sym, ap, subst, refl, arith, length-append, Ok, ℕ}
 use Rattle.std.specs.List.{flat_map}
 use Rattle.std.proofs.lemmas.List.{take_all}
-use Rattle.wast_conv.proofs.EachPasses.{item_passes}
-use Rattle.wast_names.specs.FoundNames.{WritesItems}
-use Rattle.wast_names.proofs.Each.{each_more, each_around}
-use Rattle.wast_names.proofs.NameEntries.{names_after, names_kept, names_back}
+use Rattle.wast_core_conv.proofs.EachPasses.{item_passes}
+use Rattle.wast_core_name_section.specs.FoundNames.{WritesItems}
+use Rattle.wast_core_name_section.proofs.Each.{each_more, each_around}
+use Rattle.wast_core_name_section.proofs.NameEntries.{names_after, names_kept, names_back}
 use Rattle.wast_core.specs.Hints.{hinted_function, InRangeHinted}
 use Rattle.wast_core.proofs.hints.EachHintEncode.encode.Goals as goal
 

@@ -1,6 +1,6 @@
 use Rattle.std.proofs.Common.{◌≡◌, true, subst}
-use Rattle.wast_conv.specs.Encodable.{is_encodable_field}
-use Rattle.wast_conv.proofs.Ready.{hints_ready, import_ready}
+use Rattle.wast_core_conv.specs.Encodable.{is_encodable_field}
+use Rattle.wast_core_conv.proofs.Ready.{hints_ready, import_ready}
 use Rattle.wast_core.proofs.Hinting.{nothing_written}
 use Rattle.wast_core.proofs.hints.ModuleFieldPutHints.put_hints.Goals as goal
 

@@ -1,0 +1,220 @@
+//! The bytes of numbers, names, types and instructions of worked examples, in each sink.
+
+ghost use Rattle.std.specs.Prelude.{IsTrue};
+
+use crate::kept::Kept;
+use std::alloc::Global;
+use std::process::Abort;
+use wasm_ops::{
+    AbstractHeapType, ArrayType, AsItself, Counted, Encode, EntityType, ExportKind, FieldType,
+    GlobalType, HeapType, IndexOp, InstructionSink, Length, MemoryType, Raw, RefType, Refusal,
+    Room, Sink, StorageType, StructType, TableType, TagType, ValType, WithLength, instruction_law,
+    signed_law, type_spelling_law, unsigned_law, write_name, write_s32, write_s33, write_s64,
+    write_u32, write_u64,
+};
+use wast_base::{BareOp, Error, Plain, Seq};
+
+/// The value is spelled by these bytes.
+fn is_spelled<T: Encode>(rt: &impl Abort, alloc: Global, value: &T, bytes: &[u8])
+    requires { IsTrue (T.is_ready value.now) }
+{
+    let mut out = Vec::new(alloc);
+    assert!(rt; value.encode(&mut out).is_ok(), "for {bytes:?}");
+    assert!(rt; out.as_slice() == bytes, "for {bytes:?}");
+}
+
+/// Numbers, a name and instructions, one after another.
+fn write_all<'e>(out: &mut Vec<u8>) -> Result<(), Error<'e>> {
+    write_u32(out, 624485)?;
+    write_u64(out, 18446744073709551615)?;
+    write_s32(out, -65)?;
+    write_s33(out, 4294967295)?;
+    write_s64(out, -9223372036854775808)?;
+    write_name(out, "f")?;
+    let mut sink = InstructionSink::new(out);
+    sink.plain(Plain::Bare(BareOp::drop))?;
+    sink.index(IndexOp::Call, 300)?;
+    sink.i32_const(64)?;
+    sink.i64_const(-1)?;
+    sink.ref_null(HeapType::Concrete(64))
+}
+
+#[test]
+fn numbers_and_instructions_have_their_bytes(rt: HostRuntime) {
+    let mut out = Vec::new(rt.alloc());
+    assert!(rt; write_all(&mut out).is_ok());
+    let expected = [
+        0xe5, 0x8e, 0x26, 0xff, 0xff, 0xff, 0xff, 0xff, 0xff, 0xff, 0xff, 0xff, 0x01, 0xbf, 0x7f,
+        0xff, 0xff, 0xff, 0xff, 0x0f, 0x80, 0x80, 0x80, 0x80, 0x80, 0x80, 0x80, 0x80, 0x80, 0x7f,
+        0x01, 0x66, 0x1a, 0x10, 0xac, 0x02, 0x41, 0xc0, 0x00, 0x42, 0x7f, 0xd0, 0xc0, 0x00,
+    ];
+    assert!(rt; out.as_slice() == expected.as_slice());
+}
+
+/// A reference to an abstract heap type that is not shared.
+fn abstract_ref(nullable: bool, ty: AbstractHeapType) -> StorageType {
+    let heap_type = HeapType::Abstract { shared: false, ty };
+    StorageType::Val(ValType::Ref(RefType {
+        nullable,
+        heap_type,
+    }))
+}
+
+/// A reference to the type at an index.
+fn concrete_ref(nullable: bool, index: u32) -> StorageType {
+    let heap_type = HeapType::Concrete(index);
+    StorageType::Val(ValType::Ref(RefType {
+        nullable,
+        heap_type,
+    }))
+}
+
+#[test]
+fn storage_types_have_their_bytes(rt: HostRuntime) {
+    let types: [(StorageType, &[u8]); 26] = [
+        (StorageType::I8, &[0x78]),
+        (StorageType::I16, &[0x77]),
+        (StorageType::Val(ValType::I32), &[0x7f]),
+        (StorageType::Val(ValType::I64), &[0x7e]),
+        (StorageType::Val(ValType::F32), &[0x7d]),
+        (StorageType::Val(ValType::F64), &[0x7c]),
+        (StorageType::Val(ValType::V128), &[0x7b]),
+        (abstract_ref(true, AbstractHeapType::Func), &[0x70]),
+        (abstract_ref(false, AbstractHeapType::Func), &[0x64, 0x70]),
+        (abstract_ref(true, AbstractHeapType::Extern), &[0x6f]),
+        (abstract_ref(false, AbstractHeapType::Extern), &[0x64, 0x6f]),
+        (abstract_ref(true, AbstractHeapType::Any), &[0x63, 0x6e]),
+        (abstract_ref(true, AbstractHeapType::Eq), &[0x63, 0x6d]),
+        (abstract_ref(false, AbstractHeapType::I31), &[0x64, 0x6c]),
+        (abstract_ref(true, AbstractHeapType::Struct), &[0x63, 0x6b]),
+        (abstract_ref(true, AbstractHeapType::Array), &[0x63, 0x6a]),
+        (abstract_ref(true, AbstractHeapType::Exn), &[0x63, 0x69]),
+        (abstract_ref(true, AbstractHeapType::NoExn), &[0x63, 0x74]),
+        (abstract_ref(true, AbstractHeapType::NoFunc), &[0x63, 0x73]),
+        (
+            abstract_ref(true, AbstractHeapType::NoExtern),
+            &[0x63, 0x72],
+        ),
+        (abstract_ref(true, AbstractHeapType::None), &[0x63, 0x71]),
+        (concrete_ref(true, 2), &[0x63, 0x02]),
+        (concrete_ref(false, 63), &[0x64, 0x3f]),
+        (concrete_ref(false, 64), &[0x64, 0xc0, 0x00]),
+        (concrete_ref(true, 127), &[0x63, 0xff, 0x00]),
+        (
+            concrete_ref(true, 4294967295),
+            &[0x63, 0xff, 0xff, 0xff, 0xff, 0x0f],
+        ),
+    ];
+    for (ty, bytes) in &types {
+        assert!(rt; ty.is_covered(), "for {bytes:?}");
+        is_spelled(&rt, rt.alloc(), ty, *bytes);
+    }
+}
+
+#[test]
+fn composite_types_and_lists_have_their_bytes(rt: HostRuntime) {
+    let alloc = rt.alloc();
+    let field = FieldType {
+        element_type: StorageType::I8,
+        mutable: true,
+    };
+    let fields = Seq::from_vec(vec![in alloc; field].expect(&rt, "memory"));
+    is_spelled(
+        &rt,
+        alloc,
+        &(StructType { fields }, ArrayType(field)),
+        &[0x5f, 0x01, 0x78, 0x01, 0x5e, 0x78, 0x01],
+    );
+    is_spelled(&rt, alloc, &(ExportKind::Tag, &7u8), &[0x04, 7]);
+    let types = [ValType::F32, ValType::F64, ValType::V128];
+    let list = WithLength(Counted(&types, AsItself));
+    is_spelled(&rt, alloc, &list, &[4, 3, 0x7d, 0x7c, 0x7b]);
+}
+
+#[test]
+fn what_is_shared_or_exact_is_not_covered(rt: HostRuntime) {
+    let func = RefType {
+        nullable: true,
+        heap_type: HeapType::Concrete(0),
+    };
+    for shared in [false, true] {
+        let table = TableType {
+            element_type: func,
+            minimum: 0,
+            maximum: None,
+            table64: false,
+            shared,
+        };
+        let global = GlobalType {
+            val_type: ValType::I32,
+            mutable: false,
+            shared,
+        };
+        let memory = MemoryType {
+            minimum: 0,
+            maximum: None,
+            memory64: false,
+            shared,
+            page_size_log2: None,
+        };
+        let heap_type = HeapType::Abstract {
+            shared,
+            ty: AbstractHeapType::Any,
+        };
+        assert!(rt; table.is_covered() == !shared && global.is_covered() == !shared);
+        assert!(rt; heap_type.is_covered() == !shared && memory.is_covered());
+        assert!(rt; EntityType::Table(table).is_covered() == !shared);
+    }
+    assert!(rt; TagType { func_type_idx: 0 }.is_covered() && AbstractHeapType::Any.is_covered());
+    assert!(rt; !EntityType::FunctionExact(0).is_covered() && !HeapType::Exact(0).is_covered());
+}
+
+#[test]
+fn each_sink_takes_the_same_bytes(rt: HostRuntime) {
+    let bytes = [7; 128];
+    let nested = WithLength(WithLength(WithLength(Raw(&bytes))));
+    let mut length = Length::new();
+    assert!(rt; nested.encode(&mut length).is_ok());
+    assert!(rt; length.count() == 134);
+    let mut room = Room::reserve(rt.alloc(), 134).expect(&rt, "memory");
+    assert!(rt; nested.encode(&mut room).is_ok());
+    assert!(rt; room.left() == 0);
+    let mut kept = Kept {
+        bytes: Vec::new(rt.alloc()),
+        puts: 0,
+    };
+    assert!(rt; nested.encode(&mut kept).is_ok());
+    assert!(rt; room.finish().as_slice() == kept.bytes.as_slice());
+    let start = [0x84, 0x01, 0x82, 0x01, 0x80, 0x01, 7];
+    assert!(rt; kept.bytes.starts_with(&start));
+    kept.cut(1);
+    assert!(rt; kept.push_number(300).is_ok() && !kept.skip(1) && kept.size() == 3);
+    assert!(rt; !kept.set_number(1, 7));
+    assert!(rt; kept.bytes.as_slice() == [0x84, 0xac, 0x02].as_slice());
+    assert!(rt; kept.bytes.set_number(1, 16384));
+    assert!(rt; kept.bytes.as_slice() == [0x84, 0x80, 0x80, 0x01, 0x02].as_slice());
+}
+
+#[test]
+fn a_room_takes_what_was_reserved(rt: HostRuntime) {
+    let mut room = Room::reserve(rt.alloc(), 3).expect(&rt, "memory");
+    assert!(rt; room.put(&[7, 8, 9]).is_ok() && room.left() == 0);
+    let number = match room.put(&[10]) {
+        Ok(()) => 0,
+        Err(error) => error.number(),
+    };
+    assert!(rt; number == 10 && room.size() == 3 && room.left() == 0);
+    room.cut(1);
+    assert!(rt; !room.skip(1) && room.left() == 2);
+    assert!(rt; room.push_number(6).is_ok() && room.left() == 1);
+    assert!(rt; !room.set_number(0, 16384) && room.set_number(0, 300) && room.left() == 0);
+    assert!(rt; room.finish().as_slice() == [0xac, 0x02, 6].as_slice());
+    let mut length = Length::new();
+    assert!(rt; length.skip(300) && !length.skip(u64::MAX) && length.count() == 300);
+    assert!(rt; length.set_number(0, 128) && length.count() == 301);
+    assert!(rt; Error::from(Refusal::Memory).number() == 12);
+    unsigned_law();
+    signed_law();
+    type_spelling_law();
+    instruction_law();
+}

@@ -1,5 +1,0 @@
-use Rattle.wast_conv.proofs.Spelled.{and_true}
-use Rattle.wast_conv.proofs.values.ResolvedSpellTypeUseFunctionType.spell.Goals as goal
-
-pub type_index-requires : goal.type_index-requires
-type_index-requires g c = and_true _ c.requires

@@ -1,0 +1,352 @@
+//! Parts of a resolved tree as values of the binary format.
+
+ghost use Rattle.std.specs.Prelude.{◌≡◌, Bool, true, map, option_map, IfOk, IfErr, IsTrue};
+ghost use Rattle.std.specs.List.{All, flat_map, list_all};
+ghost use Rattle.wast_base.specs.Ids.{is_number};
+ghost use Rattle.wast_base.specs.Faults.{out_of_memory};
+ghost use Rattle.wast_tree_nodes.specs.Sites.{in_heap, in_ref, in_val, in_param, in_storage, in_struct_field, in_array, in_struct, in_signature, in_inner, in_def, in_type};
+ghost use Rattle.wast_tree_nodes.specs.Resolved.{are_numbered};
+ghost use Rattle.wasm_ops.specs.ConstExprs.{InRangeExpression};
+ghost use Rattle.wasm_ops.specs.Table.{instr, instrs, InRangeInstr};
+ghost use Rattle.wasm_out.specs.Built.{IsRefused};
+ghost use Rattle.wast_core_conv.specs.Encodable.{is_number_if, is_encodable_instr, is_encodable_expression};
+ghost use Rattle.wast_core_conv.specs.Meaning as meaning;
+
+pub use crate::conv_entities::{entity_type, global_type, memory_type, table_type, tag_type};
+pub use crate::conv_handles::Handles;
+pub use crate::conv_immediates::{
+    block_type, catch, handle, handles, mem_arg, memory_arg, table_arg,
+};
+pub use crate::conv_vectors::{
+    array_fill, lane_arg, mem_arg_ordering, ordering, shuffle, v128_const,
+};
+use crate::values::Resolved;
+use std::alloc::Global;
+use wasm_ops::{
+    CompositeInnerType, CompositeType, ConstExpr, ContType, Each, Encode, FuncType, StructType,
+    SubType,
+};
+use wast_base::{Error, Id, Index, NameAnnotation, Seq};
+use wast_tree_nodes::{Expression, FunctionType, InnerTypeKind, Instruction, Type, TypeDef};
+
+/// A part of the tree that stands for a value of the binary format, and takes no memory for it.
+pub(crate) trait Convert {
+    /// The value.
+    type Out: Drop;
+
+    ghost becomes: { Self → Self.Out };
+
+    /// Its indices are numbers.
+    ghost is_ready: { Self → Bool };
+
+    fn convert(&self) -> Self::Out
+        requires { IsTrue (is_ready self.now) }
+        ensures { result ≡ becomes self.now };
+}
+
+/// Each item of a list as its value. The only error is out of memory.
+pub(crate) fn converted<'e, T: Convert>(
+    alloc: Global,
+    items: &[T],
+) -> Result<Seq<T::Out>, Error<'e>>
+    requires { IsTrue (list_all T.is_ready items.now) }
+    ensures list { IfOk result (λ made. made ≡ map T.becomes items.now) }
+    ensures refusal { IfErr result (λ e. e ≡ out_of_memory) }
+{
+    let mut made = Seq::new(alloc);
+    for item in items {
+        made.push(item.convert())?;
+    }
+    Ok(made)
+}
+
+/// The number of an index. It needs a resolved one (text format, indices).
+pub fn index(index: &Index) -> u32
+    requires { IsTrue (is_number index.now) }
+    ensures { result ≡ meaning.index_value index.now }
+{
+    match index {
+        Index::Num(number, _) => *number,
+        Index::Id(_) => unreachable!(),
+    }
+}
+
+impl Convert for Index<'_> {
+    type Out = u32;
+
+    ghost becomes = { meaning.index_value };
+
+    ghost is_ready = { is_number };
+
+    fn convert(&self) -> u32 {
+        index(self)
+    }
+}
+
+fn abstract_type(ty: wast_tree_nodes::AbstractHeapType) -> wasm_ops::AbstractHeapType
+    ensures { result ≡ meaning.as_abstract_type ty }
+{
+    match ty {
+        wast_tree_nodes::AbstractHeapType::Func => wasm_ops::AbstractHeapType::Func,
+        wast_tree_nodes::AbstractHeapType::Extern => wasm_ops::AbstractHeapType::Extern,
+        wast_tree_nodes::AbstractHeapType::Exn => wasm_ops::AbstractHeapType::Exn,
+        wast_tree_nodes::AbstractHeapType::NoExn => wasm_ops::AbstractHeapType::NoExn,
+        wast_tree_nodes::AbstractHeapType::Any => wasm_ops::AbstractHeapType::Any,
+        wast_tree_nodes::AbstractHeapType::Eq => wasm_ops::AbstractHeapType::Eq,
+        wast_tree_nodes::AbstractHeapType::Struct => wasm_ops::AbstractHeapType::Struct,
+        wast_tree_nodes::AbstractHeapType::Array => wasm_ops::AbstractHeapType::Array,
+        wast_tree_nodes::AbstractHeapType::NoFunc => wasm_ops::AbstractHeapType::NoFunc,
+        wast_tree_nodes::AbstractHeapType::NoExtern => wasm_ops::AbstractHeapType::NoExtern,
+        wast_tree_nodes::AbstractHeapType::None => wasm_ops::AbstractHeapType::None,
+        wast_tree_nodes::AbstractHeapType::I31 => wasm_ops::AbstractHeapType::I31,
+        wast_tree_nodes::AbstractHeapType::Cont => wasm_ops::AbstractHeapType::Cont,
+        wast_tree_nodes::AbstractHeapType::NoCont => wasm_ops::AbstractHeapType::NoCont,
+    }
+}
+
+/// What a reference refers to (binary format, heap types). It needs a resolved index.
+pub fn heap_type(ty: &wast_tree_nodes::HeapType) -> wasm_ops::HeapType
+    requires { IsTrue (are_numbered (in_heap ty.now)) }
+    ensures { result ≡ meaning.as_heap_type ty.now }
+{
+    match ty {
+        wast_tree_nodes::HeapType::Abstract { shared, ty } => wasm_ops::HeapType::Abstract {
+            shared: *shared,
+            ty: abstract_type(*ty),
+        },
+        wast_tree_nodes::HeapType::Concrete(of) => wasm_ops::HeapType::Concrete(index(of)),
+        wast_tree_nodes::HeapType::Exact(of) => wasm_ops::HeapType::Exact(index(of)),
+    }
+}
+
+/// A reference type (binary format, reference types). It needs a resolved index.
+pub fn ref_type(ty: &wast_tree_nodes::RefType) -> wasm_ops::RefType
+    requires { IsTrue (are_numbered (in_ref ty.now)) }
+    ensures { result ≡ meaning.as_ref_type ty.now }
+{
+    wasm_ops::RefType {
+        nullable: ty.nullable,
+        heap_type: heap_type(&ty.heap),
+    }
+}
+
+/// A value type (binary format, value types). It needs a resolved index.
+pub fn val_type(ty: &wast_tree_nodes::ValType) -> wasm_ops::ValType
+    requires { IsTrue (are_numbered (in_val ty.now)) }
+    ensures { result ≡ meaning.as_val_type ty.now }
+{
+    match ty {
+        wast_tree_nodes::ValType::I32 => wasm_ops::ValType::I32,
+        wast_tree_nodes::ValType::I64 => wasm_ops::ValType::I64,
+        wast_tree_nodes::ValType::F32 => wasm_ops::ValType::F32,
+        wast_tree_nodes::ValType::F64 => wasm_ops::ValType::F64,
+        wast_tree_nodes::ValType::V128 => wasm_ops::ValType::V128,
+        wast_tree_nodes::ValType::Ref(ty) => wasm_ops::ValType::Ref(ref_type(ty)),
+    }
+}
+
+/// What a field of a struct or an element of an array holds (binary format, composite types). It needs a resolved index.
+pub fn storage_type(ty: &wast_tree_nodes::StorageType) -> wasm_ops::StorageType
+    requires { IsTrue (are_numbered (in_storage ty.now)) }
+    ensures { result ≡ meaning.as_storage_type ty.now }
+{
+    match ty {
+        wast_tree_nodes::StorageType::I8 => wasm_ops::StorageType::I8,
+        wast_tree_nodes::StorageType::I16 => wasm_ops::StorageType::I16,
+        wast_tree_nodes::StorageType::Val(ty) => wasm_ops::StorageType::Val(val_type(ty)),
+    }
+}
+
+/// A field of a struct (binary format, composite types). It needs a resolved index.
+pub fn field_type(field: &wast_tree_nodes::StructField) -> wasm_ops::FieldType
+    requires { IsTrue (are_numbered (in_struct_field field.now)) }
+    ensures { result ≡ meaning.as_field_type field.now }
+{
+    wasm_ops::FieldType {
+        element_type: storage_type(&field.ty),
+        mutable: field.mutable,
+    }
+}
+
+/// An array type (binary format, composite types). It needs a resolved index.
+pub fn array_type(ty: &wast_tree_nodes::ArrayType) -> wasm_ops::ArrayType
+    requires { IsTrue (are_numbered (in_array ty.now)) }
+    ensures { result ≡ meaning.as_array_type ty.now }
+{
+    wasm_ops::ArrayType(wasm_ops::FieldType {
+        element_type: storage_type(&ty.ty),
+        mutable: ty.mutable,
+    })
+}
+
+impl Convert for wast_tree_nodes::ValType<'_> {
+    type Out = wasm_ops::ValType;
+
+    ghost becomes = { meaning.as_val_type };
+
+    ghost is_ready = { λ t. are_numbered (in_val t) };
+
+    fn convert(&self) -> wasm_ops::ValType {
+        val_type(self)
+    }
+}
+
+impl<'a> Convert
+    for (
+        Option<Id<'a>>,
+        Option<NameAnnotation<'a>>,
+        wast_tree_nodes::ValType<'a>,
+    ) {
+    type Out = wasm_ops::ValType;
+
+    ghost becomes = { λ p. meaning.as_val_type p.2 };
+
+    ghost is_ready = { λ p. are_numbered (in_param p) };
+
+    fn convert(&self) -> wasm_ops::ValType {
+        val_type(&self.2)
+    }
+}
+
+impl Convert for wast_tree_nodes::StructField<'_> {
+    type Out = wasm_ops::FieldType;
+
+    ghost becomes = { meaning.as_field_type };
+
+    ghost is_ready = { λ f. are_numbered (in_struct_field f) };
+
+    fn convert(&self) -> wasm_ops::FieldType {
+        field_type(self)
+    }
+}
+
+/// A function type: the types of its parameters and results (binary format, composite types). It needs resolved indices.
+/// The only error is out of memory.
+pub fn func_type<'e>(alloc: Global, ty: &FunctionType) -> Result<FuncType, Error<'e>>
+    requires { IsTrue (are_numbered (in_signature ty.now)) }
+    ensures value { IfOk result (λ made. made ≡ meaning.as_func_type ty.now) }
+    ensures refusal { IfErr result (λ e. e ≡ out_of_memory) }
+{
+    let params = converted(alloc, ty.params.as_slice())?;
+    let results = converted(alloc, ty.results.as_slice())?;
+    Ok(FuncType { params, results })
+}
+
+/// A struct type: its fields (binary format, composite types). It needs resolved indices. The only error is out of memory.
+pub fn struct_type<'e>(
+    alloc: Global,
+    ty: &wast_tree_nodes::StructType,
+) -> Result<StructType, Error<'e>>
+    requires { IsTrue (are_numbered (in_struct ty.now)) }
+    ensures value { IfOk result (λ made. made ≡ meaning.as_struct_type ty.now) }
+    ensures refusal { IfErr result (λ e. e ≡ out_of_memory) }
+{
+    let fields = converted(alloc, ty.fields.as_slice())?;
+    Ok(StructType { fields })
+}
+
+/// A continuation type: the index of its function type (stack switching). It needs a resolved index.
+pub fn cont_type(ty: &wast_tree_nodes::ContType) -> ContType
+    requires { IsTrue (is_number ty.now.0) }
+    ensures { result ≡ meaning.as_cont_type ty.now }
+{
+    ContType(index(&ty.0))
+}
+
+fn inner_type<'e>(alloc: Global, kind: &InnerTypeKind) -> Result<CompositeInnerType, Error<'e>>
+    requires { IsTrue (are_numbered (in_inner kind.now)) }
+    ensures value { IfOk result (λ made. made ≡ meaning.as_inner_type kind.now) }
+    ensures refusal { IfErr result (λ e. e ≡ out_of_memory) }
+{
+    match kind {
+        InnerTypeKind::Func(ty) => Ok(CompositeInnerType::Func(func_type(alloc, ty)?)),
+        InnerTypeKind::Struct(ty) => Ok(CompositeInnerType::Struct(struct_type(alloc, ty)?)),
+        InnerTypeKind::Array(ty) => Ok(CompositeInnerType::Array(array_type(ty))),
+        InnerTypeKind::Cont(ty) => Ok(CompositeInnerType::Cont(cont_type(ty))),
+    }
+}
+
+pub(crate) fn optional_index(optional: &Option<Index>) -> Option<u32>
+    requires { IsTrue (is_number_if optional.now) }
+    ensures { result ≡ option_map meaning.index_value optional.now }
+{
+    match optional {
+        None => None,
+        Some(some) => Some(index(some)),
+    }
+}
+
+/// What a type is defined as: a composite type, and how it stands to other types (binary format, recursive types). It
+/// needs resolved indices. The only error is out of memory.
+pub fn sub_type<'e>(alloc: Global, ty: &TypeDef) -> Result<SubType, Error<'e>>
+    requires { IsTrue (are_numbered (in_def ty.now)) }
+    ensures value { IfOk result (λ made. made ≡ meaning.as_sub_type ty.now) }
+    ensures refusal { IfErr result (λ e. e ≡ out_of_memory) }
+{
+    let inner = inner_type(alloc, &ty.kind)?;
+    let supertype_idxs = converted(alloc, ty.parents.as_slice())?;
+    Ok(SubType {
+        composite_type: CompositeType {
+            inner,
+            shared: ty.shared,
+            descriptor: optional_index(&ty.descriptor),
+            describes: optional_index(&ty.describes),
+        },
+        is_final: ty.final_type.unwrap_or(true),
+        supertype_idxs,
+    })
+}
+
+/// Each type of a group. The only error is out of memory.
+pub(crate) fn group<'e>(alloc: Global, types: &[Type]) -> Result<Seq<SubType>, Error<'e>>
+    requires { IsTrue (list_all (λ t. are_numbered (in_type t)) types.now) }
+    ensures value { IfOk result (λ made. made ≡ map (λ t. meaning.as_sub_type t.def) types.now) }
+    ensures refusal { IfErr result (λ e. e ≡ out_of_memory) }
+{
+    let mut made = Seq::new(alloc);
+    for ty in types {
+        made.push(sub_type(alloc, &ty.def)?)?;
+    }
+    Ok(made)
+}
+
+/// The kind of what is exported (binary format, export section).
+pub fn export_kind(kind: wast_tree_nodes::ExportKind) -> wasm_ops::ExportKind
+    ensures { result ≡ meaning.as_export_kind kind }
+{
+    match kind {
+        wast_tree_nodes::ExportKind::Func => wasm_ops::ExportKind::Func,
+        wast_tree_nodes::ExportKind::Table => wasm_ops::ExportKind::Table,
+        wast_tree_nodes::ExportKind::Memory => wasm_ops::ExportKind::Memory,
+        wast_tree_nodes::ExportKind::Global => wasm_ops::ExportKind::Global,
+        wast_tree_nodes::ExportKind::Tag => wasm_ops::ExportKind::Tag,
+    }
+}
+
+/// The bytes of instructions.
+fn instrs_bytes<'e>(alloc: Global, instructions: &[Instruction]) -> Result<Vec<u8>, Error<'e>>
+    requires { IsTrue (list_all is_encodable_instr instructions.now) }
+    ensures value { IfOk result (λ made.
+        (made.items ≡ flat_map (λ i. instr (meaning.as_instr i)) instructions.now)
+        × All (λ i. InRangeInstr (meaning.as_instr i)) instructions.now) }
+    ensures refusal { IfErr result (IsRefused (All (λ i. InRangeInstr (meaning.as_instr i)) instructions.now)) }
+{
+    let mut bytes = Vec::new(alloc);
+    Each(instructions, Resolved).encode(&mut bytes)?;
+    Ok(bytes)
+}
+
+/// A constant expression: its instructions as bytes (binary format, expressions). It needs a covered one, with
+/// resolved indices. Sections take the expression that it gives.
+///
+/// E12 comes where memory is refused. E10 comes only where a number of an instruction is out of range.
+pub fn const_expr<'e>(alloc: Global, expression: &Expression) -> Result<ConstExpr, Error<'e>>
+    requires { IsTrue (is_encodable_expression expression.now) }
+    ensures value { IfOk result (λ made.
+        (made ≡ instrs (meaning.as_expression expression.now))
+        × InRangeExpression (meaning.as_expression expression.now)) }
+    ensures refusal { IfErr result (IsRefused (InRangeExpression (meaning.as_expression expression.now))) }
+{
+    let bytes = instrs_bytes(alloc, expression.instrs.as_slice())?;
+    Ok(ConstExpr::raw(bytes))
+}

@@ -1,0 +1,64 @@
+//! What segments of elements and data hold, as sections take it.
+
+ghost use Rattle.std.specs.Prelude.{◌≡◌, IfOk, IfErr, IsTrue};
+ghost use Rattle.std.specs.List.{All, list_all};
+ghost use Rattle.wast_tree_nodes.specs.DataBytes.{all_bytes};
+ghost use Rattle.wast_base.specs.Faults.{out_of_memory};
+ghost use Rattle.wasm_ops.specs.ConstExprs.{InRangeExpression};
+ghost use Rattle.wasm_out.specs.Built.{IsRefused};
+ghost use Rattle.wasm_out.specs.ElementSegments.{InRangeListed};
+ghost use Rattle.wast_core_conv.specs.Encodable.{is_encodable_expression, is_encodable_payload};
+ghost use Rattle.wast_core_conv.specs.Meaning as meaning;
+ghost use Rattle.wast_core_conv.specs.Segments.{AreExpressions, ArePayload};
+
+use crate::conv::{const_expr, converted, ref_type};
+use std::alloc::Global;
+use wasm_ops::ConstExpr;
+use wasm_out::Elements;
+use wast_base::{Error, Seq};
+use wast_tree_nodes::{DataVal, ElemPayload, Expression};
+
+/// Each expression of a list.
+fn const_exprs<'e>(alloc: Global, expressions: &[Expression]) -> Result<Seq<ConstExpr>, Error<'e>>
+    requires { IsTrue (list_all is_encodable_expression expressions.now) }
+    ensures value { IfOk result (AreExpressions expressions.now) }
+    ensures refusal { IfErr result (IsRefused (All (λ e. InRangeExpression (meaning.as_expression e)) expressions.now)) }
+{
+    let mut made = Seq::new(alloc);
+    for expression in expressions {
+        made.push(const_expr(alloc, expression)?)?;
+    }
+    Ok(made)
+}
+
+/// The elements of a segment. It needs covered forms, with resolved indices.
+///
+/// E12 comes where memory is refused. E10 comes only where a number of an instruction is out of range.
+pub(crate) fn elements<'e>(alloc: Global, payload: &ElemPayload) -> Result<Elements, Error<'e>>
+    requires { IsTrue (is_encodable_payload payload.now) }
+    ensures value { IfOk result (ArePayload payload.now) }
+    ensures refusal { IfErr result (IsRefused (InRangeListed (meaning.as_element_items payload.now))) }
+{
+    match payload {
+        ElemPayload::Indices(functions) => {
+            let functions = converted(alloc, functions.as_slice())?;
+            Ok(Elements::Functions(functions.into_vec()))
+        }
+        ElemPayload::Exprs { ty, exprs } => {
+            let expressions = const_exprs(alloc, exprs.as_slice())?;
+            Ok(Elements::Expressions(ref_type(ty), expressions.into_vec()))
+        }
+    }
+}
+
+/// The bytes of a segment of data: its pieces, one after another. The only error is out of memory.
+pub(crate) fn data_bytes<'e>(alloc: Global, pieces: &[DataVal]) -> Result<Vec<u8>, Error<'e>>
+    ensures value { IfOk result (λ made. made.items ≡ all_bytes pieces.now) }
+    ensures refusal { IfErr result (λ e. e ≡ out_of_memory) }
+{
+    let mut bytes = Vec::new(alloc);
+    for value in pieces {
+        value.push_onto(&mut bytes)?;
+    }
+    Ok(bytes)
+}

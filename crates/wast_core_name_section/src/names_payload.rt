@@ -1,0 +1,620 @@
+//! The name section of a module.
+
+ghost use Rattle.std.specs.Prelude.{◌≡◌, ◌<◌, ◌++◌, nat_lt, length, true, All, IfOk, IfErr, IsTrue, ◌∷◌, ◌+◌, ℕ, List, Option, map};
+ghost use Rattle.std.specs.List.{flat_map};
+ghost use Rattle.wasm_ops.specs.Sinks.{Writes};
+ghost use Rattle.wasm_ops.specs.Spelling.{length_prefixed, InRangeSized};
+ghost use Rattle.wasm_ops.specs.declared.sink.Refusal.TheVariants as refusal;
+ghost use Rattle.wasm_out.specs.NameSectionBytes.{name_entry, map_entry, name_subsection, subsection_id, InRangeNameEntry, InRangeMapEntry, InRangeNameSubsection};
+ghost use Rattle.wasm_out.specs.Parts.{part, InRangePart};
+ghost use Rattle.wast_core_ranges.specs.FieldRanges.{are_reaches};
+ghost use Rattle.wast_core_name_section.specs.Checkpoints.{AreCheckpoints};
+ghost use Rattle.wast_core_name_section.specs.NamesPart.{names_part, payload_of, InRangePayload};
+ghost use Rattle.wast_core_name_section.specs.GivenNames.{id_text, given_name, named_from};
+ghost use Rattle.wast_core_name_section.specs.FoundNames.{text_seen, items_seen, saturated_count, WritesItems, map_bytes, InRangeMap};
+ghost use Rattle.wast_core_name_section.specs.WithinItems.{types_within};
+ghost use Rattle.wast_core_name_section.specs.ModuleNames.{type_name, sig_name, item_names_in, given_name_in, names_given, named_of, named_within, map_names, module_name, name_maps, name_subsections, InRangeNames};
+
+use crate::arities::{Checkpoints, FieldTypes, Places, TypesOf};
+use crate::imported::{count_imported, put_imported};
+use crate::name_maps::{
+    CountItems, NameItems, any_of, count_each, put_counted, put_each, put_map, put_name,
+};
+use crate::named_fields::{reach_of_types, with_items, with_lists};
+use crate::within::{PutLists, Within, WithinItems, any_lists, count_lists};
+use wasm_ops::{Encode, Length, Name, Refusal, Sink, WithLength};
+use wast_base::{Id, NameAnnotation, Space};
+use wast_core_ranges::{FieldKind, FieldRanges};
+use wast_tree_nodes::{FieldItems, ItemSig, ModuleField, Type, profile_of};
+
+fn id_text<'a>(id: &Option<Id<'a>>) -> Option<&'a str>
+    ensures { text_seen result ≡ id_text id.now }
+{
+    match id {
+        Some(id) if !id.is_gensym() => Some(id.name()),
+        _ => None,
+    }
+}
+
+/// The name of what the text numbers: its annotation, else its id where that is written (custom sections, name section). A
+/// generated id is no name.
+pub fn given_name<'a>(
+    annotation: &Option<NameAnnotation<'a>>,
+    id: &Option<Id<'a>>,
+) -> Option<&'a str>
+    ensures { text_seen result ≡ given_name annotation.now id.now }
+{
+    match annotation {
+        Some(annotation) => Some(annotation.name),
+        None => id_text(id),
+    }
+}
+
+/// Finds the items of a field.
+#[inline(always)]
+fn items_of<'b, 'a>(field: &'b ModuleField<'a>) -> FieldItems<'b, 'a>
+    ensures { items_seen result ≡ item_names_in field.now }
+{
+    profile_of(field).items
+}
+
+/// One, where an item is of the space and has a name.
+#[inline(always)]
+fn count_item(space: Space, own: Space, annotation: &Option<NameAnnotation>, id: &Option<Id>) -> u64
+    ensures { result ≡ length (named_from 0 (given_name_in space (own, given_name annotation.now id.now))) }
+{
+    if !space.is(own) {
+        return 0;
+    }
+    u64::from(given_name(annotation, id).is_some())
+}
+
+/// Appends the name of an item where it is one of the space, and answers the position behind it.
+#[inline(always)]
+fn put_item<S: Sink>(
+    space: Space,
+    own: Space,
+    annotation: &Option<NameAnnotation>,
+    id: &Option<Id>,
+    position: u64,
+    out: &mut S,
+) -> Result<u64, Refusal>
+    ensures written { WritesItems S.rules name_entry InRangeNameEntry
+        (given_name_in space (own, given_name annotation.now id.now)) position out.old out.new result }
+    ensures next { IfOk result (λ p. p ≡ saturated_count (position + length (given_name_in space (own, given_name annotation.now id.now)))) }
+{
+    if !space.is(own) {
+        return Ok(position);
+    }
+    put_name(position, given_name(annotation, id), out)
+}
+
+impl<'a> NameItems<Type<'a>> for Space {
+    ghost Entry = { List ℕ };
+
+    ghost items = { λ s t. given_name_in s (type_name t) };
+
+    ghost entry = { name_entry };
+
+    ghost in_range = { InRangeNameEntry };
+
+    fn put<S: Sink>(&self, part: &Type<'a>, position: u64, out: &mut S) -> Result<u64, Refusal> {
+        put_item(*self, Space::Ty, &part.name, &part.id, position, out)
+    }
+}
+
+impl<'a> CountItems<Type<'a>> for Space {
+    fn count(&self, part: &Type<'a>) -> u64 {
+        count_item(*self, Space::Ty, &part.name, &part.id)
+    }
+}
+
+impl<'a> NameItems<ItemSig<'a>> for Space {
+    ghost Entry = { List ℕ };
+
+    ghost items = { λ s sig. given_name_in s (sig_name sig) };
+
+    ghost entry = { name_entry };
+
+    ghost in_range = { InRangeNameEntry };
+
+    fn put<S: Sink>(&self, part: &ItemSig<'a>, position: u64, out: &mut S) -> Result<u64, Refusal> {
+        put_item(
+            *self,
+            part.kind.space(),
+            &part.name,
+            &part.id,
+            position,
+            out,
+        )
+    }
+}
+
+impl<'a> CountItems<ItemSig<'a>> for Space {
+    fn count(&self, part: &ItemSig<'a>) -> u64 {
+        count_item(*self, part.kind.space(), &part.name, &part.id)
+    }
+}
+
+impl<'a> NameItems<ModuleField<'a>> for Space {
+    ghost Entry = { List ℕ };
+
+    ghost items = { names_given };
+
+    ghost entry = { name_entry };
+
+    ghost in_range = { InRangeNameEntry };
+
+    fn put<S: Sink>(
+        &self,
+        part: &ModuleField<'a>,
+        position: u64,
+        out: &mut S,
+    ) -> Result<u64, Refusal> {
+        match items_of(part) {
+            FieldItems::Nothing => Ok(position),
+            FieldItems::Type(ty) => put_item(*self, Space::Ty, &ty.name, &ty.id, position, out),
+            FieldItems::Types(types) => put_each(self, types, position, out),
+            FieldItems::Imported(items) => put_imported(*self, items, position, out),
+            FieldItems::Lone(item) => {
+                put_item(*self, item.space, item.name, item.id, position, out)
+            }
+        }
+    }
+}
+
+impl<'a> CountItems<ModuleField<'a>> for Space {
+    fn count(&self, part: &ModuleField<'a>) -> u64 {
+        match items_of(part) {
+            FieldItems::Nothing => 0,
+            FieldItems::Type(ty) => count_item(*self, Space::Ty, &ty.name, &ty.id),
+            FieldItems::Types(types) => count_each(self, types),
+            FieldItems::Imported(items) => count_imported(*self, items),
+            FieldItems::Lone(item) => count_item(*self, item.space, item.name, item.id),
+        }
+    }
+}
+
+/// The id of the subsection of a space (custom sections, name section).
+fn id_of(space: Space) -> u8
+    ensures { result ≡ subsection_id (named_of space) }
+{
+    match space {
+        Space::Func => 1,
+        Space::Table => 5,
+        Space::Memory => 6,
+        Space::Global => 7,
+        Space::Tag => 11,
+        Space::Elem => 8,
+        Space::Data => 9,
+        Space::Ty => 4,
+    }
+}
+
+/// The id of the subsection of what stands within items (custom sections, name section).
+fn id_within(within: Within) -> u8
+    ensures { result ≡ subsection_id (named_within within) }
+{
+    match within {
+        Within::Locals => 2,
+        Within::Labels => 3,
+        Within::Fields => 10,
+        Within::Parameters => 12,
+        Within::TagParameters => 13,
+    }
+}
+
+/// The number of fields up to which types are looked up from 64 checkpoints. Over more fields there are 1,024, which take
+/// 4 KiB of the stack, and no more, so that encoding fits on a stack of 16 KiB.
+const FEW: usize = 64;
+
+/// A map of names by position.
+#[derive(Clone, Copy)]
+pub(crate) enum NameMap {
+    /// The names of the items of a space.
+    Items(Space),
+    /// The names of what stands within items, in a list for each.
+    Within(Within),
+}
+
+/// Appends the subsection of the lists of names within items of some of these fields, where there are any. It needs to know
+/// how many items have one, and the checkpoints of these fields.
+fn put_lists<'b, T: FieldTypes + PutLists, S: Sink>(
+    fields: &'b [T],
+    there: &'b [T],
+    within: Within,
+    count: u64,
+    checkpoints: Checkpoints<'b>,
+    out: &'b mut S,
+) -> Result<(), Refusal>
+    requires count { count ≡ saturated_count (length (named_from 0 (flat_map (T.lists (flat_map T.types fields.now) within) there.now))) }
+    requires checkpoints { AreCheckpoints T.types fields.now checkpoints.places checkpoints.before.now }
+    ensures { Writes S.rules (InRangeMap map_entry InRangeMapEntry (named_from 0 (flat_map (T.lists (flat_map T.types fields.now) within) there.now)))
+        out.old out.new (map_bytes (subsection_id (named_within within)) map_entry (named_from 0 (flat_map (T.lists (flat_map T.types fields.now) within) there.now))) result }
+{
+    let id = id_within(within);
+    let arities = TypesOf::new(fields, checkpoints);
+    let way = WithinItems { arities, within };
+    put_map(id, count, way, there, out)
+}
+
+/// Appends the subsection of a map of the names in these fields, where there are any. It goes through those fields that can
+/// have such names once for their number, and where there are any once more.
+fn put_subsection<S: Sink>(
+    fields: &[ModuleField],
+    map: &NameMap,
+    reaches: &FieldRanges,
+    checkpoints: Checkpoints,
+    out: &mut S,
+) -> Result<(), Refusal>
+    requires reaches { IsTrue (are_reaches fields.now reaches.now) }
+    requires checkpoints { AreCheckpoints types_within fields.now checkpoints.places checkpoints.before.now }
+    ensures { Writes S.rules (All InRangeNameSubsection (map_names fields.now map.now))
+        out.old out.new (flat_map name_subsection (map_names fields.now map.now)) result }
+{
+    match map {
+        NameMap::Items(space) => {
+            let there = with_items(*space, fields, reaches);
+            put_counted(id_of(*space), *space, there, out)
+        }
+        NameMap::Within(within) => {
+            let there = with_lists(*within, fields, reaches);
+            let count = count_lists(fields, there, *within, checkpoints);
+            put_lists(fields, there, *within, count, checkpoints, out)
+        }
+    }
+}
+
+/// Appends the subsections of maps of the names in these fields, one after another.
+fn put_subsections<S: Sink>(
+    fields: &[ModuleField],
+    maps: &[NameMap],
+    reaches: &FieldRanges,
+    checkpoints: Checkpoints,
+    out: &mut S,
+) -> Result<(), Refusal>
+    requires reaches { IsTrue (are_reaches fields.now reaches.now) }
+    requires checkpoints { AreCheckpoints types_within fields.now checkpoints.places checkpoints.before.now }
+    ensures { Writes S.rules (All (λ m. All InRangeNameSubsection (map_names fields.now m)) maps.now)
+        out.old out.new (flat_map (λ m. flat_map name_subsection (map_names fields.now m)) maps.now) result }
+{
+    let start = out.size();
+    for i in 0..maps.len() {
+        let result = put_subsection(fields, &maps[i], reaches, checkpoints, out);
+        if result.is_err() {
+            out.cut(start);
+            return result;
+        }
+    }
+    Ok(())
+}
+
+/// Whether there are names in these fields of which this is the map. It goes no further than the first field with one.
+fn any_in_map(
+    fields: &[ModuleField],
+    map: &NameMap,
+    reaches: &FieldRanges,
+    checkpoints: Checkpoints,
+) -> bool
+    requires reaches { IsTrue (are_reaches fields.now reaches.now) }
+    requires checkpoints { AreCheckpoints types_within fields.now checkpoints.places checkpoints.before.now }
+    ensures { result ≡ nat_lt 0 (length (map_names fields.now map.now)) }
+{
+    match map {
+        NameMap::Items(space) => {
+            let there = with_items(*space, fields, reaches);
+            any_of(*space, there)
+        }
+        NameMap::Within(within) => {
+            let there = with_lists(*within, fields, reaches);
+            any_lists(fields, there, *within, checkpoints)
+        }
+    }
+}
+
+/// Whether there are names in these fields for any of the maps.
+fn any_in_maps(
+    fields: &[ModuleField],
+    maps: &[NameMap],
+    reaches: &FieldRanges,
+    checkpoints: Checkpoints,
+) -> bool
+    requires reaches { IsTrue (are_reaches fields.now reaches.now) }
+    requires checkpoints { AreCheckpoints types_within fields.now checkpoints.places checkpoints.before.now }
+    ensures { result ≡ nat_lt 0 (length (flat_map (map_names fields.now) maps.now)) }
+{
+    for i in 0..maps.len() {
+        if any_in_map(fields, &maps[i], reaches, checkpoints) {
+            return true;
+        }
+    }
+    false
+}
+
+/// The maps of names, in the order of their subsections.
+pub(crate) const NAME_MAPS: [NameMap; 13] = [
+    NameMap::Items(Space::Func),
+    NameMap::Within(Within::Locals),
+    NameMap::Within(Within::Labels),
+    NameMap::Items(Space::Ty),
+    NameMap::Items(Space::Table),
+    NameMap::Items(Space::Memory),
+    NameMap::Items(Space::Global),
+    NameMap::Items(Space::Elem),
+    NameMap::Items(Space::Data),
+    NameMap::Within(Within::Fields),
+    NameMap::Items(Space::Tag),
+    NameMap::Within(Within::Parameters),
+    NameMap::Within(Within::TagParameters),
+];
+
+/// The subsection of the name of the module, where it has one.
+#[derive(Clone, Copy)]
+struct ModuleName<'b>(Option<&'b str>);
+
+impl Encode for ModuleName<'_> {
+    ghost spelling = { λ n. flat_map name_subsection (module_name (text_seen n.0)) };
+
+    ghost in_range = { λ n. All InRangeNameSubsection (module_name (text_seen n.0)) };
+
+    ghost is_ready = { λ _. true };
+
+    fn encode<S: Sink>(&self, out: &mut S) -> Result<(), Refusal> {
+        match self.0 {
+            None => Ok(()),
+            Some(text) => (0u8, WithLength(Name(text))).encode(out),
+        }
+    }
+}
+
+/// Whether the name section of a module with this name and these fields has subsections.
+fn has_names(
+    fields: &[ModuleField],
+    name: Option<&str>,
+    reaches: &FieldRanges,
+    checkpoints: Checkpoints,
+) -> bool
+    requires reaches { IsTrue (are_reaches fields.now reaches.now) }
+    requires checkpoints { AreCheckpoints types_within fields.now checkpoints.places checkpoints.before.now }
+    ensures { result ≡ nat_lt 0 (length (name_subsections (text_seen name.entry) fields.now)) }
+{
+    match name {
+        Some(_) => true,
+        None => {
+            let maps = NAME_MAPS;
+            any_in_maps(fields, &maps, reaches, checkpoints)
+        }
+    }
+}
+
+/// Appends what stands before the maps of names, and then those of these fields.
+fn put_behind<P: Encode, S: Sink>(
+    fields: &[ModuleField],
+    front: &P,
+    reaches: &FieldRanges,
+    checkpoints: Checkpoints,
+    out: &mut S,
+) -> Result<(), Refusal>
+    requires front { IsTrue (P.is_ready front.now) }
+    requires reaches { IsTrue (are_reaches fields.now reaches.now) }
+    requires checkpoints { AreCheckpoints types_within fields.now checkpoints.places checkpoints.before.now }
+    ensures { Writes S.rules (P.in_range front.now × All (λ m. All InRangeNameSubsection (map_names fields.now m)) name_maps)
+        out.old out.new (P.spelling front.now ++ flat_map (λ m. flat_map name_subsection (map_names fields.now m)) name_maps) result }
+{
+    let start = out.size();
+    front.encode(out)?;
+    let maps = NAME_MAPS;
+    let second = put_subsections(fields, &maps, reaches, checkpoints, out);
+    if second.is_err() {
+        out.cut(start);
+    }
+    second
+}
+
+/// Appends what stands behind the length of the name section: that it is called `name`, and its subsections.
+fn put_payload<S: Sink>(
+    fields: &[ModuleField],
+    name: Option<&str>,
+    reaches: &FieldRanges,
+    checkpoints: Checkpoints,
+    out: &mut S,
+) -> Result<(), Refusal>
+    requires reaches { IsTrue (are_reaches fields.now reaches.now) }
+    requires checkpoints { AreCheckpoints types_within fields.now checkpoints.places checkpoints.before.now }
+    ensures { Writes S.rules (InRangePayload (name_subsections (text_seen name.entry) fields.now))
+        out.old out.new (payload_of (name_subsections (text_seen name.entry) fields.now)) result }
+{
+    let front = (Name("name"), ModuleName(name));
+    put_behind(fields, &front, reaches, checkpoints, out)
+}
+
+/// Appends that payload behind its length, which is told.
+fn put_sized<S: Sink>(
+    fields: &[ModuleField],
+    name: Option<&str>,
+    reaches: &FieldRanges,
+    checkpoints: Checkpoints,
+    size: u32,
+    out: &mut S,
+) -> Result<(), Refusal>
+    requires reaches { IsTrue (are_reaches fields.now reaches.now) }
+    requires checkpoints { AreCheckpoints types_within fields.now checkpoints.places checkpoints.before.now }
+    requires size { size ≡ length (payload_of (name_subsections (text_seen name) fields.now)) }
+    ensures { Writes S.rules (InRangeSized InRangePayload payload_of (name_subsections (text_seen name.entry) fields.now))
+        out.old out.new (length_prefixed payload_of (name_subsections (text_seen name.entry) fields.now)) result }
+{
+    let front = (size, (Name("name"), ModuleName(name)));
+    put_behind(fields, &front, reaches, checkpoints, out)
+}
+
+/// How long that payload is, which is counted as it would be written. It refuses as too large, where a number, count or length
+/// in it is out of range, or its own.
+fn payload_length(
+    fields: &[ModuleField],
+    name: Option<&str>,
+    reaches: &FieldRanges,
+    checkpoints: Checkpoints,
+) -> Result<u32, Refusal>
+    requires reaches { IsTrue (are_reaches fields.now reaches.now) }
+    requires checkpoints { AreCheckpoints types_within fields.now checkpoints.places checkpoints.before.now }
+    ensures ok { IfOk result (λ n. n ≡ length (payload_of (name_subsections (text_seen name.entry) fields.now))) }
+    ensures err { IfErr result (λ e. (e ≡ refusal.TooLarge)
+        × (InRangeSized InRangePayload payload_of (name_subsections (text_seen name.entry) fields.now) → ⊥)) }
+{
+    let mut length = Length::new();
+    put_payload(fields, name, reaches, checkpoints, &mut length)?;
+    match u32::try_from(length.count()) {
+        Ok(count) => Ok(count),
+        Err(_) => Err(Refusal::TooLarge),
+    }
+}
+
+/// Appends that payload behind its length, which is counted first: for a sink that sets no number where one was put.
+fn put_length_first<S: Sink>(
+    fields: &[ModuleField],
+    name: Option<&str>,
+    reaches: &FieldRanges,
+    checkpoints: Checkpoints,
+    out: &mut S,
+) -> Result<(), Refusal>
+    requires reaches { IsTrue (are_reaches fields.now reaches.now) }
+    requires checkpoints { AreCheckpoints types_within fields.now checkpoints.places checkpoints.before.now }
+    ensures { Writes S.rules (InRangeSized InRangePayload payload_of (name_subsections (text_seen name.entry) fields.now))
+        out.old out.new (length_prefixed payload_of (name_subsections (text_seen name.entry) fields.now)) result }
+{
+    let size = payload_length(fields, name, reaches, checkpoints)?;
+    put_sized(fields, name, reaches, checkpoints, size, out)
+}
+
+/// Appends that payload behind its length, as [`WithLength`] does with what is a value: so the names are gone through once,
+/// and their length is set where a byte kept its place.
+fn put_with_length<S: Sink>(
+    fields: &[ModuleField],
+    name: Option<&str>,
+    reaches: &FieldRanges,
+    checkpoints: Checkpoints,
+    out: &mut S,
+) -> Result<(), Refusal>
+    requires reaches { IsTrue (are_reaches fields.now reaches.now) }
+    requires checkpoints { AreCheckpoints types_within fields.now checkpoints.places checkpoints.before.now }
+    ensures { Writes S.rules (InRangeSized InRangePayload payload_of (name_subsections (text_seen name.entry) fields.now))
+        out.old out.new (length_prefixed payload_of (name_subsections (text_seen name.entry) fields.now)) result }
+{
+    let start = out.size();
+    out.push_bytes(&[0])?;
+    if !out.set_number(start, 0) {
+        out.cut(start);
+        return put_length_first(fields, name, reaches, checkpoints, out);
+    }
+    let payload = put_payload(fields, name, reaches, checkpoints, out);
+    if payload.is_err() {
+        out.cut(start);
+        return payload;
+    }
+    let length = out.size() - start - 1;
+    let Ok(size) = u32::try_from(length) else {
+        out.cut(start);
+        return Err(Refusal::TooLarge);
+    };
+    if out.set_number(start, length) {
+        return Ok(());
+    }
+    out.cut(start);
+    put_sized(fields, name, reaches, checkpoints, size, out)
+}
+
+/// Appends that payload behind the id of a custom section and its length.
+fn put_section<S: Sink>(
+    fields: &[ModuleField],
+    name: Option<&str>,
+    reaches: &FieldRanges,
+    checkpoints: Checkpoints,
+    out: &mut S,
+) -> Result<(), Refusal>
+    requires reaches { IsTrue (are_reaches fields.now reaches.now) }
+    requires checkpoints { AreCheckpoints types_within fields.now checkpoints.places checkpoints.before.now }
+    ensures { Writes S.rules (InRangeSized InRangePayload payload_of (name_subsections (text_seen name.entry) fields.now))
+        out.old out.new (0 ∷ length_prefixed payload_of (name_subsections (text_seen name.entry) fields.now)) result }
+{
+    let start = out.size();
+    out.push_bytes(&[0])?;
+    let second = put_with_length(fields, name, reaches, checkpoints, out);
+    if second.is_err() {
+        out.cut(start);
+    }
+    second
+}
+
+/// The places of the checkpoints of these fields. Where no type can be looked up, they are not walked over; and else those
+/// alone that can have types.
+fn places_of<'b>(fields: &'b [ModuleField], reaches: &'b FieldRanges, room: &'b mut [u32]) -> Places
+    requires reaches { IsTrue (are_reaches fields.now reaches.now) }
+    requires room { 0 < length room.old }
+    ensures { AreCheckpoints types_within fields.now result room.new }
+{
+    if asked_fields(reaches) == 0 {
+        return Places::none(room);
+    }
+    let reach = reach_of_types(reaches);
+    Places::of(fields, reach.first, reach.end, room)
+}
+
+/// Over how many fields types may be looked up: none where no function stands in the list.
+fn asked_fields(reaches: &FieldRanges) -> usize {
+    if reaches.of_kind(FieldKind::Func).end == 0 {
+        return 0;
+    }
+    let reach = reach_of_types(reaches);
+    reach.end.saturating_sub(reach.first)
+}
+
+/// Appends the name section, where there are names, with room for so many checkpoints.
+fn put_within<S: Sink>(
+    fields: &[ModuleField],
+    name: Option<&str>,
+    reaches: &FieldRanges,
+    room: &mut [u32],
+    out: &mut S,
+) -> Result<(), Refusal>
+    requires reaches { IsTrue (are_reaches fields.now reaches.now) }
+    requires room { 0 < length room.old }
+    ensures { Writes S.rules (All InRangePart (names_part (name_subsections (text_seen name.entry) fields.now))
+        × InRangeNames (text_seen name.entry) fields.now)
+        out.old out.new (flat_map part (names_part (name_subsections (text_seen name.entry) fields.now))) result }
+{
+    let places = places_of(&*fields, &*reaches, room);
+    let checkpoints = Checkpoints {
+        places,
+        before: &*room,
+    };
+    if !has_names(fields, name, reaches, checkpoints) {
+        return Ok(());
+    }
+    put_section(fields, name, reaches, checkpoints, out)
+}
+
+/// Appends the name section of a module with this name and these resolved fields, where there are names (custom sections,
+/// name section). It needs where in these fields those of each kind stand, as [`FieldRanges::of`] tells it, and goes through
+/// those alone that can have names: for each map once for the number of its entries, and where it has some once more to
+/// write them. Whether there are names is seen before, up to the first. Where the sink sets a number behind, as
+/// [`Sink::set_number`] does it, nothing is measured before it is written. It takes no memory of its own. It refuses as
+/// [`Encode::encode`] does, as too large where a number, count or length is out of range; then nothing was appended.
+pub fn put_names<S: Sink>(
+    fields: &[ModuleField],
+    name: Option<&str>,
+    reaches: &FieldRanges,
+    out: &mut S,
+) -> Result<(), Refusal>
+    requires reaches { IsTrue (are_reaches fields.now reaches.now) }
+    ensures { Writes S.rules (All InRangePart (names_part (name_subsections (text_seen name.entry) fields.now))
+        × InRangeNames (text_seen name.entry) fields.now)
+        out.old out.new (flat_map part (names_part (name_subsections (text_seen name.entry) fields.now))) result }
+{
+    let asked = asked_fields(reaches);
+    if asked <= FEW {
+        let mut room = [0u32; 64];
+        return put_within(fields, name, reaches, &mut room, out);
+    }
+    let mut room = [0u32; 1024];
+    put_within(fields, name, reaches, &mut room, out)
+}

@@ -1,0 +1,56 @@
+//! That a stretch is no longer than its fields ask, which no contract says.
+
+use crate::{FieldKind, FieldRange, FieldRanges};
+use wast_base::{Index, Seq, Span};
+use wast_tree_nodes::{Export, ExportKind, ModuleField, discard_fields, push_field};
+
+fn start<'a>() -> ModuleField<'a> {
+    ModuleField::Start(Index::Num(1, Span { offset: 0 }))
+}
+
+fn export<'a>() -> ModuleField<'a> {
+    let span = Span { offset: 0 };
+    ModuleField::Export(Export {
+        span,
+        name: "a",
+        kind: ExportKind::Func,
+        item: Index::Num(0, span),
+    })
+}
+
+/// Whether a field was put at the end of a list.
+fn put<'a>(fields: &mut Seq<ModuleField<'a>>, field: ModuleField<'a>) -> bool {
+    push_field(fields, field).is_ok()
+}
+
+/// Where the fields of each kind stand. The list is lent as one that may be changed: the prover would compare the whole tree
+/// where a list of one's own is shared.
+fn found(fields: &mut Seq<ModuleField>) -> FieldRanges {
+    FieldRanges::of(fields.as_slice())
+}
+
+fn is(reach: FieldRange, first: usize, end: usize) -> bool {
+    reach.first == first && reach.end == end
+}
+
+#[test]
+fn the_fields_of_a_kind_stand_in_its_reach(rt: HostRuntime) {
+    let mut fields = Seq::new(rt.alloc());
+    let made = put(&mut fields, export())
+        && put(&mut fields, start())
+        && put(&mut fields, export())
+        && put(&mut fields, start())
+        && put(&mut fields, export())
+        && put(&mut fields, export());
+    let reaches = found(&mut fields);
+    discard_fields(fields);
+    let starts = reaches.of_kind(FieldKind::Start);
+    let exports = reaches.of_kind(FieldKind::Export);
+    let tags = reaches.of_kind(FieldKind::Tag);
+    assert!(rt; made);
+    assert!(rt; is(starts, 1, 4) && is(exports, 0, 6) && is(tags, 0, 0));
+    assert!(rt; is(starts.union(exports), 0, 6));
+    assert!(rt; is(starts.union(tags), 1, 4) && is(tags.union(starts), 1, 4));
+    let later = FieldRange { first: 4, end: 5 };
+    assert!(rt; is(starts.union(later), 1, 5) && is(later.union(starts), 1, 5));
+}

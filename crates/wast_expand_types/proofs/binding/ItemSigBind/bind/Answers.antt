@@ -1,0 +1,6 @@
+use Rattle.std.proofs.Common.{ap}
+use Rattle.wast_expand_types.specs.Tree.{ItemKind}
+use Rattle.wast_expand_types.proofs.binding.ItemSigBind.bind.Goals as goal
+
+pub returns-clause-bound : goal.returns-clause-bound
+returns-clause-bound c = λ more. ap (λ (k : ItemKind). record c.args.self.now { kind = k }) (c.in_ok-bind.ensures.bound more)

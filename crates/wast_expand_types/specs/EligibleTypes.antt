@@ -1,0 +1,31 @@
+-- Which written types a type use may take (text format: types, type uses).
+use Rattle.std.specs.Prelude.{Bool, true, false, not, is_none, ◌&&◌, if◌then◌else◌, List, [], ◌∷◌, Option, Some, None, option_map}
+use Rattle.wast_expand_types.specs.Tree.{InnerTypeKind, TypeDef}
+use Rattle.wast_expand_types.specs.Tree.inner
+use Rattle.wast_expand_types.specs.Signatures.{Signature, signature_of}
+use Rattle.wast_expand_types.specs.Numbers.{TypeNames, numbered_signature}
+
+-- A type is final where it does not say that it is open.
+abbrev pub is_final : Option Bool → Bool
+is_final None = true
+is_final (Some b) = b
+
+-- a list of nothing
+abbrev pub has_no : {A : Type 0} → List A → Bool
+has_no [] = true
+has_no (x ∷ xs) = false
+
+-- Final, unshared, and without parents, descriptor and describes.
+abbrev pub is_eligible : TypeDef → Bool
+is_eligible d = is_final d.final_type && (not d.shared && (has_no d.parents && (is_none d.descriptor && is_none d.describes)))
+
+-- the signature of a function type
+abbrev pub kind_signature : InnerTypeKind → Option Signature
+kind_signature (inner.Func t) = Some (signature_of t)
+kind_signature (inner.Struct t) = None
+kind_signature (inner.Array t) = None
+kind_signature (inner.Cont t) = None
+
+-- what a use takes of a type, in the numbers of the written types: its signature, where it is eligible
+abbrev pub taken_by : TypeNames → TypeDef → Option Signature
+taken_by k d = if is_eligible d then option_map (numbered_signature k) (kind_signature d.kind) else None

@@ -1,0 +1,142 @@
+-- The list of fields in which each type that is a field of its own has an id, and each type use that needs a type an index
+-- (text format, type uses: abbreviations).
+use Rattle.std.specs.Prelude.{◌≡◌, ℕ, ◌+◌, ◌≤◌, ◌^◌, ◌⊎◌, is_none, length, Bool, true, false, List, [], ◌∷◌, ◌++◌, map, flat_map, Option, Some, None}
+use Rattle.wast_expand_types.specs.Tree.{Span, Id, Index, NameAnnotation, ValType, FunctionType, TypeUse, TypeDef, ModuleField}
+use Rattle.wast_expand_types.specs.Tree.index
+use Rattle.wast_expand_types.specs.Tree.space
+use Rattle.wast_expand_types.specs.Tree.inner
+use Rattle.wast_expand_types.specs.Tree.ty
+use Rattle.wast_expand_types.specs.Tree.field
+use Rattle.wast_base.specs.Ids.{gensym_id}
+use Rattle.wast_tree_nodes.specs.Sites.{Where, OfItem, OfCall, OfBlock, if_there}
+use Rattle.wast_tree_nodes.specs.Types.{lone_type}
+use Rattle.wast_tree_map.specs.Mapped.{Change, mapped_field}
+use Rattle.wast_expand_types.specs.Signatures.{Signature}
+use Rattle.wast_expand_types.specs.NeedingUses.{inline_signature, needs_type}
+use Rattle.wast_expand_types.specs.Numbers.{TypeNames, type_names, numbered_signature}
+use Rattle.wast_expand_types.specs.EligibleTypes.{taken_by}
+use Rattle.wast_expand_types.specs.ImpliedTypes.{implied_signatures}
+use Rattle.wast_base.specs.declared.faults.Error.{Error}
+use Rattle.wast_base.specs.Faults.{too_large}
+use Rattle.wast_base.specs.Filling.{with_ids_from, missing_id_count, RunsOut}
+use Rattle.wast_tree_nodes.specs.Items.{items}
+use Rattle.wast_tree_nodes.specs.Known.{names_in}
+use Rattle.wast_expand_types.specs.Expanders.{BoundSignatures, LookUp, index_of}
+
+-- A type that has no id wants one, but no member of a group.
+abbrev pub is_unnamed : Option ty.«Type» → Bool
+is_unnamed None = false
+is_unnamed (Some t) = is_none t.id
+
+-- whether a field is a type that wants an id
+abbrev pub lacks_id : ModuleField → Bool
+lacks_id x = is_unnamed (lone_type x)
+
+-- a type of its own, with the id of a generation; another field as it is
+abbrev pub with_type_id : ℕ → ModuleField → ModuleField
+with_type_id n (field.Ty t) = field.Ty (record t { id = Some (gensym_id n t.span) })
+with_type_id n x = x
+
+-- the type of a signature: final where nothing else is said, without parents, its parameters without names
+abbrev pub unnamed_param : ValType → Option Id × Option NameAnnotation × ValType
+unnamed_param v = (None, None, v)
+
+-- the definition of the type of a signature
+abbrev pub def_of : Signature → Bool → TypeDef
+def_of s is_shared = record {
+  kind = inner.Func (record { params = map unnamed_param s.0; results = s.1 });
+  shared = is_shared;
+  parents = [];
+  descriptor = None;
+  describes = None;
+  final_type = None;
+}
+
+-- where what no text has stands
+abbrev pub start_of_text : Span
+start_of_text = record { offset = 0 }
+
+-- the type of a signature, without an id
+abbrev pub unnamed_type : Signature → ModuleField
+unnamed_type s = field.Ty (record { span = start_of_text; id = None; name = None; def = def_of s false })
+
+-- the same, with the id of a generation
+abbrev pub implied_type : ℕ → Signature → ModuleField
+implied_type n s = with_type_id n (unnamed_type s)
+
+-- one for each signature, their generations rising by one
+abbrev pub implied_types : ℕ → List Signature → List ModuleField
+implied_types n [] = []
+implied_types n (s ∷ ss) = implied_type n s ∷ implied_types (n + 1) ss
+
+-- each type that is a field of its own has an id, and the implied types stand last
+abbrev pub fields_with_types : ℕ → List ModuleField → List ModuleField
+fields_with_types n fields = with_ids_from lacks_id with_type_id n fields ++ implied_types (n + missing_id_count lacks_id fields) (implied_signatures fields)
+
+-- what a use takes, bound to the id of its type
+abbrev pub binding_of : Option Signature → Option Id → BoundSignatures
+binding_of None id = []
+binding_of (Some s) None = []
+binding_of (Some s) (Some id) = (s, index.Id id) ∷ []
+
+-- what a field binds: what a use takes of a type of its own, to its id
+abbrev pub bindings_in : TypeNames → ModuleField → BoundSignatures
+bindings_in k x = if_there (λ (t : ty.«Type»). binding_of (taken_by k t.def) t.id) (lone_type x)
+
+-- what all fields bind
+abbrev pub bindings : TypeNames → List ModuleField → BoundSignatures
+bindings k fields = flat_map (bindings_in k) fields
+
+-- what a signature is bound to, in the numbers of the written types
+abbrev pub found_for : List ModuleField → ℕ → LookUp
+found_for fields n s = index_of (bindings (type_names fields) (fields_with_types n fields)) (numbered_signature (type_names fields) s)
+
+-- what is bound, where a type is needed
+abbrev pub bound_if : Bool → Option Index → Option Index
+bound_if true index = index
+bound_if false index = None
+
+-- a use that needs a type has the index of its type
+abbrev pub bound_index : LookUp → Where → Option Index → Option FunctionType → Option Index
+bound_index find w None inline = bound_if (needs_type w inline) (find (inline_signature inline))
+bound_index find w (Some i) inline = Some i
+
+-- `(func)`
+abbrev pub empty_type : FunctionType
+empty_type = record { params = []; results = [] }
+
+-- a block without index and inline type has the empty one
+abbrev pub bound_inline : Where → Option Index → Option FunctionType → Option FunctionType
+bound_inline OfItem index inline = inline
+bound_inline OfCall index inline = inline
+bound_inline OfBlock (Some i) inline = inline
+bound_inline OfBlock None (Some t) = Some t
+bound_inline OfBlock None None = Some empty_type
+
+-- a type use, with the index of its type where it needs one
+abbrev pub bound_use : LookUp → Where → TypeUse FunctionType → TypeUse FunctionType
+bound_use find w u = record { index = bound_index find w u.index u.inline; inline = bound_inline w u.index u.inline }
+
+-- no other index changes, and no id
+abbrev pub binding_change : LookUp → Change
+binding_change find = record { index = λ s i. i; used = λ w u. bound_use find w u; local = λ l i. i; field = λ o i. i; label = λ b i. i; id = λ o. o; own = λ o. o }
+
+-- a field, its type uses bound
+abbrev pub bound_field : LookUp → ModuleField → ModuleField
+bound_field find x = mapped_field (binding_change find) x
+
+-- The list that expansion gives, from a counter.
+abbrev pub expanded_fields : ℕ → List ModuleField → List ModuleField
+expanded_fields n fields = map (bound_field (found_for fields n)) (fields_with_types n fields)
+
+-- how many ids it takes
+abbrev pub type_id_count : List ModuleField → ℕ
+type_id_count fields = missing_id_count lacks_id fields + length (implied_signatures fields)
+
+-- There are 2^32 written types or more, members of groups included.
+abbrev pub HasManyTypes : List ModuleField → Type 0
+HasManyTypes fields = 2 ^ 32 ≤ length (names_in space.Ty (items fields))
+
+-- Why expansion stops, from a counter: the ids run out, or memory is refused; or there are too many types to be numbered.
+abbrev pub StopsExpanding : ℕ → List ModuleField → Error → Type 0
+StopsExpanding n fields e = RunsOut (n + type_id_count fields) e ⊎ ((e ≡ too_large) × HasManyTypes fields)

@@ -1,0 +1,41 @@
+-- The types that no text defines, but that type uses need (text format, type uses: abbreviations).
+use Rattle.std.specs.Prelude.{Bool, true, not, ◌&&◌, ◌||◌, if◌then◌else◌, List, [], ◌∷◌, map, flat_map}
+use Rattle.std.specs.List.{list_any}
+use Rattle.wast_expand_types.specs.Tree.{ModuleField}
+use Rattle.wast_expand_types.specs.Tree.ty
+use Rattle.wast_tree_nodes.specs.Sites.{if_there}
+use Rattle.wast_tree_nodes.specs.Types.{lone_type}
+use Rattle.wast_expand_types.specs.Signatures.{Signature, same_signature}
+use Rattle.wast_expand_types.specs.NeedingUses.{needed_signatures}
+use Rattle.wast_expand_types.specs.Numbers.{TypeNames, type_names, numbered_signature}
+use Rattle.wast_expand_types.specs.EligibleTypes.{taken_by}
+
+-- what a use may take of a field: a member of a group is no field of its own
+abbrev pub eligible_in : TypeNames → ModuleField → List Signature
+eligible_in k x = if_there (λ (t : ty.«Type»). if_there (λ s. s ∷ []) (taken_by k t.def)) (lone_type x)
+
+-- the signatures of the eligible types, in the numbers of the written types
+abbrev pub eligible_signatures : List ModuleField → List Signature
+eligible_signatures fields = flat_map (eligible_in (type_names fields)) fields
+
+-- what uses need, in these numbers
+abbrev pub needed_numbers : List ModuleField → List Signature
+needed_numbers fields = map (numbered_signature (type_names fields)) (needed_signatures fields)
+
+-- whether one of these is the signature
+abbrev pub is_among : List Signature → Signature → Bool
+is_among ts s = list_any (same_signature s) ts
+
+-- the signatures that are not known, each at its first occurrence: from then on it is known
+abbrev pub first_new : (Signature → Bool) → List Signature → List Signature
+first_new known [] = []
+first_new known (s ∷ ss) = if known s then first_new known ss else (s ∷ first_new (λ t. known t || same_signature t s) ss)
+
+-- The signatures of the implied types: needed, and of no eligible type.
+abbrev pub implied_signatures : List ModuleField → List Signature
+implied_signatures fields = first_new (is_among (eligible_signatures fields)) (needed_numbers fields)
+
+-- whether none has the signature of one before it
+abbrev pub are_distinct : List Signature → Bool
+are_distinct [] = true
+are_distinct (s ∷ ss) = not (list_any (λ t. same_signature t s) ss) && are_distinct ss

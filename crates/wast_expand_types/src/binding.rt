@@ -1,0 +1,510 @@
+//! Type uses are bound in their place.
+
+ghost use Rattle.std.specs.Prelude.{◌≡◌, ◌≤◌, [], Some, List, map, flat_map, IfOk, IfErr, IsTrue, OnOk};
+ghost use Rattle.wast_expand_types.specs.Tree.index;
+ghost use Rattle.wast_expand_types.specs.Signatures.{Signature};
+ghost use Rattle.wast_tree_nodes.specs.Sites.{OfItem, OfBlock, constant_context, in_block, in_try_table, in_instr, in_indirect, in_constant, in_func_kind, in_use, in_func, in_tag_type, in_item_kind, in_sig, in_import, in_field};
+ghost use Rattle.wast_tree_nodes.specs.Types.{is_short};
+ghost use Rattle.wast_tree_map.specs.Mapped.{mapped_block, mapped_try_table, mapped_indirect, mapped_instr, mapped_constant, mapped_func_kind, mapped_func, mapped_tag_type, mapped_item_kind, mapped_sig, mapped_import_items, mapped_import, mapped_tag};
+ghost use Rattle.wast_expand_types.specs.NeedingUses.{needed_in};
+ghost use Rattle.wast_base.specs.Filling.{RunsOut};
+ghost use Rattle.wast_expand_types.specs.Expanders.{BoundSignatures, LookUp, found_in};
+ghost use Rattle.wast_expand_types.specs.Expanded.{bound_inline, bound_use, binding_change, bound_field};
+ghost use Rattle.wast_expand_types.specs.Binding.{no_use, wants_type, next_after, AddsTypes, IsPassed};
+
+use crate::binder::Binder;
+use crate::keys::TypeReference;
+use std::alloc::Global;
+use wast_base::{Error, Seq};
+use wast_tree_nodes::{
+    BlockType, CallIndirect, Expression, Func, FuncKind, FunctionType, ImportItems, Imports,
+    Instruction, ItemKind, ItemSig, ModuleField, Tag, TagType, TryTable, TypeUse,
+};
+
+/// A part of the tree in which type uses may stand. They are the same wherever it stands, so a part of a body is seen as if
+/// it stood first.
+pub(crate) trait Bind<'a> {
+    /// The signatures of the uses in it that have no index.
+    ghost needed: { Self → List Signature };
+
+    /// What it becomes, where signatures are bound so.
+    ghost bound: { LookUp → Self → Self };
+
+    /// Binds each use in it that has no index.
+    fn bind(&mut self, binder: &mut Binder<'a>) -> Result<(), Error<'a>>
+        ensures bound { OnOk result ((more : BoundSignatures) →
+            self.new ≡ bound (found_in binder.new.cx more) self.old) }
+        ensures adds { OnOk result (AddsTypes binder.old binder.new (needed self.old)) }
+        ensures refusal { IfErr result (RunsOut (next_after binder.old (needed self.old))) }
+        ensures counter_grows { binder.old.gensym ≤ binder.new.gensym };
+}
+
+/// Binds in each part of a list, in order.
+pub(crate) fn bind_each<'a, T: Bind<'a>>(
+    parts: &mut Seq<T>,
+    binder: &mut Binder<'a>,
+) -> Result<(), Error<'a>>
+    ensures bound { OnOk result ((more : BoundSignatures) →
+        parts.new ≡ map (T.bound (found_in binder.new.cx more)) parts.old) }
+    ensures adds { OnOk result (AddsTypes binder.old binder.new (flat_map T.needed parts.old)) }
+    ensures refusal { IfErr result (RunsOut (next_after binder.old (flat_map T.needed parts.old))) }
+    ensures counter_grows { binder.old.gensym ≤ binder.new.gensym }
+{
+    for i in 0..parts.len() {
+        parts.at_mut(i).bind(binder)?;
+    }
+    Ok(())
+}
+
+impl<'a> Bind<'a> for ModuleField<'a> {
+    ghost needed = { λ x. needed_in (in_field x) };
+
+    ghost bound = { bound_field };
+
+    fn bind(&mut self, binder: &mut Binder<'a>) -> Result<(), Error<'a>> {
+        match self {
+            ModuleField::Ty(_) => Ok(()),
+            ModuleField::Rec(_) => Ok(()),
+            ModuleField::Import(imports) => {
+                imports.bind(binder)?;
+                Ok(())
+            }
+            ModuleField::Func(func) => {
+                func.bind(binder)?;
+                Ok(())
+            }
+            ModuleField::Table(table) => {
+                table.bind(binder)?;
+                Ok(())
+            }
+            ModuleField::Memory(_) => Ok(()),
+            ModuleField::Global(global) => {
+                global.bind(binder)?;
+                Ok(())
+            }
+            ModuleField::Export(_) => Ok(()),
+            ModuleField::Start(_) => Ok(()),
+            ModuleField::Elem(elem) => {
+                elem.bind(binder)?;
+                Ok(())
+            }
+            ModuleField::Data(data) => {
+                data.bind(binder)?;
+                Ok(())
+            }
+            ModuleField::Tag(tag) => {
+                tag.bind(binder)?;
+                Ok(())
+            }
+            ModuleField::Custom(_) => Ok(()),
+        }
+    }
+}
+
+impl<'a> Bind<'a> for Imports<'a> {
+    ghost needed = { λ i. needed_in (in_import i.items) };
+
+    ghost bound = { λ find. mapped_import (binding_change find) };
+
+    fn bind(&mut self, binder: &mut Binder<'a>) -> Result<(), Error<'a>> {
+        self.items.bind(binder)?;
+        Ok(())
+    }
+}
+
+impl<'a> Bind<'a> for ImportItems<'a> {
+    ghost needed = { λ i. needed_in (in_import i) };
+
+    ghost bound = { λ find. mapped_import_items (binding_change find) };
+
+    fn bind(&mut self, binder: &mut Binder<'a>) -> Result<(), Error<'a>> {
+        match self {
+            ImportItems::Single { sig, .. } => {
+                sig.bind(binder)?;
+                Ok(())
+            }
+            ImportItems::Group1 { items, .. } => {
+                bind_each(items, binder)?;
+                Ok(())
+            }
+            ImportItems::Group2 { sig, .. } => {
+                sig.bind(binder)?;
+                Ok(())
+            }
+        }
+    }
+}
+
+/// An item of a group, behind its name.
+impl<'a> Bind<'a> for (&'a str, ItemSig<'a>) {
+    ghost needed = { λ p. needed_in (in_sig p.1) };
+
+    ghost bound = { λ find p. (p.0, mapped_sig (binding_change find) p.1) };
+
+    fn bind(&mut self, binder: &mut Binder<'a>) -> Result<(), Error<'a>> {
+        self.1.bind(binder)?;
+        Ok(())
+    }
+}
+
+impl<'a> Bind<'a> for ItemSig<'a> {
+    ghost needed = { λ s. needed_in (in_sig s) };
+
+    ghost bound = { λ find. mapped_sig (binding_change find) };
+
+    fn bind(&mut self, binder: &mut Binder<'a>) -> Result<(), Error<'a>> {
+        self.kind.bind(binder)?;
+        Ok(())
+    }
+}
+
+impl<'a> Bind<'a> for ItemKind<'a> {
+    ghost needed = { λ k. needed_in (in_item_kind k) };
+
+    ghost bound = { λ find. mapped_item_kind (binding_change find) };
+
+    fn bind(&mut self, binder: &mut Binder<'a>) -> Result<(), Error<'a>> {
+        match self {
+            ItemKind::Func(ty) => {
+                ty.bind(binder)?;
+                Ok(())
+            }
+            ItemKind::FuncExact(ty) => {
+                ty.bind(binder)?;
+                Ok(())
+            }
+            ItemKind::Table(_) => Ok(()),
+            ItemKind::Memory(_) => Ok(()),
+            ItemKind::Global(_) => Ok(()),
+            ItemKind::Tag(ty) => {
+                ty.bind(binder)?;
+                Ok(())
+            }
+        }
+    }
+}
+
+impl<'a> Bind<'a> for Tag<'a> {
+    ghost needed = { λ t. needed_in (in_tag_type t.ty) };
+
+    ghost bound = { λ find. mapped_tag (binding_change find) };
+
+    fn bind(&mut self, binder: &mut Binder<'a>) -> Result<(), Error<'a>> {
+        self.ty.bind(binder)?;
+        Ok(())
+    }
+}
+
+impl<'a> Bind<'a> for TagType<'a> {
+    ghost needed = { λ t. needed_in (in_tag_type t) };
+
+    ghost bound = { λ find. mapped_tag_type (binding_change find) };
+
+    fn bind(&mut self, binder: &mut Binder<'a>) -> Result<(), Error<'a>> {
+        match self {
+            TagType::Exception(ty) => {
+                ty.bind(binder)?;
+                Ok(())
+            }
+        }
+    }
+}
+
+impl<'a> Bind<'a> for Func<'a> {
+    ghost needed = { λ f. needed_in (in_func f) };
+
+    ghost bound = { λ find. mapped_func (binding_change find) };
+
+    fn bind(&mut self, binder: &mut Binder<'a>) -> Result<(), Error<'a>> {
+        self.ty.bind(binder)?;
+        self.kind.bind(binder)?;
+        Ok(())
+    }
+}
+
+impl<'a> Bind<'a> for FuncKind<'a> {
+    ghost needed = { λ k. needed_in (in_func_kind no_use k) };
+
+    ghost bound = { λ find. mapped_func_kind (binding_change find) no_use };
+
+    fn bind(&mut self, binder: &mut Binder<'a>) -> Result<(), Error<'a>> {
+        match self {
+            FuncKind::Import(..) => Ok(()),
+            FuncKind::Inline { expression, .. } => {
+                expression.bind(binder)?;
+                Ok(())
+            }
+        }
+    }
+}
+
+/// A constant expression, or a body.
+impl<'a> Bind<'a> for Expression<'a> {
+    ghost needed = { λ e. needed_in (in_constant e) };
+
+    ghost bound = { λ find. mapped_constant (binding_change find) };
+
+    fn bind(&mut self, binder: &mut Binder<'a>) -> Result<(), Error<'a>> {
+        bind_instrs(&mut self.instrs, binder)?;
+        Ok(())
+    }
+}
+
+/// Whether nothing stands in an instruction that is bound, so that it may be passed by. It may say no of such a one too.
+fn is_passed(instr: &Instruction) -> bool
+    ensures { IsTrue result → IsPassed instr.now }
+{
+    match instr {
+        Instruction::Plain(_)
+        | Instruction::Mem(..)
+        | Instruction::end_(_)
+        | Instruction::br(_)
+        | Instruction::br_if(_)
+        | Instruction::call(_)
+        | Instruction::local_get(_)
+        | Instruction::local_set(_)
+        | Instruction::local_tee(_)
+        | Instruction::global_get(_)
+        | Instruction::global_set(_)
+        | Instruction::i32_const(_)
+        | Instruction::i64_const(_)
+        | Instruction::f32_const(_)
+        | Instruction::f64_const(_) => true,
+        _ => false,
+    }
+}
+
+/// Binds in each instruction, in order.
+fn bind_instrs<'a>(
+    instrs: &mut Seq<Instruction<'a>>,
+    binder: &mut Binder<'a>,
+) -> Result<(), Error<'a>>
+    ensures bound { OnOk result ((more : BoundSignatures) →
+        instrs.new ≡ map (mapped_instr (binding_change (found_in binder.new.cx more)) constant_context) instrs.old) }
+    ensures adds { OnOk result (AddsTypes binder.old binder.new (flat_map (λ i. needed_in (in_instr constant_context i)) instrs.old)) }
+    ensures refusal { IfErr result (RunsOut (next_after binder.old (flat_map (λ i. needed_in (in_instr constant_context i)) instrs.old))) }
+    ensures counter_grows { binder.old.gensym ≤ binder.new.gensym }
+{
+    for i in 0..instrs.len() {
+        if is_passed(&instrs.as_slice()[i]) {
+            continue;
+        }
+        instrs.at_mut(i).bind(binder)?;
+    }
+    Ok(())
+}
+
+impl<'a> Bind<'a> for Instruction<'a> {
+    ghost needed = { λ i. needed_in (in_instr constant_context i) };
+
+    ghost bound = { λ find. mapped_instr (binding_change find) constant_context };
+
+    fn bind(&mut self, binder: &mut Binder<'a>) -> Result<(), Error<'a>> {
+        match self {
+            Instruction::Plain(_) => Ok(()),
+            Instruction::Mem(..) => Ok(()),
+            Instruction::Lane(..) => Ok(()),
+            Instruction::MemLane(..) => Ok(()),
+            Instruction::block(block) => {
+                block.get_mut().bind(binder)?;
+                Ok(())
+            }
+            Instruction::loop_(block) => {
+                block.get_mut().bind(binder)?;
+                Ok(())
+            }
+            Instruction::if_(block) => {
+                block.get_mut().bind(binder)?;
+                Ok(())
+            }
+            Instruction::else_(_) => Ok(()),
+            Instruction::try_(block) => {
+                block.get_mut().bind(binder)?;
+                Ok(())
+            }
+            Instruction::try_table(table) => {
+                table.bind(binder)?;
+                Ok(())
+            }
+            Instruction::end_(_) => Ok(()),
+            Instruction::br_table(_) => Ok(()),
+            Instruction::call_indirect(call) => {
+                call.get_mut().bind(binder)?;
+                Ok(())
+            }
+            Instruction::return_call_indirect(call) => {
+                call.get_mut().bind(binder)?;
+                Ok(())
+            }
+            Instruction::select(_) => Ok(()),
+            Instruction::i32_const(_) => Ok(()),
+            Instruction::i64_const(_) => Ok(()),
+            Instruction::f32_const(_) => Ok(()),
+            Instruction::f64_const(_) => Ok(()),
+            Instruction::ref_null(_) => Ok(()),
+            Instruction::array_new_fixed(_) => Ok(()),
+            Instruction::ref_test(_) => Ok(()),
+            Instruction::ref_cast(_) => Ok(()),
+            Instruction::ref_cast_desc_eq(_) => Ok(()),
+            Instruction::br_on_cast(_) => Ok(()),
+            Instruction::br_on_cast_fail(_) => Ok(()),
+            Instruction::br_on_cast_desc_eq(_) => Ok(()),
+            Instruction::br_on_cast_desc_eq_fail(_) => Ok(()),
+            Instruction::v128_const(_) => Ok(()),
+            Instruction::i8x16_shuffle(_) => Ok(()),
+            Instruction::atomic_fence(_) => Ok(()),
+            Instruction::GlobalAtomic(_) => Ok(()),
+            Instruction::TableAtomic(_) => Ok(()),
+            Instruction::StructAtomic(_) => Ok(()),
+            Instruction::ArrayAtomic(_) => Ok(()),
+            Instruction::resume(_) => Ok(()),
+            Instruction::resume_throw(_) => Ok(()),
+            Instruction::resume_throw_ref(_) => Ok(()),
+            Instruction::Beyond(_) => Ok(()),
+            // Written by tools/ops from here.
+            Instruction::catch(_) => Ok(()),
+            Instruction::throw(_) => Ok(()),
+            Instruction::rethrow(_) => Ok(()),
+            Instruction::br(_) => Ok(()),
+            Instruction::br_if(_) => Ok(()),
+            Instruction::call(_) => Ok(()),
+            Instruction::return_call(_) => Ok(()),
+            Instruction::call_ref(_) => Ok(()),
+            Instruction::return_call_ref(_) => Ok(()),
+            Instruction::delegate(_) => Ok(()),
+            Instruction::local_get(_) => Ok(()),
+            Instruction::local_set(_) => Ok(()),
+            Instruction::local_tee(_) => Ok(()),
+            Instruction::global_get(_) => Ok(()),
+            Instruction::global_set(_) => Ok(()),
+            Instruction::table_get(_) => Ok(()),
+            Instruction::table_set(_) => Ok(()),
+            Instruction::memory_size(_) => Ok(()),
+            Instruction::memory_grow(_) => Ok(()),
+            Instruction::ref_func(_) => Ok(()),
+            Instruction::br_on_null(_) => Ok(()),
+            Instruction::br_on_non_null(_) => Ok(()),
+            Instruction::struct_new(_) => Ok(()),
+            Instruction::struct_new_default(_) => Ok(()),
+            Instruction::struct_get(_) => Ok(()),
+            Instruction::struct_get_s(_) => Ok(()),
+            Instruction::struct_get_u(_) => Ok(()),
+            Instruction::struct_set(_) => Ok(()),
+            Instruction::array_new(_) => Ok(()),
+            Instruction::array_new_default(_) => Ok(()),
+            Instruction::array_new_data(_) => Ok(()),
+            Instruction::array_new_elem(_) => Ok(()),
+            Instruction::array_get(_) => Ok(()),
+            Instruction::array_get_s(_) => Ok(()),
+            Instruction::array_get_u(_) => Ok(()),
+            Instruction::array_set(_) => Ok(()),
+            Instruction::array_fill(_) => Ok(()),
+            Instruction::array_copy(_) => Ok(()),
+            Instruction::array_init_data(_) => Ok(()),
+            Instruction::array_init_elem(_) => Ok(()),
+            Instruction::memory_init(_) => Ok(()),
+            Instruction::data_drop(_) => Ok(()),
+            Instruction::memory_copy(_) => Ok(()),
+            Instruction::memory_fill(_) => Ok(()),
+            Instruction::table_init(_) => Ok(()),
+            Instruction::elem_drop(_) => Ok(()),
+            Instruction::table_copy(_) => Ok(()),
+            Instruction::table_grow(_) => Ok(()),
+            Instruction::table_size(_) => Ok(()),
+            Instruction::table_fill(_) => Ok(()),
+            Instruction::struct_new_desc(_) => Ok(()),
+            Instruction::struct_new_default_desc(_) => Ok(()),
+            Instruction::ref_get_desc(_) => Ok(()),
+            Instruction::cont_new(_) => Ok(()),
+            Instruction::cont_bind(_) => Ok(()),
+            Instruction::suspend(_) => Ok(()),
+            Instruction::switch(_) => Ok(()),
+            Instruction::memory_discard(_) => Ok(()),
+            // To here.
+        }
+    }
+}
+
+/// The type of a block needs one of its own only where it has a parameter or two results; without an index it has an inline
+/// type from then on.
+impl<'a> Bind<'a> for BlockType<'a> {
+    ghost needed = { λ b. needed_in (in_block [] b) };
+
+    ghost bound = { λ find. mapped_block (binding_change find) };
+
+    fn bind(&mut self, binder: &mut Binder<'a>) -> Result<(), Error<'a>> {
+        if !wants_type(&self.ty) {
+            say_inline(binder.alloc, &mut self.ty);
+            return Ok(());
+        }
+        self.ty.bind(binder)?;
+        Ok(())
+    }
+}
+
+impl<'a> Bind<'a> for TryTable<'a> {
+    ghost needed = { λ t. needed_in (in_try_table [] t) };
+
+    ghost bound = { λ find t. mapped_try_table (binding_change find) [] t };
+
+    fn bind(&mut self, binder: &mut Binder<'a>) -> Result<(), Error<'a>> {
+        self.block.get_mut().bind(binder)?;
+        Ok(())
+    }
+}
+
+/// Whether the type use of a block needs a type: it has no index, and an inline type with a parameter or two results.
+fn wants_type<'a>(ty: &TypeUse<'a, FunctionType<'a>>) -> bool
+    ensures { result ≡ wants_type ty.now.index ty.now.inline }
+{
+    match (&ty.index, &ty.inline) {
+        (Some(_), _) => false,
+        (None, None) => false,
+        (None, Some(inline)) => !is_short(inline),
+    }
+}
+
+/// Whether a function type has no parameters and at most one result, so that a block may have it without an index.
+fn is_short(ty: &FunctionType<'_>) -> bool
+    ensures { result ≡ is_short ty.now }
+{
+    ty.params.is_empty() && ty.results.len() < 2
+}
+
+/// Gives the type use of a block that says nothing the empty inline type.
+fn say_inline<'a>(alloc: Global, ty: &mut TypeUse<'a, FunctionType<'a>>)
+    ensures { ty.new ≡ record ty.old { inline = bound_inline OfBlock ty.old.index ty.old.inline } }
+{
+    if ty.index.is_none() && ty.inline.is_none() {
+        ty.inline = Some(FunctionType::empty(alloc));
+    }
+}
+
+impl<'a> Bind<'a> for CallIndirect<'a> {
+    ghost needed = { λ c. needed_in (in_indirect c) };
+
+    ghost bound = { λ find. mapped_indirect (binding_change find) };
+
+    fn bind(&mut self, binder: &mut Binder<'a>) -> Result<(), Error<'a>> {
+        self.ty.bind(binder)?;
+        Ok(())
+    }
+}
+
+/// A type use needs the same wherever it stands, but in a block.
+impl<'a> Bind<'a> for TypeUse<'a, FunctionType<'a>> {
+    ghost needed = { λ u. needed_in (in_use OfItem u) };
+
+    ghost bound = { λ find. bound_use find OfItem };
+
+    fn bind(&mut self, binder: &mut Binder<'a>) -> Result<(), Error<'a>> {
+        match self.index {
+            Some(_) => Ok(()),
+            None => {
+                let index = binder.inline_to_idx(&self.inline)?;
+                self.index = Some(index);
+                Ok(())
+            }
+        }
+    }
+}

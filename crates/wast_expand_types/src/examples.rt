@@ -1,0 +1,111 @@
+//! Worked modules, of which the definitions compute what they say.
+
+ghost use Rattle.wast_expand_types.specs.WorkedExpansions.{SameSignatures, OrderedSignatures, DistinctSignatures, SameReferences, Row2, Row7, Row8, Row23, Row37, EligibleTypes, Several, AfterStruct, ByIdAndNumber, Row65, UnknownIds, FirstOfTwo, UsesInOrder, IndirectCalls};
+
+/// Which signatures are equal as they are written.
+#[tactic(auto, using(crate::proofs::Worked::same_signatures))]
+pub(crate) fn same_signatures()
+    ensures { SameSignatures }
+{}
+
+/// Which signatures come first in a map.
+#[tactic(auto, using(crate::proofs::Worked::ordered_signatures))]
+pub(crate) fn ordered_signatures()
+    ensures { OrderedSignatures }
+{}
+
+/// Signatures of which none comes again, and of which one does.
+#[tactic(auto, using(crate::proofs::Worked::distinct_signatures))]
+pub(crate) fn distinct_signatures()
+    ensures { DistinctSignatures }
+{}
+
+/// Which reference types are equal as they are written.
+#[tactic(auto, using(crate::proofs::Worked::same_references))]
+pub(crate) fn same_references()
+    ensures { SameReferences }
+{}
+
+/// A function alone: its type is implied.
+#[tactic(auto, using(crate::proofs::Worked::row2))]
+pub(crate) fn row2()
+    ensures { Row2 }
+{}
+
+/// A function and its type after it: no type is implied.
+#[tactic(auto, using(crate::proofs::Worked::row7))]
+pub(crate) fn row7()
+    ensures { Row7 }
+{}
+
+/// A function and a group: its members are not taken, and count as types.
+#[tactic(auto, using(crate::proofs::Worked::row8))]
+pub(crate) fn row8()
+    ensures { Row8 }
+{}
+
+/// A use with an index and another inline type: it stays.
+#[tactic(auto, using(crate::proofs::Worked::row23))]
+pub(crate) fn row23()
+    ensures { Row23 }
+{}
+
+/// An open type is not taken.
+#[tactic(auto, using(crate::proofs::Worked::row37))]
+pub(crate) fn row37()
+    ensures { Row37 }
+{}
+
+/// Which types are taken.
+#[tactic(auto, using(crate::proofs::Worked::eligible_types))]
+pub(crate) fn eligible_types()
+    ensures { EligibleTypes }
+{}
+
+/// Several uses, of which two have one signature.
+#[tactic(auto, using(crate::proofs::Worked::several))]
+pub(crate) fn several()
+    ensures { Several }
+{}
+
+/// A struct is not taken, and counts as a type.
+#[tactic(auto, using(crate::proofs::Worked::after_struct))]
+pub(crate) fn after_struct()
+    ensures { AfterStruct }
+{}
+
+/// The id and the number of one type: one signature.
+#[tactic(auto, using(crate::proofs::Worked::by_id_and_number))]
+pub(crate) fn by_id_and_number()
+    ensures { ByIdAndNumber }
+{}
+
+/// A number where a type has an id: the type is taken.
+#[tactic(auto, using(crate::proofs::Worked::row65))]
+pub(crate) fn row65()
+    ensures { Row65 }
+{}
+
+/// Ids that denote nothing.
+#[tactic(auto, using(crate::proofs::Worked::unknown_ids))]
+pub(crate) fn unknown_ids()
+    ensures { UnknownIds }
+{}
+
+/// Of two equal types the first is taken.
+#[tactic(auto, using(crate::proofs::Worked::first_of_two))]
+pub(crate) fn first_of_two()
+    ensures { FirstOfTwo }
+{}
+
+/// An imported function, a tag and a function: the types that they need are implied in this order.
+#[tactic(auto, using(crate::proofs::Worked::uses_in_order))]
+pub(crate) fn uses_in_order()
+    ensures { UsesInOrder }
+{}
+
+/// Indirect calls in a body and in a constant expression: their types are implied in the order of the uses.
+#[tactic(auto, using(crate::proofs::Worked::indirect_calls))]
+pub(crate) fn indirect_calls()
+    ensures { IndirectCalls }
+{}

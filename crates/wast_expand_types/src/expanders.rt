@@ -1,0 +1,153 @@
+//! What signatures are bound to.
+
+ghost use Rattle.std.specs.Prelude.{◌≡◌, [], ◌∷◌, OnOk, OnErr, IfOk, IfErr, IfSome, IfNone, IsSome};
+ghost use Rattle.wast_base.specs.Faults.{out_of_memory};
+ghost use Rattle.wast_base.specs.Denoted.{resolved_index};
+ghost use Rattle.wast_expand_types.specs.Expanders.{nothing_bound, numbers_in, index_of, Extends};
+ghost use Rattle.wast_expand_types.specs.Hashed.{hash_of, with_hash, bindings_of, ArePlaced, BindsFirst};
+
+use crate::keys::FuncKey;
+use crate::type_names::names_a_type;
+use std::alloc::Global;
+use std::collections::BTreeMap;
+use std::hash::{FoldHasher, Hash, Hasher};
+use std::marker::Model;
+use wast_base::{Error, Index, try_number};
+use wast_resolve_namespace::{Namespace, NamespaceBuilder};
+use wast_tree_nodes::FunctionType;
+
+/// The types that signatures are bound to, and the names of the written types. Contracts see signatures with indices, no two
+/// signatures equal, in any order, beside the list of names.
+#[derive(Drop)]
+pub struct Expander<'a> {
+    alloc: Global,
+    // of the written types, in their order
+    names: NamespaceBuilder<'a>,
+    // what these denote, once a key has asked for a name
+    sorted: Option<Namespace<'a>>,
+    // by each hash, the first key that has it
+    firsts: BTreeMap<u64, (FuncKey<'a>, Index<'a>)>,
+    // the keys whose hash the first one has
+    others: BTreeMap<FuncKey<'a>, Index<'a>>,
+}
+
+impl<'a> Model for Expander<'a> {
+    ghost use Rattle.std.specs.Prelude.{IfSome};
+    ghost use Rattle.wast_resolve_namespace.specs.Filling.{Denotes};
+    ghost use Rattle.wast_expand_types.specs.Expanders.{Bound};
+    ghost use Rattle.wast_expand_types.specs.Hashed.{bindings_of, ArePlaced};
+
+    ghost Value = { Bound };
+
+    ghost view = { λ cx. record { names = cx.names; bound = bindings_of cx.firsts.entries cx.others.entries } };
+
+    ghost invariant = { λ cx. ArePlaced cx.firsts.entries cx.others.entries × IfSome cx.sorted (Denotes cx.names) };
+}
+
+impl<'a> Expander<'a> {
+    /// Binds nothing, and knows no names of types. It takes no memory; `alloc` is what
+    /// [`TypeReference::key`](crate::TypeReference::key) and [`TypeKey::insert`](crate::TypeKey::insert) will ask.
+    pub fn new(alloc: Global) -> Self
+        ensures { result ≡ nothing_bound }
+    {
+        Expander::with_names(alloc, NamespaceBuilder::none(alloc))
+    }
+
+    /// Binds nothing, and knows these names of types.
+    #[tactic(auto, using(crate::proofs::Placed::none_placed))]
+    pub(crate) fn with_names(alloc: Global, names: NamespaceBuilder<'a>) -> Self
+        ensures { result ≡ record { names = names.entry; bound = [] } }
+    {
+        Expander {
+            alloc,
+            names,
+            sorted: None,
+            firsts: BTreeMap::new(alloc),
+            others: BTreeMap::new(alloc),
+        }
+    }
+
+    /// What it asks for memory.
+    pub(crate) fn alloc(&self) -> Global {
+        self.alloc
+    }
+
+    /// An index with the number of the written type that it denotes; another id stays.
+    pub(crate) fn number(&self, index: Index<'a>) -> Index<'a>
+        ensures { result ≡ resolved_index (numbers_in self.now) index.entry }
+    {
+        let mut index = index;
+        match &self.sorted {
+            Some(sorted) => sorted.try_resolve(&mut index),
+            None => try_number(&self.names, &mut index),
+        };
+        index
+    }
+
+    /// Sorts the names where a type names one and they are not sorted, so that [`number`](Expander::number) does not go
+    /// through all of them. It takes memory then.
+    pub(crate) fn sort_names_for(&mut self, ty: &FunctionType<'a>) -> Result<(), Error<'a>>
+        ensures stays { self.new ≡ self.old }
+        ensures refusal { IfErr result (λ e. e ≡ out_of_memory) }
+    {
+        if self.sorted.is_none() && names_a_type(ty) {
+            let sorted = self.names.build_first_wins(self.alloc)?;
+            self.sorted = Some(sorted);
+        }
+        Ok(())
+    }
+
+    /// The index that a key is bound to.
+    #[tactic(auto, using(crate::proofs::Bound::found_in_order, crate::proofs::Placed::found_at_hash, crate::proofs::Placed::found_beside, crate::proofs::Placed::found_else))]
+    pub(crate) fn get(&self, key: &FuncKey<'a>) -> Option<Index<'a>>
+        ensures { result ≡ index_of self.now.bound key.now }
+    {
+        match self.firsts.get(&hash_of(key)) {
+            Some(first) if first.0 == *key => Some(first.1),
+            _ => self.others.get(key).copied(),
+        }
+    }
+
+    /// Binds a key, unless it is bound.
+    pub(crate) fn put(&mut self, key: FuncKey<'a>, index: Index<'a>) -> Result<(), Error<'a>>
+        ensures ok { OnOk result (Extends self.old.bound self.new.bound ((key.entry, index.entry) ∷ [])) }
+        ensures names { self.new.names ≡ self.old.names }
+        ensures refusal { IfErr result (λ e. e ≡ out_of_memory) }
+        ensures err { OnErr result (self.new ≡ self.old) }
+    {
+        if let Some(key) = bind_first(&mut self.firsts, key, index)? {
+            self.others.entry(key)?.or_insert(index);
+        }
+        Ok(())
+    }
+}
+
+/// Binds a key, unless it is bound; where the first key of its hash is another one, it is given back.
+fn bind_first<'a>(
+    firsts: &mut BTreeMap<u64, (FuncKey<'a>, Index<'a>)>,
+    key: FuncKey<'a>,
+    index: Index<'a>,
+) -> Result<Option<FuncKey<'a>>, Error<'a>>
+    ensures bound { IfOk result (λ rest. IfNone rest (BindsFirst firsts.old.entries firsts.new.entries key.entry index.entry)) }
+    ensures rest { IfOk result (λ rest. IfSome rest (λ k. k ≡ key.entry)) }
+    ensures taken { IfOk result (λ rest. IsSome rest → IsSome (with_hash firsts.old.entries (hash_of key.entry))) }
+    ensures stays { IfOk result (λ rest. IsSome rest → firsts.new.entries ≡ firsts.old.entries) }
+    ensures refusal { IfErr result (λ e. e ≡ out_of_memory) }
+    ensures err { OnErr result (firsts.new.entries ≡ firsts.old.entries) }
+{
+    let hash = hash_of(&key);
+    if let Some(first) = firsts.get(&hash) {
+        return Ok(if first.0 == key { None } else { Some(key) });
+    }
+    firsts.insert(hash, (key, index))?;
+    Ok(None)
+}
+
+/// What a key is looked up by first.
+fn hash_of(key: &FuncKey<'_>) -> u64
+    ensures { result ≡ hash_of key.now }
+{
+    let mut state = FoldHasher::default();
+    key.hash(&mut state);
+    state.finish()
+}

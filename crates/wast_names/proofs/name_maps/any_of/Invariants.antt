@@ -1,7 +1,0 @@
-use Rattle.std.proofs.Common.{◌≡◌, [], take}
-use Rattle.std.specs.List.{flat_map}
-use Rattle.wast_names.specs.GivenNames.{named_from}
-use Rattle.wast_names.proofs.name_maps.any_of.Given as goal
-
-abbrev pub invariant-loop-part : goal.invariant-loop-part
-invariant-loop-part g l = named_from 0 (flat_map (g.W.NameItems.items l.way) (take l.part-index l.parts)) ≡ []

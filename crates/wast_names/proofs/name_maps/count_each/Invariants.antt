@@ -1,9 +1,0 @@
-use Rattle.std.proofs.Common.{◌≡◌, length}
-use Rattle.std.specs.Prelude.{take}
-use Rattle.std.specs.List.{flat_map}
-use Rattle.wast_names.specs.FoundNames.{counted}
-use Rattle.wast_names.specs.GivenNames.{named_from}
-use Rattle.wast_names.proofs.name_maps.count_each.Given as goal
-
-abbrev pub invariant-loop-part : goal.invariant-loop-part
-invariant-loop-part g l = l.sum ≡ counted (length (named_from 0 (flat_map (g.W.NameItems.items l.way) (take l.part-index l.parts))))

@@ -1,6 +1,0 @@
-use Rattle.wast_nodes.specs.Kinds.{is_of}
-use Rattle.wast_names.proofs.named_fields.either.Goals as goal
-
-pub returns : goal.returns
-returns c fields h =
-    c.joined.ensures (is_of c.args.one) (is_of c.args.other) fields (c.of_kind.ensures fields h) (c.of_kind-2.ensures fields h)

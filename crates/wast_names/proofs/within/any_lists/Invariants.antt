@@ -1,7 +1,0 @@
-use Rattle.std.proofs.Common.{◌≡◌, [], take}
-use Rattle.std.specs.List.{flat_map}
-use Rattle.wast_names.specs.GivenNames.{named_from}
-use Rattle.wast_names.proofs.within.any_lists.Given as goal
-
-abbrev pub invariant-loop-part : goal.invariant-loop-part
-invariant-loop-part g l = named_from 0 (flat_map (g.T.CountLists.lists (flat_map g.T.FieldTypes.types l.fields) l.within) (take l.part-index l.there)) ≡ []

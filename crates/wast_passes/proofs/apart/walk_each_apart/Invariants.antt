@@ -1,8 +1,0 @@
-use Rattle.wast_demands.specs.Demands.{site_demand}
-use Rattle.wast_demands.specs.Resolved.{numbering}
-use Rattle.wast_passes.specs.Resolvers.{scope_of}
-use Rattle.wast_passes.proofs.Each.{IsHalfway}
-use Rattle.wast_passes.proofs.apart.walk_each_apart.Given as goal
-
-abbrev pub invariant-loop-i : goal.invariant-loop-i
-invariant-loop-i g l = IsHalfway (site_demand (scope_of l.names)) g.T.WalkApart.stands (g.T.WalkApart.mapped (numbering (scope_of l.names))) l.fn.parts l.parts l.i

@@ -1,8 +1,0 @@
-use Rattle.wast_demands.specs.Demands.{site_demand}
-use Rattle.wast_demands.specs.Resolved.{numbering}
-use Rattle.wast_passes.specs.Resolvers.{scope_of}
-use Rattle.wast_passes.proofs.Each.{IsHalfway}
-use Rattle.wast_passes.proofs.constants.walk_each_constants.Given as goal
-
-abbrev pub invariant-loop-i : goal.invariant-loop-i
-invariant-loop-i g l = IsHalfway (site_demand (scope_of l.names)) g.T.WalkConstants.stands (g.T.WalkConstants.mapped (numbering (scope_of l.names))) l.fn.parts l.parts l.i

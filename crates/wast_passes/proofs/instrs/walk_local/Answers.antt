@@ -1,9 +1,0 @@
-use Rattle.std.specs.Prelude.{[]}
-use Rattle.wast_demands.specs.Demands.{HasMany}
-use Rattle.wast_passes.specs.Resolvers.{scope_of}
-use Rattle.wast_passes.proofs.Within.{local_walked}
-use Rattle.wast_passes.proofs.instrs.walk_local.Goals as goal
-
-pub returns : goal.returns
-returns c names l numbers =
-    local_walked (HasMany []) (scope_of names) l c.args.locals.now c.args.index.now c.number.new.idx c.number.result numbers c.number.ensures.answer c.number.ensures.index

@@ -1,5 +1,0 @@
-use Rattle.wast_reach.proofs.Found.{found_for}
-use Rattle.wast_reach.proofs.finding.Reaches.of_kind.Goals as goal
-
-pub returns : goal.returns
-returns c fields h = rw c.rank.ensures.same (found_for fields c.args.self.now c.args.kind h)

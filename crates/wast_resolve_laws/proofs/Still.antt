@@ -1,0 +1,151 @@
+-- To number a numbered list again changes nothing.
+use Rattle.std.proofs.Common.{◌≡◌, ℕ, ◌+◌, List, [], ◌∷◌, ◌++◌, map, Option, Some, None, option_map, refl, ap, ◌∙◌}
+use Rattle.std.proofs.lemmas.List.{length-map, map-append}
+use Rattle.wast_base.specs.declared.ids.Span.{Span}
+use Rattle.wast_base.specs.Ids.{Name, name_of}
+use Rattle.wast_base.specs.Spaces.{position_of}
+use Rattle.wast_resolve_labels.specs.OpenBlocks.{label_depth}
+use Rattle.wast_tree_nodes.specs.Types.{said_once}
+use Rattle.wast_tree_nodes.specs.Known.{IdContext}
+use Rattle.wast_tree_nodes.specs.Sites.{Check, ItemIndex, InnerIndex, PlainId, Clause, Covered, Where, OfItem, OfCall, OfBlock, Locals, Site, Asked, Used, Declared, LocalAt, FieldAt, LabelAt, Repeated, Begins, Ends, in_module}
+use Rattle.wast_tree_map.specs.Mapped.{JoinsAsk, Joins, mapped_locals, mapped_heap, mapped_val, mapped_param, mapped_signature, mapped_field}
+use Rattle.wast_tree_map.proofs.Laws.{joins, each_so}
+use Rattle.wast_resolve_laws.specs.Tree.{Id, Index, NameAnnotation, HeapType, ValType, FunctionType, TypeUse, ModuleField}
+use Rattle.wast_resolve_laws.specs.Tree.index
+use Rattle.wast_resolve_laws.specs.Tree.space
+use Rattle.wast_resolve_laws.specs.Tree.heap
+use Rattle.wast_resolve_laws.specs.Tree.value
+use Rattle.wast_resolve_rules.specs.Scopes.{Shape, Function, Struct, Other, Scope, module_scope, denoted, type_at, params_of, field_in, unsaid_params, implicit_param_count, local_number, field_number}
+use Rattle.wast_resolve_rules.specs.Resolved.{numbered_by, resolved_index, numbered_at, numbered_use, resolved_use, numbering_change, resolved_fields}
+use Rattle.wast_resolve_rules.proofs.Numbering.{numbering_keeps}
+use Rattle.wast_resolve_laws.specs.Rests.{start_fields_of, numbers}
+use Rattle.wast_resolve_laws.proofs.NumberedTypes.{numbered_shape, denoted_still}
+use Rattle.wast_resolve_laws.proofs.NumberedSites.{rested, at_still}
+use Rattle.wast_resolve_laws.proofs.Resting.{scope_rests}
+
+-- An index that is numbered twice is numbered once.
+twice : (number other : Name → Option ℕ) → ((q : Name) → other q ≡ number q) → (i : Index) → resolved_index other (resolved_index number i) ≡ resolved_index number i
+twice number other h (index.Num k p) = refl
+twice number other h (index.Id id) = by (number (name_of id)) refl
+  where
+    by : (o : Option ℕ) → number (name_of id) ≡ o → resolved_index other (numbered_by o id) ≡ numbered_by o id
+    by None e = ap (λ o. numbered_by o id) (h (name_of id) ∙ e)
+    by (Some k) e = refl
+
+module _ (k : IdContext) where
+  at_twice : (i : Index) → numbered_at k space.Ty (numbered_at k space.Ty i) ≡ numbered_at k space.Ty i
+  at_twice i = twice (k.number space.Ty) (k.number space.Ty) (λ q. refl) i
+
+  heap_twice : (t : HeapType) → mapped_heap (numbered_at k) (mapped_heap (numbered_at k) t) ≡ mapped_heap (numbered_at k) t
+  heap_twice (heap.Abstract shared t) = refl
+  heap_twice (heap.Concrete i) = ap heap.Concrete (at_twice i)
+  heap_twice (heap.Exact i) = ap heap.Exact (at_twice i)
+
+  value_twice : (t : ValType) → mapped_val (numbered_at k) (mapped_val (numbered_at k) t) ≡ mapped_val (numbered_at k) t
+  value_twice (value.Ref q) = ap (λ (t : HeapType). value.Ref (record q { heap = t })) (heap_twice q.heap)
+  value_twice value.I32 = refl
+  value_twice value.I64 = refl
+  value_twice value.F32 = refl
+  value_twice value.F64 = refl
+  value_twice value.V128 = refl
+
+  values_twice : (ts : List ValType) → map (mapped_val (numbered_at k)) (map (mapped_val (numbered_at k)) ts) ≡ map (mapped_val (numbered_at k)) ts
+  values_twice [] = refl
+  values_twice (t ∷ ts) = λ i. value_twice t i ∷ values_twice ts i
+
+  params_twice : (ps : List (Option Id × Option NameAnnotation × ValType)) → map (mapped_param (numbered_at k)) (map (mapped_param (numbered_at k)) ps) ≡ map (mapped_param (numbered_at k)) ps
+  params_twice [] = refl
+  params_twice (p ∷ ps) = λ i. (p.0, p.1, value_twice p.2 i) ∷ params_twice ps i
+
+  signature_twice : (t : Option FunctionType) → option_map (mapped_signature (numbered_at k)) (option_map (mapped_signature (numbered_at k)) t) ≡ option_map (mapped_signature (numbered_at k)) t
+  signature_twice None = refl
+  signature_twice (Some t) = λ i. Some (record { params = params_twice t.params i; results = values_twice t.results i })
+
+  index_twice : (o : Option Index) → option_map (numbered_at k space.Ty) (option_map (numbered_at k space.Ty) o) ≡ option_map (numbered_at k space.Ty) o
+  index_twice None = refl
+  index_twice (Some i) = ap Some (at_twice i)
+
+  numbered_twice : (u : TypeUse FunctionType) → numbered_use k (numbered_use k u) ≡ numbered_use k u
+  numbered_twice u = λ i. record { index = index_twice u.index i; inline = signature_twice u.inline i }
+
+  -- said once, a use is numbered so
+  said_twice : (o : Option Index) (t : Option FunctionType) → said_once (numbered_use k (said_once (record { index = o; inline = t }))) ≡ said_once (numbered_use k (record { index = o; inline = t }))
+  said_twice None t = refl
+  said_twice (Some i) t = refl
+
+  once_twice : (u : TypeUse FunctionType) → said_once (numbered_use k (said_once (numbered_use k u))) ≡ said_once (numbered_use k u)
+  once_twice u = said_twice (numbered_use k u).index (numbered_use k u).inline ∙ ap said_once (numbered_twice u)
+
+  use_twice : (w : Where) (u : TypeUse FunctionType) → resolved_use k w (resolved_use k w u) ≡ resolved_use k w u
+  use_twice OfItem u = numbered_twice u
+  use_twice OfCall u = once_twice u
+  use_twice OfBlock u = once_twice u
+
+module _ (c : Scope) where
+  abbrev k : IdContext
+  k = c.known
+
+  params_still : (o : Option Shape) → params_of (option_map (numbered_shape k) o) ≡ params_of o
+  params_still None = refl
+  params_still (Some (Function s)) = length-map s.0 (mapped_val (numbered_at k))
+  params_still (Some (Struct number)) = refl
+  params_still (Some Other) = refl
+
+  field_still : (o : Option Shape) (q : Name) → field_in (option_map (numbered_shape k) o) q ≡ field_in o q
+  field_still None q = refl
+  field_still (Some (Function s)) q = refl
+  field_still (Some (Struct number)) q = refl
+  field_still (Some Other) q = refl
+
+  unsaid_still : (o : Option Index) (t : Option FunctionType) → unsaid_params (rested c) (option_map (numbered_at k space.Ty) o) (option_map (mapped_signature (numbered_at k)) t) ≡ unsaid_params c o t
+  unsaid_still None None = refl
+  unsaid_still None (Some t) = refl
+  unsaid_still (Some i) (Some t) = refl
+  unsaid_still (Some i) None =
+      ap (λ o. params_of (type_at (rested c).types o)) (denoted_still (k.number space.Ty) i)
+      ∙ (ap params_of (at_still c (denoted (k.number space.Ty) i)) ∙ params_still (type_at c.types (denoted (k.number space.Ty) i)))
+
+  nameless_still : (o : Option (TypeUse FunctionType)) → implicit_param_count (rested c) (option_map (resolved_use k OfItem) o) ≡ implicit_param_count c o
+  nameless_still None = refl
+  nameless_still (Some u) = unsaid_still u.index u.inline
+
+  local_still : (l : Locals) (q : Name) → local_number (rested c) (mapped_locals (numbering_change c) l) q ≡ local_number c l q
+  local_still l q = ap (λ n. option_map (λ p. n + p) (position_of q l.names)) (nameless_still l.owner)
+
+  owner_still : (owner : Index) (q : Name) → field_number (rested c) (numbered_at k space.Ty owner) q ≡ field_number c owner q
+  owner_still owner q =
+      ap (λ o. field_in (type_at (rested c).types o) q) (denoted_still (k.number space.Ty) owner)
+      ∙ (ap (λ o. field_in o q) (at_still c (denoted (k.number space.Ty) owner)) ∙ field_still (type_at c.types (denoted (k.number space.Ty) owner)) q)
+
+  asks_join : (a : Check) → JoinsAsk (numbering_change c).index (numbering_change (rested c)).index (numbering_change c).index a
+  asks_join (ItemIndex s i) = twice (k.number s) (k.number s) (λ q. refl) i
+  asks_join (InnerIndex i) = tt
+  asks_join (PlainId m) = tt
+  asks_join (Clause n holds) = tt
+  asks_join (Covered form holds) = tt
+
+  site_joins : (s : Site) → Joins (numbering_change c) (numbering_change (rested c)) (numbering_change c) s
+  site_joins (Asked a) = asks_join a
+  site_joins (Used w u) = use_twice k w u
+  site_joins (Declared before m) = tt
+  site_joins (LocalAt locals i) = twice (local_number c locals) (local_number (rested c) (mapped_locals (numbering_change c) locals)) (local_still locals) i
+  site_joins (FieldAt owner i) = (twice (k.number space.Ty) (k.number space.Ty) (λ q. refl) owner, twice (field_number c owner) (field_number (rested c) (numbered_at k space.Ty owner)) (owner_still owner) i)
+  site_joins (LabelAt blocks i) = twice (λ name. label_depth name blocks) (λ name. label_depth name blocks) (λ q. refl) i
+  site_joins (Repeated blocks m) = tt
+  site_joins (Begins blocks m) = tt
+  site_joins Ends = tt
+
+  again : (xs : List ModuleField) → map (mapped_field (numbering_change (rested c))) (map (mapped_field (numbering_change c)) xs) ≡ map (mapped_field (numbering_change c)) xs
+  again xs =
+      joins (numbering_change c) (numbering_change (rested c)) (numbering_change c) (record { keeps = numbering_keeps c; ids = λ o. refl; owns = λ o. refl }) xs
+      (each_so (Joins (numbering_change c) (numbering_change (rested c)) (numbering_change c)) site_joins (in_module xs))
+
+  starts_still : (ks : List (ℕ × Span)) → map (mapped_field (numbering_change (rested c))) (start_fields_of (numbers ks)) ≡ start_fields_of (numbers ks)
+  starts_still [] = refl
+  starts_still (j ∷ ks) = λ i. start_fields_of (numbers (j ∷ [])) ++ starts_still ks i
+
+pub rests_numbered : (xs : List ModuleField) (ks : List (ℕ × Span)) → resolved_fields (resolved_fields xs ++ start_fields_of (numbers ks)) ≡ resolved_fields xs ++ start_fields_of (numbers ks)
+rests_numbered xs ks =
+    ap (λ d. map (mapped_field (numbering_change d)) (resolved_fields xs ++ start_fields_of (numbers ks))) (scope_rests xs ks)
+    ∙ (map-append (mapped_field (numbering_change (rested (module_scope xs)))) (resolved_fields xs) (start_fields_of (numbers ks))
+    ∙ (λ i. again (module_scope xs) xs i ++ starts_still (module_scope xs) ks i))

@@ -1,0 +1,204 @@
+//! The items of a space, gathered from the fields of a module, and the fields of a struct.
+
+ghost use Rattle.std.specs.Prelude.{◌≡◌, [], ◌∷◌, is_some, length, map, All, IfOk, IfErr, Option as Maybe};
+ghost use Rattle.std.specs.List.{list_any};
+ghost use Rattle.wast_base.specs.Faults.{out_of_memory};
+ghost use Rattle.wast_base.specs.Ids.{Mark, mark_of_option};
+ghost use Rattle.wast_base.specs.Spaces.{name_if};
+ghost use Rattle.wast_tree_nodes.specs.Items.{field_ids, items};
+ghost use Rattle.wast_tree_nodes.specs.Known.{names_in};
+ghost use Rattle.wast_resolve_passes.specs.Gathers.{Gathers, GathersItem, gathered_of, with_gathered};
+ghost use Rattle.wast_resolve_passes.specs.Tree.{Space};
+
+use std::alloc::Global;
+use wast_base::{Error, Fault, Id, NameAnnotation, Space};
+use wast_resolve_namespace::NamespaceBuilder;
+use wast_tree_nodes::{Local, ModuleField, StructField, ValType};
+use wast_tree_visit::{ItemVisitor, visit_items};
+
+/// How many ids the items of each space have, by its rank; a guess where there are too many to be counted.
+#[derive(Drop)]
+struct Counter {
+    ids: [usize; 8],
+}
+
+impl<'a> ItemVisitor<'a> for Counter {
+    ghost told = { λ old x new. Unit {0} };
+
+    fn item(&mut self, space: Space, id: &Option<Id<'a>>, _fields: &[StructField<'a>]) {
+        if id.is_some() {
+            let rank = space.rank();
+            self.ids[rank] = self.ids[rank].saturating_add(1);
+        }
+    }
+}
+
+/// The items of each space that it was told of, by its rank, or why it stopped there.
+#[derive(Drop)]
+struct Gatherer<'a> {
+    gathered: Vec<Result<NamespaceBuilder<'a>, Error<'a>>>,
+}
+
+impl<'a> ItemVisitor<'a> for Gatherer<'a> {
+    ghost told = { λ old x new. GathersItem old.gathered.items x new.gathered.items };
+
+    fn item(&mut self, space: Space, id: &Option<Id<'a>>, _fields: &[StructField<'a>]) {
+        let rank = space.rank();
+        if rank < self.gathered.len() {
+            add_to(&mut self.gathered[rank], *id);
+        }
+    }
+}
+
+/// One more item, unless it has stopped.
+fn add_to<'a>(gathered: &mut Result<NamespaceBuilder<'a>, Error<'a>>, id: Option<Id<'a>>)
+    ensures { Gathers gathered.old (name_if (mark_of_option id.entry) ∷ []) gathered.new }
+{
+    if let Ok(gathering) = gathered {
+        if let Err(e) = add(gathering, id) {
+            *gathered = Err(e);
+        }
+    }
+}
+
+/// One more item: E10 where there would be 2^32, and else E12 where memory is refused.
+fn add<'a>(gathering: &mut NamespaceBuilder<'a>, id: Option<Id<'a>>) -> Result<(), Error<'a>>
+    ensures { Gathers (Ok gathering.old) (name_if (mark_of_option id.entry) ∷ []) (with_gathered result gathering.new) }
+{
+    if gathering.is_full() {
+        return Err(Error::refusal(Fault::TooLarge));
+    }
+    gathering.add(id)?;
+    Ok(())
+}
+
+/// Nothing, with room for so many ids; E12 where memory is refused.
+fn start<'a>(alloc: Global, ids: usize) -> Result<NamespaceBuilder<'a>, Error<'a>>
+    ensures { Gathers (Ok []) [] result }
+{
+    Ok(NamespaceBuilder::new(alloc, ids)?)
+}
+
+/// Nothing of each space, with room for so many ids, by its rank.
+fn start_each<'a>(
+    alloc: Global,
+    ids: [usize; 8],
+) -> Result<Vec<Result<NamespaceBuilder<'a>, Error<'a>>>, Error<'a>>
+    ensures slots { IfOk result (λ v. length v.items ≡ 8) }
+    ensures each { IfOk result (λ v. All (Gathers (Ok []) []) v.items) }
+    ensures refusal { IfErr result (λ e. e ≡ out_of_memory) }
+{
+    let mut gathered = Vec::with_capacity(alloc, ids.len())?;
+    for rank in 0..8 {
+        let nothing: Result<NamespaceBuilder<'a>, Error<'a>> = start(alloc, ids[rank]);
+        gathered.push(nothing)?;
+    }
+    Ok(gathered)
+}
+
+/// The items of each space, by its rank, or why it stopped there: E10 where the space has 2^32 items or more, and E12 where
+/// memory is refused.
+///
+/// It asks for memory once for each space, and once for all. Where that is refused, it is E12.
+pub(crate) fn gather<'a>(
+    alloc: Global,
+    fields: &[ModuleField<'a>],
+) -> Result<Vec<Result<NamespaceBuilder<'a>, Error<'a>>>, Error<'a>>
+    ensures slots { IfOk result (λ v. length v.items ≡ 8) }
+    ensures each { IfOk result (λ v. (s : Space) → Gathers (Ok []) (names_in s (items fields.now)) (gathered_of v.items s)) }
+    ensures refusal { IfErr result (λ e. e ≡ out_of_memory) }
+{
+    let mut counter = Counter { ids: [0; 8] };
+    visit_items(fields, &mut counter);
+    let mut gatherer = Gatherer {
+        gathered: start_each(alloc, counter.ids)?,
+    };
+    visit_items(fields, &mut gatherer);
+    Ok(gatherer.gathered)
+}
+
+/// What may have an id: a field of a struct, a parameter or a local.
+pub(crate) trait HasId<'a> {
+    /// Its id, if it has one.
+    ghost mark: { Self → Maybe Mark };
+
+    /// Its id, if it has one.
+    fn id(&self) -> Option<Id<'a>>
+        ensures { mark_of_option result ≡ mark self.now };
+}
+
+impl<'a> HasId<'a> for StructField<'a> {
+    ghost mark = { λ f. mark_of_option f.id };
+
+    fn id(&self) -> Option<Id<'a>> {
+        self.id
+    }
+}
+
+impl<'a> HasId<'a> for (Option<Id<'a>>, Option<NameAnnotation<'a>>, ValType<'a>) {
+    ghost mark = { λ p. mark_of_option p.0 };
+
+    fn id(&self) -> Option<Id<'a>> {
+        self.0
+    }
+}
+
+impl<'a> HasId<'a> for Local<'a> {
+    ghost mark = { λ l. mark_of_option l.id };
+
+    fn id(&self) -> Option<Id<'a>> {
+        self.id
+    }
+}
+
+/// Whether something in a list has an id.
+pub(crate) fn have_ids<'a, T: HasId<'a>>(items: &[T]) -> bool
+    ensures { result ≡ list_any is_some (map (λ x. name_if (T.mark x)) items.now) }
+{
+    for item in items {
+        if item.id().is_some() {
+            return true;
+        }
+    }
+    false
+}
+
+/// How many of a list have ids.
+pub(crate) fn count_ids<'a, T: HasId<'a>>(items: &[T]) -> usize {
+    let mut ids: usize = 0;
+    for item in items {
+        if item.id().is_some() {
+            ids = ids.saturating_add(1);
+        }
+    }
+    ids
+}
+
+/// Takes in the names of a list, in order: E10 where there would be 2^32, E12 where memory is refused.
+pub(crate) fn gather_each<'a, T: HasId<'a>>(
+    gathering: &mut NamespaceBuilder<'a>,
+    items: &[T],
+) -> Result<(), Error<'a>>
+    ensures { Gathers (Ok gathering.old) (map (λ x. name_if (T.mark x)) items.now) (with_gathered result gathering.new) }
+{
+    for item in items {
+        add(gathering, item.id())?;
+    }
+    Ok(())
+}
+
+/// The fields of a struct.
+///
+/// It asks for memory once, and only where some field has an id. Where it is refused, that is E12; where there are 2^32
+/// fields or more, E10.
+#[inline(always)]
+pub(crate) fn gather_fields<'a>(
+    alloc: Global,
+    fields: &[StructField<'a>],
+) -> Result<NamespaceBuilder<'a>, Error<'a>>
+    ensures { Gathers (Ok []) (map name_if (field_ids fields.now)) result }
+{
+    let mut gathering = NamespaceBuilder::new(alloc, count_ids(fields))?;
+    gather_each(&mut gathering, fields)?;
+    Ok(gathering)
+}

@@ -1,0 +1,28 @@
+//! Laws for callers to cite, of types that the resolver of a module resolves.
+
+ghost use Rattle.wast_tree_nodes.specs.Sites.{in_heap, in_ref, in_val, in_storage, in_signature, in_def, in_type};
+ghost use Rattle.wast_tree_map.specs.Mapped.{mapped_heap, mapped_ref, mapped_val, mapped_storage, mapped_signature, mapped_def};
+ghost use Rattle.wast_resolve_rules.specs.CoreTypes.{with_def};
+ghost use Rattle.wast_resolve_passes.specs.Laws.{ByResolver, NeedsOfResolver};
+
+/// What the functions over [`ResolveCoreType`](crate::ResolveCoreType) promise of a type is, by the resolver of a module,
+/// that the type has its numbers where each of its ids denotes a type, and that the error is E4 at the first that does not.
+/// The resolver has what it needs of a type where the generated ids in it are those of types, as in well formed fields. It
+/// does nothing.
+#[tactic(auto, using(crate::proofs::CallingNames::by_resolver, crate::proofs::CallingNames::needs_of_resolver, wast_resolve_rules::proofs::PartsOfTypes::heap_part, wast_resolve_rules::proofs::PartsOfTypes::ref_part, wast_resolve_rules::proofs::PartsOfTypes::val_part, wast_resolve_rules::proofs::PartsOfTypes::storage_part))]
+pub fn core_type_laws()
+    ensures types { ByResolver in_type with_def }
+    ensures defs { ByResolver in_def mapped_def }
+    ensures functions { ByResolver in_signature mapped_signature }
+    ensures values { ByResolver in_val mapped_val }
+    ensures references { ByResolver in_ref mapped_ref }
+    ensures heaps { ByResolver in_heap mapped_heap }
+    ensures storages { ByResolver in_storage mapped_storage }
+    ensures types_needs { NeedsOfResolver in_type }
+    ensures defs_needs { NeedsOfResolver in_def }
+    ensures functions_needs { NeedsOfResolver in_signature }
+    ensures values_needs { NeedsOfResolver in_val }
+    ensures references_needs { NeedsOfResolver in_ref }
+    ensures heaps_needs { NeedsOfResolver in_heap }
+    ensures storages_needs { NeedsOfResolver in_storage }
+{}

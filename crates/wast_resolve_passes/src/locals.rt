@@ -1,0 +1,150 @@
+//! The names of the parameters and locals of a function.
+
+ghost use Rattle.std.specs.Prelude.{◌≡◌, ◌<◌, ◌≤◌, ◌^◌, ◌+◌, ◌↔◌, [], length, slice_index_or, None, Some, IsTrue, IfOk, IfErr};
+ghost use Rattle.wast_base.specs.Ids.{mark_of_option};
+ghost use Rattle.wast_base.specs.Faults.{diagnostic_of};
+ghost use Rattle.wast_tree_nodes.specs.Sites.{param_marks, declaration_sites};
+ghost use Rattle.wast_resolve_passes.specs.Resolvers.{scope_of};
+ghost use Rattle.wast_resolve_rules.specs.Scopes.{Scope, implicit_param_count as nameless_of};
+ghost use Rattle.wast_resolve_rules.specs.Demands.{declared_ids};
+ghost use Rattle.wast_resolve_namespace.specs.Filling.{FillsSpace};
+ghost use Rattle.wast_resolve_passes.specs.Gathers.{Stops, Gathers};
+ghost use Rattle.wast_resolve_passes.specs.Locals.{params_in, body_declarations, marks_of, names as names_of, NumbersFrom, NumbersIn, locals_in, NamesLocals};
+
+use crate::gathers::{count_ids, gather_each, have_ids};
+use crate::guesses::{CachedNames, filled};
+use crate::local_names::LocalNames;
+use crate::resolver::Resolver;
+use std::alloc::Global;
+use wast_base::{Error, Fault, Id, NameAnnotation};
+use wast_resolve_namespace::NamespaceBuilder;
+use wast_tree_nodes::{FuncKind, FunctionType, Local, TypeUse, ValType};
+
+/// A parameter: its id, its name annotation and its type.
+type Param<'a> = (Option<Id<'a>>, Option<NameAnnotation<'a>>, ValType<'a>);
+
+/// The names of parameters and of locals. It asks for memory once: E12 where it is refused, E10 where there are 2^32.
+fn gather_locals<'a>(
+    alloc: Global,
+    params: &[Param<'a>],
+    locals: &[Local<'a>],
+) -> Result<NamespaceBuilder<'a>, Error<'a>>
+    ensures { Gathers (Ok []) (names_of (marks_of params.now locals.now)) result }
+{
+    let ids = count_ids(params).saturating_add(count_ids(locals));
+    let mut gathering = NamespaceBuilder::new(alloc, ids)?;
+    gather_each(&mut gathering, params)?;
+    gather_each(&mut gathering, locals)?;
+    Ok(gathering)
+}
+
+/// The id at a position among parameters and locals.
+fn id_at<'a>(params: &[Param<'a>], locals: &[Local<'a>], at: usize) -> Option<Id<'a>>
+    ensures { mark_of_option result ≡ slice_index_or (marks_of params.now locals.now) at None }
+{
+    if at < params.len() {
+        return params[at].0;
+    }
+    let at = at - params.len();
+    if at < locals.len() {
+        locals[at].id
+    } else {
+        None
+    }
+}
+
+/// The name space of parameters and locals, or the position of the first that has the name of an earlier one. It takes
+/// memory only where some of them has an id.
+fn try_names<'a>(
+    alloc: Global,
+    params: &[Param<'a>],
+    locals: &[Local<'a>],
+) -> Result<Result<CachedNames<'a>, u32>, Error<'a>>
+    requires { length (marks_of params.now locals.now) < 2 ^ 32 }
+    ensures found { IfOk result (FillsSpace (names_of (marks_of params.now locals.now))) }
+    ensures stops { IfErr result (λ e. Stops (diagnostic_of e) 0 (length (marks_of params.now locals.now))) }
+{
+    if !have_ids(params) && !have_ids(locals) {
+        let count = params.len() + locals.len();
+        return Ok(Ok(CachedNames::with_count(alloc, count as u32)));
+    }
+    let gathering = gather_locals(alloc, params, locals)?;
+    Ok(filled(gathering, alloc)?)
+}
+
+/// Whether there are 2^32 parameters and locals or more, with those of which no name is written.
+fn are_many<'a>(nameless: usize, params: &[Param<'a>], locals: &[Local<'a>]) -> bool
+    ensures { IsTrue result ↔ (2 ^ 32 ≤ nameless + length (marks_of params.now locals.now)) }
+{
+    let named = params.len().saturating_add(locals.len());
+    nameless.saturating_add(named) > u32::MAX as usize
+}
+
+/// The names of parameters and locals, behind those of which no name is written: E2 at the first that has the name of an
+/// earlier one.
+fn name_each<'a>(
+    alloc: Global,
+    nameless: usize,
+    params: &[Param<'a>],
+    locals: &[Local<'a>],
+) -> Result<LocalNames<'a>, Error<'a>>
+    ensures numbers { IfOk result (NumbersFrom nameless (names_of (marks_of params.now locals.now))) }
+    ensures names { (c : Scope) → NamesLocals c nameless (declaration_sites [] (marks_of params.now locals.now))
+        (length (marks_of params.now locals.now)) result }
+{
+    if are_many(nameless, params, locals) {
+        return Err(Error::refusal(Fault::TooLarge));
+    }
+    match try_names(alloc, params, locals)? {
+        Ok(space) => Ok(LocalNames::behind(nameless as u32, space)),
+        Err(at) => match id_at(params, locals, at as usize) {
+            Some(id) => Err(Error::new(id.span(), Fault::Duplicate("local"))),
+            None => Ok(LocalNames::none(alloc)),
+        },
+    }
+}
+
+/// The names of the parameters of an inline type and of locals, behind parameters of which no name is written.
+fn name_declared<'a>(
+    alloc: Global,
+    nameless: usize,
+    inline: &Option<FunctionType<'a>>,
+    locals: &[Local<'a>],
+) -> Result<LocalNames<'a>, Error<'a>>
+    ensures numbers { IfOk result (NumbersFrom nameless (names_of (marks_of (params_in inline.now) locals.now))) }
+    ensures names { (c : Scope) → NamesLocals c nameless (declaration_sites [] (marks_of (params_in inline.now) locals.now))
+        (length (marks_of (params_in inline.now) locals.now)) result }
+{
+    match inline {
+        None => name_each(alloc, nameless, &[], locals),
+        Some(ty) => name_each(alloc, nameless, ty.params.as_slice(), locals),
+    }
+}
+
+/// The names of the parameters and locals of a function, behind the parameters of the type at its index where no inline type
+/// is written: E2 at the first that has the name of an earlier one. One that is imported in place has no body in which they
+/// would be looked up.
+///
+/// It takes memory for the ids. Where it is refused, that is E12; where there are 2^32 parameters and locals or more, E10.
+pub(crate) fn name_locals<'a>(
+    alloc: Global,
+    names: &Resolver<'a>,
+    ty: &TypeUse<'a, FunctionType<'a>>,
+    kind: &FuncKind<'a>,
+) -> Result<LocalNames<'a>, Error<'a>>
+    ensures numbers { IfOk result (NumbersIn (scope_of names.now) (locals_in ty.now kind.now) kind.now) }
+    ensures names { (c : Scope) → NamesLocals c (nameless_of (scope_of names.now) (Some ty.now))
+        (body_declarations (param_marks ty.now.inline) kind.now) (length (declared_ids ty.now.inline kind.now)) result }
+{
+    match kind {
+        FuncKind::Import(..) => Ok(LocalNames::none(alloc)),
+        FuncKind::Inline { locals, .. } => {
+            name_declared(
+                alloc,
+                names.unsaid_params(ty),
+                &ty.inline,
+                locals.as_slice(),
+            )
+        }
+    }
+}

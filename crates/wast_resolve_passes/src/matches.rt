@@ -1,0 +1,164 @@
+//! Whether an inline type is that of the index beside it.
+
+ghost use Rattle.std.specs.Prelude.{◌≡◌, List, None, map, IsTrue, OnOk, IfErr};
+ghost use Rattle.wast_base.specs.Ids.{is_number};
+ghost use Rattle.wast_base.specs.Faults.{diagnostic_of};
+ghost use Rattle.wast_tree_nodes.specs.Sites.{Check, in_signature};
+ghost use Rattle.wast_expand_types.specs.Signatures.{type_of_param, same_heap_by, same_ref_by, same_value_by, same_values_by};
+ghost use Rattle.wast_resolve_passes.specs.Tree.{Index, ValType};
+ghost use Rattle.wast_resolve_rules.specs.Scopes.{Scope};
+ghost use Rattle.wast_resolve_rules.specs.Matches.{same_type, signatures_match};
+ghost use Rattle.wast_resolve_rules.specs.Demands.{Demand, first_unmet, ask_demands, match_demands, Answers};
+ghost use Rattle.wast_base.specs.Outcomes.{Outcome};
+ghost use Rattle.wast_tree_map.specs.Mapped.{Indices, mapped_signature};
+ghost use Rattle.wast_resolve_rules.specs.Resolved.{numbered_at};
+ghost use Rattle.wast_resolve_passes.specs.LookUps.{are_settled, LooksTypesUp};
+ghost use Rattle.wast_resolve_rules.specs.CoreTypes.{CallsOn, blank};
+ghost use Rattle.wast_resolve_passes.specs.Resolvers.{known_of, scope_of};
+
+use crate::core_types::resolve_type_func;
+use crate::resolver::Resolver;
+use wast_base::{Error, Id, Index, NameAnnotation};
+use wast_expand_types::FuncKey;
+use wast_tree_nodes::{FunctionType, HeapType, RefType, ValType};
+
+/// Whether two heap types are one.
+fn same_heap<'a>(cx: &Resolver<'a>, a: &HeapType<'a>, b: &HeapType<'a>) -> bool
+    ensures { result ≡ same_heap_by (same_type (known_of cx.now)) a.now b.now }
+{
+    match (a, b) {
+        (HeapType::Abstract { shared: s, ty: a }, HeapType::Abstract { shared: t, ty: b }) => {
+            s == t && a == b
+        }
+        (HeapType::Concrete(i), HeapType::Concrete(j)) => cx.same_type(i, j),
+        (HeapType::Exact(i), HeapType::Exact(j)) => cx.same_type(i, j),
+        (HeapType::Abstract { .. }, HeapType::Concrete(_) | HeapType::Exact(_)) => false,
+        (HeapType::Concrete(_), HeapType::Abstract { .. } | HeapType::Exact(_)) => false,
+        (HeapType::Exact(_), HeapType::Abstract { .. } | HeapType::Concrete(_)) => false,
+    }
+}
+
+/// Whether two reference types are one.
+fn same_ref<'a>(cx: &Resolver<'a>, a: &RefType<'a>, b: &RefType<'a>) -> bool
+    ensures { result ≡ same_ref_by (same_type (known_of cx.now)) a.now b.now }
+{
+    a.nullable == b.nullable && same_heap(cx, &a.heap, &b.heap)
+}
+
+/// Whether two value types are one.
+fn same_value<'a>(cx: &Resolver<'a>, a: &ValType<'a>, b: &ValType<'a>) -> bool
+    ensures { result ≡ same_value_by (same_type (known_of cx.now)) a.now b.now }
+{
+    match (a, b) {
+        (ValType::I32, ValType::I32) => true,
+        (ValType::I64, ValType::I64) => true,
+        (ValType::F32, ValType::F32) => true,
+        (ValType::F64, ValType::F64) => true,
+        (ValType::V128, ValType::V128) => true,
+        (ValType::Ref(a), ValType::Ref(b)) => same_ref(cx, a, b),
+        _ => false,
+    }
+}
+
+/// What has a value type: the type itself, or a parameter.
+trait Typed<'a> {
+    /// Its value type.
+    ghost type_in: { Self → ValType };
+
+    /// Its value type.
+    fn val_type(&self) -> ValType<'a>
+        ensures { result ≡ type_in self.now };
+}
+
+impl<'a> Typed<'a> for ValType<'a> {
+    ghost type_in = { λ v. v };
+
+    fn val_type(&self) -> ValType<'a> {
+        *self
+    }
+}
+
+impl<'a> Typed<'a> for (Option<Id<'a>>, Option<NameAnnotation<'a>>, ValType<'a>) {
+    ghost type_in = { type_of_param };
+
+    fn val_type(&self) -> ValType<'a> {
+        self.2
+    }
+}
+
+/// Whether there are as many types here as there, each the same as the one in its place.
+fn same_values<'a, T: Typed<'a>>(cx: &Resolver<'a>, here: &[T], there: &[ValType<'a>]) -> bool
+    ensures { result ≡ same_values_by (same_type (known_of cx.now)) (map T.type_in here.now) there.now }
+{
+    if here.len() != there.len() {
+        return false;
+    }
+    for i in 0..here.len() {
+        if !same_value(cx, &here[i].val_type(), &there[i]) {
+            return false;
+        }
+    }
+    true
+}
+
+/// Whether an inline type has a signature, once each index is what it denotes.
+pub(crate) fn has_signature<'a>(cx: &Resolver<'a>, ty: &FunctionType<'a>, key: &FuncKey<'a>) -> bool
+    ensures { result ≡ signatures_match (known_of cx.now) ty.now key.now }
+{
+    same_values(cx, ty.params.as_slice(), key.0.as_slice())
+        && same_values(cx, ty.results.as_slice(), key.1.as_slice())
+}
+
+/// A type that a type use may write out in place, beside an index (text format, type uses).
+pub trait TypeReference<'a> {
+    /// What is asked in it.
+    ghost asks: { Self → List Check };
+
+    /// It, with each index changed.
+    ghost changed: { Indices → Self → Self };
+
+    /// What is demanded where it stands beside an index.
+    ghost matched: { Scope → Index → Self → List Demand };
+
+    /// Nothing, where the index is that of a type of the same kind and signature: two indices are the same where they
+    /// denote one type, and an id that denotes nothing is the same as nothing.
+    ///
+    /// It needs a number as the index. It answers E6 where no type has the number, E5 where the type is no function type,
+    /// and E7 where the signatures differ, each at the place of the index. It takes no memory and changes nothing.
+    fn check_matches(&mut self, idx: &Index<'a>, cx: &Resolver<'a>) -> Result<(), Error<'a>>
+        requires { IsTrue (is_number idx.now) }
+        ensures answer { Outcome ⊥ ⊥ (first_unmet (matched (scope_of cx.now) idx.now self.old)) result }
+        ensures unchanged { self.new ≡ self.old };
+
+    /// Replaces each id of a type in it by its number, at the id's place: of the parameters, and then of the results, as
+    /// [`resolve_type_func`](crate::resolve_type_func) does over the resolver.
+    ///
+    /// It needs that a generated id is known. The error is E4 at the first id that is not known: what stands before it has
+    /// its numbers then, and it and what stands behind it stay. It takes no memory.
+    fn resolve(&mut self, cx: &Resolver<'a>) -> Result<(), Error<'a>>
+        requires { IsTrue (are_settled (known_of cx.now) (asks self.old)) }
+        ensures met { OnOk result (first_unmet (ask_demands (known_of cx.now) (asks self.old)) ≡ None) }
+        ensures becomes { OnOk result (self.new ≡ changed (numbered_at (known_of cx.now)) self.old) }
+        ensures refusal { IfErr result (λ e. Answers ⊥ ⊥ (diagnostic_of e) (first_unmet (ask_demands (known_of cx.now) (asks self.old)))) }
+        ensures calls { CallsOn (LooksTypesUp (λ names. known_of names.now))
+            cx.entry (asks self.old) cx.entry (asks self.new) result }
+        ensures rest { changed blank self.new ≡ changed blank self.old };
+}
+
+impl<'a> TypeReference<'a> for FunctionType<'a> {
+    ghost asks = { in_signature };
+
+    ghost changed = { mapped_signature };
+
+    ghost matched = { match_demands };
+
+    fn check_matches(&mut self, idx: &Index<'a>, cx: &Resolver<'a>) -> Result<(), Error<'a>> {
+        cx.check_match(idx, self)
+    }
+
+    fn resolve(&mut self, cx: &Resolver<'a>) -> Result<(), Error<'a>> {
+        let mut resolver = cx;
+        resolve_type_func(&mut resolver, self)?;
+        Ok(())
+    }
+}

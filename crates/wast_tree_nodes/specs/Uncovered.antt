@@ -1,0 +1,38 @@
+-- Which forms of a module no encoder covers (text format: modules).
+use Rattle.std.specs.Prelude.{Bool, true, List, [], ◌∷◌, flat_map, if◌then◌else◌, Option, Some, None}
+use Rattle.std.specs.List.{list_all}
+use Rattle.wast_tree_nodes.specs.Tree.{Form, ModuleField}
+use Rattle.wast_tree_nodes.specs.Sites.{Check, ItemIndex, InnerIndex, PlainId, Clause, Covered, checks_of, in_module}
+
+-- the form that stands there, if no encoder covers it
+abbrev pub uncovered_in : Check → List Form
+uncovered_in (ItemIndex s i) = []
+uncovered_in (InnerIndex i) = []
+uncovered_in (PlainId m) = []
+uncovered_in (Clause n holds) = []
+uncovered_in (Covered f holds) = if holds then [] else f ∷ []
+
+-- the forms that stand in a list of fields, in their order
+abbrev pub uncovered_forms : List ModuleField → List Form
+uncovered_forms fields = flat_map uncovered_in (checks_of (in_module fields))
+
+-- the first of some, and the first of these behind one that may be there
+abbrev pub head_of : {A : Type 0} → List A → Option A
+head_of [] = None
+head_of (f ∷ fs) = Some f
+
+abbrev pub first_of : {A : Type 0} → Option A → List A → Option A
+first_of (Some f) fs = Some f
+first_of None fs = head_of fs
+
+-- what stands there is covered
+abbrev pub is_covered_ask : Check → Bool
+is_covered_ask (ItemIndex s i) = true
+is_covered_ask (InnerIndex i) = true
+is_covered_ask (PlainId m) = true
+is_covered_ask (Clause n holds) = true
+is_covered_ask (Covered f holds) = holds
+
+-- each form in the fields is covered
+abbrev pub is_covered : List ModuleField → Bool
+is_covered fields = list_all is_covered_ask (checks_of (in_module fields))

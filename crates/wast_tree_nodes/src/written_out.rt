@@ -1,0 +1,98 @@
+//! Which fields are written out.
+
+ghost use Rattle.std.specs.Prelude.{◌≡◌};
+ghost use Rattle.wast_tree_nodes.specs.WrittenOut.{exports_nothing, is_written_func, is_written_table, is_written_memory, is_written_global, is_written_tag, is_written_field, is_written_out};
+
+use crate::fields::{
+    FuncKind, GlobalKind, InlineExport, MemoryKind, ModuleField, TableKind, TagKind,
+};
+
+/// Whether nothing is exported in place.
+fn exports_nothing(exports: &InlineExport<'_>) -> bool
+    ensures { result ≡ exports_nothing exports.now }
+{
+    exports.names.is_empty()
+}
+
+/// Whether the function is not imported in place.
+fn is_written_func(kind: &FuncKind<'_>) -> bool
+    ensures { result ≡ is_written_func kind.now }
+{
+    match kind {
+        FuncKind::Import(..) => false,
+        FuncKind::Inline { .. } => true,
+    }
+}
+
+/// Whether the table is not imported in place, and holds no elements in place.
+fn is_written_table(kind: &TableKind<'_>) -> bool
+    ensures { result ≡ is_written_table kind.now }
+{
+    match kind {
+        TableKind::Import { .. } | TableKind::Inline { .. } => false,
+        TableKind::Normal { .. } => true,
+    }
+}
+
+/// Whether the memory is not imported in place, and holds no bytes in place.
+fn is_written_memory(kind: &MemoryKind<'_>) -> bool
+    ensures { result ≡ is_written_memory kind.now }
+{
+    match kind {
+        MemoryKind::Import { .. } | MemoryKind::Inline { .. } => false,
+        MemoryKind::Normal(_) => true,
+    }
+}
+
+/// Whether the global is not imported in place.
+fn is_written_global(kind: &GlobalKind<'_>) -> bool
+    ensures { result ≡ is_written_global kind.now }
+{
+    match kind {
+        GlobalKind::Import(_) => false,
+        GlobalKind::Inline(_) => true,
+    }
+}
+
+/// Whether the tag is not imported in place.
+fn is_written_tag(kind: &TagKind<'_>) -> bool
+    ensures { result ≡ is_written_tag kind.now }
+{
+    match kind {
+        TagKind::Import(_) => false,
+        TagKind::Inline => true,
+    }
+}
+
+/// Whether nothing stands in place in the field.
+fn is_written_field(field: &ModuleField<'_>) -> bool
+    ensures { result ≡ is_written_field field.now }
+{
+    match field {
+        ModuleField::Ty(_) | ModuleField::Rec(_) | ModuleField::Import(_) => true,
+        ModuleField::Func(func) => exports_nothing(&func.exports) && is_written_func(&func.kind),
+        ModuleField::Table(table) => {
+            exports_nothing(&table.exports) && is_written_table(&table.kind)
+        }
+        ModuleField::Memory(memory) => {
+            exports_nothing(&memory.exports) && is_written_memory(&memory.kind)
+        }
+        ModuleField::Global(global) => {
+            exports_nothing(&global.exports) && is_written_global(&global.kind)
+        }
+        ModuleField::Export(_) | ModuleField::Start(_) => true,
+        ModuleField::Elem(_) | ModuleField::Data(_) => true,
+        ModuleField::Tag(tag) => exports_nothing(&tag.exports) && is_written_tag(&tag.kind),
+        ModuleField::Custom(_) => true,
+    }
+}
+
+/// Whether the fields are written out: none has abbreviations (text format, abbreviations). It takes no memory.
+///
+/// They are, where no field exports its item in place or imports it in place, no table holds its elements in place, and no
+/// memory its data.
+pub fn is_written_out(fields: &[ModuleField<'_>]) -> bool
+    ensures { result ≡ is_written_out fields.now }
+{
+    fields.iter().all(|field| is_written_field(field))
+}

@@ -1,0 +1,75 @@
+//! The greatest generation of the ids of a module.
+
+ghost use Rattle.std.specs.Prelude.{◌≡◌, max};
+ghost use Rattle.wast_base.specs.Ids.{name_of, generation_of};
+ghost use Rattle.wast_tree_nodes.specs.Generations.{generation_or_zero, generation_at, generation_in, greatest_generation};
+
+use crate::visits::{ItemVisitor, Visitor, visit_fields, visit_items};
+use wast_base::{Form, Id, Index, Space};
+use wast_tree_nodes::{ModuleField, StructField};
+
+/// The greatest generation of the ids that it was told of.
+#[derive(Drop)]
+struct Greatest {
+    generation: u64,
+}
+
+impl Greatest {
+    fn see(&mut self, id: &Id<'_>)
+        ensures { self.new.generation ≡ max self.old.generation (generation_of (name_of id.now)) }
+    {
+        self.generation = self.generation.max(id.generation());
+    }
+
+    fn see_index(&mut self, index: &Index<'_>)
+        ensures { self.new.generation ≡ max self.old.generation (generation_at index.now) }
+    {
+        match index {
+            Index::Num(_, _) => {}
+            Index::Id(id) => self.see(id),
+        }
+    }
+}
+
+impl<'a> ItemVisitor<'a> for Greatest {
+    ghost told = { λ old x new. new.generation ≡ max old.generation (generation_or_zero x.id) };
+
+    fn item(&mut self, _space: Space, id: &Option<Id<'a>>, _fields: &[StructField<'a>]) {
+        if let Some(id) = id {
+            self.see(id);
+        }
+    }
+}
+
+impl Visitor for Greatest {
+    ghost told = { λ old a new. new.generation ≡ max old.generation (generation_in a) };
+
+    fn index(&mut self, _space: Space, index: &Index<'_>) {
+        self.see_index(index);
+    }
+
+    fn within(&mut self, index: &Index<'_>) {
+        self.see_index(index);
+    }
+
+    fn id(&mut self, id: &Id<'_>) {
+        self.see(id);
+    }
+
+    fn clause(&mut self, _number: u8, _holds: bool) {}
+
+    fn covered(&mut self, _form: Form, _holds: bool) {}
+}
+
+/// The greatest generation of an id in the fields, and 0 where no id is generated. It takes no memory.
+///
+/// The ids are those of items, parameters, locals, labels and fields of structs, those that stand for indices, and that of a
+/// signature that an import shares among no names. A counter that begins above it gives ids that are new to the fields.
+pub fn gensym_bound(fields: &[ModuleField<'_>]) -> u64
+    ensures { result ≡ greatest_generation fields.now }
+{
+    let mut greatest = Greatest { generation: 0 };
+    visit_items(fields, &mut greatest);
+    visit_fields(fields, &mut greatest);
+    greatest.generation
+}

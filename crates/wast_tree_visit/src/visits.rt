@@ -1,0 +1,801 @@
+//! Walks over the tree to read it: a visitor is told of each item, or of each id and index beside them, in order.
+#![tactic(auto, using(crate::proofs::Visiting::visits_both, crate::proofs::Visiting::visits_one, crate::proofs::Visiting::visits_none, wast_tree_nodes::proofs::Asking::asked_asking, wast_tree_nodes::proofs::Asking::asked_both, crate::proofs::Visiting::asked_use))]
+
+ghost use Rattle.std.specs.Prelude.{◌≡◌, ◌∷◌, ◌++◌, List, [], map, Option};
+ghost use Rattle.std.specs.Prelude.{flat_map};
+ghost use Rattle.wast_base.specs.Ids.{mark_of};
+ghost use Rattle.wast_base.specs.Blocks.{Blocks};
+ghost use Rattle.wast_tree_visit.specs.Tree.{TypeUse, FunctionType};
+ghost use Rattle.wast_tree_visit.specs.Tree.form;
+ghost use Rattle.wast_tree_visit.specs.Tree.space;
+ghost use Rattle.wast_tree_nodes.specs.Items.{Item, item, item_of_sig, fields_of, items_of_type, items_of_import, items_in, items};
+ghost use Rattle.wast_tree_nodes.specs.Sites.{Check, ItemIndex, InnerIndex, PlainId, Clause, Covered, BodyContext, if_there, in_index, in_id, in_heap, in_ref, in_val, in_storage, in_param, in_signature, in_struct_field, in_struct, in_array, in_inner, in_descriptor, in_def, in_type, in_rec, in_type_use, in_block, in_caught, in_catch, in_try_table, in_br_table, in_target, in_mem_arg, in_pair, in_access, in_cast, uncovered_check, check_sites, in_select, in_indirect, in_instr, in_instrs, in_expression, in_constant, in_local, in_func_kind, in_func, in_field, in_module, checks_of};
+ghost use Rattle.wast_tree_visit.specs.Visits.{Visits};
+
+use crate::clauses::{hints_stand, is_balanced, is_continuation, is_sequential};
+use crate::field_items::items_of;
+use wast_base::{Form, Id, Index, NameAnnotation, Seq, Space};
+use wast_tree_nodes::{
+    ArrayType, BlockType, BrTableIndices, CallIndirect, ContType, Expression, FieldItems, Func,
+    FuncKind, FunctionType, HeapType, ImportItems, InnerTypeKind, Instruction, ItemSig, Local,
+    MemArg, MemArgTarget, ModuleField, Rec, RefType, SelectTypes, StorageType, StructAccess,
+    StructField, StructType, TryTable, TryTableCatch, TryTableCatchKind, Type, TypeDef, TypeUse,
+    ValType,
+};
+
+/// What is told of the items of a module (text format, modules), as a count or a list of them.
+pub trait ItemVisitor<'a> {
+    /// How it stands before and after an item.
+    ghost told: { Self → Item → Self → Type 0 };
+
+    /// An item of a space, with its id if it has one, and the fields of a struct type.
+    fn item(&mut self, space: Space, id: &Option<Id<'a>>, fields: &[StructField<'a>])
+        ensures { told self.old (item space id.now fields.now) self.new };
+}
+
+/// What is told of what stands in a module beside its items (text format: identifiers, indices), as a count of indices, a
+/// look for an id, or a test of each.
+///
+/// Its calls come in the order in which what stands there is asked, field by field, and within a body instruction by
+/// instruction.
+pub trait Visitor {
+    /// How it stands before and after one of them.
+    ghost told: { Self → Check → Self → Type 0 };
+
+    /// An index where one of a space is wanted.
+    fn index(&mut self, space: Space, index: &Index<'_>)
+        ensures { told self.old (ItemIndex space index.now) self.new };
+
+    /// An index of a local, a label or a field.
+    fn within(&mut self, index: &Index<'_>)
+        ensures { told self.old (InnerIndex index.now) self.new };
+
+    /// An id of which nothing is asked.
+    fn id(&mut self, id: &Id<'_>)
+        ensures { told self.old (PlainId (mark_of id.now)) self.new };
+
+    /// Whether the clause of this number of "well formed" holds.
+    fn clause(&mut self, number: u8, holds: bool)
+        ensures { told self.old (Clause number holds) self.new };
+
+    /// A form that no encoder covers, and whether what stands here is without it.
+    fn covered(&mut self, form: Form, holds: bool)
+        ensures { told self.old (Covered form holds) self.new };
+}
+
+/// Tells a visitor of each item of the fields, also of those without an id, in the order in which they are numbered (text
+/// format, modules). It takes no memory.
+pub fn visit_items<'a, V: ItemVisitor<'a>>(fields: &[ModuleField<'a>], visitor: &mut V)
+    ensures { Visits V.told visitor.old (items fields.now) visitor.new }
+{
+    for field in fields {
+        visit_items_in(field, visitor);
+    }
+}
+
+/// Tells a visitor of the items of a field.
+pub(crate) fn visit_items_in<'a, V: ItemVisitor<'a>>(field: &ModuleField<'a>, visitor: &mut V)
+    ensures { Visits V.told visitor.old (items_in field.now) visitor.new }
+{
+    match items_of(field) {
+        FieldItems::Nothing => {}
+        FieldItems::Lone(item) => visitor.item(item.space, item.id, &[]),
+        FieldItems::Type(ty) => visit_type(ty, visitor),
+        FieldItems::Types(types) => visit_members(types, visitor),
+        FieldItems::Imported(items) => visit_import(items, visitor),
+    }
+}
+
+/// Tells a visitor of the items of an import.
+fn visit_import<'a, V: ItemVisitor<'a>>(items: &ImportItems<'a>, visitor: &mut V)
+    ensures { Visits V.told visitor.old (items_of_import items.now) visitor.new }
+{
+    match items {
+        ImportItems::Single { sig, .. } => visit_sig(sig, visitor),
+        ImportItems::Group1 { items, .. } => visit_sigs(items.as_slice(), visitor),
+        ImportItems::Group2 { sig, items, .. } => visit_shared(sig, items.as_slice(), visitor),
+    }
+}
+
+/// Tells a visitor of the item of a signature.
+fn visit_sig<'a, V: ItemVisitor<'a>>(sig: &ItemSig<'a>, visitor: &mut V)
+    ensures { Visits V.told visitor.old (item_of_sig sig.now ∷ []) visitor.new }
+{
+    visitor.item(sig.kind.space(), &sig.id, &[]);
+}
+
+/// Tells a visitor of an item for each of these names, with its signature.
+fn visit_sigs<'a, V: ItemVisitor<'a>>(items: &[(&'a str, ItemSig<'a>)], visitor: &mut V)
+    ensures { Visits V.told visitor.old (flat_map (λ p. item_of_sig p.1 ∷ []) items.now) visitor.new }
+{
+    for item in items {
+        visit_sig(&item.1, visitor);
+    }
+}
+
+/// Tells a visitor of an item for each of these names, all of one signature.
+fn visit_shared<'a, V: ItemVisitor<'a>>(sig: &ItemSig<'a>, names: &[&'a str], visitor: &mut V)
+    ensures { Visits V.told visitor.old (flat_map (λ name. item_of_sig sig.now ∷ []) names.now) visitor.new }
+{
+    for _name in names {
+        visit_sig(sig, visitor);
+    }
+}
+
+/// Tells a visitor of a type, with the fields of a struct.
+fn visit_type<'a, V: ItemVisitor<'a>>(ty: &Type<'a>, visitor: &mut V)
+    ensures { Visits V.told visitor.old (items_of_type ty.now) visitor.new }
+{
+    visitor.item(Space::Ty, &ty.id, fields_of(&ty.def.kind));
+}
+
+/// The fields of a struct, and none of another type.
+fn fields_of<'k, 'a>(kind: &'k InnerTypeKind<'a>) -> &'k [StructField<'a>]
+    ensures { result.now ≡ fields_of kind.now }
+{
+    match kind {
+        InnerTypeKind::Func(_) => &[],
+        InnerTypeKind::Struct(ty) => ty.fields.as_slice(),
+        InnerTypeKind::Array(_) | InnerTypeKind::Cont(_) => &[],
+    }
+}
+
+/// Tells a visitor of the types of a group, each an item.
+fn visit_members<'a, V: ItemVisitor<'a>>(types: &[Type<'a>], visitor: &mut V)
+    ensures { Visits V.told visitor.old (flat_map items_of_type types.now) visitor.new }
+{
+    for ty in types {
+        visit_type(ty, visitor);
+    }
+}
+
+/// A part of the tree that is read.
+pub(crate) trait Visit {
+    /// What stands in it.
+    ghost asks: { Self → List Check };
+
+    /// Tells a visitor of it.
+    fn visit<V: Visitor>(&self, visitor: &mut V)
+        ensures { Visits V.told visitor.old (asks self.now) visitor.new };
+}
+
+/// Tells a visitor of each part of a list.
+pub(crate) fn visit_each<T: Visit, V: Visitor>(parts: &[T], visitor: &mut V)
+    ensures { Visits V.told visitor.old (flat_map T.asks parts.now) visitor.new }
+{
+    for part in parts {
+        part.visit(visitor);
+    }
+}
+
+/// Tells a visitor of the indices of a space.
+pub(crate) fn visit_indices<V: Visitor>(space: Space, indices: &[Index<'_>], visitor: &mut V)
+    ensures { Visits V.told visitor.old (flat_map (in_index space) indices.now) visitor.new }
+{
+    for index in indices {
+        visitor.index(space, index);
+    }
+}
+
+/// Tells a visitor of an index of a space, if there is one.
+pub(crate) fn visit_index<V: Visitor>(space: Space, index: &Option<Index<'_>>, visitor: &mut V)
+    ensures { Visits V.told visitor.old (if_there (in_index space) index.now) visitor.new }
+{
+    if let Some(index) = index {
+        visitor.index(space, index);
+    }
+}
+
+/// Tells a visitor of the index of a descriptor, or of what one describes, if there is one.
+fn visit_descriptor<V: Visitor>(index: &Option<Index<'_>>, visitor: &mut V)
+    ensures { Visits V.told visitor.old (if_there in_descriptor index.now) visitor.new }
+{
+    if let Some(index) = index {
+        visitor.index(Space::Ty, index);
+        visitor.covered(Form::Descriptor, false);
+    }
+}
+
+impl<T: Visit> Visit for Seq<T> {
+    ghost asks = { λ parts. flat_map T.asks parts };
+
+    fn visit<V: Visitor>(&self, visitor: &mut V) {
+        visit_each(self.as_slice(), visitor);
+    }
+}
+
+impl<T: Visit> Visit for Option<T> {
+    ghost asks = { if_there T.asks };
+
+    fn visit<V: Visitor>(&self, visitor: &mut V) {
+        if let Some(part) = self {
+            part.visit(visitor);
+        }
+    }
+}
+
+impl Visit for Id<'_> {
+    ghost asks = { in_id };
+
+    fn visit<V: Visitor>(&self, visitor: &mut V) {
+        visitor.id(self);
+    }
+}
+
+impl Visit for HeapType<'_> {
+    ghost asks = { in_heap };
+
+    fn visit<V: Visitor>(&self, visitor: &mut V) {
+        match self {
+            HeapType::Abstract { shared, ty } => {
+                visitor.covered(Form::Shared, !*shared);
+                visitor.covered(Form::StackSwitching, !is_continuation(*ty));
+            }
+            HeapType::Concrete(index) => visitor.index(Space::Ty, index),
+            HeapType::Exact(index) => {
+                visitor.index(Space::Ty, index);
+                visitor.covered(Form::Descriptor, false);
+            }
+        }
+    }
+}
+
+impl Visit for RefType<'_> {
+    ghost asks = { in_ref };
+
+    fn visit<V: Visitor>(&self, visitor: &mut V) {
+        self.heap.visit(visitor);
+    }
+}
+
+impl Visit for ValType<'_> {
+    ghost asks = { in_val };
+
+    fn visit<V: Visitor>(&self, visitor: &mut V) {
+        match self {
+            ValType::I32 => {}
+            ValType::I64 => {}
+            ValType::F32 => {}
+            ValType::F64 => {}
+            ValType::V128 => {}
+            ValType::Ref(ty) => ty.visit(visitor),
+        }
+    }
+}
+
+impl Visit for StorageType<'_> {
+    ghost asks = { in_storage };
+
+    fn visit<V: Visitor>(&self, visitor: &mut V) {
+        match self {
+            StorageType::I8 => {}
+            StorageType::I16 => {}
+            StorageType::Val(ty) => ty.visit(visitor),
+        }
+    }
+}
+
+impl<'a> Visit for (Option<Id<'a>>, Option<NameAnnotation<'a>>, ValType<'a>) {
+    ghost asks = { in_param };
+
+    fn visit<V: Visitor>(&self, visitor: &mut V) {
+        self.0.visit(visitor);
+        self.2.visit(visitor);
+    }
+}
+
+impl Visit for FunctionType<'_> {
+    ghost asks = { in_signature };
+
+    fn visit<V: Visitor>(&self, visitor: &mut V) {
+        self.params.visit(visitor);
+        self.results.visit(visitor);
+    }
+}
+
+impl Visit for StructField<'_> {
+    ghost asks = { in_struct_field };
+
+    fn visit<V: Visitor>(&self, visitor: &mut V) {
+        self.id.visit(visitor);
+        self.ty.visit(visitor);
+    }
+}
+
+impl Visit for StructType<'_> {
+    ghost asks = { in_struct };
+
+    fn visit<V: Visitor>(&self, visitor: &mut V) {
+        self.fields.visit(visitor);
+    }
+}
+
+impl Visit for ArrayType<'_> {
+    ghost asks = { in_array };
+
+    fn visit<V: Visitor>(&self, visitor: &mut V) {
+        self.ty.visit(visitor);
+    }
+}
+
+impl Visit for ContType<'_> {
+    ghost asks = { λ t. in_index space.Ty t.0 ++ uncovered_check form.StackSwitching };
+
+    fn visit<V: Visitor>(&self, visitor: &mut V) {
+        visitor.index(Space::Ty, &self.0);
+        visitor.covered(Form::StackSwitching, false);
+    }
+}
+
+impl Visit for InnerTypeKind<'_> {
+    ghost asks = { in_inner };
+
+    fn visit<V: Visitor>(&self, visitor: &mut V) {
+        match self {
+            InnerTypeKind::Func(ty) => ty.visit(visitor),
+            InnerTypeKind::Struct(ty) => ty.visit(visitor),
+            InnerTypeKind::Array(ty) => ty.visit(visitor),
+            InnerTypeKind::Cont(ty) => ty.visit(visitor),
+        }
+    }
+}
+
+impl Visit for TypeDef<'_> {
+    ghost asks = { in_def };
+
+    fn visit<V: Visitor>(&self, visitor: &mut V) {
+        visit_indices(Space::Ty, self.parents.as_slice(), visitor);
+        visit_descriptor(&self.descriptor, visitor);
+        visit_descriptor(&self.describes, visitor);
+        self.kind.visit(visitor);
+        visitor.covered(Form::Shared, !self.shared);
+    }
+}
+
+impl Visit for Type<'_> {
+    ghost asks = { in_type };
+
+    fn visit<V: Visitor>(&self, visitor: &mut V) {
+        self.def.visit(visitor);
+    }
+}
+
+impl Visit for Rec<'_> {
+    ghost asks = { in_rec };
+
+    fn visit<V: Visitor>(&self, visitor: &mut V) {
+        self.types.visit(visitor);
+    }
+}
+
+impl<'a> Visit for TypeUse<'a, FunctionType<'a>> {
+    ghost asks = { in_type_use };
+
+    fn visit<V: Visitor>(&self, visitor: &mut V) {
+        visit_index(Space::Ty, &self.index, visitor);
+        self.inline.visit(visitor);
+    }
+}
+
+impl Visit for MemArgTarget<'_> {
+    ghost asks = { in_target };
+
+    fn visit<V: Visitor>(&self, visitor: &mut V) {
+        match self {
+            MemArgTarget::Memory(memory) => visitor.index(Space::Memory, memory),
+            MemArgTarget::Array(ty) => {
+                visitor.index(Space::Ty, ty);
+                visitor.covered(Form::ArrayMemArg, false);
+            }
+        }
+    }
+}
+
+impl Visit for MemArg<'_> {
+    ghost asks = { in_mem_arg };
+
+    fn visit<V: Visitor>(&self, visitor: &mut V) {
+        self.target.visit(visitor);
+        visitor.clause(1, self.align.is_power_of_two());
+        visitor.covered(Form::Ordering, self.ordering.is_none());
+    }
+}
+
+impl Visit for BlockType<'_> {
+    ghost asks = { λ b. checks_of (in_block [] b) };
+
+    fn visit<V: Visitor>(&self, visitor: &mut V) {
+        self.ty.visit(visitor);
+        self.label.visit(visitor);
+    }
+}
+
+impl Visit for TryTableCatchKind<'_> {
+    ghost asks = { in_caught };
+
+    fn visit<V: Visitor>(&self, visitor: &mut V) {
+        match self {
+            TryTableCatchKind::Catch(tag) => visitor.index(Space::Tag, tag),
+            TryTableCatchKind::CatchRef(tag) => visitor.index(Space::Tag, tag),
+            TryTableCatchKind::CatchAll => {}
+            TryTableCatchKind::CatchAllRef => {}
+        }
+    }
+}
+
+impl Visit for TryTableCatch<'_> {
+    ghost asks = { λ c. checks_of (in_catch [] c) };
+
+    fn visit<V: Visitor>(&self, visitor: &mut V) {
+        self.kind.visit(visitor);
+        visitor.within(&self.label);
+    }
+}
+
+impl Visit for TryTable<'_> {
+    ghost asks = { λ t. checks_of (in_try_table [] t) };
+
+    #[tactic(auto, using(crate::proofs::Visiting::visits_both, crate::proofs::Visiting::asked_try_table))]
+    fn visit<V: Visitor>(&self, visitor: &mut V) {
+        let block = self.block.get();
+        block.ty.visit(visitor);
+        self.catches.visit(visitor);
+        block.label.visit(visitor);
+    }
+}
+
+/// Tells a visitor of the indices of labels.
+fn visit_labels<V: Visitor>(labels: &[Index<'_>], visitor: &mut V)
+    ensures { Visits V.told visitor.old (map InnerIndex labels.now) visitor.new }
+{
+    for label in labels {
+        visitor.within(label);
+    }
+}
+
+impl Visit for BrTableIndices<'_> {
+    ghost asks = { λ t. checks_of (in_br_table [] t) };
+
+    #[tactic(auto, using(crate::proofs::Visiting::visits_both, crate::proofs::Visiting::visits_one, crate::proofs::Visiting::asked_br_table))]
+    fn visit<V: Visitor>(&self, visitor: &mut V) {
+        visit_labels(self.labels.as_slice(), visitor);
+        visitor.within(&self.default);
+    }
+}
+
+impl Visit for CallIndirect<'_> {
+    ghost asks = { λ c. checks_of (in_indirect c) };
+
+    fn visit<V: Visitor>(&self, visitor: &mut V) {
+        visitor.index(Space::Table, &self.table);
+        self.ty.visit(visitor);
+    }
+}
+
+impl Visit for SelectTypes<'_> {
+    ghost asks = { in_select };
+
+    fn visit<V: Visitor>(&self, visitor: &mut V) {
+        self.tys.visit(visitor);
+    }
+}
+
+/// Tells a visitor of two indices.
+fn visit_pair<V: Visitor>(
+    visitor: &mut V,
+    space: Space,
+    index: &Index<'_>,
+    other_space: Space,
+    other: &Index<'_>,
+)
+    ensures { Visits V.told visitor.old (in_pair space index.now other_space other.now) visitor.new }
+{
+    visitor.index(space, index);
+    visitor.index(other_space, other);
+}
+
+/// Tells a visitor of an index of a space, in a form that no encoder covers.
+fn visit_uncovered_index<V: Visitor>(space: Space, index: &Index<'_>, form: Form, visitor: &mut V)
+    ensures { Visits V.told visitor.old (in_index space index.now ++ uncovered_check form) visitor.new }
+{
+    visitor.index(space, index);
+    visitor.covered(form, false);
+}
+
+/// Tells a visitor of a part of a form that no encoder covers.
+fn visit_uncovered<T: Visit, V: Visitor>(part: &T, form: Form, visitor: &mut V)
+    ensures { Visits V.told visitor.old (T.asks part.now ++ uncovered_check form) visitor.new }
+{
+    part.visit(visitor);
+    visitor.covered(form, false);
+}
+
+impl Visit for StructAccess<'_> {
+    ghost asks = { λ a. checks_of (in_access a) };
+
+    fn visit<V: Visitor>(&self, visitor: &mut V) {
+        visitor.index(Space::Ty, &self.owner);
+        visitor.within(&self.field);
+    }
+}
+
+/// Tells a visitor of a branch on a cast.
+fn visit_cast<V: Visitor>(label: &Index<'_>, to: &RefType<'_>, from: &RefType<'_>, visitor: &mut V)
+    ensures { (blocks : Blocks) → Visits V.told visitor.old (checks_of (in_cast blocks label.now to.now from.now)) visitor.new }
+{
+    visitor.within(label);
+    to.visit(visitor);
+    from.visit(visitor);
+}
+
+/// Tells a visitor of a branch on a cast, of a form that no encoder covers.
+fn visit_uncovered_cast<V: Visitor>(
+    label: &Index<'_>,
+    to: &RefType<'_>,
+    from: &RefType<'_>,
+    visitor: &mut V,
+)
+    ensures { (blocks : Blocks) → Visits V.told visitor.old (checks_of (in_cast blocks label.now to.now from.now ++ check_sites (uncovered_check form.Descriptor))) visitor.new }
+{
+    visit_cast(label, to, from, visitor);
+    visitor.covered(Form::Descriptor, false);
+}
+
+/// Tells a visitor of an instruction.
+fn visit_instr<V: Visitor>(instr: &Instruction<'_>, visitor: &mut V)
+    ensures { (h : BodyContext) → Visits V.told visitor.old (checks_of (in_instr h instr.now)) visitor.new }
+{
+    match instr {
+        Instruction::Plain(_) | Instruction::Lane(_, _) => {}
+        Instruction::Mem(_, arg) => arg.visit(visitor),
+        Instruction::MemLane(_, access) => access.memarg.visit(visitor),
+        Instruction::block(block)
+        | Instruction::loop_(block)
+        | Instruction::if_(block)
+        | Instruction::try_(block) => block.get().visit(visitor),
+        Instruction::else_(label) | Instruction::end_(label) => label.visit(visitor),
+        Instruction::try_table(table) => table.visit(visitor),
+        Instruction::br_table(table) => table.visit(visitor),
+        Instruction::call_indirect(call) | Instruction::return_call_indirect(call) => {
+            call.get().visit(visitor)
+        }
+        Instruction::array_new_fixed(arg) => visitor.index(Space::Ty, &arg.array),
+        Instruction::ref_test(arg) => arg.rt.visit(visitor),
+        Instruction::ref_cast(arg) => arg.rt.visit(visitor),
+        Instruction::ref_cast_desc_eq(arg) => visit_uncovered(&arg.rt, Form::Descriptor, visitor),
+        Instruction::br_on_cast(arg) => {
+            let arg = arg.get();
+            visit_cast(&arg.label, &arg.to_type, &arg.from_type, visitor)
+        }
+        Instruction::br_on_cast_fail(arg) => {
+            let arg = arg.get();
+            visit_cast(&arg.label, &arg.to_type, &arg.from_type, visitor)
+        }
+        Instruction::br_on_cast_desc_eq(arg) => {
+            let arg = arg.get();
+            visit_uncovered_cast(&arg.label, &arg.to_type, &arg.from_type, visitor)
+        }
+        Instruction::br_on_cast_desc_eq_fail(arg) => {
+            let arg = arg.get();
+            visit_uncovered_cast(&arg.label, &arg.to_type, &arg.from_type, visitor)
+        }
+        Instruction::v128_const(_) | Instruction::i8x16_shuffle(_) => {}
+        Instruction::atomic_fence(ordering) => {
+            visitor.covered(Form::Ordering, is_sequential(*ordering))
+        }
+        Instruction::GlobalAtomic(access) => {
+            visit_uncovered_index(Space::Global, &access.inner, Form::Atomic, visitor)
+        }
+        Instruction::TableAtomic(access) => {
+            visit_uncovered_index(Space::Table, &access.inner.dst, Form::Atomic, visitor)
+        }
+        Instruction::StructAtomic(access) => {
+            visit_uncovered(&access.inner, Form::Atomic, visitor)
+        }
+        Instruction::ArrayAtomic(access) => {
+            visit_uncovered_index(Space::Ty, &access.inner, Form::Atomic, visitor)
+        }
+        Instruction::resume(arg) => arg.visit(visitor),
+        Instruction::resume_throw(arg) => arg.get().visit(visitor),
+        Instruction::resume_throw_ref(arg) => arg.visit(visitor),
+        Instruction::Beyond(_) => visitor.covered(Form::Beyond, false),
+        Instruction::select(types) => types.visit(visitor),
+        Instruction::i32_const(_)
+        | Instruction::i64_const(_)
+        | Instruction::f32_const(_)
+        | Instruction::f64_const(_) => {}
+        Instruction::ref_null(heap) => heap.visit(visitor),
+        // Written by tools/ops from here.
+        Instruction::catch(tag) => visitor.index(Space::Tag, tag),
+        Instruction::throw(tag) => visitor.index(Space::Tag, tag),
+        Instruction::rethrow(label) => visitor.within(label),
+        Instruction::br(label) => visitor.within(label),
+        Instruction::br_if(label) => visitor.within(label),
+        Instruction::call(func) => visitor.index(Space::Func, func),
+        Instruction::return_call(func) => visitor.index(Space::Func, func),
+        Instruction::call_ref(ty) => visitor.index(Space::Ty, ty),
+        Instruction::return_call_ref(ty) => visitor.index(Space::Ty, ty),
+        Instruction::delegate(label) => visitor.within(label),
+        Instruction::local_get(local) => visitor.within(local),
+        Instruction::local_set(local) => visitor.within(local),
+        Instruction::local_tee(local) => visitor.within(local),
+        Instruction::global_get(global) => visitor.index(Space::Global, global),
+        Instruction::global_set(global) => visitor.index(Space::Global, global),
+        Instruction::table_get(arg) => visitor.index(Space::Table, &arg.dst),
+        Instruction::table_set(arg) => visitor.index(Space::Table, &arg.dst),
+        Instruction::memory_size(arg) => visitor.index(Space::Memory, &arg.mem),
+        Instruction::memory_grow(arg) => visitor.index(Space::Memory, &arg.mem),
+        Instruction::ref_func(func) => visitor.index(Space::Func, func),
+        Instruction::br_on_null(label) => visitor.within(label),
+        Instruction::br_on_non_null(label) => visitor.within(label),
+        Instruction::struct_new(ty) => visitor.index(Space::Ty, ty),
+        Instruction::struct_new_default(ty) => visitor.index(Space::Ty, ty),
+        Instruction::struct_get(access) => access.visit(visitor),
+        Instruction::struct_get_s(access) => access.visit(visitor),
+        Instruction::struct_get_u(access) => access.visit(visitor),
+        Instruction::struct_set(access) => access.visit(visitor),
+        Instruction::array_new(ty) => visitor.index(Space::Ty, ty),
+        Instruction::array_new_default(ty) => visitor.index(Space::Ty, ty),
+        Instruction::array_new_data(arg) => {
+            visit_pair(visitor, Space::Ty, &arg.array, Space::Data, &arg.data_idx)
+        }
+        Instruction::array_new_elem(arg) => {
+            visit_pair(visitor, Space::Ty, &arg.array, Space::Elem, &arg.elem_idx)
+        }
+        Instruction::array_get(ty) => visitor.index(Space::Ty, ty),
+        Instruction::array_get_s(ty) => visitor.index(Space::Ty, ty),
+        Instruction::array_get_u(ty) => visitor.index(Space::Ty, ty),
+        Instruction::array_set(ty) => visitor.index(Space::Ty, ty),
+        Instruction::array_fill(arg) => visitor.index(Space::Ty, &arg.array),
+        Instruction::array_copy(arg) => {
+            visit_pair(
+                visitor,
+                Space::Ty,
+                &arg.dest_array,
+                Space::Ty,
+                &arg.src_array,
+            )
+        }
+        Instruction::array_init_data(arg) => {
+            visit_pair(visitor, Space::Ty, &arg.array, Space::Data, &arg.segment)
+        }
+        Instruction::array_init_elem(arg) => {
+            visit_pair(visitor, Space::Ty, &arg.array, Space::Elem, &arg.segment)
+        }
+        Instruction::memory_init(arg) => {
+            visit_pair(visitor, Space::Data, &arg.segment, Space::Memory, &arg.mem)
+        }
+        Instruction::data_drop(data) => visitor.index(Space::Data, data),
+        Instruction::memory_copy(arg) => {
+            visit_pair(visitor, Space::Memory, &arg.src, Space::Memory, &arg.dst)
+        }
+        Instruction::memory_fill(arg) => visitor.index(Space::Memory, &arg.mem),
+        Instruction::table_init(arg) => {
+            visit_pair(visitor, Space::Elem, &arg.elem, Space::Table, &arg.table)
+        }
+        Instruction::elem_drop(elem) => visitor.index(Space::Elem, elem),
+        Instruction::table_copy(arg) => {
+            visit_pair(visitor, Space::Table, &arg.dst, Space::Table, &arg.src)
+        }
+        Instruction::table_grow(arg) => visitor.index(Space::Table, &arg.dst),
+        Instruction::table_size(arg) => visitor.index(Space::Table, &arg.dst),
+        Instruction::table_fill(arg) => visitor.index(Space::Table, &arg.dst),
+        Instruction::struct_new_desc(ty) => {
+            visit_uncovered_index(Space::Ty, ty, Form::Descriptor, visitor)
+        }
+        Instruction::struct_new_default_desc(ty) => {
+            visit_uncovered_index(Space::Ty, ty, Form::Descriptor, visitor)
+        }
+        Instruction::ref_get_desc(ty) => {
+            visit_uncovered_index(Space::Ty, ty, Form::Descriptor, visitor)
+        }
+        Instruction::cont_new(ty) => {
+            visit_uncovered_index(Space::Ty, ty, Form::StackSwitching, visitor)
+        }
+        Instruction::cont_bind(arg) => arg.visit(visitor),
+        Instruction::suspend(tag) => {
+            visit_uncovered_index(Space::Tag, tag, Form::StackSwitching, visitor)
+        }
+        Instruction::switch(arg) => arg.visit(visitor),
+        Instruction::memory_discard(arg) => {
+            visit_uncovered_index(Space::Memory, &arg.mem, Form::Beyond, visitor)
+        }
+        // To here.
+    }
+}
+
+/// Tells a visitor of instructions, in order.
+fn visit_instrs<V: Visitor>(instrs: &[Instruction<'_>], visitor: &mut V)
+    ensures { (h : BodyContext) → Visits V.told visitor.old (checks_of (in_instrs h instrs.now)) visitor.new }
+{
+    for instr in instrs {
+        visit_instr(instr, visitor);
+    }
+}
+
+/// Tells a visitor of the body of a function.
+fn visit_expression<V: Visitor>(expression: &Expression<'_>, visitor: &mut V)
+    ensures { (h : BodyContext) → Visits V.told visitor.old (checks_of (in_expression h expression.now)) visitor.new }
+{
+    let instrs = expression.instrs.as_slice();
+    visit_instrs(instrs, visitor);
+    visitor.clause(
+        2,
+        hints_stand(instrs.len(), expression.branch_hints.as_slice()),
+    );
+}
+
+/// A constant expression.
+impl Visit for Expression<'_> {
+    ghost asks = { λ e. checks_of (in_constant e) };
+
+    fn visit<V: Visitor>(&self, visitor: &mut V) {
+        let instrs = self.instrs.as_slice();
+        visit_instrs(instrs, visitor);
+        visitor.clause(5, is_balanced(instrs));
+    }
+}
+
+impl Visit for Local<'_> {
+    ghost asks = { in_local };
+
+    fn visit<V: Visitor>(&self, visitor: &mut V) {
+        self.ty.visit(visitor);
+        self.id.visit(visitor);
+    }
+}
+
+/// Tells a visitor of what a function is made of.
+#[tactic(auto, using(crate::proofs::Visiting::visits_both, crate::proofs::Visiting::visits_one, crate::proofs::Visiting::asked_inline))]
+fn visit_func_kind<V: Visitor>(kind: &FuncKind<'_>, visitor: &mut V)
+    ensures { (u : TypeUse FunctionType) → Visits V.told visitor.old (checks_of (in_func_kind u kind.now)) visitor.new }
+{
+    match kind {
+        FuncKind::Import(_, exact) => visitor.covered(Form::Descriptor, !*exact),
+        FuncKind::Inline { locals, expression } => {
+            locals.visit(visitor);
+            visit_expression(expression, visitor);
+        }
+    }
+}
+
+impl Visit for Func<'_> {
+    ghost asks = { λ f. checks_of (in_func f) };
+
+    fn visit<V: Visitor>(&self, visitor: &mut V) {
+        self.ty.visit(visitor);
+        visit_func_kind(&self.kind, visitor);
+    }
+}
+
+impl Visit for ModuleField<'_> {
+    ghost asks = { λ f. checks_of (in_field f) };
+
+    fn visit<V: Visitor>(&self, visitor: &mut V) {
+        match self {
+            ModuleField::Ty(ty) => ty.visit(visitor),
+            ModuleField::Rec(rec) => rec.visit(visitor),
+            ModuleField::Import(import) => import.items.visit(visitor),
+            ModuleField::Func(func) => func.visit(visitor),
+            ModuleField::Table(table) => table.kind.visit(visitor),
+            ModuleField::Memory(memory) => memory.kind.visit(visitor),
+            ModuleField::Global(global) => global.visit(visitor),
+            ModuleField::Export(export) => export.visit(visitor),
+            ModuleField::Start(func) => visitor.index(Space::Func, func),
+            ModuleField::Elem(elem) => elem.visit(visitor),
+            ModuleField::Data(data) => data.kind.visit(visitor),
+            ModuleField::Tag(tag) => tag.ty.visit(visitor),
+            ModuleField::Custom(custom) => custom.visit(visitor),
+        }
+    }
+}
+
+/// Tells a visitor of what stands in the fields beside their items: indices and ids, clauses of "well formed", and forms that
+/// no encoder covers (text format, modules). It takes no memory.
+pub fn visit_fields<V: Visitor>(fields: &[ModuleField<'_>], visitor: &mut V)
+    ensures { Visits V.told visitor.old (checks_of (in_module fields.now)) visitor.new }
+{
+    for field in fields {
+        field.visit(visitor);
+    }
+}

@@ -1,7 +1,0 @@
-use Rattle.std.proofs.Common.{flat_map, take}
-use Rattle.wast_nodes.specs.Sites.{in_field, asked}
-use Rattle.wast_visits.specs.Visits.{Visits}
-use Rattle.wast_visits.proofs.visits.visit_fields.Given as goal
-
-abbrev pub invariant-loop-field : goal.invariant-loop-field
-invariant-loop-field g l = Visits g.V.Visitor.told l.fn.visitor (flat_map (λ f. asked (in_field f)) (take l.field-index l.fields)) l.visitor
