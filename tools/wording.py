@@ -56,13 +56,18 @@ def paragraphs_of_page(lines):
             taken.append(re.sub(r"^(?:[-*]|\d+\.) ", "", text))
 
 
-def paragraphs_of_code(lines):
-    """The text of doc comments, as `paragraphs_of_page` gives it; an indented line is code."""
+def docs_of_code(lines):
+    """The text of doc comments, with an empty line for each other line; an indented line is code."""
     docs = []
     for line in lines:
         match = re.match(r"\s*//[/!] ?(.*)$", line)
         docs.append(match.group(1) if match and not match.group(1).startswith("    ") else "")
-    return paragraphs_of_page(docs)
+    return docs
+
+
+def paragraphs_of_code(lines):
+    """The text of doc comments, as `paragraphs_of_page` gives it."""
+    return paragraphs_of_page(docs_of_code(lines))
 
 
 def plain(text):
