@@ -1,6 +1,6 @@
 """Counts wording that the docs avoid, for `tools/check-docs`: sentences over 30 words, and words that have a plainer one.
 
-`tools/words.tsv` has the words: forms to avoid, what to write, and phrases in which a form is not counted. For example, "stands" has
+`tools/data/words.tsv` has the words: forms to avoid, what to write, and phrases in which a form is not counted. For example, "stands" has
 "is; occurs; appears", and "in place" is not counted in "in place of". Code, in backticks or in a block, is not read.
 """
 
@@ -19,7 +19,7 @@ LONGEST = 30
 def words():
     """The forms to avoid: a pattern for each line of the table, what to write instead, and a pattern of what is not counted."""
     found = []
-    for line in (ROOT / "tools/words.tsv").read_text(encoding="utf-8").split("\n")[1:]:
+    for line in (ROOT / "tools/data/words.tsv").read_text(encoding="utf-8").split("\n")[1:]:
         if line:
             avoid, write, within = line.split("\t")
             found.append((pattern(avoid), write, pattern(within) if within else None))
