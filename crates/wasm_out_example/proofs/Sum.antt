@@ -17,7 +17,7 @@ use Rattle.wasm_out.specs.Parts.{Types, Functions, Exports, Code, InRangeEntry, 
 use Rattle.wasm_out.specs.Built.{Built, built_with, empty, behind_count}
 use Rattle.wasm_out.specs.Readable.{IsReadable, IsReadablePart}
 use Rattle.wasm_out.specs.Reads.{header, Reads}
-use Rattle.writer.specs.SumModule.{sum_type, sum_instrs, sum_body, sum_export, sum_module}
+use Rattle.wasm_out_example.specs.SumModule.{sum_type, sum_instrs, sum_body, sum_export, sum_module}
 
 -- Each number of a list is below a bound, if the test of the list is true.
 below : (bound : ℕ) (xs : List ℕ) → list_all (λ x. nat_lt x bound) xs ≡ true → All (λ x. x < bound) xs

@@ -9,7 +9,7 @@ ghost use Rattle.std.specs.Prelude.{◌≡◌, IfOk, OnOk, All};
 ghost use Rattle.wasm_ops.specs.Table.{instrs, IsInstr};
 ghost use Rattle.wasm_out.specs.Bodies.{body_content, SpellsBody};
 ghost use Rattle.wasm_out.specs.Reads.{Reads};
-ghost use Rattle.writer.specs.SumModule.{sum_type, sum_instrs, sum_body, sum_module};
+ghost use Rattle.wasm_out_example.specs.SumModule.{sum_type, sum_instrs, sum_body, sum_module};
 
 use std::alloc::Global;
 use std::io;
