@@ -1,4 +1,9 @@
--- Custom sections of a tree as parts of a module (binary format, custom section; tool conventions, producers section, dynamic linking).
+-- The bytes of custom sections (binary format: custom section; tool conventions: producers section, dynamic linking).
+--
+-- The grammar of modules reads a custom section as its name and its bytes. So the definitions here give bytes, except
+-- for a producers section, which has a grammar of its own in wasm_out.
+--
+--   (@producers (language "C" "11"))     name "producers", then 01, "language", 01, "C", "11"; each text after its length
 use Rattle.std.specs.Prelude.{ℕ, Bool, List, [], ◌++◌, map, All}
 use Rattle.std.specs.List.{flat_map}
 use Rattle.std.specs.Borrow.{Bor}
@@ -14,27 +19,27 @@ use Rattle.wast_core_conv.specs.Tree.{Dylink0Subsection}
 use Rattle.wast_core_conv.specs.Tree.custom
 use Rattle.wast_core_conv.specs.Tree.dylink
 
--- a value of producers, as its texts
+-- A value of a producers section: its name and version, as texts.
 abbrev pub as_producer_value : Bor (List ℕ) × Bor (List ℕ) → List ℕ × List ℕ
 as_producer_value v = (v.0.now, v.1.now)
 
--- a field of producers
+-- A field of a producers section: its name and values.
 abbrev pub as_producer_field : Bor (List ℕ) × List (Bor (List ℕ) × Bor (List ℕ)) → List ℕ × List (List ℕ × List ℕ)
 as_producer_field f = (f.0.now, map as_producer_value f.1)
 
--- an export with its flags
+-- The bytes of an export with its flags.
 abbrev pub export_flags : Bor (List ℕ) × ℕ → List ℕ
 export_flags e = name e.0.now ++ unsigned e.1
 
--- an import with its flags
+-- The bytes of an import with its flags.
 abbrev pub import_flags : Bor (List ℕ) × Bor (List ℕ) × ℕ → List ℕ
 import_flags i = name i.0.now ++ (name i.1.now ++ unsigned i.2)
 
--- a name in a list
+-- The bytes of a name in a list.
 abbrev pub listed_name : Bor (List ℕ) → List ℕ
 listed_name n = name n.now
 
--- what a subsection of dylink.0 holds; that of an architecture is not covered, and has no bytes
+-- The bytes inside a `dylink.0` subsection. A `TargetArch` is an unsupported construct, and has no bytes.
 abbrev pub subsection_content : Dylink0Subsection → List ℕ
 subsection_content (dylink.MemInfo memory_size memory_align table_size table_align) = unsigned memory_size ++ (unsigned memory_align ++ (unsigned table_size ++ unsigned table_align))
 subsection_content (dylink.Needed names) = vec listed_name names
@@ -43,37 +48,37 @@ subsection_content (dylink.ImportInfo flags) = vec import_flags flags
 subsection_content (dylink.RuntimePath names) = vec listed_name names
 subsection_content (dylink.TargetArch text) = []
 
--- its number, how long what it holds is, and that
+-- The bytes of a subsection: its number, its length and its content.
 abbrev pub subsection : Dylink0Subsection → List ℕ
 subsection s = section (subsection_id s) (subsection_content s)
 
--- what stands behind the name of a custom section
+-- The bytes of a custom section after its name.
 abbrev pub custom_bytes : tree.Custom → List ℕ
 custom_bytes (custom.Raw section) = flat_map (λ piece. piece.now) section.bytes
 custom_bytes (custom.Producers made) = producers (map as_producer_field made.fields)
 custom_bytes (custom.Dylink0 info) = flat_map subsection info.subsections
 
--- its name, and what stands behind it
+-- The name of a custom section, and the bytes after it.
 abbrev pub as_custom : tree.Custom → CustomPart
 as_custom c = record { name = custom_name c; bytes = custom_bytes c }
 
--- the part of a module
+-- A custom section as a part of a module.
 abbrev pub custom_part : tree.Custom → Part
 custom_part c = record { kind = Custom; items = as_custom c }
 
--- Numbers, counts and lengths are in range: those of an export with its flags,
+-- Whether numbers, counts and lengths are in range: in an export with its flags.
 abbrev pub InRangeExportFlags : Bor (List ℕ) × ℕ → Type 0
 InRangeExportFlags e = InRangeName e.0.now × InRangeU32 e.1
 
--- of an import,
+-- The same in an import with its flags.
 abbrev pub InRangeImportFlags : Bor (List ℕ) × Bor (List ℕ) × ℕ → Type 0
 InRangeImportFlags i = InRangeName i.0.now × (InRangeName i.1.now × InRangeU32 i.2)
 
--- of a name,
+-- The same in a name.
 abbrev pub InRangeListedName : Bor (List ℕ) → Type 0
 InRangeListedName n = InRangeName n.now
 
--- of what a subsection holds,
+-- The same in the content of a subsection.
 abbrev pub InRangeSubsectionContent : Dylink0Subsection → Type 0
 InRangeSubsectionContent (dylink.MemInfo memory_size memory_align table_size table_align) = InRangeU32 memory_size × (InRangeU32 memory_align × (InRangeU32 table_size × InRangeU32 table_align))
 InRangeSubsectionContent (dylink.Needed names) = InRangeVec InRangeListedName names
@@ -82,32 +87,32 @@ InRangeSubsectionContent (dylink.ImportInfo flags) = InRangeVec InRangeImportFla
 InRangeSubsectionContent (dylink.RuntimePath names) = InRangeVec InRangeListedName names
 InRangeSubsectionContent (dylink.TargetArch text) = Unit {0}
 
--- of a subsection, whose length is one of them,
+-- The same in a subsection, including its own length.
 abbrev pub InRangeSubsection : Dylink0Subsection → Type 0
 InRangeSubsection s = InRangeSized InRangeSubsectionContent subsection_content s
 
--- of what stands behind the name of a custom section,
+-- The same in the bytes of a custom section after its name.
 abbrev pub InRangeCustomBytes : tree.Custom → Type 0
 InRangeCustomBytes (custom.Raw section) = Unit {0}
 InRangeCustomBytes (custom.Producers made) = InRangeProducers (map as_producer_field made.fields)
 InRangeCustomBytes (custom.Dylink0 info) = All InRangeSubsection info.subsections
 
--- of its name, too,
+-- The same in the payload of a custom section, which includes its name.
 abbrev pub InRangeCustomPayload : tree.Custom → Type 0
 InRangeCustomPayload c = InRangeName (custom_name c) × InRangeCustomBytes c
 
--- the name, and what stands behind it
+-- The payload of a custom section: its name, and the bytes after it.
 abbrev pub custom_payload : tree.Custom → List ℕ
 custom_payload c = name (custom_name c) ++ custom_bytes c
 
--- and of the section, whose length is one of them
+-- The same as `InRangeCustomPayload`, and the length of the section is in range.
 abbrev pub InRangeCustom : tree.Custom → Type 0
 InRangeCustom c = InRangeSized InRangeCustomPayload custom_payload c
 
--- no form in it is left uncovered: it is no architecture
+-- Whether a subsection has no unsupported construct, so that it is no `TargetArch`.
 abbrev pub is_encodable_subsection : Dylink0Subsection → Bool
 is_encodable_subsection s = are_encodable (in_subsection s)
 
--- and so is no subsection of a custom section
+-- Whether a custom section has no unsupported construct.
 abbrev pub is_encodable_custom : tree.Custom → Bool
 is_encodable_custom c = encodable (in_custom c)
