@@ -1,4 +1,4 @@
--- Re-exports the AST types under short names, so that the definitions of this crate can match on them.
+-- The types of the tree under one roof, as in wast_tree_nodes: each type by its name, the variants of an enum behind a word.
 pub use Rattle.wast_tree_map.specs.Tree.{Span, Id, Index, NameAnnotation, ValType, RefType, HeapType, AbstractHeapType, StorageType, StructField, StructType, ArrayType, FunctionType, TypeUse, InnerTypeKind, TypeDef, Rec, BareOp, Plain, BlockType, BrTableIndices, TryTable, TryTableCatch, CallIndirect, SelectTypes, Instruction, Expression, TagType, ImportItems, ItemKind, Elem, ElemKind, ElemPayload, Data, DataKind, TableType, GlobalType, Table, TableKind, Memory, MemoryKind, Global, GlobalKind, Local, FuncKind, Func, Export, ModuleField, ResumeTable, Handle, ItemSig, Custom}
 pub use Rattle.wast_tree_map.specs.Tree.index
 pub use Rattle.wast_tree_map.specs.Tree.space

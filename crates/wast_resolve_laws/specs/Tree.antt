@@ -1,4 +1,4 @@
--- Re-exports the AST types under short names, so that the definitions of this crate can match on them.
+-- The types of the tree under one roof, as in wast_tree_nodes: each type by its name, the variants of an enum behind a word.
 pub use Rattle.wast_tree_map.specs.Tree.{Span, Id, Index, NameAnnotation, Space, ValType, RefType, HeapType, StructField, FunctionType, TypeUse, InnerTypeKind, TypeDef, Rec, BrTableIndices, TryTable, TryTableCatch, MemArg, MemArgTarget, Instruction, Expression, TagType, ImportItems, ItemSig, ItemKind, ElemKind, ElemPayload, DataKind, DataVal, Table, TableKind, Memory, MemoryKind, Global, GlobalKind, Tag, TagKind, Local, FuncKind, Func, ExportKind, ModuleField, Handle, ResumeTable, Custom, Dylink0Subsection}
 pub use Rattle.wast_tree_map.specs.Tree.index
 pub use Rattle.wast_tree_map.specs.Tree.space
