@@ -1,11 +1,13 @@
--- The name section: a custom section called name, of subsections behind an id and a length (custom sections, name section).
+-- The name section, a custom section of subsections with an id and a length (custom sections: name section).
+--
+--   subsection Functions (01 00 01 66)       01 04 01 00 01 66: function 0 is "f"
 use Rattle.std.specs.Prelude.{ℕ, List, ◌∷◌, ◌++◌, length, codes, Result}
 use Rattle.wast_base.specs.declared.faults.Error.{Error}
 use Rattle.wasm_ops.specs.Leb128.{unsigned}
 use Rattle.wasm_ops.specs.Spelling.{InRangeU32, vec, InRangeVec, InRangeSized, name, InRangeName}
 use Rattle.wasm_out.specs.Built.{Built, behind_count, Appends}
 
--- what the names are names of
+-- The kinds of subsections, by what has the names.
 pub data Named : Type 0 where
   Whole : Named
   Functions : Named
@@ -22,7 +24,7 @@ pub data Named : Type 0 where
   Parameters : Named
   TagParameters : Named
 
--- the ids of the standard and of its proposals; 12 and 13 are this encoder's own
+-- The ids of subsections, from the specification and its proposals. Only this project uses 12 and 13.
 abbrev pub subsection_id : Named → ℕ
 subsection_id Whole = 0
 subsection_id Functions = 1
@@ -39,62 +41,62 @@ subsection_id Tags = 11
 subsection_id Parameters = 12
 subsection_id TagParameters = 13
 
--- the id, the length of the content, and the content
+-- The bytes of a subsection: its id, the length of its content, and its content.
 abbrev pub subsection : Named → List ℕ → List ℕ
 subsection named content = subsection_id named ∷ (unsigned (length content) ++ content)
 
--- a map of names was appended as a subsection, and its length is in range; or the bytes stay
+-- On success a name map is appended as a subsection, and its length is in range. After an error nothing is changed.
 abbrev pub AppendsNames : {A : Type 0} → Named → Built → List ℕ → List ℕ → Result A Error → Type 0
 AppendsNames named names old new result =
     Appends (InRangeU32 (length (behind_count names))) old new (subsection named (behind_count names)) result
 
--- a name map's entry: an index and a name
+-- The bytes of an entry of a name map: an index and a name.
 abbrev pub name_entry : ℕ × List ℕ → List ℕ
 name_entry e = unsigned e.0 ++ name e.1
 
--- what a subsection holds: one name, names by index, or maps of names by index
+-- The content of a subsection: one name, names by index, or name maps by index.
 pub data NameContent : Type 0 where
   One : List ℕ → NameContent
   Direct : List (ℕ × List ℕ) → NameContent
   Indirect : List (ℕ × List (ℕ × List ℕ)) → NameContent
 
--- a subsection: what its names are names of, and the names
+-- A subsection: its kind and its content.
 pub record NameSubsection : Type 0 where
   pub of : Named
   pub content : NameContent
 
--- an entry of a map of name maps: an index and a name map
+-- The bytes of an entry of an indirect name map: an index and a name map.
 abbrev pub map_entry : ℕ × List (ℕ × List ℕ) → List ℕ
 map_entry e = unsigned e.0 ++ vec name_entry e.1
 
--- the bytes of what a subsection holds
+-- The bytes of the content of a subsection.
 abbrev pub name_content : NameContent → List ℕ
 name_content (One text) = name text
 name_content (Direct names) = vec name_entry names
 name_content (Indirect maps) = vec map_entry maps
 
--- the spelling of a subsection
+-- The bytes of a subsection.
 abbrev pub name_subsection : NameSubsection → List ℕ
 name_subsection s = subsection s.of (name_content s.content)
 
--- Numbers, counts and lengths are in range: those of a name map's entry.
+-- The index and the name of an entry of a name map are in range.
 abbrev pub InRangeNameEntry : ℕ × List ℕ → Type 0
 InRangeNameEntry e = InRangeU32 e.0 × InRangeName e.1
 
--- those of an entry of a map of name maps
+-- The index and the names of an entry of an indirect name map are in range.
 abbrev pub InRangeMapEntry : ℕ × List (ℕ × List ℕ) → Type 0
 InRangeMapEntry e = InRangeU32 e.0 × InRangeVec InRangeNameEntry e.1
 
--- those of what a subsection holds
+-- The content of a subsection is in range.
 abbrev pub InRangeNameContent : NameContent → Type 0
 InRangeNameContent (One text) = InRangeName text
 InRangeNameContent (Direct names) = InRangeVec InRangeNameEntry names
 InRangeNameContent (Indirect maps) = InRangeVec InRangeMapEntry maps
 
--- those of a subsection, and its length
+-- The content of a subsection and its length are in range.
 abbrev pub InRangeNameSubsection : NameSubsection → Type 0
 InRangeNameSubsection s = InRangeSized InRangeNameContent name_content s.content
 
--- the payload of the name section, of its subsections
+-- The payload of the section, from the bytes of its subsections.
 abbrev pub name_payload : List ℕ → List ℕ
 name_payload subsections = name (codes "name") ++ subsections
