@@ -170,7 +170,7 @@ fn write_each<'a>(
     Ok(())
 }
 
-/// Returns the number of fields after expansion, or `usize::MAX` if there are more.
+/// Returns the number of fields after expansion, or the greatest `usize` if there are more.
 fn written_count(fields: &[ModuleField<'_>]) -> usize
     ensures { result ≡ min (length (flat_map (desugar_field by_id) fields.now)) (2 ^ 64 - 1) }
 {
@@ -181,7 +181,7 @@ fn written_count(fields: &[ModuleField<'_>]) -> usize
     count
 }
 
-/// Returns the number of fields that replace a field, or `usize::MAX` if there are more.
+/// Returns the number of fields that replace a field, or the greatest `usize` if there are more.
 fn count_for(field: &ModuleField<'_>) -> usize
     ensures { result ≡ min (length (desugar_field by_id field.now)) (2 ^ 64 - 1) }
 {

@@ -103,10 +103,10 @@ impl<'a> Names<'a> {
         Ok(())
     }
 
-    /// Replaces the id of a memory by its index. Otherwise as
-    /// [`resolve_func`](Names::resolve_func).
+    /// Replaces the id of a memory by its index, as
+    /// [`resolve_func`](Names::resolve_func) does.
     ///
-    /// For example, in `(module (memory 1) (memory $m 1))` the index `$m` becomes 1.
+    /// Does not allocate. For example, in `(module (memory 1) (memory $m 1))`, `$m` becomes 1.
     ///
     /// # Requires
     ///
@@ -125,9 +125,9 @@ impl<'a> Names<'a> {
         Ok(())
     }
 
-    /// Replaces the id of a table by its index. Otherwise as [`resolve_func`](Names::resolve_func).
+    /// Replaces the id of a table by its index, as [`resolve_func`](Names::resolve_func) does.
     ///
-    /// For example, in `(module (table $t 1 funcref))` the index `$t` becomes 0.
+    /// Does not allocate. For example, in `(module (table $t 1 funcref))` the index `$t` becomes 0.
     ///
     /// # Requires
     ///
@@ -146,8 +146,10 @@ impl<'a> Names<'a> {
         Ok(())
     }
 
-    /// Replaces the id of a global by its index. Otherwise as
-    /// [`resolve_func`](Names::resolve_func).
+    /// Replaces the id of a global by its index, as
+    /// [`resolve_func`](Names::resolve_func) does.
+    ///
+    /// Does not allocate.
     ///
     /// # Example
     ///
@@ -170,7 +172,9 @@ impl<'a> Names<'a> {
         Ok(())
     }
 
-    /// Replaces the id of a tag by its index. Otherwise as [`resolve_func`](Names::resolve_func).
+    /// Replaces the id of a tag by its index, as [`resolve_func`](Names::resolve_func) does.
+    ///
+    /// Does not allocate.
     ///
     /// # Example
     ///
@@ -193,7 +197,9 @@ impl<'a> Names<'a> {
         Ok(())
     }
 
-    /// Replaces the id of a type by its index. Otherwise as [`resolve_func`](Names::resolve_func).
+    /// Replaces the id of a type by its index, as [`resolve_func`](Names::resolve_func) does.
+    ///
+    /// Does not allocate.
     ///
     /// # Example
     ///
@@ -216,10 +222,10 @@ impl<'a> Names<'a> {
         Ok(())
     }
 
-    /// Replaces the id of an element segment by its index. Otherwise as
-    /// [`resolve_func`](Names::resolve_func).
+    /// Replaces the id of an element segment by its index, as
+    /// [`resolve_func`](Names::resolve_func) does.
     ///
-    /// For example, in `(module (elem $e func))` the index `$e` becomes 0.
+    /// Does not allocate. For example, in `(module (elem $e func))` the index `$e` becomes 0.
     ///
     /// # Requires
     ///
@@ -238,10 +244,10 @@ impl<'a> Names<'a> {
         Ok(())
     }
 
-    /// Replaces the id of a data segment by its index. Otherwise as
-    /// [`resolve_func`](Names::resolve_func).
+    /// Replaces the id of a data segment by its index, as
+    /// [`resolve_func`](Names::resolve_func) does.
     ///
-    /// For example, in `(module (data $d "a"))` the index `$d` becomes 0.
+    /// Does not allocate. For example, in `(module (data $d "a"))` the index `$d` becomes 0.
     ///
     /// # Requires
     ///
