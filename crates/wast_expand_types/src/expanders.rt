@@ -55,6 +55,7 @@ impl<'a> Model for Expander<'a> {
 impl<'a> Expander<'a> {
     /// Returns a map without signatures and without ids of types. Does not allocate.
     ///
+    /// For example, [`TypeKey::lookup`](crate::TypeKey::lookup) of any key in it returns `None`.
     /// [`TypeReference::key`](crate::TypeReference::key) and
     /// [`TypeKey::insert`](crate::TypeKey::insert) allocate from `alloc` later.
     pub fn new(alloc: Global) -> Self

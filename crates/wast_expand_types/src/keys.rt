@@ -22,8 +22,8 @@ use wast_tree_nodes::{FunctionType, HeapType, InnerTypeKind, RefType, TypeDef, V
 
 /// The signature of a function type as a key: the types of its parameters, and of its results.
 ///
-/// Keys are equal exactly if their signatures are equal. [`TypeReference::key`] replaces each id of a
-/// source type by its number, so the keys of `(ref $t)` and `(ref 0)` are equal if `$t` is type 0
+/// Keys are equal exactly if their signatures are equal. [`TypeReference::key`] replaces each id of
+/// a source type by its number, so the keys of `(ref $t)` and `(ref 0)` are equal if `$t` is type 0
 /// (text format: type uses).
 ///
 /// Keys are ordered so that maps can store them; the order has no meaning in the format. It is by
@@ -116,11 +116,15 @@ pub trait TypeReference<'a> {
     ghost signature: { Self → Signature };
 
     /// Returns the type that is meant if none is inline: `(func)`. Does not allocate.
+    ///
+    /// For example, the empty [`FunctionType`] has no parameters and no results.
     fn empty(alloc: Global) -> Self
         ensures { signature result ≡ empty_signature };
 
     /// Returns the key: the signature, with each id of a source type in `cx` replaced by its
     /// number.
+    ///
+    /// For example, the key of `(func (param (ref $t)))` has `(ref 0)` if `$t` is type 0.
     ///
     /// # Errors
     ///
@@ -131,6 +135,8 @@ pub trait TypeReference<'a> {
         ensures refusal { IfErr result (λ e. e ≡ out_of_memory) };
 
     /// Resolves the type uses inside the type.
+    ///
+    /// For example, it leaves `(func (param i32))` unchanged, because no type use is inside.
     ///
     /// # Errors
     ///
@@ -159,6 +165,8 @@ pub trait TypeKey<'a> {
     ghost signature: { Self → Signature };
 
     /// Returns the index of the key, if it has one. Does not allocate.
+    ///
+    /// For example, it returns `None` for each key of a new [`Expander`].
     fn lookup(&self, cx: &Expander<'a>) -> Option<Index<'a>>
         ensures { result ≡ index_of cx.now.bound (signature self.now) };
 
@@ -178,6 +186,8 @@ pub trait TypeKey<'a> {
         ensures refusal { IfErr result (λ e. e ≡ out_of_memory) };
 
     /// Adds the key with an index, unless it has one.
+    ///
+    /// For example, a second call for the same key with another index changes nothing.
     ///
     /// # Errors
     ///

@@ -46,6 +46,8 @@ impl<'a> Model for Names<'a> {
 
 impl<'a> Names<'a> {
     /// Returns names without ids. Does not allocate.
+    ///
+    /// For example, a look-up of `$f` in them fails with E4.
     #[tactic(auto, using(wast_resolve_passes::proofs::Trying::nothing_known))]
     pub fn empty(alloc: Global) -> Self
         ensures names { known_to result ≡ id_context [] }

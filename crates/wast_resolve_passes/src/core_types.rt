@@ -35,6 +35,9 @@ pub trait ResolveCoreType<'a> {
     ghost called: { Self → Index → Self → Index → Result ℕ Error → Type 0 };
 
     /// Resolves the index of a type, and returns its number.
+    ///
+    /// For example, a [`Resolver`](crate::Resolver) replaces `$t` by 0 and returns 0, if `$t` is
+    /// type 0.
     fn resolve_type_name(&mut self, name: &mut Index<'a>) -> Result<u32, Error<'a>>
         requires { needs self.old name.old }
         ensures call { called self.old name.old self.new name.new result }

@@ -132,6 +132,8 @@ pub trait TypeReference<'a> {
     /// Checks that the type at an index has the same kind and signature. Does not allocate, and
     /// changes nothing.
     ///
+    /// For example, `(param i32)` beside the index of `(type (func))` fails with E7.
+    ///
     /// Indices are compared by the type that they name. An unknown id equals nothing.
     ///
     /// # Requires

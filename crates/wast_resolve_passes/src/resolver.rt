@@ -139,6 +139,8 @@ impl<'a> Model for Resolver<'a> {
 
 impl<'a> Resolver<'a> {
     /// Returns a resolver without ids and types. Does not allocate.
+    ///
+    /// For example, a look-up of `$f` in it fails with E4.
     pub fn empty(alloc: Global) -> Self
         ensures { result ≡ without_types [] }
     {
