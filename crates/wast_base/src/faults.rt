@@ -102,7 +102,7 @@ impl<'a> Error<'a> {
     ///
     /// # Example
     ///
-    ///     Error::new(at(40), Fault::Duplicate("func"))
+    ///     assert!(rt; twice == Err(Error::new(at(40), Fault::Duplicate("func"))));
     ///
     /// # Requires
     ///
@@ -121,7 +121,7 @@ impl<'a> Error<'a> {
     ///
     /// # Example
     ///
-    ///     Error::refusal(Fault::TooLarge)
+    ///     let too_large = Error::refusal(Fault::TooLarge);
     ///
     /// # Requires
     ///
