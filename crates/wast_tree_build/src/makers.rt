@@ -117,8 +117,7 @@ impl TreeBuilder {
     ///
     /// # Example
     ///
-    ///     let stop = Tag::new(alloc, at(225), id("stop", 229), TypeUse::none());
-    ///     make.push_field(&mut fields, ModuleField::Tag(stop));
+    ///     make.push_field(&mut fields, ModuleField::Start(index(start, 504)));
     pub fn push_field<'a>(&mut self, fields: &mut Seq<ModuleField<'a>>, field: ModuleField<'a>)
         ensures made { Makes self.old self.new (fields.new ≡ fields.old ++ field.entry ∷ []) }
         ensures empty_on_failure { MayPut self.new fields.old fields.new field.entry }
@@ -365,7 +364,7 @@ impl TreeBuilder {
         copied(self, hints)
     }
 
-    /// Makes a function type. A parameter is an optional id, an optional name annotation and a type.
+    /// Makes a function type, from the id, name annotation and type of each parameter, and results.
     ///
     /// # Example
     ///
