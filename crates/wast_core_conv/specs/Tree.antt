@@ -1,4 +1,4 @@
--- Re-exports the AST types under short names, so that the definitions of this crate can match on them.
+-- The types of the tree under one roof, as in wast_tree_nodes: each type by its name, the variants of an enum behind a word.
 pub use Rattle.wast_base.specs.declared.ids.Id.{Id}
 pub use Rattle.wast_base.specs.declared.ids.Index.{Index}
 pub use Rattle.wast_base.specs.declared.ids.Index.TheVariants as index

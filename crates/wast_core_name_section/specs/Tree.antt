@@ -1,4 +1,4 @@
--- Re-exports the AST types under short names, with the types in which the code finds names.
+-- The types of the tree under one roof, as in wast_tree_nodes, with what names are read of: each type by its name, the variants of an enum behind a word.
 pub use Rattle.wast_base.specs.declared.ids.Id.{Id}
 pub use Rattle.wast_base.specs.declared.ids.Index.{Index}
 pub use Rattle.wast_base.specs.declared.ids.Index.TheVariants as index
