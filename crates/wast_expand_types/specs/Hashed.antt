@@ -1,6 +1,6 @@
 -- How an `Expander` stores signatures: one map by hash, and a second map for signatures whose hash is taken.
 --
--- Most look-ups compare one hash and then one signature. The second map is ordered by signature, because crafted
+-- A look-up compares hashes, and then usually one signature. The second map is ordered by signature, because crafted
 -- signatures with equal hashes would make a list of them slow.
 --
 -- For example, after `(func)` and `(func (param i32))` are added, both are in the first map, unless their hashes are

@@ -1,6 +1,6 @@
 -- An order of signatures for maps: it is total, and two signatures are equal exactly if neither is less.
 --
--- Lengths are compared first, because that decides most comparisons quickly.
+-- Lengths are compared first, so that types are compared only between lists of equal lengths.
 --
 --   (func (result f64 f64))          less than (func (param i32)): fewer parameters
 --   (func (param f64))               less than (func (param i32) (result i32)): fewer results
