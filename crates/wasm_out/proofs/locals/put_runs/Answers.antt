@@ -1,7 +1,7 @@
 use Rattle.std.proofs.Common.{◌+◌, ◌∷◌, ◌++◌, [], map, drop, replicate, length, Ok, Err, refl, sym, ap, ◌∙◌, subst, arith}
 use Rattle.wasm_ops.specs.Covered.{is_covered_val_type}
 use Rattle.wasm_out.specs.Bodies.{InRangeRun, local_run, local_runs}
-use Rattle.wasm_out.proofs.LocalRuns.{run_grows, run_ends, run_last, item_passes}
+use Rattle.wasm_out.proofs.LocalRuns.{run_grows, run_ends, run_last, second_passes}
 use Rattle.wasm_out.proofs.WrittenLists.{Written, written_more, written_not, written_last}
 use Rattle.wasm_out.proofs.locals.put_runs.Goals as goal
 
@@ -50,7 +50,7 @@ loop-at-preserved g c =
       few = omega arith;
       fewer = omega (arith, i.fewer);
       covered = ap is_covered_val_type (c.local_type-next.ensures ∙ ap ty c.index-items-at.is)
-          ∙ item_passes (g.W.LocalType.is_ready way) (λ x. is_covered_val_type (ty x)) xs c.loop-at.at c.index-items-at.result c.loop-at-test.true c.requires.ready;
+          ∙ second_passes (g.W.LocalType.is_ready way) (λ x. is_covered_val_type (ty x)) xs c.loop-at.at c.index-items-at.result c.loop-at-test.true c.requires.ready;
       start = i.start;
     }
 
