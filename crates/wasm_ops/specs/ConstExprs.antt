@@ -1,20 +1,12 @@
 -- Constant expressions: instructions in which each block is closed, and the byte that ends them (binary format, expressions).
-use Rattle.std.specs.Prelude.{◌≡◌, ℕ, Bool, List, [], ◌∷◌, ◌++◌, All, IsTrue}
-use Rattle.std.specs.List.{list_all}
-use Rattle.wasm_ops.specs.Table.{Instr, instrs, is_covered_instr, HasRow, InRangeInstr, IsInstr}
+use Rattle.std.specs.Prelude.{◌≡◌, ℕ, List, All, IsTrue}
+use Rattle.wasm_ops.specs.Spelling.{Encoding, then_byte, items_of}
+use Rattle.wasm_ops.specs.Table.{Instr, instr, instrs, HasRow, IsInstr}
 use Rattle.wasm_ops.specs.Turns.{are_balanced}
 
--- the instructions, and 0x0b: the first one before which each block is closed
-abbrev pub expression : List Instr → List ℕ
-expression is = instrs is ++ 0x0b ∷ []
-
--- the numbers of its instructions are in range, the encoder covers them, their rows stand in the table, and each block is closed
-abbrev pub InRangeExpression : List Instr → Type 0
-InRangeExpression is = All InRangeInstr is
-
--- the encoder covers each of its instructions
-abbrev pub is_covered_expression : List Instr → Bool
-is_covered_expression is = list_all is_covered_instr is
+-- A constant expression: its instructions, and 0x0b, which is the first one before which each block is closed.
+abbrev pub expression : List Instr → Encoding
+expression is = then_byte (items_of instr is) 0x0b
 
 -- the row of each of its instructions stands in the table
 abbrev pub HasRowsExpression : List Instr → Type 0

@@ -1,8 +1,7 @@
 -- Memory arguments: an alignment, which memory, and an offset; and orderings (binary format, memory instructions).
 use Rattle.std.specs.Prelude.{ℕ, ◌+◌, ◌<◌, Bool, true, false, ◌&&◌, nat_eq, nat_lt, is_none, List, ◌++◌}
-use Rattle.wasm_ops.specs.Covered.{Spellable}
 use Rattle.wasm_ops.specs.Leb128.{unsigned}
-use Rattle.wasm_ops.specs.Spelling.{InRangeU32, InRangeU64}
+use Rattle.wasm_ops.specs.Spelling.{InRangeU32, InRangeU64, Encoding}
 use Rattle.wasm_ops.specs.declared.memargs.Ordering.{Ordering}
 use Rattle.wasm_ops.specs.declared.memargs.Ordering.TheVariants.{SeqCst, AcqRel}
 use Rattle.wasm_ops.specs.declared.memargs.MemArgOrdering.{MemArgOrdering}
@@ -39,22 +38,10 @@ abbrev pub memarg_bytes : Bool → ℕ → ℕ → ℕ → List ℕ
 memarg_bytes true align memory offset = unsigned align ++ unsigned offset
 memarg_bytes false align memory offset = unsigned (align + 64) ++ (unsigned memory ++ unsigned offset)
 
--- the bytes of a memory argument
-abbrev pub memarg : MemArg → List ℕ
-memarg m = memarg_bytes (nat_eq (index_of m.target) 0) m.align (index_of m.target) m.offset
-
 -- the logarithm of an alignment is below 64
 abbrev pub is_aligned : MemArg → Bool
 is_aligned m = nat_lt m.align 64
 
--- it is of a memory, and no ordering is written on it
-abbrev pub is_covered_memarg : MemArg → Bool
-is_covered_memarg m = is_covered_target m.target && is_none m.ordering
-
--- its numbers are in range
-abbrev pub InRangeMemArg : MemArg → Type 0
-InRangeMemArg m = (m.align < 64) × (InRangeU32 (index_of m.target) × InRangeU64 m.offset)
-
--- it has one spelling
-abbrev pub IsSpellableMemArg : MemArg → Type 0
-IsSpellableMemArg m = Spellable is_covered_memarg InRangeMemArg m
+-- A memory argument. It is supported if it is of a memory and has no ordering.
+abbrev pub memarg : MemArg → Encoding
+memarg m = record { bytes = memarg_bytes (nat_eq (index_of m.target) 0) m.align (index_of m.target) m.offset; in_range = (m.align < 64) × (InRangeU32 (index_of m.target) × InRangeU64 m.offset); is_covered = is_covered_target m.target && is_none m.ordering }

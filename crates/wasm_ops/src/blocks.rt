@@ -1,7 +1,7 @@
 //! Block types, and the clauses of a block that catches exceptions.
 
 ghost use Rattle.std.specs.Prelude.{◌≡◌, true, false};
-ghost use Rattle.wasm_ops.specs.Control.{block_type, InRangeBlockType, is_covered_block_type, catch_clause, InRangeCatch};
+ghost use Rattle.wasm_ops.specs.Control.{block_type, catch_clause};
 
 use crate::encode::Encode;
 use crate::leb128::push_signed;
@@ -22,7 +22,7 @@ pub enum BlockType {
 impl BlockType {
     /// Whether the encoder covers it: it has no value type, or one that is covered.
     pub fn is_covered(&self) -> bool
-        ensures { result ≡ is_covered_block_type self.now }
+        ensures { result ≡ (block_type self.now).is_covered }
     {
         match self {
             BlockType::Empty => true,
@@ -34,11 +34,11 @@ impl BlockType {
 
 /// An index is written as a signed number, since a number below 0 would be one of the value types.
 impl Encode for BlockType {
-    ghost spelling = { block_type };
+    ghost spelling = { λ x. (block_type x).bytes };
 
-    ghost in_range = { InRangeBlockType };
+    ghost in_range = { λ x. (block_type x).in_range };
 
-    ghost is_ready = { is_covered_block_type };
+    ghost is_ready = { λ x. (block_type x).is_covered };
 
     fn encode<S: Sink>(&self, out: &mut S) -> Result<(), Refusal> {
         match self {
@@ -90,9 +90,9 @@ impl Catch {
 
 /// A byte for each of the four forms, the tag where there is one, and the label.
 impl Encode for Catch {
-    ghost spelling = { catch_clause };
+    ghost spelling = { λ x. (catch_clause x).bytes };
 
-    ghost in_range = { InRangeCatch };
+    ghost in_range = { λ x. (catch_clause x).in_range };
 
     ghost is_ready = { λ _. true };
 

@@ -2,8 +2,7 @@
 
 ghost use Rattle.std.specs.Prelude.{◌≡◌, true, false, [], ◌∷◌};
 ghost use Rattle.std.specs.List.{list_all};
-ghost use Rattle.wasm_ops.specs.Covered.{is_covered_val_type, is_covered_storage_type, is_covered_field_type, is_covered_func_type, is_covered_struct_type, is_covered_array_type, is_covered_composite_inner_type, is_covered_composite_type, is_covered_sub_type};
-ghost use Rattle.wasm_ops.specs.Spelling.{Any, val_type, InRangeValType, storage_type, InRangeStorageType, field_type, InRangeFieldType, export_kind, func_type, InRangeFuncType, struct_type, InRangeStructType, array_type, InRangeArrayType, composite_inner_type, InRangeCompositeInnerType, composite_type, InRangeCompositeType, sub_type, InRangeSubType};
+ghost use Rattle.wasm_ops.specs.Spelling.{Any, export_kind, array_type, composite_inner_type, composite_type, field_type, func_type, storage_type, struct_type, sub_type, val_type};
 
 use crate::encode::{AsItself, Counted, Encode};
 use crate::ref_types::RefType;
@@ -36,7 +35,7 @@ impl ValType {
 
     /// Whether the encoder covers it: it is a number, a vector, or a reference whose heap type it covers.
     pub fn is_covered(&self) -> bool
-        ensures { result ≡ is_covered_val_type self.now }
+        ensures { result ≡ (val_type self.now).is_covered }
     {
         match self {
             ValType::I32 | ValType::I64 | ValType::F32 | ValType::F64 | ValType::V128 => true,
@@ -46,11 +45,11 @@ impl ValType {
 }
 
 impl Encode for ValType {
-    ghost spelling = { val_type };
+    ghost spelling = { λ x. (val_type x).bytes };
 
-    ghost in_range = { InRangeValType };
+    ghost in_range = { λ x. (val_type x).in_range };
 
-    ghost is_ready = { is_covered_val_type };
+    ghost is_ready = { λ x. (val_type x).is_covered };
 
     #[inline(always)]
     fn encode<S: Sink>(&self, out: &mut S) -> Result<(), Refusal> {
@@ -67,8 +66,8 @@ impl Encode for ValType {
 
 /// The bytes of the value types that are constants (binary format, value types).
 pub(crate) fn constant_val_types()
-    ensures func { val_type ValType.FUNCREF ≡ 0x70 ∷ [] }
-    ensures extern_ { val_type ValType.EXTERNREF ≡ 0x6f ∷ [] }
+    ensures func { (val_type ValType.FUNCREF).bytes ≡ 0x70 ∷ [] }
+    ensures extern_ { (val_type ValType.EXTERNREF).bytes ≡ 0x6f ∷ [] }
 {}
 
 /// What a field of a struct or an element of an array is stored as (binary format, composite types).
@@ -85,7 +84,7 @@ pub enum StorageType {
 impl StorageType {
     /// Whether the encoder covers it: it is packed, or a value type that is covered.
     pub fn is_covered(&self) -> bool
-        ensures { result ≡ is_covered_storage_type self.now }
+        ensures { result ≡ (storage_type self.now).is_covered }
     {
         match self {
             StorageType::I8 => true,
@@ -107,11 +106,11 @@ impl From<ValType> for StorageType {
 }
 
 impl Encode for StorageType {
-    ghost spelling = { storage_type };
+    ghost spelling = { λ x. (storage_type x).bytes };
 
-    ghost in_range = { InRangeStorageType };
+    ghost in_range = { λ x. (storage_type x).in_range };
 
-    ghost is_ready = { is_covered_storage_type };
+    ghost is_ready = { λ x. (storage_type x).is_covered };
 
     fn encode<S: Sink>(&self, out: &mut S) -> Result<(), Refusal> {
         match self {
@@ -134,18 +133,18 @@ pub struct FieldType {
 impl FieldType {
     /// Whether the encoder covers it: it covers its storage type.
     pub fn is_covered(&self) -> bool
-        ensures { result ≡ is_covered_field_type self.now }
+        ensures { result ≡ (field_type self.now).is_covered }
     {
         self.element_type.is_covered()
     }
 }
 
 impl Encode for FieldType {
-    ghost spelling = { field_type };
+    ghost spelling = { λ x. (field_type x).bytes };
 
-    ghost in_range = { InRangeFieldType };
+    ghost in_range = { λ x. (field_type x).in_range };
 
-    ghost is_ready = { is_covered_field_type };
+    ghost is_ready = { λ x. (field_type x).is_covered };
 
     fn encode<S: Sink>(&self, out: &mut S) -> Result<(), Refusal> {
         (self.element_type, u8::from(self.mutable)).encode(out)
@@ -190,7 +189,7 @@ impl Encode for ExportKind {
 
 /// Whether the encoder covers each of these types.
 fn are_covered(types: &[ValType]) -> bool
-    ensures { result ≡ list_all is_covered_val_type types.now }
+    ensures { result ≡ list_all (λ x. (val_type x).is_covered) types.now }
 {
     types.iter().all(|ty| ty.is_covered())
 }
@@ -207,18 +206,18 @@ pub struct FuncType {
 impl FuncType {
     /// Whether the encoder covers it: it covers the types of its parameters and results.
     pub fn is_covered(&self) -> bool
-        ensures { result ≡ is_covered_func_type self.now }
+        ensures { result ≡ (func_type self.now).is_covered }
     {
         are_covered(self.params.as_slice()) && are_covered(self.results.as_slice())
     }
 }
 
 impl Encode for FuncType {
-    ghost spelling = { func_type };
+    ghost spelling = { λ x. (func_type x).bytes };
 
-    ghost in_range = { InRangeFuncType };
+    ghost in_range = { λ x. (func_type x).in_range };
 
-    ghost is_ready = { is_covered_func_type };
+    ghost is_ready = { λ x. (func_type x).is_covered };
 
     fn encode<S: Sink>(&self, out: &mut S) -> Result<(), Refusal> {
         let params = Counted(self.params.as_slice(), AsItself);
@@ -237,7 +236,7 @@ pub struct StructType {
 impl StructType {
     /// Whether the encoder covers it: it covers each of its fields.
     pub fn is_covered(&self) -> bool
-        ensures { result ≡ is_covered_struct_type self.now }
+        ensures { result ≡ (struct_type self.now).is_covered }
     {
         self.fields
             .as_slice()
@@ -247,11 +246,11 @@ impl StructType {
 }
 
 impl Encode for StructType {
-    ghost spelling = { struct_type };
+    ghost spelling = { λ x. (struct_type x).bytes };
 
-    ghost in_range = { InRangeStructType };
+    ghost in_range = { λ x. (struct_type x).in_range };
 
-    ghost is_ready = { is_covered_struct_type };
+    ghost is_ready = { λ x. (struct_type x).is_covered };
 
     fn encode<S: Sink>(&self, out: &mut S) -> Result<(), Refusal> {
         (0x5fu8, Counted(self.fields.as_slice(), AsItself)).encode(out)
@@ -265,18 +264,18 @@ pub struct ArrayType(pub FieldType);
 impl ArrayType {
     /// Whether the encoder covers it: it covers what its elements are.
     pub fn is_covered(&self) -> bool
-        ensures { result ≡ is_covered_array_type self.now }
+        ensures { result ≡ (array_type self.now).is_covered }
     {
         self.0.is_covered()
     }
 }
 
 impl Encode for ArrayType {
-    ghost spelling = { array_type };
+    ghost spelling = { λ x. (array_type x).bytes };
 
-    ghost in_range = { InRangeArrayType };
+    ghost in_range = { λ x. (array_type x).in_range };
 
-    ghost is_ready = { is_covered_array_type };
+    ghost is_ready = { λ x. (array_type x).is_covered };
 
     fn encode<S: Sink>(&self, out: &mut S) -> Result<(), Refusal> {
         (0x5eu8, self.0).encode(out)
@@ -312,7 +311,7 @@ pub enum CompositeInnerType {
 impl CompositeInnerType {
     /// Whether the encoder covers it: it covers each type that stands in it.
     pub fn is_covered(&self) -> bool
-        ensures { result ≡ is_covered_composite_inner_type self.now }
+        ensures { result ≡ (composite_inner_type self.now).is_covered }
     {
         match self {
             CompositeInnerType::Func(ty) => ty.is_covered(),
@@ -324,11 +323,11 @@ impl CompositeInnerType {
 }
 
 impl Encode for CompositeInnerType {
-    ghost spelling = { composite_inner_type };
+    ghost spelling = { λ x. (composite_inner_type x).bytes };
 
-    ghost in_range = { InRangeCompositeInnerType };
+    ghost in_range = { λ x. (composite_inner_type x).in_range };
 
-    ghost is_ready = { is_covered_composite_inner_type };
+    ghost is_ready = { λ x. (composite_inner_type x).is_covered };
 
     fn encode<S: Sink>(&self, out: &mut S) -> Result<(), Refusal> {
         match self {
@@ -357,7 +356,7 @@ impl CompositeType {
     /// Whether the encoder covers it: it is not shared, has no descriptor and describes nothing, and the encoder covers
     /// what it is made of.
     pub fn is_covered(&self) -> bool
-        ensures { result ≡ is_covered_composite_type self.now }
+        ensures { result ≡ (composite_type self.now).is_covered }
     {
         !self.shared
             && self.descriptor.is_none()
@@ -367,11 +366,11 @@ impl CompositeType {
 }
 
 impl Encode for CompositeType {
-    ghost spelling = { composite_type };
+    ghost spelling = { λ x. (composite_type x).bytes };
 
-    ghost in_range = { InRangeCompositeType };
+    ghost in_range = { λ x. (composite_type x).in_range };
 
-    ghost is_ready = { is_covered_composite_type };
+    ghost is_ready = { λ x. (composite_type x).is_covered };
 
     fn encode<S: Sink>(&self, out: &mut S) -> Result<(), Refusal> {
         self.inner.encode(out)
@@ -392,7 +391,7 @@ pub struct SubType {
 impl SubType {
     /// Whether the encoder covers it: it covers its composite type.
     pub fn is_covered(&self) -> bool
-        ensures { result ≡ is_covered_sub_type self.now }
+        ensures { result ≡ (sub_type self.now).is_covered }
     {
         self.composite_type.is_covered()
     }
@@ -400,11 +399,11 @@ impl SubType {
 
 /// A final type with no types above it is written as its composite type alone.
 impl Encode for SubType {
-    ghost spelling = { sub_type };
+    ghost spelling = { λ x. (sub_type x).bytes };
 
-    ghost in_range = { InRangeSubType };
+    ghost in_range = { λ x. (sub_type x).in_range };
 
-    ghost is_ready = { is_covered_sub_type };
+    ghost is_ready = { λ x. (sub_type x).is_covered };
 
     fn encode<S: Sink>(&self, out: &mut S) -> Result<(), Refusal> {
         let parents = Counted(self.supertype_idxs.as_slice(), AsItself);

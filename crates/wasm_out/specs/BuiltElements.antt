@@ -1,15 +1,14 @@
 -- Segments of elements as the code has them: where they stand, and the bytes of their lists.
 use Rattle.std.specs.Prelude.{ℕ, Bool, true, List, [], ◌∷◌, ◌++◌, length, IsTrue}
-use Rattle.wasm_ops.specs.Covered.{is_covered_ref_type}
 use Rattle.wasm_ops.specs.Leb128.{unsigned}
-use Rattle.wasm_ops.specs.Spelling.{InRangeU32, vec, InRangeVec, InRangeRefType}
+use Rattle.wasm_ops.specs.Spelling.{InRangeU32, vec, InRangeVec, ref_type}
 use Rattle.wasm_out.specs.declared.elements.ElementKind.{ElementKind}
 use Rattle.wasm_out.specs.declared.elements.ElementKind.TheVariants as kind
 use Rattle.wasm_out.specs.declared.elements.SegmentMode.{SegmentMode}
 use Rattle.wasm_out.specs.declared.elements.SegmentMode.TheVariants as mode
 use Rattle.wasm_out.specs.declared.elements.Elements.{Elements}
 use Rattle.wasm_out.specs.declared.elements.Elements.TheVariants as elements
-use Rattle.wasm_out.specs.ElementSegments.{passive_bytes, declared_bytes, active_bytes, InRangeTable, has_active_form}
+use Rattle.wasm_out.specs.ElementSegments.{passive_bytes, declared_bytes, active_bytes, table_index, has_active_form}
 
 -- a segment, by the bytes of what gives the offset
 abbrev pub segment_bytes : {O : Type 0} → (O → List ℕ) → SegmentMode O → ElementKind → List ℕ → List ℕ
@@ -21,7 +20,7 @@ segment_bytes spell (mode.Active table offset) kind list = active_bytes table (s
 abbrev pub InRangeMode : {O : Type 0} → (O → Type 0) → SegmentMode O → Type 0
 InRangeMode InRange mode.Passive = Unit {0}
 InRangeMode InRange mode.Declared = Unit {0}
-InRangeMode InRange (mode.Active table offset) = InRangeTable table × InRange offset
+InRangeMode InRange (mode.Active table offset) = (table_index table).in_range × InRange offset
 
 -- the offset can be spelled
 abbrev pub is_ready_mode : {O : Type 0} → (O → Bool) → SegmentMode O → Bool
@@ -52,9 +51,9 @@ listed_in (elements.Expressions ty expressions) = vec ended expressions.items
 -- the numbers in it and its count are in range
 abbrev pub InRangeElements : Elements → Type 0
 InRangeElements (elements.Functions functions) = InRangeVec InRangeU32 functions.items
-InRangeElements (elements.Expressions ty expressions) = InRangeRefType ty × InRangeU32 (length expressions.items)
+InRangeElements (elements.Expressions ty expressions) = (ref_type ty).in_range × InRangeU32 (length expressions.items)
 
 -- the type of the expressions is covered
 abbrev pub AreElements : Elements → Type 0
 AreElements (elements.Functions functions) = Unit {0}
-AreElements (elements.Expressions ty expressions) = IsTrue (is_covered_ref_type ty)
+AreElements (elements.Expressions ty expressions) = IsTrue (ref_type ty).is_covered

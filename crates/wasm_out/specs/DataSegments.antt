@@ -1,8 +1,8 @@
 -- Segments of data: bytes, and where they stand (binary format, data section).
-use Rattle.std.specs.Prelude.{ℕ, zero, suc, Bool, true, List, ◌∷◌, ◌++◌, length}
-use Rattle.wasm_ops.specs.ConstExprs.{expression, InRangeExpression, is_covered_expression, HasRowsExpression}
+use Rattle.std.specs.Prelude.{ℕ, zero, suc, Bool, true, List, [], ◌∷◌, ◌++◌, length}
+use Rattle.wasm_ops.specs.ConstExprs.{expression, HasRowsExpression}
 use Rattle.wasm_ops.specs.Leb128.{unsigned}
-use Rattle.wasm_ops.specs.Spelling.{InRangeU32}
+use Rattle.wasm_ops.specs.Spelling.{InRangeU32, Encoding, fixed, u32, seq}
 use Rattle.wasm_ops.specs.Table.{Instr}
 use Rattle.wasm_ops.specs.Turns.{are_balanced}
 
@@ -29,32 +29,19 @@ abbrev pub placed_bytes : ℕ → List ℕ → List ℕ → List ℕ
 placed_bytes zero offset bytes = 0x00 ∷ (offset ++ counted_bytes bytes)
 placed_bytes (suc n) offset bytes = 0x02 ∷ (unsigned (suc n) ++ (offset ++ counted_bytes bytes))
 
--- a segment, by where its bytes stand
+-- a segment, by where its bytes are
 abbrev pub data_bytes : DataMode → List ℕ → List ℕ
 data_bytes Kept bytes = kept_bytes bytes
-data_bytes (Placed memory offset) bytes = placed_bytes memory (expression offset) bytes
+data_bytes (Placed memory offset) bytes = placed_bytes memory (expression offset).bytes bytes
 
--- the spelling of a segment
-abbrev pub data_entry : DataEntry → List ℕ
-data_entry d = data_bytes d.mode d.bytes
+-- where the bytes of a segment are: in a memory from an offset on
+abbrev pub data_place : DataMode → Encoding
+data_place Kept = fixed []
+data_place (Placed memory offset) = seq (u32 memory) (expression offset)
 
--- numbers and the number of bytes are in range
-abbrev pub InRangeDataMode : DataMode → Type 0
-InRangeDataMode Kept = Unit {0}
-InRangeDataMode (Placed memory offset) = InRangeU32 memory × InRangeExpression offset
-
--- the same of a segment
-abbrev pub InRangeDataEntry : DataEntry → Type 0
-InRangeDataEntry d = InRangeDataMode d.mode × InRangeU32 (length d.bytes)
-
--- the encoder covers its offset
-abbrev pub is_covered_data_mode : DataMode → Bool
-is_covered_data_mode Kept = true
-is_covered_data_mode (Placed memory offset) = is_covered_expression offset
-
--- the same of a segment
-abbrev pub is_covered_data_entry : DataEntry → Bool
-is_covered_data_entry d = is_covered_data_mode d.mode
+-- A segment. The first memory has no bytes.
+abbrev pub data_entry : DataEntry → Encoding
+data_entry d = record { bytes = data_bytes d.mode d.bytes; in_range = (data_place d.mode).in_range × InRangeU32 (length d.bytes); is_covered = (data_place d.mode).is_covered }
 
 -- the instructions of its offset are rows of the table
 abbrev pub HasRowsDataMode : DataMode → Type 0

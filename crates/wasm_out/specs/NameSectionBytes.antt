@@ -2,7 +2,7 @@
 use Rattle.std.specs.Prelude.{ℕ, List, ◌∷◌, ◌++◌, length, codes, Result}
 use Rattle.wast_base.specs.declared.faults.Error.{Error}
 use Rattle.wasm_ops.specs.Leb128.{unsigned}
-use Rattle.wasm_ops.specs.Spelling.{InRangeU32, vec, InRangeVec, InRangeSized, name, InRangeName}
+use Rattle.wasm_ops.specs.Spelling.{InRangeU32, Encoding, u32, named, byte_then, seq, list_of, with_length, name}
 use Rattle.wasm_out.specs.Built.{Built, behind_count, Appends}
 
 -- what the names are names of
@@ -49,8 +49,8 @@ AppendsNames named names old new result =
     Appends (InRangeU32 (length (behind_count names))) old new (subsection named (behind_count names)) result
 
 -- a name map's entry: an index and a name
-abbrev pub name_entry : ℕ × List ℕ → List ℕ
-name_entry e = unsigned e.0 ++ name e.1
+abbrev pub name_entry : ℕ × List ℕ → Encoding
+name_entry e = seq (u32 e.0) (named e.1)
 
 -- what a subsection holds: one name, names by index, or maps of names by index
 pub data NameContent : Type 0 where
@@ -64,36 +64,18 @@ pub record NameSubsection : Type 0 where
   pub content : NameContent
 
 -- an entry of a map of name maps: an index and a name map
-abbrev pub map_entry : ℕ × List (ℕ × List ℕ) → List ℕ
-map_entry e = unsigned e.0 ++ vec name_entry e.1
+abbrev pub map_entry : ℕ × List (ℕ × List ℕ) → Encoding
+map_entry e = seq (u32 e.0) (list_of name_entry e.1)
 
--- the bytes of what a subsection holds
-abbrev pub name_content : NameContent → List ℕ
-name_content (One text) = name text
-name_content (Direct names) = vec name_entry names
-name_content (Indirect maps) = vec map_entry maps
+-- what a subsection holds
+abbrev pub name_content : NameContent → Encoding
+name_content (One text) = named text
+name_content (Direct names) = list_of name_entry names
+name_content (Indirect maps) = list_of map_entry maps
 
--- the spelling of a subsection
-abbrev pub name_subsection : NameSubsection → List ℕ
-name_subsection s = subsection s.of (name_content s.content)
-
--- Numbers, counts and lengths are in range: those of a name map's entry.
-abbrev pub InRangeNameEntry : ℕ × List ℕ → Type 0
-InRangeNameEntry e = InRangeU32 e.0 × InRangeName e.1
-
--- those of an entry of a map of name maps
-abbrev pub InRangeMapEntry : ℕ × List (ℕ × List ℕ) → Type 0
-InRangeMapEntry e = InRangeU32 e.0 × InRangeVec InRangeNameEntry e.1
-
--- those of what a subsection holds
-abbrev pub InRangeNameContent : NameContent → Type 0
-InRangeNameContent (One text) = InRangeName text
-InRangeNameContent (Direct names) = InRangeVec InRangeNameEntry names
-InRangeNameContent (Indirect maps) = InRangeVec InRangeMapEntry maps
-
--- those of a subsection, and its length
-abbrev pub InRangeNameSubsection : NameSubsection → Type 0
-InRangeNameSubsection s = InRangeSized InRangeNameContent name_content s.content
+-- a subsection: its id, the length of what it holds, and that
+abbrev pub name_subsection : NameSubsection → Encoding
+name_subsection s = byte_then (subsection_id s.of) (with_length (name_content s.content))
 
 -- the payload of the name section, of its subsections
 abbrev pub name_payload : List ℕ → List ℕ

@@ -1,7 +1,7 @@
 -- The parts of a module, and their bytes: an id, the length of the payload, and the payload (binary format, modules: sections).
-use Rattle.std.specs.Prelude.{ℕ, Option, Some, None, List, ◌∷◌, ◌++◌, length}
-use Rattle.wasm_ops.specs.ConstExprs.{expression, InRangeExpression}
-use Rattle.wasm_ops.specs.Entities.{table_type, InRangeTableType, memory_type, InRangeMemoryType, global_type, InRangeGlobalType, tag_type, InRangeTagType, entity_type, InRangeEntityType}
+use Rattle.std.specs.Prelude.{ℕ, Option, Some, None, List, [], ◌∷◌, ◌++◌, length}
+use Rattle.wasm_ops.specs.ConstExprs.{expression}
+use Rattle.wasm_ops.specs.Entities.{table_type, memory_type, global_type, tag_type, entity_type}
 use Rattle.wasm_ops.specs.Leb128.{unsigned}
 use Rattle.wasm_ops.specs.Table.{Instr}
 use Rattle.wasm_ops.specs.declared.entities.TableType.{TableType}
@@ -11,10 +11,10 @@ use Rattle.wasm_ops.specs.declared.entities.TagType.{TagType}
 use Rattle.wasm_ops.specs.declared.entities.EntityType.{EntityType}
 use Rattle.wasm_ops.specs.declared.types.ExportKind.{ExportKind}
 use Rattle.wasm_ops.specs.declared.types.SubType.{SubType}
-use Rattle.wasm_ops.specs.Spelling.{InRangeU32, vec, InRangeVec, length_prefixed, InRangeSized, name, InRangeName, export_kind, sub_type, InRangeSubType}
-use Rattle.wasm_out.specs.Bodies.{Body, body_content, InRangeContent}
-use Rattle.wasm_out.specs.DataSegments.{DataEntry, data_entry, InRangeDataEntry}
-use Rattle.wasm_out.specs.ElementSegments.{ElementEntry, element_entry, InRangeElementEntry}
+use Rattle.wasm_ops.specs.Spelling.{Encoding, fixed, u32, named, respelled, byte_then, seq, list_of, with_length, export_kind, sub_type}
+use Rattle.wasm_out.specs.Bodies.{Body, body_content}
+use Rattle.wasm_out.specs.DataSegments.{DataEntry, data_entry}
+use Rattle.wasm_out.specs.ElementSegments.{ElementEntry, element_entry}
 
 -- sections whose content is a list
 pub data SectionKind : Type 0 where
@@ -71,93 +71,62 @@ Entry Elements = ElementEntry
 Entry Code = Body
 Entry Data = DataEntry
 
--- a type, or a group behind 0x4e and the number of its types
-abbrev pub type_entry : TypeEntry → List ℕ
+-- a type, or a group after 0x4e and the number of its types
+abbrev pub type_entry : TypeEntry → Encoding
 type_entry (Single t) = sub_type t
-type_entry (Group ts) = 0x4e ∷ vec sub_type ts
+type_entry (Group ts) = byte_then 0x4e (list_of sub_type ts)
 
 -- the module, the name, and the type
-abbrev pub import_entry : ImportEntry → List ℕ
-import_entry i = name i.«module» ++ (name i.name ++ entity_type i.entity)
+abbrev pub import_entry : ImportEntry → Encoding
+import_entry i = seq (named i.«module») (seq (named i.name) (entity_type i.entity))
 
--- the type alone, or behind 0x40 and 0x00 with an expression
+-- the type alone, or after 0x40 and 0x00 with an expression
 abbrev pub table_bytes : TableType → Option (List Instr) → List ℕ
-table_bytes ty None = table_type ty
-table_bytes ty (Some init) = 0x40 ∷ 0x00 ∷ (table_type ty ++ expression init)
+table_bytes ty None = (table_type ty).bytes
+table_bytes ty (Some init) = 0x40 ∷ 0x00 ∷ ((table_type ty).bytes ++ (expression init).bytes)
 
--- the spelling of a table
-abbrev pub table_entry : TableEntry → List ℕ
-table_entry t = table_bytes t.ty t.init
+-- what the elements of a table are at first
+abbrev pub table_init : Option (List Instr) → Encoding
+table_init None = fixed []
+table_init (Some init) = expression init
+
+-- a table
+abbrev pub table_entry : TableEntry → Encoding
+table_entry t = respelled (λ _. table_bytes t.ty t.init) (seq (table_type t.ty) (table_init t.init))
 
 -- the type, and an expression
-abbrev pub global_entry : GlobalEntry → List ℕ
-global_entry g = global_type g.ty ++ expression g.init
+abbrev pub global_entry : GlobalEntry → Encoding
+global_entry g = seq (global_type g.ty) (expression g.init)
 
 -- the name, the kind, and the index
-abbrev pub export_entry : ExportEntry → List ℕ
-export_entry e = name e.name ++ (export_kind e.kind ++ unsigned e.index)
+abbrev pub export_entry : ExportEntry → Encoding
+export_entry e = seq (named e.name) (respelled (λ index. export_kind e.kind ++ index) (u32 e.index))
 
--- behind its length
+-- the bytes of a body, after their number
 abbrev pub body : Body → List ℕ
-body b = length_prefixed body_content b
+body b = (with_length (body_content b)).bytes
 
--- the one spelling of an item
+-- an item of a list
+abbrev pub item : (kind : SectionKind) → Entry kind → Encoding
+item Types t = type_entry t
+item Imports i = import_entry i
+item Functions n = u32 n
+item Tables t = table_entry t
+item Memories m = memory_type m
+item Tags t = tag_type t
+item Globals g = global_entry g
+item Exports e = export_entry e
+item Elements e = element_entry e
+item Code b = with_length (body_content b)
+item Data d = data_entry d
+
+-- the bytes of an item
 abbrev pub entry : (kind : SectionKind) → Entry kind → List ℕ
-entry Types t = type_entry t
-entry Imports i = import_entry i
-entry Functions n = unsigned n
-entry Tables t = table_entry t
-entry Memories m = memory_type m
-entry Tags t = tag_type t
-entry Globals g = global_entry g
-entry Exports e = export_entry e
-entry Elements e = element_entry e
-entry Code b = body b
-entry Data d = data_entry d
+entry kind e = (item kind e).bytes
 
--- Numbers, counts and lengths are in range: those of a type or a group.
-abbrev pub InRangeTypeEntry : TypeEntry → Type 0
-InRangeTypeEntry (Single t) = InRangeSubType t
-InRangeTypeEntry (Group ts) = InRangeVec InRangeSubType ts
-
--- those of an import
-abbrev pub InRangeImport : ImportEntry → Type 0
-InRangeImport i = InRangeName i.«module» × (InRangeName i.name × InRangeEntityType i.entity)
-
--- those of what the elements of a table are at first
-abbrev pub InRangeInit : Option (List Instr) → Type 0
-InRangeInit None = Unit {0}
-InRangeInit (Some init) = InRangeExpression init
-
--- those of a table
-abbrev pub InRangeTable : TableEntry → Type 0
-InRangeTable t = InRangeTableType t.ty × InRangeInit t.init
-
--- those of a global
-abbrev pub InRangeGlobal : GlobalEntry → Type 0
-InRangeGlobal g = InRangeGlobalType g.ty × InRangeExpression g.init
-
--- those of an export
-abbrev pub InRangeExport : ExportEntry → Type 0
-InRangeExport e = InRangeName e.name × InRangeU32 e.index
-
--- those of a body
-abbrev pub InRangeBody : Body → Type 0
-InRangeBody b = InRangeSized InRangeContent body_content b
-
--- an item's numbers, counts and lengths are in range
+-- the numbers, counts and lengths of an item are in range
 abbrev pub InRangeEntry : (kind : SectionKind) → Entry kind → Type 0
-InRangeEntry Types t = InRangeTypeEntry t
-InRangeEntry Imports i = InRangeImport i
-InRangeEntry Functions n = InRangeU32 n
-InRangeEntry Tables t = InRangeTable t
-InRangeEntry Memories m = InRangeMemoryType m
-InRangeEntry Tags t = InRangeTagType t
-InRangeEntry Globals g = InRangeGlobal g
-InRangeEntry Exports e = InRangeExport e
-InRangeEntry Elements e = InRangeElementEntry e
-InRangeEntry Code b = InRangeBody b
-InRangeEntry Data d = InRangeDataEntry d
+InRangeEntry kind e = (item kind e).in_range
 
 -- the kinds of parts: sections of a list, and those that hold something else
 pub data PartKind : Type 0 where
@@ -178,23 +147,12 @@ PartItems Start = ℕ
 PartItems DataCount = ℕ
 PartItems (Listed kind) = List (Entry kind)
 
--- the name, and the bytes as they are
-abbrev pub custom : CustomPart → List ℕ
-custom c = name c.name ++ c.bytes
-
--- what stands behind the length of a part
-abbrev pub payload : (kind : PartKind) → PartItems kind → List ℕ
-payload Custom c = custom c
-payload Start n = unsigned n
-payload DataCount n = unsigned n
-payload (Listed kind) items = vec (entry kind) items
-
--- the numbers, counts and lengths in it are in range
-abbrev pub InRangePartItems : (kind : PartKind) → PartItems kind → Type 0
-InRangePartItems Custom c = InRangeName c.name
-InRangePartItems Start n = InRangeU32 n
-InRangePartItems DataCount n = InRangeU32 n
-InRangePartItems (Listed kind) items = InRangeVec (InRangeEntry kind) items
+-- what follows the length of a part: of a custom section the name, and the bytes as they are
+abbrev pub payload : (kind : PartKind) → PartItems kind → Encoding
+payload Custom c = respelled (λ name. name ++ c.bytes) (named c.name)
+payload Start n = u32 n
+payload DataCount n = u32 n
+payload (Listed kind) items = list_of (item kind) items
 
 -- the ids of sections, by kind
 abbrev pub section_id : SectionKind → ℕ
@@ -228,8 +186,8 @@ section id bytes = id ∷ (unsigned (length bytes) ++ bytes)
 
 -- the spelling of a part
 abbrev pub part : Part → List ℕ
-part p = section (part_id p.kind) (payload p.kind p.items)
+part p = section (part_id p.kind) (payload p.kind p.items).bytes
 
 -- its numbers, counts and lengths are in range, and its own length
 abbrev pub InRangePart : Part → Type 0
-InRangePart p = InRangeSized (InRangePartItems p.kind) (payload p.kind) p.items
+InRangePart p = (with_length (payload p.kind p.items)).in_range

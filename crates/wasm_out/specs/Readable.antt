@@ -1,26 +1,13 @@
 -- Which parts are read: beside that their numbers are in range, the encoder covers their types and instructions, their instructions are rows of the table, each block in their constant expressions is closed, and their names are UTF-8.
-use Rattle.std.specs.Prelude.{Bool, true, ◌&&◌, Option, Some, None, List, All, IsTrue}
-use Rattle.std.specs.List.{list_all}
+use Rattle.std.specs.Prelude.{Bool, true, Option, Some, None, List, length, All, IsTrue}
 use Rattle.std.specs.Str.{is_utf8}
-use Rattle.wasm_ops.specs.ConstExprs.{is_covered_expression, HasRowsExpression}
-use Rattle.wasm_ops.specs.Covered.{is_covered_val_type, is_covered_sub_type}
-use Rattle.wasm_ops.specs.Entities.{is_covered_table_type, is_covered_memory_type, is_covered_global_type, is_covered_tag_type, is_covered_entity_type}
-use Rattle.wasm_ops.specs.Spelling.{InRangeU32, InRangeVec, InRangeSized, InRangeName}
-use Rattle.wasm_ops.specs.Table.{Instr, is_covered_instr, HasRow}
+use Rattle.wasm_ops.specs.ConstExprs.{HasRowsExpression}
+use Rattle.wasm_ops.specs.Spelling.{InRangeU32, InRangeVec, InRangeName}
+use Rattle.wasm_ops.specs.Table.{Instr, HasRow}
 use Rattle.wasm_ops.specs.Turns.{are_balanced}
-use Rattle.wasm_out.specs.Parts.{SectionKind, Types, Imports, Functions, Tables, Memories, Tags, Globals, Exports, Code, TypeEntry, Single, Group, Entry, InRangeEntry, PartKind, Custom, Start, Listed, PartItems, payload, Part, Elements, Data, DataCount}
-use Rattle.wasm_out.specs.DataSegments.{is_covered_data_entry, HasRowsDataEntry, is_balanced_data_entry}
-use Rattle.wasm_out.specs.ElementSegments.{is_covered_element_entry, HasRowsElementEntry, is_balanced_element_entry}
-
--- the encoder covers a type, or each type of a group
-abbrev pub is_covered_type_entry : TypeEntry → Bool
-is_covered_type_entry (Single t) = is_covered_sub_type t
-is_covered_type_entry (Group ts) = list_all is_covered_sub_type ts
-
--- what the elements of a table are at first
-abbrev pub is_covered_init : Option (List Instr) → Bool
-is_covered_init None = true
-is_covered_init (Some init) = is_covered_expression init
+use Rattle.wasm_out.specs.Parts.{SectionKind, Types, Imports, Functions, Tables, Memories, Tags, Globals, Exports, Code, Entry, item, InRangeEntry, PartKind, Custom, Start, Listed, PartItems, payload, Part, Elements, Data, DataCount}
+use Rattle.wasm_out.specs.DataSegments.{HasRowsDataEntry, is_balanced_data_entry}
+use Rattle.wasm_out.specs.ElementSegments.{HasRowsElementEntry, is_balanced_element_entry}
 
 -- the instructions of that are rows of the table
 abbrev pub HasRowsInit : Option (List Instr) → Type 0
@@ -31,20 +18,6 @@ HasRowsInit (Some init) = HasRowsExpression init
 abbrev pub is_balanced_init : Option (List Instr) → Bool
 is_balanced_init None = true
 is_balanced_init (Some init) = are_balanced init
-
--- the encoder covers an item
-abbrev pub is_covered_entry : (kind : SectionKind) → Entry kind → Bool
-is_covered_entry Types t = is_covered_type_entry t
-is_covered_entry Imports i = is_covered_entity_type i.entity
-is_covered_entry Functions n = true
-is_covered_entry Tables t = is_covered_table_type t.ty && is_covered_init t.init
-is_covered_entry Memories m = is_covered_memory_type m
-is_covered_entry Tags t = is_covered_tag_type t
-is_covered_entry Globals g = is_covered_global_type g.ty && is_covered_expression g.init
-is_covered_entry Exports e = true
-is_covered_entry Elements e = is_covered_element_entry e
-is_covered_entry Code b = list_all is_covered_val_type b.locals && list_all is_covered_instr b.instrs
-is_covered_entry Data d = is_covered_data_entry d
 
 -- the instructions of an item are rows of the table
 abbrev pub HasRows : (kind : SectionKind) → Entry kind → Type 0
@@ -90,7 +63,7 @@ HasUtf8Name Data d = Unit {0}
 
 -- what is asked of an item apart from the range of its numbers
 pub record IsReadable (kind : SectionKind) (e : Entry kind) : Type 0 where
-  pub covered : IsTrue (is_covered_entry kind e)
+  pub covered : IsTrue (item kind e).is_covered
   pub rows : HasRows kind e
   pub balanced : IsTrue (is_balanced_entry kind e)
   pub name : HasUtf8Name kind e
@@ -109,7 +82,7 @@ IsReadablePart p = AreReadable p.kind p.items
 -- an item has one spelling: its numbers are in range, the encoder covers it, its instructions are rows of the table, and each block in its constant expressions is closed
 pub record IsSpellable (kind : SectionKind) (e : Entry kind) : Type 0 where
   pub in_range : InRangeEntry kind e
-  pub covered : IsTrue (is_covered_entry kind e)
+  pub covered : IsTrue (item kind e).is_covered
   pub rows : HasRows kind e
   pub balanced : IsTrue (is_balanced_entry kind e)
 
@@ -122,4 +95,4 @@ AreSpellable (Listed kind) items = InRangeVec (IsSpellable kind) items
 
 -- a part has one spelling
 abbrev pub IsSpellablePart : Part → Type 0
-IsSpellablePart p = InRangeSized (AreSpellable p.kind) (payload p.kind) p.items
+IsSpellablePart p = InRangeU32 (length (payload p.kind p.items).bytes) × AreSpellable p.kind p.items

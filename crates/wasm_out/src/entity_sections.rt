@@ -1,10 +1,10 @@
 //! The sections of imports, tables, memories, tags and globals.
 
 ghost use Rattle.std.specs.Prelude.{◌+◌, ◌∷◌, ◌++◌, [], IsTrue};
-ghost use Rattle.wasm_ops.specs.Entities.{table_type, InRangeTableType, is_covered_table_type, memory_type, InRangeMemoryType, is_covered_memory_type, global_type, InRangeGlobalType, is_covered_global_type, tag_type, InRangeTagType, is_covered_tag_type, is_covered_entity_type};
+ghost use Rattle.wasm_ops.specs.Entities.{entity_type, global_type, memory_type, table_type, tag_type};
 ghost use Rattle.wasm_ops.specs.Spelling.{InRangeU32};
 ghost use Rattle.wasm_out.specs.Built.{Adds};
-ghost use Rattle.wasm_out.specs.Parts.{import_entry, InRangeImport};
+ghost use Rattle.wasm_out.specs.Parts.{import_entry};
 ghost use Rattle.wasm_out.specs.Parts as parts;
 
 use crate::builders::{ListKind, ListSection};
@@ -33,10 +33,10 @@ impl ImportSection {
     /// E10 comes only where there would be 2^32 imports, or where the module or the name has 2^32 bytes or more; E12
     /// where memory is refused. Then the section stays as it was.
     pub fn import<'e>(&mut self, module: &str, name: &str, ty: &EntityType) -> Result<(), Error<'e>>
-        requires { IsTrue (is_covered_entity_type ty.now) }
+        requires { IsTrue (entity_type ty.now).is_covered }
         ensures { Adds (InRangeU32 (self.old.count + 1)
-            × InRangeImport (record { «module» = «module».now; name = name.now; entity = ty.now })) self.old self.new
-            (import_entry (record { «module» = «module».now; name = name.now; entity = ty.now })) result }
+            × (import_entry (record { «module» = «module».now; name = name.now; entity = ty.now })).in_range) self.old self.new
+            (import_entry (record { «module» = «module».now; name = name.now; entity = ty.now })).bytes result }
     {
         self.items.push(&(Name(module), (Name(name), ty)))
     }
@@ -62,9 +62,9 @@ impl TableSection {
     ///
     /// E10 comes only where there would be 2^32 tables, E12 where memory is refused. Then the section stays as it was.
     pub fn table<'e>(&mut self, ty: &TableType) -> Result<(), Error<'e>>
-        requires { IsTrue (is_covered_table_type ty.now) }
-        ensures { Adds (InRangeU32 (self.old.count + 1) × InRangeTableType ty.now) self.old self.new
-            (table_type ty.now) result }
+        requires { IsTrue (table_type ty.now).is_covered }
+        ensures { Adds (InRangeU32 (self.old.count + 1) × (table_type ty.now).in_range) self.old self.new
+            (table_type ty.now).bytes result }
     {
         self.items.push(ty)
     }
@@ -73,9 +73,9 @@ impl TableSection {
     ///
     /// E10 comes only where there would be 2^32 tables, E12 where memory is refused. Then the section stays as it was.
     pub fn table_with_init<'e>(&mut self, ty: &TableType, init: &ConstExpr) -> Result<(), Error<'e>>
-        requires { IsTrue (is_covered_table_type ty.now) }
-        ensures { Adds (InRangeU32 (self.old.count + 1) × InRangeTableType ty.now) self.old self.new
-            (0x40 ∷ 0x00 ∷ (table_type ty.now ++ (init.now ++ 0x0b ∷ []))) result }
+        requires { IsTrue (table_type ty.now).is_covered }
+        ensures { Adds (InRangeU32 (self.old.count + 1) × (table_type ty.now).in_range) self.old self.new
+            (0x40 ∷ 0x00 ∷ ((table_type ty.now).bytes ++ (init.now ++ 0x0b ∷ []))) result }
     {
         self.items.push(&(0x40u8, (0x00u8, (ty, init))))
     }
@@ -102,9 +102,9 @@ impl MemorySection {
     /// E10 comes only where there would be 2^32 memories, E12 where memory is refused. Then the section stays as it
     /// was.
     pub fn memory<'e>(&mut self, ty: &MemoryType) -> Result<(), Error<'e>>
-        requires { IsTrue (is_covered_memory_type ty.now) }
-        ensures { Adds (InRangeU32 (self.old.count + 1) × InRangeMemoryType ty.now) self.old self.new
-            (memory_type ty.now) result }
+        requires { IsTrue (memory_type ty.now).is_covered }
+        ensures { Adds (InRangeU32 (self.old.count + 1) × (memory_type ty.now).in_range) self.old self.new
+            (memory_type ty.now).bytes result }
     {
         self.items.push(ty)
     }
@@ -130,9 +130,9 @@ impl TagSection {
     ///
     /// E10 comes only where there would be 2^32 tags, E12 where memory is refused. Then the section stays as it was.
     pub fn tag<'e>(&mut self, ty: &TagType) -> Result<(), Error<'e>>
-        requires { IsTrue (is_covered_tag_type ty.now) }
-        ensures { Adds (InRangeU32 (self.old.count + 1) × InRangeTagType ty.now) self.old self.new
-            (tag_type ty.now) result }
+        requires { IsTrue (tag_type ty.now).is_covered }
+        ensures { Adds (InRangeU32 (self.old.count + 1) × (tag_type ty.now).in_range) self.old self.new
+            (tag_type ty.now).bytes result }
     {
         self.items.push(ty)
     }
@@ -158,9 +158,9 @@ impl GlobalSection {
     ///
     /// E10 comes only where there would be 2^32 globals, E12 where memory is refused. Then the section stays as it was.
     pub fn global<'e>(&mut self, ty: &GlobalType, init: &ConstExpr) -> Result<(), Error<'e>>
-        requires { IsTrue (is_covered_global_type ty.now) }
-        ensures { Adds (InRangeU32 (self.old.count + 1) × InRangeGlobalType ty.now) self.old self.new
-            (global_type ty.now ++ (init.now ++ 0x0b ∷ [])) result }
+        requires { IsTrue (global_type ty.now).is_covered }
+        ensures { Adds (InRangeU32 (self.old.count + 1) × (global_type ty.now).in_range) self.old self.new
+            ((global_type ty.now).bytes ++ (init.now ++ 0x0b ∷ [])) result }
     {
         self.items.push(&(ty, init))
     }

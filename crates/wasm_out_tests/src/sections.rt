@@ -3,11 +3,12 @@
 
 ghost use Rattle.std.specs.Prelude.{◌≡◌, IfOk, OnOk, IsTrue};
 ghost use Rattle.std.specs.List.{list_all};
-ghost use Rattle.wasm_ops.specs.Covered.{is_covered_heap_type, is_covered_ref_type, is_covered_sub_type, is_covered_val_type};
 ghost use Rattle.wast_base.specs.declared.index_ops.IndexOp.TheVariants as ops;
 ghost use Rattle.wasm_ops.specs.ConstantInstrs.{i32_const_instr, ref_null_instr};
 ghost use Rattle.wasm_ops.specs.IndexInstrs.{index_instr};
-ghost use Rattle.wasm_ops.specs.Table.{instr, IsInstr};
+ghost use Rattle.wasm_ops.specs.Table.{IsInstr, instr};
+ghost use Rattle.wasm_ops.specs.Spelling as encodings;
+ghost use Rattle.wasm_ops.specs.Spelling.{heap_type, ref_type, sub_type, val_type};
 ghost use Rattle.wasm_out.specs.Bodies.{SpellsBody};
 
 use std::alloc::Global;
@@ -27,7 +28,7 @@ use wast_base::{Error, Fault, Seq};
 
 /// A call of the function at an index.
 fn call<'e>(alloc: Global, index: u32) -> Result<Vec<u8>, Error<'e>>
-    ensures bytes { IfOk result (λ v. v.items ≡ instr (index_instr ops.Call index)) }
+    ensures bytes { IfOk result (λ v. v.items ≡ (instr (index_instr ops.Call index)).bytes) }
     ensures in_range { OnOk result (IsInstr (index_instr ops.Call index)) }
 {
     let mut bytes = Vec::new(alloc);
@@ -37,7 +38,7 @@ fn call<'e>(alloc: Global, index: u32) -> Result<Vec<u8>, Error<'e>>
 
 /// A body that has these locals and calls the function at an index.
 fn calling<'e>(alloc: Global, types: &[ValType], index: u32) -> Result<Function, Error<'e>>
-    requires { IsTrue (list_all is_covered_val_type types.now) }
+    requires { IsTrue (list_all (λ x. (val_type x).is_covered) types.now) }
     ensures { IfOk result SpellsBody }
 {
     let bytes = call(alloc, index)?;
@@ -49,7 +50,7 @@ fn calling<'e>(alloc: Global, types: &[ValType], index: u32) -> Result<Function,
 
 /// A constant of 32 bits.
 fn i32_const<'e>(alloc: Global, value: i32) -> Result<Vec<u8>, Error<'e>>
-    ensures bytes { IfOk result (λ v. v.items ≡ instr (i32_const_instr value)) }
+    ensures bytes { IfOk result (λ v. v.items ≡ (instr (i32_const_instr value)).bytes) }
     ensures in_range { OnOk result (IsInstr (i32_const_instr value)) }
 {
     let mut bytes = Vec::new(alloc);
@@ -65,8 +66,8 @@ fn number<'e>(alloc: Global, value: i32) -> Result<ConstExpr, Error<'e>> {
 
 /// A null reference of a heap type.
 fn ref_null<'e>(alloc: Global, heap_type: HeapType) -> Result<Vec<u8>, Error<'e>>
-    requires { IsTrue (is_covered_heap_type heap_type) }
-    ensures bytes { IfOk result (λ v. v.items ≡ instr (ref_null_instr heap_type)) }
+    requires { IsTrue (encodings.heap_type heap_type).is_covered }
+    ensures bytes { IfOk result (λ v. v.items ≡ (instr (ref_null_instr heap_type)).bytes) }
     ensures in_range { OnOk result (IsInstr (ref_null_instr heap_type)) }
 {
     let mut bytes = Vec::new(alloc);
@@ -76,7 +77,7 @@ fn ref_null<'e>(alloc: Global, heap_type: HeapType) -> Result<Vec<u8>, Error<'e>
 
 /// The expression of a null reference of a heap type.
 fn null<'e>(alloc: Global, heap_type: HeapType) -> Result<ConstExpr, Error<'e>>
-    requires { IsTrue (is_covered_heap_type heap_type) }
+    requires { IsTrue (encodings.heap_type heap_type).is_covered }
 {
     let bytes = ref_null(alloc, heap_type)?;
     Ok(ConstExpr::raw(bytes))
@@ -84,7 +85,7 @@ fn null<'e>(alloc: Global, heap_type: HeapType) -> Result<ConstExpr, Error<'e>>
 
 /// The heap type of functions.
 fn func() -> HeapType
-    ensures { IsTrue (is_covered_heap_type result) }
+    ensures { IsTrue (heap_type result).is_covered }
 {
     HeapType::Abstract {
         shared: false,
@@ -94,7 +95,7 @@ fn func() -> HeapType
 
 /// Nullable references to functions.
 fn funcref() -> RefType
-    ensures { IsTrue (is_covered_ref_type result) }
+    ensures { IsTrue (ref_type result).is_covered }
 {
     RefType {
         nullable: true,
@@ -104,7 +105,7 @@ fn funcref() -> RefType
 
 /// A type of functions without parameters and results.
 fn plain(alloc: Global, is_final: bool) -> SubType
-    ensures { IsTrue (is_covered_sub_type result) }
+    ensures { IsTrue (sub_type result).is_covered }
 {
     let inner = CompositeInnerType::Func(FuncType {
         params: Seq::new(alloc),

@@ -9,8 +9,8 @@ use lib.Utf8.{encode}
 use Rattle.wasm_ops.proofs.Everywhere.{all_each, all_one, all_both, all_tested, all_in_flat}
 use Rattle.wast_tree_nodes.specs.Sites.{Site, check_sites, uncovered_check, in_id, in_rec, in_sig, in_shared_id, in_import, in_table_type, in_global_type}
 use Rattle.wasm_out.specs.NameSectionBytes.{NameSubsection}
-use Rattle.wasm_out.specs.Parts.{SectionKind, Types, Imports, Functions, Tables, Memories, Tags, Globals, Exports, Elements, Code, Data, Single, Entry, Listed, DataCount, InRangePart}
-use Rattle.wasm_out.specs.Readable.{is_covered_init, HasRowsInit, is_balanced_init, is_covered_entry, HasRows, is_balanced_entry, HasUtf8Name, IsReadable, IsReadablePart}
+use Rattle.wasm_out.specs.Parts.{SectionKind, Types, Imports, Functions, Tables, Memories, Tags, Globals, Exports, Elements, Code, Data, Single, Entry, Listed, DataCount, InRangePart, item, table_init}
+use Rattle.wasm_out.specs.Readable.{HasRowsInit, is_balanced_init, HasRows, is_balanced_entry, HasUtf8Name, IsReadable, IsReadablePart}
 use Rattle.wasm_out.specs.Reads.{Reads}
 use Rattle.wast_core.specs.Tree.{Id, Index, Expression, FuncKind, Func, GlobalType, ImportItems, TableKind, Table, Memory, GlobalKind, Global, Tag, Rec, Export, Elem, Custom, ModuleField}
 use Rattle.wast_core.specs.Tree as tree
@@ -49,7 +49,7 @@ use Rattle.wast_core_conv.proofs.TypesReady.{def_covered, locals_covered, types_
 
 -- ---- what an entry is read as
 
-plain : (k : SectionKind) (e : Entry k) → IsTrue (is_covered_entry k e) → HasRows k e → IsTrue (is_balanced_entry k e) → HasUtf8Name k e → All (IsReadable k) (e ∷ [])
+plain : (k : SectionKind) (e : Entry k) → IsTrue (item k e).is_covered → HasRows k e → IsTrue (is_balanced_entry k e) → HasUtf8Name k e → All (IsReadable k) (e ∷ [])
 plain k e covered rows balanced name = all_one (IsReadable k) e record { covered = covered; rows = rows; balanced = balanced; name = name }
 
 nothing_more : (k : SectionKind) → All (IsReadable k) []
@@ -69,7 +69,7 @@ import_read (import_items.Single source name sig) e h = plain Imports (as_import
 import_read (import_items.Group1 source items) e h = absurd (group_fails (flat_map (λ p. in_sig p.1) items) e)
 import_read (import_items.Group2 source sig names) e h = absurd (shared_fails (in_sig sig) names sig.id e)
 
-init_covered : (o : Option Expression) → is_encodable_init o ≡ true → is_covered_init (option_map meaning.as_expression o) ≡ true
+init_covered : (o : Option Expression) → is_encodable_init o ≡ true → (table_init (option_map meaning.as_expression o)).is_covered ≡ true
 init_covered None e = refl
 init_covered (Some x) e = expression_covered x e
 

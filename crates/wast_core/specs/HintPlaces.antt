@@ -22,7 +22,7 @@ pub record IsSpelledAt (bytes front : List ℕ) (offset : ℕ) (i : Instr) : Typ
   pub between : List ℕ
   pub behind : List ℕ
   pub counted : length between ≡ offset
-  pub spelled : bytes ≡ front ++ (between ++ (instr i ++ behind))
+  pub spelled : bytes ≡ front ++ (between ++ ((instr i).bytes ++ behind))
 
 -- the places before the code section
 abbrev pub until_code : List Slot → List Slot
@@ -33,7 +33,7 @@ until_code (s ∷ ss) = s ∷ until_code ss
 -- a code section of all these bodies, up to behind the size of one: its id, its length, the number of bodies, those before that
 -- one, and the size
 abbrev pub up_to_size : List Body → List Body → Body → List ℕ
-up_to_size all before b = section_id Code ∷ (unsigned (length (vec body all)) ++ (unsigned (length all) ++ (flat_map body before ++ unsigned (length (body_content b)))))
+up_to_size all before b = section_id Code ∷ (unsigned (length (vec body all)) ++ (unsigned (length all) ++ (flat_map body before ++ unsigned (length (body_content b).bytes))))
 
 -- the bytes of a module up to behind the size of the body of a function, which stands behind these fields
 abbrev pub up_to_body : Option (List ℕ) → List ModuleField → List ModuleField → Func → List ℕ

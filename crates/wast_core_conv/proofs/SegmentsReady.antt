@@ -5,10 +5,10 @@ use Rattle.std.proofs.lemmas.List.Elements.{All-map}
 use Rattle.wast_base.specs.Ids.{is_number}
 use Rattle.wast_tree_nodes.specs.Sites.{in_ref}
 use Rattle.wast_tree_nodes.specs.Clauses.{is_segment_type_allowed}
-use Rattle.wasm_ops.specs.ConstExprs.{is_covered_expression, HasRowsExpression}
+use Rattle.wasm_ops.specs.ConstExprs.{HasRowsExpression, expression}
 use Rattle.wasm_ops.specs.Turns.{are_balanced}
-use Rattle.wasm_out.specs.DataSegments.{is_covered_data_mode, HasRowsDataMode, is_balanced_data_mode}
-use Rattle.wasm_out.specs.ElementSegments.{kind_of, is_covered_element_mode, is_covered_element_kind, is_covered_listed, is_covered_element_entry, HasRowsElementMode, HasRowsListed, is_balanced_element_mode, is_balanced_listed, is_balanced_element_entry}
+use Rattle.wasm_out.specs.DataSegments.{HasRowsDataMode, is_balanced_data_mode, data_place}
+use Rattle.wasm_out.specs.ElementSegments.{kind_of, HasRowsElementMode, HasRowsListed, is_balanced_element_mode, is_balanced_listed, is_balanced_element_entry, element_entry, element_list, element_place, element_type}
 use Rattle.wast_core_conv.specs.Tree.{RefType, Expression, ElemKind, ElemPayload, Elem, DataKind}
 use Rattle.wast_core_conv.specs.Tree.elem
 use Rattle.wast_core_conv.specs.Tree.payload
@@ -38,21 +38,21 @@ elem_parts x e =
     let parts = both_pass (is_encodable_elem_kind x.kind) (is_encodable_payload x.payload) fits.1 in
     record { stands = parts.0; holds = parts.1; fits = fits.0 }
 
-mode_covered : (k : ElemKind) → is_encodable_elem_kind k ≡ true → is_covered_element_mode (as_element_mode k) ≡ true
+mode_covered : (k : ElemKind) → is_encodable_elem_kind k ≡ true → (element_place (as_element_mode k)).is_covered ≡ true
 mode_covered elem.Passive e = refl
 mode_covered elem.Declared e = refl
 mode_covered (elem.Active table offset) e = expression_covered offset (both_pass (is_number_if table) (is_encodable_expression offset) e).1
 
-kind_covered : (q : ElemPayload) → is_encodable_payload q ≡ true → is_covered_element_kind (kind_of (as_element_items q)) ≡ true
+kind_covered : (q : ElemPayload) → is_encodable_payload q ≡ true → (element_type (kind_of (as_element_items q))).is_covered ≡ true
 kind_covered (payload.Indices is) e = refl
 kind_covered (payload.Exprs ty es) e = heap_covered ty.heap (exprs_parts ty es e).0
 
-items_covered : (q : ElemPayload) → is_encodable_payload q ≡ true → is_covered_listed (as_element_items q) ≡ true
+items_covered : (q : ElemPayload) → is_encodable_payload q ≡ true → (element_list (as_element_items q)).is_covered ≡ true
 items_covered (payload.Indices is) e = refl
 items_covered (payload.Exprs ty es) e =
-    each_becomes is_encodable_expression meaning.as_expression is_covered_expression expression_covered es (exprs_parts ty es e).1
+    each_becomes is_encodable_expression meaning.as_expression (λ x. (expression x).is_covered) expression_covered es (exprs_parts ty es e).1
 
-pub elem_covered : (x : Elem) → is_encodable_elem x ≡ true → is_covered_element_entry (meaning.as_element x) ≡ true
+pub elem_covered : (x : Elem) → is_encodable_elem x ≡ true → (element_entry (meaning.as_element x)).is_covered ≡ true
 elem_covered x e =
     let parts = elem_parts x e in
     both_true _ _ (suits_form x.kind x.payload parts.fits)
@@ -87,7 +87,7 @@ elem_balanced x e =
     both_true _ _ (mode_balanced x.kind parts.stands) (items_balanced x.payload parts.holds)
 
 -- the same of segments of data
-pub place_covered : (k : DataKind) → is_encodable_data_kind k ≡ true → is_covered_data_mode (as_data_mode k) ≡ true
+pub place_covered : (k : DataKind) → is_encodable_data_kind k ≡ true → (data_place (as_data_mode k)).is_covered ≡ true
 place_covered data_kind.Passive e = refl
 place_covered (data_kind.Active memory offset) e = expression_covered offset (both_pass (is_number memory) (is_encodable_expression offset) e).1
 

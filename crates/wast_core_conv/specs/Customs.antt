@@ -1,11 +1,10 @@
 -- Custom sections of a tree as parts of a module (binary format, custom section; tool conventions, producers section, dynamic linking).
-use Rattle.std.specs.Prelude.{ℕ, Bool, List, [], ◌++◌, map, All}
+use Rattle.std.specs.Prelude.{ℕ, Bool, List, map}
 use Rattle.std.specs.List.{flat_map}
 use Rattle.std.specs.Borrow.{Bor}
-use Rattle.wasm_ops.specs.Leb128.{unsigned}
-use Rattle.wasm_ops.specs.Spelling.{InRangeU32, vec, InRangeVec, InRangeSized, name, InRangeName}
-use Rattle.wasm_out.specs.Parts.{Custom, CustomPart, Part, section}
-use Rattle.wasm_out.specs.Producers.{producers, InRangeProducers}
+use Rattle.wasm_ops.specs.Spelling.{Encoding, fixed, u32, unsupported, named, byte_then, seq, items_of, list_of, with_length}
+use Rattle.wasm_out.specs.Parts.{Custom, CustomPart, Part}
+use Rattle.wasm_out.specs.Producers.{producers}
 use Rattle.wast_tree_nodes.specs.Customs.{custom_name, subsection_id}
 use Rattle.wast_tree_nodes.specs.Sites.{in_subsection, in_custom}
 use Rattle.wast_core_conv.specs.Encodable.{are_encodable, encodable}
@@ -23,86 +22,51 @@ abbrev pub as_producer_field : Bor (List ℕ) × List (Bor (List ℕ) × Bor (Li
 as_producer_field f = (f.0.now, map as_producer_value f.1)
 
 -- an export with its flags
-abbrev pub export_flags : Bor (List ℕ) × ℕ → List ℕ
-export_flags e = name e.0.now ++ unsigned e.1
+abbrev pub export_flags : Bor (List ℕ) × ℕ → Encoding
+export_flags e = seq (named e.0.now) (u32 e.1)
 
 -- an import with its flags
-abbrev pub import_flags : Bor (List ℕ) × Bor (List ℕ) × ℕ → List ℕ
-import_flags i = name i.0.now ++ (name i.1.now ++ unsigned i.2)
+abbrev pub import_flags : Bor (List ℕ) × Bor (List ℕ) × ℕ → Encoding
+import_flags i = seq (named i.0.now) (seq (named i.1.now) (u32 i.2))
 
 -- a name in a list
-abbrev pub listed_name : Bor (List ℕ) → List ℕ
-listed_name n = name n.now
+abbrev pub listed_name : Bor (List ℕ) → Encoding
+listed_name n = named n.now
 
--- what a subsection of dylink.0 holds; that of an architecture is not covered, and has no bytes
-abbrev pub subsection_content : Dylink0Subsection → List ℕ
-subsection_content (dylink.MemInfo memory_size memory_align table_size table_align) = unsigned memory_size ++ (unsigned memory_align ++ (unsigned table_size ++ unsigned table_align))
-subsection_content (dylink.Needed names) = vec listed_name names
-subsection_content (dylink.ExportInfo flags) = vec export_flags flags
-subsection_content (dylink.ImportInfo flags) = vec import_flags flags
-subsection_content (dylink.RuntimePath names) = vec listed_name names
-subsection_content (dylink.TargetArch text) = []
+-- what a subsection of dylink.0 holds; that of an architecture is not supported
+abbrev pub subsection_content : Dylink0Subsection → Encoding
+subsection_content (dylink.MemInfo memory_size memory_align table_size table_align) = seq (u32 memory_size) (seq (u32 memory_align) (seq (u32 table_size) (u32 table_align)))
+subsection_content (dylink.Needed names) = list_of listed_name names
+subsection_content (dylink.ExportInfo flags) = list_of export_flags flags
+subsection_content (dylink.ImportInfo flags) = list_of import_flags flags
+subsection_content (dylink.RuntimePath names) = list_of listed_name names
+subsection_content (dylink.TargetArch text) = unsupported
 
 -- its number, how long what it holds is, and that
-abbrev pub subsection : Dylink0Subsection → List ℕ
-subsection s = section (subsection_id s) (subsection_content s)
+abbrev pub subsection : Dylink0Subsection → Encoding
+subsection s = byte_then (subsection_id s) (with_length (subsection_content s))
 
--- what stands behind the name of a custom section
-abbrev pub custom_bytes : tree.Custom → List ℕ
-custom_bytes (custom.Raw section) = flat_map (λ piece. piece.now) section.bytes
+-- what follows the name of a custom section
+abbrev pub custom_bytes : tree.Custom → Encoding
+custom_bytes (custom.Raw section) = fixed (flat_map (λ piece. piece.now) section.bytes)
 custom_bytes (custom.Producers made) = producers (map as_producer_field made.fields)
-custom_bytes (custom.Dylink0 info) = flat_map subsection info.subsections
+custom_bytes (custom.Dylink0 info) = items_of subsection info.subsections
 
 -- its name, and what stands behind it
 abbrev pub as_custom : tree.Custom → CustomPart
-as_custom c = record { name = custom_name c; bytes = custom_bytes c }
+as_custom c = record { name = custom_name c; bytes = (custom_bytes c).bytes }
 
 -- the part of a module
 abbrev pub custom_part : tree.Custom → Part
 custom_part c = record { kind = Custom; items = as_custom c }
 
--- Numbers, counts and lengths are in range: those of an export with its flags,
-abbrev pub InRangeExportFlags : Bor (List ℕ) × ℕ → Type 0
-InRangeExportFlags e = InRangeName e.0.now × InRangeU32 e.1
+-- a custom section: its name, and what follows it
+abbrev pub custom_payload : tree.Custom → Encoding
+custom_payload c = seq (named (custom_name c)) (custom_bytes c)
 
--- of an import,
-abbrev pub InRangeImportFlags : Bor (List ℕ) × Bor (List ℕ) × ℕ → Type 0
-InRangeImportFlags i = InRangeName i.0.now × (InRangeName i.1.now × InRangeU32 i.2)
-
--- of a name,
-abbrev pub InRangeListedName : Bor (List ℕ) → Type 0
-InRangeListedName n = InRangeName n.now
-
--- of what a subsection holds,
-abbrev pub InRangeSubsectionContent : Dylink0Subsection → Type 0
-InRangeSubsectionContent (dylink.MemInfo memory_size memory_align table_size table_align) = InRangeU32 memory_size × (InRangeU32 memory_align × (InRangeU32 table_size × InRangeU32 table_align))
-InRangeSubsectionContent (dylink.Needed names) = InRangeVec InRangeListedName names
-InRangeSubsectionContent (dylink.ExportInfo flags) = InRangeVec InRangeExportFlags flags
-InRangeSubsectionContent (dylink.ImportInfo flags) = InRangeVec InRangeImportFlags flags
-InRangeSubsectionContent (dylink.RuntimePath names) = InRangeVec InRangeListedName names
-InRangeSubsectionContent (dylink.TargetArch text) = Unit {0}
-
--- of a subsection, whose length is one of them,
-abbrev pub InRangeSubsection : Dylink0Subsection → Type 0
-InRangeSubsection s = InRangeSized InRangeSubsectionContent subsection_content s
-
--- of what stands behind the name of a custom section,
-abbrev pub InRangeCustomBytes : tree.Custom → Type 0
-InRangeCustomBytes (custom.Raw section) = Unit {0}
-InRangeCustomBytes (custom.Producers made) = InRangeProducers (map as_producer_field made.fields)
-InRangeCustomBytes (custom.Dylink0 info) = All InRangeSubsection info.subsections
-
--- of its name, too,
-abbrev pub InRangeCustomPayload : tree.Custom → Type 0
-InRangeCustomPayload c = InRangeName (custom_name c) × InRangeCustomBytes c
-
--- the name, and what stands behind it
-abbrev pub custom_payload : tree.Custom → List ℕ
-custom_payload c = name (custom_name c) ++ custom_bytes c
-
--- and of the section, whose length is one of them
+-- the numbers, counts and lengths in a custom section are in range, and its own length
 abbrev pub InRangeCustom : tree.Custom → Type 0
-InRangeCustom c = InRangeSized InRangeCustomPayload custom_payload c
+InRangeCustom c = (with_length (custom_payload c)).in_range
 
 -- no form in it is left uncovered: it is no architecture
 abbrev pub is_encodable_subsection : Dylink0Subsection → Bool
