@@ -1,11 +1,12 @@
 -- The parts of a module show their value: bytes are read as one module.
-use Rattle.std.proofs.Common.{◌≡◌, ◌≢◌, ◌<◌, ℕ, List, ◌++◌, refl, sym, ap, ◌∙◌, subst, arith}
+use Rattle.std.proofs.Common.{◌≡◌, ◌≢◌, ◌<◌, ℕ, List, [], ◌++◌, refl, sym, ap, ◌∙◌, subst, arith}
 use Rattle.std.specs.Prelude.{Option, Some, None, All}
+use Rattle.std.proofs.lemmas.List.Elements.{All-head}
 use Rattle.std.specs.List.{flat_map}
 use Rattle.wasm_ops.specs.declared.types.ValType.{ValType}
 use Rattle.wasm_ops.specs.Codes.{IsCode, IsWhole}
 use Rattle.wasm_ops.specs.declared.types.SubType.{SubType}
-use Rattle.wasm_ops.specs.ConstExprs.{IsExpression, expression}
+use Rattle.wasm_ops.specs.ConstExprs.{HasRowsExpression, IsBalancedExpression, IsExpression, expression}
 use Rattle.wasm_ops.specs.Entities.{global_type, table_type}
 use Rattle.wasm_ops.specs.declared.entities.TableType.{TableType}
 use Rattle.wasm_ops.specs.Spelling.{InRangeU32, vec, InRangeVec, length_prefixed, InRangeSized, Spellable, list_of, sub_type, val_type}
@@ -74,7 +75,7 @@ plain_table t p = ((both_true (table_type t).is_covered (table_init None).is_cov
 filled_table : (t : TableType) (is : List Instr) → IsSpellableTable t (Some is) → Spellable (table_type t) × IsExpression is
 filled_table t is p =
     let both = both_true (table_type t).is_covered (expression is).is_covered p.covered in
-    ((both.0, p.in_range.0), is_expression is both.1 p.in_range.1 p.rows p.balanced)
+    ((both.0, p.in_range.0), is_expression is both.1 p.in_range.1 (All-head HasRowsExpression is [] p.rows) (All-head IsBalancedExpression is [] p.balanced))
 
 table_begins : (t u : TableType) (i j : Option (List Instr)) (r s : List ℕ) → IsSpellableTable t i → IsSpellableTable u j → table_bytes t i ++ r ≡ table_bytes u j ++ s → (t ≡ u) × (i ≡ j) × (r ≡ s)
 table_begins t u None None r s p q e = let one = table_type_code.begins t u r s (plain_table t p) (plain_table u q) e in (one.0, refl, one.1)
@@ -97,14 +98,14 @@ table_entry_code = record {
 
 global_entry_code : IsCode GlobalEntry (IsSpellable Globals) (λ x. (global_entry x).bytes)
 global_entry_code =
-    code_within (λ g p. let both = both_true (global_type g.ty).is_covered (expression g.init).is_covered p.covered in ((both.0, p.in_range.0), is_expression g.init both.1 p.in_range.1 p.rows p.balanced))
+    code_within (λ g p. let both = both_true (global_type g.ty).is_covered (expression g.init).is_covered p.covered in ((both.0, p.in_range.0), is_expression g.init both.1 p.in_range.1 (All-head HasRowsExpression g.init [] p.rows) (All-head IsBalancedExpression g.init [] p.balanced)))
     (code_by (λ (g : GlobalEntry). (g.ty, g.init)) (λ p. record { ty = p.0; init = p.1 }) (λ g. refl) (pair_code global_type_code expression_code))
 
 -- a body whose locals and instructions are covered, and whose instructions are rows of the table
 spellable_body : (b : Body) → IsSpellable Code b → InRangeSized IsSpellableContent (λ x. (body_content x).bytes) b
 spellable_body b p =
     let both = both_true (list_of val_type b.locals).is_covered (expression b.instrs).is_covered p.covered in
-    (p.in_range.0, record { locals = spellable_vec val_type b.locals both.0 p.in_range.1.0; instrs = are_instrs b.instrs both.1 p.in_range.1.1 p.rows })
+    (p.in_range.0, record { locals = spellable_vec val_type b.locals both.0 p.in_range.1.0; instrs = are_instrs b.instrs both.1 p.in_range.1.1 (All-head HasRowsExpression b.instrs [] p.rows) })
 
 pub entry_code : (kind : SectionKind) → IsCode (Entry kind) (IsSpellable kind) (entry kind)
 entry_code Types = type_entry_code

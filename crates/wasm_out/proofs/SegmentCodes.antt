@@ -1,24 +1,24 @@
 -- The spellings of segments show their value.
-use Rattle.std.proofs.Common.{◌≡◌, ◌+◌, ◌*◌, ◌&&◌, ℕ, zero, suc, Bool, true, false, Option, Some, None, List, ◌++◌, refl, sym, ap, ◌∙◌, arith}
+use Rattle.std.proofs.Common.{◌≡◌, ◌+◌, ◌*◌, ◌&&◌, ℕ, zero, suc, Bool, true, false, Option, Some, None, List, [], ◌++◌, refl, sym, ap, ◌∙◌, arith}
 use Rattle.std.specs.Prelude.{All, IsTrue}
 use Rattle.std.specs.List.{list_all}
 use Rattle.std.proofs.lemmas.Bool.{eqb-true}
+use Rattle.std.proofs.lemmas.List.Elements.{All-head}
 use Rattle.wasm_ops.specs.Codes.{IsCode}
 use Rattle.wasm_ops.specs.ConstExprs.{HasRowsExpression, IsBalancedExpression, IsExpression, expression}
 use Rattle.wasm_ops.specs.Leb128.{unsigned}
 use Rattle.wasm_ops.specs.Spelling.{InRangeU32, vec, InRangeVec, name, InRangeName, abstract_byte, Spellable, ref_type}
 use Rattle.wasm_ops.specs.Table.{Instr}
-use Rattle.wasm_ops.specs.Turns.{are_balanced}
 use Rattle.wasm_ops.specs.declared.ref_types.AbstractHeapType.{AbstractHeapType}
 use Rattle.wasm_ops.specs.declared.ref_types.HeapType.{HeapType}
 use Rattle.wasm_ops.specs.declared.ref_types.HeapType.TheVariants as heap
 use Rattle.wasm_ops.specs.declared.ref_types.RefType.{RefType}
 use Rattle.wasm_ops.proofs.Codes.{index_code, name_code, after_byte, pair_code, vec_code}
-use Rattle.wasm_ops.proofs.Everywhere.{all_both, all_tested, both_true}
+use Rattle.wasm_ops.proofs.Everywhere.{all_left, all_right, all_both, all_tested, both_true}
 use Rattle.wasm_ops.proofs.ExpressionCodes.{expression_code, is_expression}
 use Rattle.wasm_ops.proofs.RefTypeCodes.{front, abstract_is, ref_type_code}
-use Rattle.wasm_out.specs.DataSegments.{DataMode, Kept, Placed, DataEntry, data_bytes, HasRowsDataMode, HasRowsDataEntry, is_balanced_data_mode, is_balanced_data_entry, data_entry, data_place}
-use Rattle.wasm_out.specs.ElementSegments.{ElementItems, Indices, Expressions, ElementMode, Passive, Declared, Active, ElementEntry, kind_of, element_bytes, HasRowsElementMode, HasRowsListed, is_func, is_funcref, has_form, HasRowsElementEntry, is_balanced_element_mode, is_balanced_listed, is_balanced_element_entry, element_entry, element_list, element_place, element_type, table_index}
+use Rattle.wasm_out.specs.DataSegments.{DataMode, Kept, Placed, DataEntry, data_bytes, data_entry, data_place, data_expressions}
+use Rattle.wasm_out.specs.ElementSegments.{ElementItems, Indices, Expressions, ElementMode, Passive, Declared, Active, ElementEntry, kind_of, element_bytes, is_func, is_funcref, has_form, element_entry, element_list, element_place, element_type, table_index, place_expressions, item_expressions}
 
 -- ---- what is asked of a segment of elements
 
@@ -37,12 +37,12 @@ record IsSegment (m : ElementMode) (x : ElementItems) : Type 0 where
   listed : AreListed x
 
 -- expressions that are covered, in range, whose instructions are rows of the table, and in which each block is closed
-are_expressions : (es : List (List Instr)) → IsTrue (list_all (λ x. (expression x).is_covered) es) → InRangeVec (λ x. (expression x).in_range) es → All HasRowsExpression es → IsTrue (list_all are_balanced es) → InRangeVec IsExpression es
+are_expressions : (es : List (List Instr)) → IsTrue (list_all (λ x. (expression x).is_covered) es) → InRangeVec (λ x. (expression x).in_range) es → All HasRowsExpression es → All IsBalancedExpression es → InRangeVec IsExpression es
 are_expressions es covered numbers rows balanced =
     let Both : List Instr → Type 0 = λ e. Spellable (expression e) in
     let Closed : List Instr → Type 0 = λ e. HasRowsExpression e × IsBalancedExpression e in
     let both = all_both (λ e. IsTrue (expression e).is_covered) (λ x. (expression x).in_range) Both (λ e p q. (p, q)) es (all_tested (λ x. (expression x).is_covered) es covered) numbers.1 in
-    let closed = all_both HasRowsExpression IsBalancedExpression Closed (λ e p q. (p, q)) es rows (all_tested are_balanced es balanced) in
+    let closed = all_both HasRowsExpression IsBalancedExpression Closed (λ e p q. (p, q)) es rows balanced in
     (numbers.0, all_both Both Closed IsExpression (λ e p q. is_expression e p.0 p.1 q.0 q.1) es both closed)
 
 -- ---- a type that is not written
@@ -144,28 +144,29 @@ element_begins Declared Declared (Expressions t xs) (Expressions u ys) r s p q e
     (ap (expressions Declared) one.0, one.1)
 element_begins m n x y r s p q e = absurd (omega (arith, ap front e, element_front m x r, element_front n y s))
 
-is_segment : (m : ElementMode) (x : ElementItems) → IsTrue (element_entry (segment m x)).is_covered → (element_entry (segment m x)).in_range → HasRowsElementEntry (segment m x) → IsTrue (is_balanced_element_entry (segment m x)) → IsSegment m x
+is_segment : (m : ElementMode) (x : ElementItems) → IsTrue (element_entry (segment m x)).is_covered → (element_entry (segment m x)).in_range → All HasRowsExpression (place_expressions m ++ item_expressions x) → All IsBalancedExpression (place_expressions m ++ item_expressions x) → IsSegment m x
 is_segment m x c r h b =
     let one = both_true (has_form m (kind_of x)) ((element_place m).is_covered && ((element_type (kind_of x)).is_covered && (element_list x).is_covered)) c in
     let two = both_true (element_place m).is_covered ((element_type (kind_of x)).is_covered && (element_list x).is_covered) one.1 in
     let three = both_true (element_type (kind_of x)).is_covered (element_list x).is_covered two.1 in
-    let closed = both_true (is_balanced_element_mode m) (is_balanced_listed x) b in
-    record { form = one.0; offset = offset_of m two.0 r.0 h.0 closed.0; listed = listed_of x three.0 three.1 r.1 h.1 closed.1 }
+    let front = place_expressions m in
+    let rest = item_expressions x in
+    record { form = one.0; offset = offset_of m two.0 r.0 (all_left HasRowsExpression front rest h) (all_left IsBalancedExpression front rest b); listed = listed_of x three.0 three.1 r.1 (all_right HasRowsExpression front rest h) (all_right IsBalancedExpression front rest b) }
   where
-    offset_of : (m : ElementMode) → IsTrue (element_place m).is_covered → (element_place m).in_range → HasRowsElementMode m → IsTrue (is_balanced_element_mode m) → IsOffset m
+    offset_of : (m : ElementMode) → IsTrue (element_place m).is_covered → (element_place m).in_range → All HasRowsExpression (place_expressions m) → All IsBalancedExpression (place_expressions m) → IsOffset m
     offset_of Passive c r h b = tt
     offset_of Declared c r h b = tt
-    offset_of (Active table offset) c r h b = (r.0, is_expression offset c r.1 h b)
+    offset_of (Active table offset) c r h b = (r.0, is_expression offset c r.1 (All-head HasRowsExpression offset [] h) (All-head IsBalancedExpression offset [] b))
 
-    listed_of : (x : ElementItems) → IsTrue (element_type (kind_of x)).is_covered → IsTrue (element_list x).is_covered → (element_type (kind_of x)).in_range × (element_list x).in_range → HasRowsListed x → IsTrue (is_balanced_listed x) → AreListed x
+    listed_of : (x : ElementItems) → IsTrue (element_type (kind_of x)).is_covered → IsTrue (element_list x).is_covered → (element_type (kind_of x)).in_range × (element_list x).in_range → All HasRowsExpression (item_expressions x) → All IsBalancedExpression (item_expressions x) → AreListed x
     listed_of (Indices fs) c d r h b = r.1
     listed_of (Expressions t es) c d r h b = ((c, r.0), are_expressions es d r.1 h b)
 
 pub record IsSpellableElements (e : ElementEntry) : Type 0 where
   pub in_range : (element_entry e).in_range
   pub covered : IsTrue (element_entry e).is_covered
-  pub rows : HasRowsElementEntry e
-  pub balanced : IsTrue (is_balanced_element_entry e)
+  pub rows : All HasRowsExpression (place_expressions e.mode ++ item_expressions e.items)
+  pub balanced : All IsBalancedExpression (place_expressions e.mode ++ item_expressions e.items)
 
 pub element_code : IsCode ElementEntry IsSpellableElements (λ x. (element_entry x).bytes)
 element_code = record {
@@ -201,15 +202,15 @@ data_begins Kept (Placed (suc n) b) x y r s p q e = absurd (omega (arith, ap fro
 data_begins (Placed zero a) n x y r s p q e = absurd (omega (arith, ap front e))
 data_begins (Placed (suc m) a) n x y r s p q e = absurd (omega (arith, ap front e))
 
-is_placed : (m : DataMode) → IsTrue (data_place m).is_covered → (data_place m).in_range → HasRowsDataMode m → IsTrue (is_balanced_data_mode m) → IsPlaced m
+is_placed : (m : DataMode) → IsTrue (data_place m).is_covered → (data_place m).in_range → All HasRowsExpression (data_expressions m) → All IsBalancedExpression (data_expressions m) → IsPlaced m
 is_placed Kept c r h b = tt
-is_placed (Placed memory offset) c r h b = (r.0, is_expression offset c r.1 h b)
+is_placed (Placed memory offset) c r h b = (r.0, is_expression offset c r.1 (All-head HasRowsExpression offset [] h) (All-head IsBalancedExpression offset [] b))
 
 pub record IsSpellableData (d : DataEntry) : Type 0 where
   pub in_range : (data_entry d).in_range
   pub covered : IsTrue (data_entry d).is_covered
-  pub rows : HasRowsDataEntry d
-  pub balanced : IsTrue (is_balanced_data_entry d)
+  pub rows : All HasRowsExpression (data_expressions d.mode)
+  pub balanced : All IsBalancedExpression (data_expressions d.mode)
 
 pub data_code : IsCode DataEntry IsSpellableData (λ x. (data_entry x).bytes)
 data_code = record {

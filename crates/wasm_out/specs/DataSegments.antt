@@ -1,10 +1,9 @@
 -- Segments of data: bytes, and where they stand (binary format, data section).
-use Rattle.std.specs.Prelude.{ℕ, zero, suc, Bool, true, List, [], ◌∷◌, ◌++◌, length}
-use Rattle.wasm_ops.specs.ConstExprs.{expression, HasRowsExpression}
+use Rattle.std.specs.Prelude.{ℕ, zero, suc, List, [], ◌∷◌, ◌++◌, length}
+use Rattle.wasm_ops.specs.ConstExprs.{expression}
 use Rattle.wasm_ops.specs.Leb128.{unsigned}
 use Rattle.wasm_ops.specs.Spelling.{InRangeU32, Encoding, fixed, u32, seq}
 use Rattle.wasm_ops.specs.Table.{Instr}
-use Rattle.wasm_ops.specs.Turns.{are_balanced}
 
 -- bytes that are there for instructions that copy them, or that stand in a memory from an offset on
 pub data DataMode : Type 0 where
@@ -43,20 +42,7 @@ data_place (Placed memory offset) = seq (u32 memory) (expression offset)
 abbrev pub data_entry : DataEntry → Encoding
 data_entry d = record { bytes = data_bytes d.mode d.bytes; in_range = (data_place d.mode).in_range × InRangeU32 (length d.bytes); is_covered = (data_place d.mode).is_covered }
 
--- the instructions of its offset are rows of the table
-abbrev pub HasRowsDataMode : DataMode → Type 0
-HasRowsDataMode Kept = Unit {0}
-HasRowsDataMode (Placed memory offset) = HasRowsExpression offset
-
--- the same of a segment
-abbrev pub HasRowsDataEntry : DataEntry → Type 0
-HasRowsDataEntry d = HasRowsDataMode d.mode
-
--- each block in its offset is closed
-abbrev pub is_balanced_data_mode : DataMode → Bool
-is_balanced_data_mode Kept = true
-is_balanced_data_mode (Placed memory offset) = are_balanced offset
-
--- the same of a segment
-abbrev pub is_balanced_data_entry : DataEntry → Bool
-is_balanced_data_entry d = is_balanced_data_mode d.mode
+-- the constant expressions in a segment: its offset
+abbrev pub data_expressions : DataMode → List (List Instr)
+data_expressions Kept = []
+data_expressions (Placed memory offset) = offset ∷ []

@@ -1,11 +1,9 @@
 -- Segments of elements: what they hold, and where it stands (binary format, element section).
-use Rattle.std.specs.Prelude.{◌==◌, ◌&&◌, ℕ, Bool, true, false, not, Option, Some, None, List, [], ◌∷◌, ◌++◌, All}
-use Rattle.std.specs.List.{list_all}
-use Rattle.wasm_ops.specs.ConstExprs.{expression, HasRowsExpression}
+use Rattle.std.specs.Prelude.{◌==◌, ◌&&◌, ℕ, Bool, true, false, not, Option, Some, None, List, [], ◌∷◌, ◌++◌}
+use Rattle.wasm_ops.specs.ConstExprs.{expression}
 use Rattle.wasm_ops.specs.Leb128.{unsigned}
 use Rattle.wasm_ops.specs.Spelling.{Encoding, fixed, u32, respelled, seq, list_of, only_if, always, abstract_byte, ref_type}
 use Rattle.wasm_ops.specs.Table.{Instr}
-use Rattle.wasm_ops.specs.Turns.{are_balanced}
 use Rattle.wasm_ops.specs.declared.ref_types.HeapType.{HeapType}
 use Rattle.wasm_ops.specs.declared.ref_types.HeapType.TheVariants as heap
 use Rattle.wasm_ops.specs.declared.ref_types.AbstractHeapType.TheVariants as heaps
@@ -104,32 +102,13 @@ has_form (Active table offset) kind = has_active_form table kind
 abbrev pub element_entry : ElementEntry → Encoding
 element_entry e = only_if (has_form e.mode (kind_of e.items)) (respelled (λ _. element_bytes e.mode (kind_of e.items) (element_list e.items).bytes) (seq (element_place e.mode) (seq (element_type (kind_of e.items)) (element_list e.items))))
 
--- the instructions of its expressions are rows of the table
-abbrev pub HasRowsElementMode : ElementMode → Type 0
-HasRowsElementMode Passive = Unit {0}
-HasRowsElementMode Declared = Unit {0}
-HasRowsElementMode (Active table offset) = HasRowsExpression offset
+-- the constant expressions in a segment: its offset
+abbrev pub place_expressions : ElementMode → List (List Instr)
+place_expressions Passive = []
+place_expressions Declared = []
+place_expressions (Active table offset) = offset ∷ []
 
--- the same of the elements
-abbrev pub HasRowsListed : ElementItems → Type 0
-HasRowsListed (Indices functions) = Unit {0}
-HasRowsListed (Expressions ty expressions) = All HasRowsExpression expressions
-
--- the same of a segment
-abbrev pub HasRowsElementEntry : ElementEntry → Type 0
-HasRowsElementEntry e = HasRowsElementMode e.mode × HasRowsListed e.items
-
--- each block in its expressions is closed: in the offset
-abbrev pub is_balanced_element_mode : ElementMode → Bool
-is_balanced_element_mode Passive = true
-is_balanced_element_mode Declared = true
-is_balanced_element_mode (Active table offset) = are_balanced offset
-
--- the same of the elements
-abbrev pub is_balanced_listed : ElementItems → Bool
-is_balanced_listed (Indices functions) = true
-is_balanced_listed (Expressions ty expressions) = list_all are_balanced expressions
-
--- the same of a segment
-abbrev pub is_balanced_element_entry : ElementEntry → Bool
-is_balanced_element_entry e = is_balanced_element_mode e.mode && is_balanced_listed e.items
+-- and its elements
+abbrev pub item_expressions : ElementItems → List (List Instr)
+item_expressions (Indices functions) = []
+item_expressions (Expressions ty expressions) = expressions

@@ -1,12 +1,13 @@
 -- The module that is written, computed: its bytes are read as its sections.
 use Rattle.std.proofs.Common.{◌≡◌, ℕ, ◌<◌, true, List, [], ◌∷◌, ◌++◌, codes, refl, ap, ◌∙◌, arith}
-use Rattle.std.specs.Prelude.{All, nat_lt}
+use Rattle.std.specs.Prelude.{All, IsTrue, nat_lt}
 use Rattle.std.specs.List.{flat_map, list_all}
 use Rattle.std.specs.Str.{is_utf8}
 use Rattle.std.proofs.lemmas.Bool.{ltb-true}
 use Rattle.std.proofs.lemmas.List.Elements.{All-nil, All-from_recursion}
 use Rattle.std.proofs.lemmas.Str.{is_utf8-from_IsUtf8}
 use lib.Utf8.{encode}
+use Rattle.wasm_ops.specs.ConstExprs.{HasRowsExpression, IsBalancedExpression}
 use Rattle.wasm_ops.specs.Leb128.{unsigned, unsigned_in}
 use Rattle.wasm_ops.specs.Spelling.{InRangeU32, InRangeVec, sub_type, val_type}
 use Rattle.wasm_ops.specs.declared.types.ValType.TheVariants as val
@@ -54,16 +55,19 @@ made_is_text : is_utf8 (codes "made") ≡ true
 unfolding encode
 made_is_text = is_utf8-from_IsUtf8 (codes "made") (codes "made", (refl, refl))
 
+abbrev IsText : List ℕ → Type 0
+IsText text = IsTrue (is_utf8 text)
+
 readable : All IsReadablePart sum_module
 unfolding rows.kinds_of rows.table
 readable = All-from_recursion IsReadablePart sum_module (
-  all_one (IsReadable Types) _ (record { covered = refl; rows = tt; balanced = refl; name = tt }),
+  all_one (IsReadable Types) _ (record { covered = refl; rows = All-nil HasRowsExpression; balanced = All-nil IsBalancedExpression; name = All-nil IsText }),
   (
-    all_one (IsReadable Functions) _ (record { covered = refl; rows = tt; balanced = refl; name = tt }),
+    all_one (IsReadable Functions) _ (record { covered = refl; rows = All-nil HasRowsExpression; balanced = All-nil IsBalancedExpression; name = All-nil IsText }),
     (
-      all_one (IsReadable Exports) _ (record { covered = refl; rows = tt; balanced = refl; name = sum_is_text }),
+      all_one (IsReadable Exports) _ (record { covered = refl; rows = All-nil HasRowsExpression; balanced = All-nil IsBalancedExpression; name = all_one IsText (codes "sum") sum_is_text }),
       (
-        all_one (IsReadable Code) _ (record { covered = refl; rows = All-from_recursion HasRow sum_instrs (refl, (refl, (refl, tt))); balanced = refl; name = tt }),
+        all_one (IsReadable Code) _ (record { covered = refl; rows = all_one HasRowsExpression sum_instrs (All-from_recursion HasRow sum_instrs (refl, (refl, (refl, tt)))); balanced = All-nil IsBalancedExpression; name = All-nil IsText }),
         (made_is_text, tt),
       ),
     ),
